@@ -1,0 +1,40 @@
+#!/usr/bin/env bash
+# Everything that has to hold of the repository: the gate over all crates from nothing, each request for
+# memory refused in turn, and rules that no prover looks at. The last line counts.
+set -uo pipefail
+cd "$(dirname "$0")/.."
+passed=0
+failed=0
+
+# run NAME COMMAND..: counts a check that passes or fails as a whole
+run() {
+    local name=$1
+    shift
+    echo "== $name"
+    if "$@"; then passed=$((passed + 1)); else
+        failed=$((failed + 1))
+        echo "failed: $name"
+    fi
+}
+
+# the gate: its last line has its own counts
+echo "== rt ci"
+log=$(mktemp)
+trap 'rm -f "$log"' EXIT
+rt ci 2>&1 | tee "$log"
+status=${PIPESTATUS[0]}
+counts=$(grep -oE '^[0-9]+ passed, [0-9]+ failed' "$log" | tail -n 1)
+if [[ "$counts" =~ ^([0-9]+)\ passed,\ ([0-9]+)\ failed$ ]]; then
+    passed=$((passed + BASH_REMATCH[1]))
+    failed=$((failed + BASH_REMATCH[2]))
+else
+    failed=$((failed + 1))
+fi
+if [ "$status" -ne 0 ] && [ "$failed" -eq 0 ]; then failed=1; fi
+
+run "no handles" grep -qx 'Handles allowed: none.' HANDLES
+run "refusals of memory" bash scripts/refusals.sh
+run "the repository stands alone" bash scripts/stands_alone.sh
+
+echo "$passed passed, $failed failed"
+[ "$failed" -eq 0 ]
