@@ -1,0 +1,15 @@
+pub mod Runs
+pub mod Hex
+pub mod EscapeLemmas
+pub mod PieceLemmas
+pub mod MadeStrings
+pub mod Unique
+pub mod OneToken
+pub mod Folded
+pub mod NoFault
+pub mod OneFault
+pub mod Unfolded
+pub mod Copies
+pub mod Within
+pub mod Texts
+pub mod Standing

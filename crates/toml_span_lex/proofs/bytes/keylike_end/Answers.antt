@@ -1,0 +1,8 @@
+use Rattle.toml_span_lex.proofs.Runs.{boundary_after, keylike_ascii}
+use Rattle.toml_span_lex.specs.Bytes.{is_keylike}
+use Rattle.std.proofs.Common.{arith}
+use Rattle.toml_span_lex.proofs.bytes.keylike_end.Goals as goal
+
+pub returns-then-not-is_keylike-clause-boundary : goal.returns-then-not-is_keylike-clause-boundary
+returns-then-not-is_keylike-clause-boundary c =
+    boundary_after is_keylike c.args.text.now c.args.from c.loop-at.at keylike_ascii c.utf8.text c.requires (omega arith) (omega arith) c.loop-at.invariant

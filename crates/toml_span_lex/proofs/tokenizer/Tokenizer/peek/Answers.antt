@@ -1,0 +1,4 @@
+use Rattle.toml_span_lex.proofs.tokenizer.Tokenizer.peek.Goals as goal
+
+pub returns-clause-gives : goal.returns-clause-gives
+returns-clause-gives c = (c.step.new.self.at, rw c.copy-ahead.ensures at c.step.ensures.gives, rw c.copy-ahead.ensures at c.step.ensures.borrows)

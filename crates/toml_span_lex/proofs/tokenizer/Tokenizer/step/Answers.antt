@@ -1,0 +1,13 @@
+use Rattle.std.proofs.Common.{inl, inr}
+use Rattle.toml_span_lex.proofs.Unfolded.{after_fault}
+use Rattle.toml_span_lex.proofs.tokenizer.Tokenizer.step.Goals as goal
+
+pub invariant_of-self-in-Err-Fault : goal.invariant_of-self-in-Err-Fault
+invariant_of-self-in-Err-Fault c =
+    let ends = rw c.in-Err-Fault.field-0-is at c.in-Err-Fault.ensures.ends in
+    let gives = rw c.in-Err-Fault.field-0-is at c.in-Err-Fault.ensures.gives in
+    (ends, after_fault c.self.inside.input.now c.self.inside.at c.in-Err-Fault.next c.in-Err-Fault.error (inr gives))
+
+pub invariant_of-self-in-Err : goal.invariant_of-self-in-Err
+invariant_of-self-in-Err c =
+    (c.in-Err.ensures.boundary, after_fault c.self.inside.input.now c.self.inside.at c.in-Err.next c.in-Err.error (inl c.in-Err.ensures.gives))

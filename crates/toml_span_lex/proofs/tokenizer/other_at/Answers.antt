@@ -1,0 +1,10 @@
+use Rattle.std.proofs.Common.{refl, rules}
+use Rattle.toml_span_lex.proofs.Runs.{behind_crlf, begins_none, neither}
+use Rattle.toml_span_lex.proofs.tokenizer.other_at.Goals as goal
+
+pub returns-then-is_crlf-clause-boundary : goal.returns-then-is_crlf-clause-boundary
+returns-then-is_crlf-clause-boundary c = behind_crlf c.args.input.now c.args.at _ refl c.utf8.input (search rules)
+
+pub returns-else-is_keylike-clause-gives : goal.returns-else-is_keylike-clause-gives
+returns-else-is_keylike-clause-gives c =
+    (refl, c.char_at-c.ensures.gives, begins_none c.args.input.now c.args.at _ _ (search rules) c.requires.within (neither _ _ (neither _ _ c.requires.other (search rules)) c.requires.quote) c.char_at-c.ensures.gives)

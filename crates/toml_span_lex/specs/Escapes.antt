@@ -1,0 +1,78 @@
+-- Escapes of strings in quotation marks.
+use Rattle.std.specs.Prelude.{◌≡◌, ℕ, ◌+◌, ◌<◌, ◌≤◌, ◌⊎◌, Bool, true, false, ◌||◌, ◌==◌, nat_lt, if◌then◌else◌, is_some, List, take, drop, length, slice_index, Result, Ok, Err, Option, Some, None}
+use Rattle.std.specs.Char.{is_digit, IsScalar}
+use Rattle.std.specs.Str.Parse.{digits_value}
+use Rattle.toml_span_lex.specs.Bytes.{quotation_mark, backslash}
+use Rattle.toml_span_lex.specs.Text.{CharAt}
+use Rattle.toml_span_lex.specs.declared.tokens.Error.{Error}
+use Rattle.toml_span_lex.specs.declared.tokens.Error.TheVariants as errors
+
+-- the character that one letter stands for behind a backslash
+abbrev pub simple_escape : ℕ → Option ℕ
+simple_escape c =
+    if c == quotation_mark then Some quotation_mark
+    else if c == backslash then Some backslash
+    else if c == 98 then Some 8  -- b, backspace
+    else if c == 102 then Some 12  -- f, form feed
+    else if c == 110 then Some 10  -- n, line feed
+    else if c == 114 then Some 13  -- r, carriage return
+    else if c == 116 then Some 9  -- t, tab
+    else if c == 101 then Some 27  -- e, escape
+    else None
+
+-- how many hexadecimal digits follow a letter behind a backslash: 2 behind x, 4 behind u, 8 behind U
+abbrev pub hex_len : ℕ → ℕ
+hex_len c = if c == 120 then 2 else if c == 117 then 4 else if c == 85 then 8 else 0
+
+-- a hexadecimal digit, of either case
+abbrev pub is_hex : ℕ → Bool
+is_hex c = is_digit c 16
+
+-- the bytes from a to b are hexadecimal digits
+pub record HexRun (text : List ℕ) (a b : ℕ) : Type 0 where
+  pub within : b ≤ length text
+  pub digits : (k : ℕ) → a ≤ k → k < b → is_hex (slice_index text k) ≡ true
+
+-- the number that the n digits from a on write
+abbrev pub hex_value : List ℕ → ℕ → ℕ → ℕ
+hex_value text a n = digits_value 16 (take n (drop a text))
+
+-- n digits behind the letter at i write the character c, and end at j
+abbrev pub IsHexEscape : List ℕ → ℕ → ℕ → ℕ → ℕ → Type 0
+IsHexEscape text i n c j = HexRun text (i + 1) j × (j ≡ (i + 1) + n) × (c ≡ hex_value text (i + 1) n) × IsScalar c
+
+-- n digits are due behind the letter at i, and this fault stands there: the text ends among digits, another character
+-- stands in a digit's place, or the digits write no character
+abbrev pub IsHexFault : ℕ → List ℕ → ℕ → ℕ → ℕ → Error → Type 0
+IsHexFault start text i n j (errors.UnterminatedString s) =
+    (s ≡ start) × (j ≡ length text) × HexRun text (i + 1) (length text) × (length text < (i + 1) + n)
+IsHexFault start text i n j (errors.InvalidHexEscape at c) =
+    (i < at) × (at < (i + 1) + n) × HexRun text (i + 1) at × CharAt text at c j × (is_hex c ≡ false)
+IsHexFault start text i n j (errors.InvalidEscapeValue at m v) =
+    (at ≡ i) × (m ≡ n) × (v ≡ hex_value text (i + 1) n) × HexRun text (i + 1) j × (j ≡ (i + 1) + n) × (IsScalar v → ⊥)
+IsHexFault start text i n j _ = ⊥
+
+abbrev pub HexGives : ℕ → List ℕ → ℕ → ℕ → Result (ℕ × ℕ) (Error × ℕ) → Type 0
+HexGives start text i n (Ok found) = IsHexEscape text i n found.0 found.1
+HexGives start text i n (Err fault) = IsHexFault start text i n fault.1 fault.0
+
+-- a letter that may stand behind a backslash
+abbrev pub opens_escape : ℕ → Bool
+opens_escape c = is_some (simple_escape c) || nat_lt 0 (hex_len c)
+
+-- the escape whose letter is at i writes c, and ends at j
+abbrev pub IsEscape : List ℕ → ℕ → ℕ → ℕ → Type 0
+IsEscape text i c j =
+    ((simple_escape (slice_index text i) ≡ Some c) × (i < length text) × (j ≡ i + 1))
+    ⊎ ((0 < hex_len (slice_index text i)) × (i < length text) × IsHexEscape text i (hex_len (slice_index text i)) c j)
+
+-- at i, behind a backslash, no escape stands, and this fault does
+abbrev pub IsEscapeFault : ℕ → List ℕ → ℕ → ℕ → Error → Type 0
+IsEscapeFault start text i j e =
+    ((e ≡ errors.UnterminatedString start) × (i ≡ length text) × (j ≡ i))
+    ⊎ ((c : ℕ) × (e ≡ errors.InvalidEscape i c) × (opens_escape c ≡ false) × CharAt text i c j)
+    ⊎ ((0 < hex_len (slice_index text i)) × (i < length text) × IsHexFault start text i (hex_len (slice_index text i)) j e)
+
+abbrev pub EscapeGives : ℕ → List ℕ → ℕ → Result (ℕ × ℕ) (Error × ℕ) → Type 0
+EscapeGives start text i (Ok found) = IsEscape text i found.0 found.1
+EscapeGives start text i (Err fault) = IsEscapeFault start text i fault.1 fault.0

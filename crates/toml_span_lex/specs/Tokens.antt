@@ -1,0 +1,114 @@
+-- The token, or the fault, that stands at a place of a text.
+use Rattle.std.specs.Prelude.{◌≡◌, ℕ, ◌+◌, ◌<◌, ◌⊎◌, Bool, true, false, ◌||◌, ◌==◌, if◌then◌else◌, List, slice_index, slice_range, Result, Ok, Err, codes}
+use Rattle.std.specs.Cow.{cow_str_bytes}
+use Rattle.toml_span_lex.specs.Bytes.{line_feed, equals, period, comma, colon, plus, left_brace, right_brace, left_bracket, right_bracket, hash, quotation_mark, apostrophe, is_blank, is_keylike, is_printed, MaximalRun}
+use Rattle.toml_span_lex.specs.Text.{LineEnd, CharAt}
+use Rattle.toml_span_lex.specs.Strings.{IsString, IsNoString}
+use Rattle.toml_span_lex.specs.declared.span.Span.{Span}
+use Rattle.toml_span_lex.specs.declared.tokens.Token.{Token}
+use Rattle.toml_span_lex.specs.declared.tokens.Token.TheVariants as tokens
+use Rattle.toml_span_lex.specs.declared.tokens.Error.{Error}
+use Rattle.toml_span_lex.specs.declared.tokens.Error.TheVariants as errors
+
+-- = . , : + { } [ ]
+abbrev pub is_sign : ℕ → Bool
+is_sign c =
+    c == equals || c == period || c == comma || c == colon || c == plus
+    || c == left_brace || c == right_brace || c == left_bracket || c == right_bracket
+
+-- ---- tokens by their contents
+
+pub data Lexeme : Type 0 where
+  whitespace : List ℕ → Lexeme
+  newline : Lexeme
+  comment : List ℕ → Lexeme
+  -- one of nine bytes that are a token each
+  sign : ℕ → Lexeme
+  keylike : List ℕ → Lexeme
+  -- the source with its quotes, the value, and whether there are three quotes
+  string : List ℕ → List ℕ → Bool → Lexeme
+
+abbrev pub lexeme : Token → Lexeme
+lexeme (tokens.Whitespace s) = whitespace s.now
+lexeme tokens.Newline = newline
+lexeme (tokens.Comment s) = comment s.now
+lexeme tokens.Equals = sign equals
+lexeme tokens.Period = sign period
+lexeme tokens.Comma = sign comma
+lexeme tokens.Colon = sign colon
+lexeme tokens.Plus = sign plus
+lexeme tokens.LeftBrace = sign left_brace
+lexeme tokens.RightBrace = sign right_brace
+lexeme tokens.LeftBracket = sign left_bracket
+lexeme tokens.RightBracket = sign right_bracket
+lexeme (tokens.Keylike s) = keylike s.now
+lexeme (tokens.String src val multiline) = string src.now (cow_str_bytes val) multiline
+
+-- a sign in the words of an error
+abbrev pub sign_words : ℕ → List ℕ
+sign_words c =
+    if c == equals then codes "an equals"
+    else if c == period then codes "a period"
+    else if c == comma then codes "a comma"
+    else if c == colon then codes "a colon"
+    else if c == plus then codes "a plus"
+    else if c == left_brace then codes "a left brace"
+    else if c == right_brace then codes "a right brace"
+    else if c == left_bracket then codes "a left bracket"
+    else codes "a right bracket"
+
+-- a token in the words of an error
+abbrev pub words : Lexeme → List ℕ
+words (whitespace s) = codes "whitespace"
+words newline = codes "a newline"
+words (comment s) = codes "a comment"
+words (sign c) = sign_words c
+words (keylike s) = codes "an identifier"
+words (string src value true) = codes "a multiline string"
+words (string src value false) = codes "a string"
+
+-- ---- what stands at a place
+
+-- all bytes from i on that pass, at least one
+abbrev pub RunAt : (ℕ → Bool) → List ℕ → ℕ → ℕ → List ℕ → Type 0
+RunAt p text i j part = (i < j) × MaximalRun p text i j × (part ≡ slice_range text i j)
+
+abbrev pub SignAt : ℕ → List ℕ → ℕ → ℕ → Type 0
+SignAt c text i j = (slice_index text i ≡ c) × (j ≡ i + 1)
+
+-- the text from i to j is this token, which is no string
+abbrev pub IsToken : List ℕ → ℕ → ℕ → Lexeme → Type 0
+IsToken text i j (whitespace s) = RunAt is_blank text i j s
+IsToken text i j newline = LineEnd text i j
+IsToken text i j (comment s) = (slice_index text i ≡ hash) × RunAt is_printed text i j s
+IsToken text i j (sign c) = (is_sign c ≡ true) × SignAt c text i j
+IsToken text i j (keylike s) = RunAt is_keylike text i j s
+IsToken text i j (string src value multi) = ⊥
+
+-- The text from i to j is this token, with this span. A span runs from the token's first byte to behind its last
+-- one, but for a string.
+abbrev pub Stands : List ℕ → ℕ → ℕ → Span → Lexeme → Type 0
+Stands text i j span (string src value multi) = IsString text i j span src value multi
+Stands text i j span l = IsToken text i j l × (span ≡ record { start = i; end = j })
+
+-- the characters that begin a token: a blank, a sign, a line feed or a hash
+abbrev pub begins_alone : ℕ → Bool
+begins_alone c = is_blank c || is_sign c || c == line_feed || c == hash
+
+-- or one of a bare key, or a quote
+abbrev pub begins_token : ℕ → Bool
+begins_token c = (begins_alone c || is_keylike c) || (c == quotation_mark || c == apostrophe)
+
+-- the character at i begins no token, and j is behind it
+abbrev pub IsUnexpected : List ℕ → ℕ → ℕ → Error → Type 0
+IsUnexpected text i j (errors.Unexpected at c) = (at ≡ i) × CharAt text i c j × (begins_token c ≡ false)
+IsUnexpected text i j _ = ⊥
+
+-- No token stands at i: this fault does, and j is behind the character that it names, or the end of the text.
+abbrev pub IsFault : List ℕ → ℕ → ℕ → Error → Type 0
+IsFault text i j e = IsUnexpected text i j e ⊎ IsNoString text i j e
+
+-- the token at i, which is no string, and where it ends, or the fault and where the next character begins
+abbrev pub Finds : List ℕ → ℕ → Result (Token × ℕ) (Error × ℕ) → Type 0
+Finds text i (Ok found) = IsToken text i found.1 (lexeme found.0)
+Finds text i (Err fault) = IsUnexpected text i fault.1 fault.0

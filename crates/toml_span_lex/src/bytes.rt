@@ -1,0 +1,90 @@
+//! The classes of bytes, and runs of them (TOML 1.1, "Whitespace", "Keys", "Comment").
+ghost use Rattle.std.specs.Prelude.{◌≡◌, ℕ, ◌<◌, true, length, slice_index, IsTrue};
+ghost use Rattle.std.specs.Str.{IsCharBoundary};
+ghost use Rattle.toml_span_lex.specs.Bytes as spec;
+ghost use Rattle.toml_span_lex.specs.Bytes.{MaximalRun};
+
+/// A space or a tab.
+#[inline]
+pub fn is_blank(byte: u8) -> bool
+    ensures { result ≡ spec.is_blank byte }
+{
+    byte == b' ' || byte == b'\t'
+}
+
+/// A byte of a bare key: an ASCII letter, a digit, a dash or an underscore.
+#[inline]
+pub fn is_keylike(byte: u8) -> bool
+    ensures { result ≡ spec.is_keylike byte }
+{
+    byte.is_ascii_alphanumeric() || byte == b'-' || byte == b'_'
+}
+
+/// A byte that a comment can hold: a tab, or no control character.
+#[inline(always)]
+pub fn is_printed(byte: u8) -> bool
+    ensures { result ≡ spec.is_printed byte }
+{
+    byte == b'\t' || (byte >= 0x20 && byte != 0x7F)
+}
+
+/// Where the run of spaces and tabs from a place on ends.
+pub fn blanks_end(text: &str, from: usize) -> usize
+    requires { IsCharBoundary text.now from }
+    ensures run { MaximalRun spec.is_blank text.now from result }
+    ensures boundary { IsCharBoundary text.now result }
+{
+    let bytes = text.as_bytes();
+    for at in from..bytes.len() {
+        if !is_blank(bytes[at]) {
+            return at;
+        }
+    }
+    bytes.len()
+}
+
+/// Where the run of bytes of bare keys from a place on ends.
+pub fn keylike_end(text: &str, from: usize) -> usize
+    requires { IsCharBoundary text.now from }
+    ensures run { MaximalRun spec.is_keylike text.now from result }
+    ensures boundary { IsCharBoundary text.now result }
+{
+    let bytes = text.as_bytes();
+    for at in from..bytes.len() {
+        if !is_keylike(bytes[at]) {
+            return at;
+        }
+    }
+    bytes.len()
+}
+
+/// Whether a comment can hold each byte.
+#[inline(always)]
+fn all_printed(bytes: &[u8]) -> bool
+    ensures { IsTrue result → (k : ℕ) → k < length bytes.now → spec.is_printed (slice_index bytes.now k) ≡ true }
+{
+    let mut all = true;
+    for byte in bytes {
+        all &= is_printed(*byte);
+    }
+    all
+}
+
+/// Where the run of bytes of a comment ends, found sixteen at a time.
+pub fn printed_end(text: &str, from: usize) -> usize
+    requires { IsCharBoundary text.now from }
+    ensures run { MaximalRun spec.is_printed text.now from result }
+    ensures boundary { IsCharBoundary text.now result }
+{
+    let bytes = text.as_bytes();
+    let mut start = from;
+    while bytes.len() - start >= 16 && all_printed(&bytes[start..start + 16]) {
+        start += 16;
+    }
+    for at in start..bytes.len() {
+        if !is_printed(bytes[at]) {
+            return at;
+        }
+    }
+    bytes.len()
+}

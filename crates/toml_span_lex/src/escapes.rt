@@ -1,0 +1,95 @@
+//! Escapes of strings in quotation marks (TOML 1.1, "String": `escaped`).
+ghost use Rattle.std.specs.Prelude.{◌≡◌, ◌≤◌, ◌<◌, length, slice_index};
+ghost use Rattle.std.specs.Str.{IsCharBoundary};
+ghost use Rattle.toml_span_lex.specs.Escapes as spec;
+ghost use Rattle.toml_span_lex.specs.Text.{LeadsTo};
+
+use crate::text::char_at;
+use crate::tokens::Error;
+
+/// The character that `len` digits behind the letter at `at` write.
+fn hex_escape(
+    text: &str,
+    start: usize,
+    at: usize,
+    len: usize,
+) -> Result<(char, usize), (Error, usize)>
+    requires within { at < length text.now }
+    requires ascii { slice_index text.now at < 128 }
+    requires few { len ≤ 8 }
+    ensures gives { spec.HexGives start text.now at len result }
+    ensures boundary { LeadsTo (λ j. IsCharBoundary text.now j) result }
+{
+    let bytes = text.as_bytes();
+    let mut value: u32 = 0;
+    for k in 0..len {
+        if at + 1 + k == bytes.len() {
+            return Err((Error::UnterminatedString(start), bytes.len()));
+        }
+        match char::from(bytes[at + 1 + k]).to_digit(16) {
+            Some(digit) => value = value * 16 + digit,
+            None => {
+                let (c, next) = char_at(text, at + 1 + k);
+                return Err((Error::InvalidHexEscape(at + 1 + k, c), next));
+            }
+        }
+    }
+    match char::from_u32(value) {
+        Some(c) => Ok((c, at + 1 + len)),
+        None => Err((Error::InvalidEscapeValue(at, len, value), at + 1 + len)),
+    }
+}
+
+/// The character that a letter stands for behind a backslash.
+#[inline]
+fn simple_escape(letter: u8) -> Option<char>
+    ensures { result ≡ spec.simple_escape letter }
+{
+    match letter {
+        b'"' => Some('"'),
+        b'\\' => Some('\\'),
+        b'b' => Some('\u{8}'),
+        b'f' => Some('\u{c}'),
+        b'n' => Some('\n'),
+        b'r' => Some('\r'),
+        b't' => Some('\t'),
+        b'e' => Some('\u{1b}'),
+        _ => None,
+    }
+}
+
+/// How many hexadecimal digits follow a letter behind a backslash.
+#[inline]
+fn hex_len(letter: u8) -> usize
+    ensures { result ≡ spec.hex_len letter }
+{
+    match letter {
+        b'x' => 2,
+        b'u' => 4,
+        b'U' => 8,
+        _ => 0,
+    }
+}
+
+/// The escape whose letter is at a place.
+pub(crate) fn escape(text: &str, start: usize, at: usize) -> Result<(char, usize), (Error, usize)>
+    requires { IsCharBoundary text.now at }
+    ensures gives { spec.EscapeGives start text.now at result }
+    ensures boundary { LeadsTo (λ j. IsCharBoundary text.now j) result }
+{
+    let bytes = text.as_bytes();
+    if at == bytes.len() {
+        return Err((Error::UnterminatedString(start), at));
+    }
+    let letter = bytes[at];
+    if let Some(c) = simple_escape(letter) {
+        return Ok((c, at + 1));
+    }
+    let len = hex_len(letter);
+    if len > 0 {
+        hex_escape(text, start, at, len)
+    } else {
+        let (c, next) = char_at(text, at);
+        Err((Error::InvalidEscape(at, c), next))
+    }
+}

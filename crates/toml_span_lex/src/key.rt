@@ -1,0 +1,67 @@
+//! Names with the place at which they stand.
+ghost use Rattle.std.specs.Prelude.{◌≡◌, [], Some, IfOk, IsOkAnd};
+ghost use Rattle.std.specs.Cow.{cow_str_bytes, IsBorrowedStr};
+
+use crate::span::Span;
+use std::alloc::{AllocError, Global};
+use std::borrow::CowStr;
+use std::fmt;
+use std::fmt::{Debug, Display, Formatter, Write};
+
+/// A key of a table: its name, and the bytes at which it stands.
+///
+/// Two keys compare by their names alone, in the order of the names' bytes.
+#[derive(Drop)]
+#[derive_where(PartialEq, Eq, PartialOrd, Ord)]
+pub struct Key<'de> {
+    pub name: CowStr<'de>,
+    #[derive_where(skip(EqHashOrd))]
+    pub span: Span,
+}
+
+impl Key<'_> {
+    /// A second key of the same name and span, which borrows the name if this one does. On want of
+    /// memory there is none, and this one is as before.
+    pub fn clone(&self, alloc: Global) -> Result<Self, AllocError>
+        ensures name { IfOk result (λ key. cow_str_bytes key.name ≡ cow_str_bytes self.now.name) }
+        ensures span { IfOk result (λ key. key.span ≡ self.now.span) }
+        ensures borrowed { IsBorrowedStr self.now.name → IsOkAnd result (λ key. IsBorrowedStr key.name) }
+    {
+        let name = match &self.name {
+            CowStr::Borrowed(name) => CowStr::Borrowed(*name),
+            CowStr::Owned(name) => CowStr::Owned(String::from_str(alloc, name.as_str())?),
+        };
+        Ok(Self {
+            name,
+            span: self.span,
+        })
+    }
+}
+
+impl Default for Key<'_> {
+    ghost is_default = { λ key. (cow_str_bytes key.name ≡ []) × (key.span ≡ record { start = 0; end = 0 }) };
+
+    /// The empty name, at `0..0`.
+    fn default() -> Self {
+        Self {
+            name: CowStr::Borrowed(""),
+            span: Span::default(),
+        }
+    }
+}
+
+impl Display for Key<'_> {
+    ghost output = { λ key. Some (cow_str_bytes key.name) };
+
+    fn fmt<W: Write>(&self, f: &mut Formatter<W>) -> fmt::Result {
+        f.write_str(self.name.as_ref())
+    }
+}
+
+impl Debug for Key<'_> {
+    ghost debug_output = { λ key. Some (cow_str_bytes key.name) };
+
+    fn fmt<W: Write>(&self, f: &mut Formatter<W>) -> fmt::Result {
+        Display::fmt(self, f)
+    }
+}

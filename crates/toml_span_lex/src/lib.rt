@@ -1,0 +1,17 @@
+//! The tokens of a TOML text, with the bytes at which they stand.
+#![tactic(auto)]
+
+pub mod bytes;
+mod escapes;
+pub mod key;
+pub mod laws;
+pub mod pieces;
+pub mod span;
+pub mod spanned;
+pub mod stop;
+pub mod strings;
+#[cfg(test)]
+mod tests;
+pub mod text;
+pub mod tokenizer;
+pub mod tokens;

@@ -1,0 +1,215 @@
+//! The pieces that a string is cut into (TOML 1.1, "String").
+ghost use Rattle.std.specs.Prelude.{◌≡◌, ℕ, ◌+◌, ◌≤◌, ◌<◌, ◌==◌, true, length, slice_index, IsTrue, Ok};
+ghost use Rattle.std.specs.Str.{IsCharBoundary};
+ghost use Rattle.toml_span_lex.specs.Bytes.{MaximalRun, backslash};
+ghost use Rattle.toml_span_lex.specs.Pieces as spec;
+ghost use Rattle.toml_span_lex.specs.Strings.{IsQuote};
+ghost use Rattle.toml_span_lex.specs.Text.{LeadsTo};
+
+use crate::bytes::{blanks_end, is_blank, is_printed};
+use crate::escapes::escape;
+use crate::text::{char_at, is_crlf, line_end};
+use crate::tokens::Error;
+
+/// What the content of a string is cut into.
+#[derive(Clone, Copy)]
+pub enum Piece {
+    /// Characters that stand for themselves.
+    Plain,
+    /// One or two quotes of a string of several lines.
+    Quotes,
+    LineEnd,
+    Escape(char),
+    /// A line end that a backslash drops, with the white space round it.
+    Dropped,
+}
+
+/// A byte that stands for itself between these quotes.
+#[inline(always)]
+fn is_plain(quote: u8, byte: u8) -> bool
+    ensures { result ≡ spec.is_plain quote byte }
+{
+    is_printed(byte) && byte != quote && !(quote == b'"' && byte == b'\\')
+}
+
+/// Whether each byte stands for itself between these quotes.
+#[inline(always)]
+fn all_plain(quote: u8, bytes: &[u8]) -> bool
+    ensures { IsTrue result → (k : ℕ) → k < length bytes.now → spec.is_plain quote (slice_index bytes.now k) ≡ true }
+{
+    let mut all = true;
+    for byte in bytes {
+        all &= is_plain(quote, *byte);
+    }
+    all
+}
+
+/// Where the run of bytes ends that stand for themselves between these quotes, found sixteen at a
+/// time.
+pub fn plain_end(text: &str, quote: u8, from: usize) -> usize
+    requires boundary { IsCharBoundary text.now from }
+    requires ascii { quote < 128 }
+    ensures run { MaximalRun (spec.is_plain quote) text.now from result }
+    ensures boundary { IsCharBoundary text.now result }
+{
+    let bytes = text.as_bytes();
+    let mut start = from;
+    while bytes.len() - start >= 16 && all_plain(quote, &bytes[start..start + 16]) {
+        start += 16;
+    }
+    for at in start..bytes.len() {
+        if !is_plain(quote, bytes[at]) {
+            return at;
+        }
+    }
+    bytes.len()
+}
+
+/// Where the run of quotes ends.
+fn quotes_end(text: &str, quote: u8, from: usize) -> usize
+    requires boundary { IsCharBoundary text.now from }
+    requires ascii { quote < 128 }
+    ensures run { MaximalRun (λ c. c == quote) text.now from result }
+    ensures boundary { (k : ℕ) → from ≤ k → k ≤ result → IsCharBoundary text.now k }
+{
+    let bytes = text.as_bytes();
+    for at in from..bytes.len() {
+        if bytes[at] != quote {
+            return at;
+        }
+    }
+    bytes.len()
+}
+
+/// Whether a space, a tab or a byte of a line end is at a place.
+#[inline]
+fn is_gap(bytes: &[u8], at: usize) -> bool
+    requires { at < length bytes.now }
+    ensures { result ≡ spec.is_gap bytes.now at }
+{
+    is_blank(bytes[at]) || bytes[at] == b'\n' || is_crlf(bytes, at)
+}
+
+/// Where the white space ends, line ends included.
+fn gap_end(text: &str, from: usize) -> usize
+    requires { IsCharBoundary text.now from }
+    ensures run { spec.MaximalGap text.now from result }
+    ensures boundary { IsCharBoundary text.now result }
+{
+    let bytes = text.as_bytes();
+    for at in from..bytes.len() {
+        if !is_gap(bytes, at) {
+            return at;
+        }
+    }
+    bytes.len()
+}
+
+/// One or two quotes of a string of several lines, or its end.
+fn quotes(text: &str, quote: u8, at: usize) -> (Option<Piece>, usize)
+    requires within { at < length text.now }
+    requires boundary { IsCharBoundary text.now at }
+    requires ascii { quote < 128 }
+    requires here { slice_index text.now at ≡ quote }
+    ensures gives { spec.PieceGives quote true 0 text.now at (Ok result) }
+    ensures boundary { IsCharBoundary text.now result.1 }
+{
+    let end = quotes_end(text, quote, at);
+    if end - at < 3 {
+        (Some(Piece::Quotes), end)
+    } else {
+        (None, end.min(at + 5))
+    }
+}
+
+/// What a backslash begins.
+fn escape_piece(
+    text: &str,
+    multi: bool,
+    start: usize,
+    at: usize,
+) -> Result<(Option<Piece>, usize), (Error, usize)>
+    requires within { at < length text.now }
+    requires here { slice_index text.now at ≡ backslash }
+    ensures gives { spec.PieceGives 34 multi start text.now at result }
+    ensures boundary { LeadsTo (λ j. IsCharBoundary text.now j) result }
+{
+    let letter = at + 1;
+    if multi && gap_at(text, letter) {
+        return drop_line(text, start, at);
+    }
+    match escape(text, start, letter) {
+        Ok((c, next)) => Ok((Some(Piece::Escape(c)), next)),
+        Err(fault) => Err(fault),
+    }
+}
+
+/// Whether white space or a line end is at a place.
+fn gap_at(text: &str, at: usize) -> bool
+    ensures gap { result ≡ spec.is_gap text.now at }
+    ensures within { IsTrue result → at < length text.now }
+{
+    let bytes = text.as_bytes();
+    at < bytes.len() && is_gap(bytes, at)
+}
+
+/// What a backslash before white space drops, in a string of several lines.
+fn drop_line(text: &str, start: usize, at: usize) -> Result<(Option<Piece>, usize), (Error, usize)>
+    requires within { at + 1 < length text.now }
+    requires here { slice_index text.now at ≡ backslash }
+    requires gap { spec.is_gap text.now (at + 1) ≡ true }
+    ensures gives { spec.PieceGives 34 true start text.now at result }
+    ensures boundary { LeadsTo (λ j. IsCharBoundary text.now j) result }
+{
+    let bytes = text.as_bytes();
+    let letter = at + 1;
+    let blank = blanks_end(text, letter);
+    match line_end(text, blank) {
+        Some(line) => Ok((Some(Piece::Dropped), gap_end(text, line))),
+        None if blank == bytes.len() => Err((Error::UnterminatedString(start), blank)),
+        None => Err((
+            Error::InvalidEscape(letter, char::from(bytes[letter])),
+            blank,
+        )),
+    }
+}
+
+/// The piece at a place, or the end of the string.
+pub(crate) fn piece_at(
+    text: &str,
+    quote: u8,
+    multi: bool,
+    start: usize,
+    at: usize,
+) -> Result<(Option<Piece>, usize), (Error, usize)>
+    requires boundary { IsCharBoundary text.now at }
+    requires quote { IsQuote quote }
+    ensures gives { spec.PieceGives quote multi start text.now at result }
+    ensures boundary { LeadsTo (λ j. IsCharBoundary text.now j) result }
+{
+    let end = plain_end(text, quote, at);
+    if at < end {
+        return Ok((Some(Piece::Plain), end));
+    }
+    let bytes = text.as_bytes();
+    if at == bytes.len() {
+        return Err((Error::UnterminatedString(start), at));
+    }
+    if bytes[at] == quote {
+        if multi {
+            return Ok(quotes(text, quote, at));
+        }
+        return Ok((None, at + 1));
+    }
+    if bytes[at] == b'\\' {
+        return escape_piece(text, multi, start, at);
+    }
+    match line_end(text, at) {
+        Some(next) if multi => Ok((Some(Piece::LineEnd), next)),
+        Some(next) => Err((Error::NewlineInString(at), next)),
+        None => {
+            let (c, next) = char_at(text, at);
+            Err((Error::InvalidCharInString(at, c), next))
+        }
+    }
+}

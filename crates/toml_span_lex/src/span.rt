@@ -1,0 +1,59 @@
+//! Places in a text.
+ghost use Rattle.std.specs.Prelude.{◌≡◌, ◌↔◌, IsTrue};
+
+use std::ops::Range;
+
+/// The bytes of a text from offset `start` up to, and not including, offset `end`.
+///
+/// Nothing is asked of the two: a reversed span is kept as it is.
+#[derive(Clone, Copy, PartialEq, Eq, Default, Debug)]
+pub struct Span {
+    pub start: usize,
+    pub end: usize,
+}
+
+impl Span {
+    /// The span of these two offsets.
+    #[inline]
+    pub fn new(start: usize, end: usize) -> Self
+        ensures start { result.start ≡ start }
+        ensures end { result.end ≡ end }
+    {
+        Self { start, end }
+    }
+
+    /// Whether the span ends where it starts.
+    #[inline]
+    pub fn is_empty(&self) -> bool
+        ensures { IsTrue result ↔ (self.now.start ≡ self.now.end) }
+    {
+        self.start == self.end
+    }
+}
+
+impl From<Span> for (usize, usize) {
+    ghost from_gives = { λ span pair. (pair.0 ≡ span.start) × (pair.1 ≡ span.end) };
+
+    fn from(span: Span) -> (usize, usize) {
+        (span.start, span.end)
+    }
+}
+
+impl From<Range<usize>> for Span {
+    ghost from_gives = { λ range span. (span.start ≡ range.start) × (span.end ≡ range.end) };
+
+    fn from(range: Range<usize>) -> Self {
+        Self {
+            start: range.start,
+            end: range.end,
+        }
+    }
+}
+
+impl From<Span> for Range<usize> {
+    ghost from_gives = { λ span range. (range.start ≡ span.start) × (range.end ≡ span.end) };
+
+    fn from(span: Span) -> Self {
+        span.start..span.end
+    }
+}

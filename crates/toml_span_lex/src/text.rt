@@ -1,0 +1,55 @@
+//! Characters at a place of a text.
+ghost use Rattle.std.specs.Prelude.{◌≡◌, ◌<◌, ◌≤◌, length, IfSome};
+ghost use Rattle.std.specs.Str.{IsCharBoundary};
+ghost use Rattle.toml_span_lex.specs.Text as spec;
+ghost use Rattle.toml_span_lex.specs.Text.{CharAt};
+
+/// The character at a place, and where the next one begins.
+pub fn char_at(text: &str, at: usize) -> (char, usize)
+    requires boundary { IsCharBoundary text.now at }
+    requires within { at < length text.now }
+    ensures gives { CharAt text.now at result.0 result.1 }
+    ensures boundary { IsCharBoundary text.now result.1 }
+{
+    let bytes = text.as_bytes();
+    let byte = bytes[at];
+    if is_crlf(bytes, at) {
+        ('\n', at + 2)
+    } else if byte < 128 {
+        (char::from(byte), at + 1)
+    } else {
+        match text[at..].chars().next() {
+            Some(c) => (c, at + c.len_utf8()),
+            None => unreachable!(),
+        }
+    }
+}
+
+/// Whether a carriage return with a line feed stands at a place.
+#[inline]
+pub fn is_crlf(bytes: &[u8], at: usize) -> bool
+    requires { at < length bytes.now }
+    ensures { result ≡ spec.is_crlf bytes.now at }
+{
+    bytes[at] == b'\r' && at + 1 < bytes.len() && bytes[at + 1] == b'\n'
+}
+
+/// What is behind the line end at a place, if one stands there.
+#[inline]
+#[tactic(auto, using(crate::proofs::Runs::behind_line))]
+pub fn line_end(text: &str, at: usize) -> Option<usize>
+    requires { at ≤ length text.now }
+    ensures gives { spec.LineEndGives text.now at result }
+    ensures boundary { IfSome result (λ j. IsCharBoundary text.now j) }
+{
+    let bytes = text.as_bytes();
+    if at == bytes.len() {
+        None
+    } else if bytes[at] == b'\n' {
+        Some(at + 1)
+    } else if is_crlf(bytes, at) {
+        Some(at + 2)
+    } else {
+        None
+    }
+}
