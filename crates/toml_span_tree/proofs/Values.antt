@@ -1,0 +1,58 @@
+-- A value, a level at a time.
+use Rattle.std.proofs.Common.{◌≡◌, ℕ, List, [], ◌∷◌, Option, Some, None, option_map, is_some, BTreeMap, Vec, Global, nat_cmp, cond, Bool, true, false, Bor, refl, ap, ◌∙◌, rules}
+use Rattle.std.specs.Cow.{cow_str_bytes}
+use Rattle.std.specs.Str.{bytes_eq}
+use Rattle.std.specs.Cmp.Lexicographic.{slice_cmp}
+use Rattle.std.specs.Map.{lookup, lookup_entry}
+use Rattle.std.specs.BTreeMap.{is_at}
+use Rattle.std.proofs.lemmas.Map.Text.{is_eq-slice_cmp}
+use Rattle.toml_span_lex.specs.declared.key.Key.{Key}
+use Rattle.toml_span_lex.specs.declared.span.Span.{Span}
+use Rattle.toml_span_tree.specs.declared.value.Value.{Value}
+use Rattle.toml_span_tree.specs.declared.value.ValueInner.{Array, Table, the_lemmas}
+use Rattle.toml_span_tree.specs.Node.{Node, node, array, table, entry_at, get_member}
+use Rattle.toml_span_tree.specs.Value.{view, inner_view, items_view, members_view, inner_or_taken}
+
+abbrev pub Entry : Type 0
+Entry = Key × Value
+
+pub view_is : (v : Value) → view v ≡ node (inner_or_taken (option_map inner_view v.value)) v.span
+view_is v = search (rules, the_lemmas)
+
+pub inner_view-Array : (v : Vec Value Global) → inner_view (Array v) ≡ array (items_view v.items)
+inner_view-Array v = search (rules, the_lemmas)
+
+pub inner_view-Table : (m : BTreeMap Key Value) → inner_view (Table m) ≡ table (members_view m.entries)
+inner_view-Table m = search (rules, the_lemmas)
+
+-- the test by which a look-up finds a name
+abbrev pub at_name : List ℕ → Key → Bool
+at_name name = is_at (λ k. slice_cmp nat_cmp name (cow_str_bytes k.name))
+
+found_or : (b c : Bool) (v : Value) (key : Option Span) (rest : Option Value) (d : Option (Option Span × Node)) → b ≡ c → option_map view rest ≡ option_map (λ e. e.1) d
+    → option_map view (cond b (Some v) rest) ≡ option_map (λ e. e.1) (cond c (Some (key, view v)) d)
+found_or true c v key rest d same e = ap (λ c. option_map (λ e. e.1) (cond c (Some (key, view v)) d)) same
+found_or false c v key rest d same e = e ∙ ap (λ c. option_map (λ e. e.1) (cond c (Some (key, view v)) d)) same
+
+-- a look-up by name finds what the members have at that name
+pub view-lookup : (name : List ℕ) (es : List Entry) → option_map view (lookup (at_name name) es) ≡ get_member name (members_view es)
+view-lookup name [] = refl
+view-lookup name (e ∷ es) = found_or (at_name name e.0) (bytes_eq name (cow_str_bytes e.0.name)) e.1 (Some e.0.span) _ _ (is_eq-slice_cmp name (cow_str_bytes e.0.name)) (view-lookup name es)
+
+-- the same, with the span of the key
+found_entry : (b c : Bool) (e : Entry) (rest : Option Entry) (d : Option (Option Span × Node)) → b ≡ c → option_map (λ e. (Some e.0.span, view e.1)) rest ≡ d
+    → option_map {U = Option Span × Node} (λ e. (Some e.0.span, view e.1)) (cond b (Some e) rest) ≡ cond c (Some (Some e.0.span, view e.1)) d
+found_entry true c e rest d same is = ap (λ c. cond c (Some (Some e.0.span, view e.1)) d) same
+found_entry false c e rest d same is = is ∙ ap (λ c. cond c (Some (Some e.0.span, view e.1)) d) same
+
+pub entry_at-lookup : (name : List ℕ) (es : List Entry) → option_map (λ e. (Some e.0.span, view e.1)) (lookup_entry (at_name name) es) ≡ entry_at name (members_view es)
+entry_at-lookup name [] = refl
+entry_at-lookup name (e ∷ es) = found_entry (at_name name e.0) (bytes_eq name (cow_str_bytes e.0.name)) e _ _ (is_eq-slice_cmp name (cow_str_bytes e.0.name)) (entry_at-lookup name es)
+
+pub is_some-view : (o : Option Value) → is_some o ≡ is_some (option_map view o)
+is_some-view None = refl
+is_some-view (Some v) = refl
+
+pub view-of_ref : (r : Option (Bor Value)) → option_map (λ x. view x.now) r ≡ option_map view (option_map (λ x. x.now) r)
+view-of_ref None = refl
+view-of_ref (Some x) = refl

@@ -1,0 +1,9 @@
+use Rattle.std.proofs.Common.{string_bytes}
+use Rattle.std.proofs.Output.{has_written_of_eq}
+use Rattle.toml_span_tree.specs.Listed.{quoted_key}
+use Rattle.toml_span_tree.proofs.ListedNames.{listed_map}
+use Rattle.toml_span_tree.proofs.listed.KeysDisplay.fmt.Goals as goal
+
+pub returns-clause-writes : goal.returns-clause-writes
+returns-clause-writes g c = λ plain ok.
+    has_written_of_eq _ _ _ _ _ (listed_map quoted_key (λ key. (string_bytes key.0, key.1)) c.args.self.now.0.now) (c.write_listed.ensures plain ok)

@@ -1,0 +1,8 @@
+use Rattle.std.proofs.Output.{has_written_of_eq}
+use Rattle.toml_span_tree.specs.Listed.{quoted}
+use Rattle.toml_span_tree.proofs.ListedNames.{listed_map}
+use Rattle.toml_span_tree.proofs.listed.LentNamesDisplay.fmt.Goals as goal
+
+pub returns-clause-writes : goal.returns-clause-writes
+returns-clause-writes g c = λ plain ok.
+    has_written_of_eq _ _ _ _ _ (listed_map quoted (λ name. name.now) c.args.self.now.0.now) (c.write_listed.ensures plain ok)

@@ -1,0 +1,9 @@
+use Rattle.std.proofs.Common.{◌++◌, codes, take}
+use Rattle.std.specs.Fmt.{HasWritten, IsPlainFormatter}
+use Rattle.std.specs.List.{flat_map}
+use Rattle.toml_span_tree.proofs.listed.write_more.Given as goal
+
+abbrev pub invariant-loop-item : goal.invariant-loop-item
+invariant-loop-item g l =
+    IsPlainFormatter l.initial.f
+    → HasWritten g.W.Write.write_str_gives l.initial.f (flat_map (λ item. codes ", " ++ g.T.Item.shown item) (take l.item-index l.items)) l.f

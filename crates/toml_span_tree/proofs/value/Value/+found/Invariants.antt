@@ -1,0 +1,5 @@
+use Rattle.std.proofs.Common.{length}
+use Rattle.toml_span_tree.proofs.value.Value.+found.Given as goal
+
+abbrev pub decreases-found : goal.decreases-found
+decreases-found l = length l.path.now

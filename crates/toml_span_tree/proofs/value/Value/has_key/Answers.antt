@@ -1,0 +1,15 @@
+use Rattle.std.proofs.Common.{is_some, option_and_then, ap, ◌∙◌, List, ℕ}
+use Rattle.std.specs.Map.{lookup}
+use Rattle.toml_span_tree.specs.Node.{get_member}
+use Rattle.toml_span_tree.proofs.Values.{view-lookup, is_some-view, at_name}
+use Rattle.toml_span_tree.proofs.value.Value.has_key.Goals as goal
+
+pub returns-in-Some : goal.returns-in-Some
+returns-in-Some c =
+    let name = c.args.key.now in
+    let es = c.in-Some.table.now.entries in
+    c.contains_key.ensures
+    ∙ ap (λ (n : List ℕ). is_some (lookup (at_name n) es)) c.named.ensures
+    ∙ is_some-view _
+    ∙ ap is_some (view-lookup name es)
+    ∙ ap (λ m. is_some (option_and_then (get_member name) m)) c.in-Some.ensures

@@ -1,0 +1,77 @@
+-- What an editor or a terminal shows of an error: a code, a message and labels.
+use Rattle.std.specs.Prelude.{ℕ, List, [], ◌∷◌, ◌++◌, Bool, true, false, codes, length, map, string_bytes}
+use Rattle.std.specs.Fmt.{decimal}
+use Rattle.toml_span_lex.specs.declared.span.Span.{Span}
+use Rattle.toml_span_tree.specs.declared.diagnostic.Label.{Label}
+use Rattle.toml_span_tree.specs.Error.{Kind, unexpected_eof, exceeded_depth_limit, invalid_char_in_string, invalid_escape, invalid_hex_escape, invalid_escape_value, unexpected, unterminated_string, invalid_number, invalid_datetime, out_of_range, wanted, duplicate_table, duplicate_key, redefine_as_array, multiline_string_key, custom, dotted_key_invalid_type, unexpected_keys, unquoted_string, missing_field, deprecated, unexpected_value}
+use Rattle.toml_span_tree.specs.Listed.{listed, quoted}
+use Rattle.toml_span_tree.specs.Message.{shown_char}
+
+-- a label by content
+pub record Mark (F : Type 0) : Type 0 where
+  pub primary : Bool
+  pub file : F
+  pub span : Span
+  pub message : List ℕ
+
+abbrev pub mark_of : {F : Type 0} → Label F → Mark F
+mark_of label =
+    record { primary = label.primary; file = label.file; span = label.span; message = string_bytes label.message }
+
+abbrev pub unexpected_keys_message : ℕ → List (List ℕ) → List ℕ
+unexpected_keys_message count expected =
+    codes "found " ++ decimal count ++ codes " unexpected keys, expected: " ++ listed quoted expected
+
+-- the message of a kind, which is empty where the label says all
+abbrev pub message_of : Kind → List ℕ
+message_of unexpected_eof = codes "unexpected end of file"
+message_of exceeded_depth_limit = codes "input exceeds the maximum allowed nesting depth"
+message_of (out_of_range type) = codes "number is out of range of '" ++ type ++ codes "'"
+message_of redefine_as_array = codes "table redefined as array"
+message_of (custom message) = message
+message_of (dotted_key_invalid_type first) = codes "dotted key attempted to extend non-table type"
+message_of (unexpected_keys keys expected) = unexpected_keys_message (length keys) expected
+message_of (missing_field field) = codes "missing field '" ++ field ++ codes "'"
+message_of (deprecated old new) =
+    codes "deprecated field enountered, '" ++ new ++ codes "' should be used instead"
+message_of (unexpected_value expected value) = codes "expected '" ++ listed quoted expected ++ codes "'"
+message_of _ = []
+
+-- the text of the label at the error's own span
+abbrev pub label_text_of : Kind → List ℕ
+label_text_of exceeded_depth_limit = codes "too deeply nested"
+label_text_of (invalid_char_in_string c) = codes "invalid character '" ++ shown_char c ++ codes "' in string"
+label_text_of (invalid_escape c) = codes "invalid escape character '" ++ shown_char c ++ codes "' in string"
+label_text_of (invalid_hex_escape c) = codes "invalid hex escape '" ++ shown_char c ++ codes "'"
+label_text_of (invalid_escape_value value) = codes "invalid escape value"
+label_text_of (unexpected c) = codes "unexpected character '" ++ shown_char c ++ codes "'"
+label_text_of unterminated_string = codes "eof reached before string terminator"
+label_text_of invalid_number = codes "unable to parse number"
+label_text_of invalid_datetime = codes "unable to parse datetime"
+label_text_of (wanted expected found) = codes "expected " ++ expected
+label_text_of (duplicate_table name first) = codes "duplicate table"
+label_text_of (duplicate_key key first) = codes "duplicate key"
+label_text_of multiline_string_key = codes "multiline keys are not allowed"
+label_text_of (dotted_key_invalid_type first) = codes "attempted to extend table here"
+label_text_of unquoted_string = codes "string is not quoted"
+label_text_of (missing_field field) = codes "table with missing field"
+label_text_of (deprecated old new) = codes "deprecated field"
+label_text_of (unexpected_value expected value) = codes "unexpected value"
+label_text_of _ = []
+
+abbrev pub primary : {F : Type 0} → F → Span → List ℕ → Mark F
+primary file span message = record { primary = true; file = file; span = span; message = message }
+
+abbrev pub secondary : {F : Type 0} → F → Span → List ℕ → Mark F
+secondary file span message = record { primary = false; file = file; span = span; message = message }
+
+-- the labels in order
+abbrev pub labels_of : {F : Type 0} → F → Span → Kind → List (Mark F)
+labels_of file span (duplicate_table name first) =
+    secondary file first (codes "first table instance") ∷ primary file span (codes "duplicate table") ∷ []
+labels_of file span (duplicate_key key first) =
+    secondary file first (codes "first key instance") ∷ primary file span (codes "duplicate key") ∷ []
+labels_of file span (dotted_key_invalid_type first) =
+    primary file span (codes "attempted to extend table here") ∷ secondary file first (codes "non-table") ∷ []
+labels_of file span (unexpected_keys keys expected) = map (λ key. secondary file key.1 []) keys
+labels_of file span kind = primary file span (label_text_of kind) ∷ []

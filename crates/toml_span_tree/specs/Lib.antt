@@ -1,0 +1,11 @@
+pub mod Date
+pub mod Diagnostic
+pub mod Error
+pub mod Float
+pub mod Json
+pub mod Listed
+pub mod Message
+pub mod Node
+pub mod Path
+pub mod Pointer
+pub mod Value

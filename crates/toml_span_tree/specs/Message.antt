@@ -1,0 +1,75 @@
+-- What an error prints: its kind as a code, and the error as a text.
+use Rattle.std.specs.Prelude.{ℕ, List, ◌++◌, if◌then◌else◌, codes, encode_utf8}
+use Rattle.std.specs.Char.{is_whitespace}
+use Rattle.std.specs.Fmt.{decimal}
+use Rattle.toml_span_lex.specs.declared.span.Span.{Span}
+use Rattle.toml_span_tree.specs.Listed.{escaped_char, listed, quoted, quoted_key}
+use Rattle.toml_span_tree.specs.Error.{Kind, unexpected_eof, exceeded_depth_limit, invalid_char_in_string, invalid_escape, invalid_hex_escape, invalid_escape_value, unexpected, unterminated_string, invalid_number, invalid_datetime, out_of_range, wanted, duplicate_table, duplicate_key, redefine_as_array, multiline_string_key, custom, dotted_key_invalid_type, unexpected_keys, unquoted_string, missing_field, deprecated, unexpected_value}
+
+-- the code of a kind
+abbrev pub code_of : Kind → List ℕ
+code_of unexpected_eof = codes "unexpected-eof"
+code_of exceeded_depth_limit = codes "exceeded-depth-limit"
+code_of (invalid_char_in_string c) = codes "invalid-char-in-string"
+code_of (invalid_escape c) = codes "invalid-escape"
+code_of (invalid_hex_escape c) = codes "invalid-hex-escape"
+code_of (invalid_escape_value value) = codes "invalid-escape-value"
+code_of (unexpected c) = codes "unexpected"
+code_of unterminated_string = codes "unterminated-string"
+code_of invalid_number = codes "invalid-number"
+code_of invalid_datetime = codes "invalid-datetime"
+code_of (out_of_range type) = codes "out-of-range"
+code_of (wanted expected found) = codes "wanted"
+code_of (duplicate_table name first) = codes "duplicate-table"
+code_of (duplicate_key key first) = codes "duplicate-key"
+code_of redefine_as_array = codes "redefine-as-array"
+code_of multiline_string_key = codes "multiline-string-key"
+code_of (custom message) = codes "custom"
+code_of (dotted_key_invalid_type first) = codes "dotted-key-invalid-type"
+code_of (unexpected_keys keys expected) = codes "unexpected-keys"
+code_of unquoted_string = codes "unquoted-string"
+code_of (missing_field field) = codes "missing-field"
+code_of (deprecated old new) = codes "deprecated"
+code_of (unexpected_value expected value) = codes "unexpected-value"
+
+-- a character in a message
+abbrev pub shown_char : ℕ → List ℕ
+shown_char c = if is_whitespace c then escaped_char c else encode_utf8 c
+
+abbrev pub deprecated_text : List ℕ → List ℕ → List ℕ
+deprecated_text old new =
+    codes "field '" ++ old ++ codes "' is deprecated, '" ++ new ++ codes "' has replaced it"
+
+abbrev pub unexpected_keys_text : List (List ℕ × Span) → List (List ℕ) → List ℕ
+unexpected_keys_text keys expected =
+    codes "unexpected keys in table: `" ++ listed quoted_key keys ++ codes "`\nexpected: "
+    ++ listed quoted expected
+
+abbrev pub unexpected_value_text : List (List ℕ) → List ℕ
+unexpected_value_text expected = codes "expected '" ++ listed quoted expected ++ codes "'"
+
+-- the text of an error of this kind
+abbrev pub text_of : Kind → List ℕ
+text_of unexpected_eof = codes "unexpected eof encountered"
+text_of exceeded_depth_limit = codes "input exceeds the maximum allowed nesting depth"
+text_of (invalid_char_in_string c) = codes "invalid character in string: `" ++ shown_char c ++ codes "`"
+text_of (invalid_escape c) = codes "invalid escape character in string: `" ++ shown_char c ++ codes "`"
+text_of (invalid_hex_escape c) = codes "invalid hex escape character in string: `" ++ shown_char c ++ codes "`"
+text_of (invalid_escape_value value) = codes "invalid escape value: `" ++ decimal value ++ codes "`"
+text_of (unexpected c) = codes "unexpected character found: `" ++ shown_char c ++ codes "`"
+text_of unterminated_string = codes "unterminated string"
+text_of invalid_number = codes "invalid number"
+text_of invalid_datetime = codes "invalid datetime"
+text_of (out_of_range type) = codes "out of range of '" ++ type ++ codes "'"
+text_of (wanted expected found) = codes "expected " ++ expected ++ codes ", found " ++ found
+text_of (duplicate_table name first) = codes "redefinition of table `" ++ name ++ codes "`"
+text_of (duplicate_key key first) = codes "duplicate key: `" ++ key ++ codes "`"
+text_of redefine_as_array = codes "table redefined as array"
+text_of multiline_string_key = codes "multiline strings are not allowed for key"
+text_of (custom message) = message
+text_of (dotted_key_invalid_type first) = codes "dotted key attempted to extend non-table type"
+text_of (unexpected_keys keys expected) = unexpected_keys_text keys expected
+text_of unquoted_string = codes "invalid TOML value, did you mean to use a quoted string?"
+text_of (missing_field field) = codes "missing field '" ++ field ++ codes "' in table"
+text_of (deprecated old new) = deprecated_text old new
+text_of (unexpected_value expected value) = unexpected_value_text expected

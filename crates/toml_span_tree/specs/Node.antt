@@ -1,0 +1,58 @@
+-- A tree of values as plain data: each value with its span, each key with its bytes and its span.
+use Rattle.std.specs.Prelude.{ℕ, zero, suc, ℤ, List, Bool, cond, Option, Some, None, option_map}
+use Rattle.std.specs.Str.{bytes_eq}
+use Rattle.toml_span_lex.specs.declared.span.Span.{Span}
+
+-- a float: the text of a literal, or what has no digits, which is negative or not
+pub data Decimal : Type 0 where
+  finite : List ℕ → Decimal
+  infinite : Bool → Decimal
+  not_a_number : Bool → Decimal
+
+pub data Scalar : Type 0 where
+  text : List ℕ → Scalar
+  integer : ℤ → Scalar
+  float : Decimal → Scalar
+  boolean : Bool → Scalar
+  datetime : List ℕ → Scalar
+
+mutual
+  -- a value, with its span
+  pub data Node : Type 0 where
+    node : Inner → Span → Node
+
+  -- what a value holds, or that this is taken
+  pub data Inner : Type 0 where
+    taken : Inner
+    scalar : Scalar → Inner
+    array : Items → Inner
+    table : Members → Inner
+
+  -- the elements of an array, in order
+  pub data Items : Type 0 where
+    no_items : Items
+    item : Node → Items → Items
+
+  -- the entries of a table, in the order of their names: the bytes of the key, the key's span, the value
+  pub data Members : Type 0 where
+    no_members : Members
+    member : List ℕ → Span → Node → Members → Members
+
+-- the entry with that name: the key's span and the value
+abbrev pub entry_at : List ℕ → Members → Option (Option Span × Node)
+entry_at name no_members = None
+entry_at name (member other span n ms) = cond (bytes_eq name other) (Some (Some span, n)) (entry_at name ms)
+
+-- the element at that position, which has no key
+abbrev pub element_at : ℕ → Items → Option (Option Span × Node)
+element_at i no_items = None
+element_at zero (item n ns) = Some (None, n)
+element_at (suc i) (item n ns) = element_at i ns
+
+-- the value of the entry with that name
+abbrev pub get_member : List ℕ → Members → Option Node
+get_member name ms = option_map (λ e. e.1) (entry_at name ms)
+
+-- the element at that position
+abbrev pub get_item : ℕ → Items → Option Node
+get_item i ns = option_map (λ e. e.1) (element_at i ns)

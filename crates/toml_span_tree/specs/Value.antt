@@ -1,0 +1,198 @@
+-- What a value means, and what the calls of `Value` and `ValueInner` answer. Whether a text is borrowed is no part of it.
+use Rattle.std.specs.Prelude.{ℕ, ℤ, List, [], ◌∷◌, map, Bool, true, false, Option, Some, None, option_and_then, ◌&&◌, codes, string_bytes}
+use Rattle.std.specs.Cow.{cow_str_bytes}
+use Rattle.toml_span_lex.specs.declared.key.Key.{Key}
+use Rattle.toml_span_lex.specs.declared.span.Span.{Span}
+use Rattle.toml_span_tree.specs.declared.date.DateText.{DateText}
+use Rattle.toml_span_tree.specs.declared.float.FloatText.{FloatText}
+use Rattle.toml_span_tree.specs.declared.float.FloatText.TheVariants.{Finite, Infinite, NotANumber}
+use Rattle.toml_span_tree.specs.declared.value.Value.{Value}
+use Rattle.toml_span_tree.specs.declared.value.ValueInner.{ValueInner}
+use Rattle.toml_span_tree.specs.declared.value.ValueInner.TheOpen.{ValueInner-F, Value-F}
+use Rattle.toml_span_tree.specs.declared.value.ValueInner.TheFolds.{fold-Value, fold-ValueInner}
+use Rattle.toml_span_tree.specs.Error.{Fault, wanted}
+use Rattle.toml_span_tree.specs.Node.{Decimal, finite, infinite, not_a_number, Scalar, text, integer, float, boolean, datetime, Node, node, Inner, taken, scalar, array, table, Items, no_items, item, Members, no_members, member}
+
+abbrev pub decimal_of : FloatText → Decimal
+decimal_of (Finite s) = finite (string_bytes s)
+decimal_of (Infinite b) = infinite b
+decimal_of (NotANumber b) = not_a_number b
+
+abbrev pub date_bytes : DateText → List ℕ
+date_bytes date = date.text.now
+
+abbrev pub items_of : List Node → Items
+items_of [] = no_items
+items_of (n ∷ ns) = item n (items_of ns)
+
+abbrev pub members_of : List (Key × Node) → Members
+members_of [] = no_members
+members_of (m ∷ ms) = member (cow_str_bytes m.0.name) m.0.span m.1 (members_of ms)
+
+abbrev pub inner_or_taken : Option Inner → Inner
+inner_or_taken None = taken
+inner_or_taken (Some i) = i
+
+-- one level of each type, with each value inside already seen as its meaning
+abbrev pub inner_step : ValueInner-F Inner Node → Inner
+inner_step (ValueInner-F.String s) = scalar (text (cow_str_bytes s))
+inner_step (ValueInner-F.Integer z) = scalar (integer z)
+inner_step (ValueInner-F.Float x) = scalar (float (decimal_of x))
+inner_step (ValueInner-F.Boolean b) = scalar (boolean b)
+inner_step (ValueInner-F.Datetime d) = scalar (datetime (date_bytes d))
+inner_step (ValueInner-F.Array v) = array (items_of v.items)
+inner_step (ValueInner-F.Table m) = table (members_of m.entries)
+
+abbrev pub value_step : Value-F Inner Node → Node
+value_step v = node (inner_or_taken v.value) v.span
+
+-- a value
+abbrev pub view : Value → Node
+view = fold-Value Inner Node inner_step value_step
+
+-- what a value holds
+abbrev pub inner_view : ValueInner → Inner
+inner_view = fold-ValueInner Inner Node inner_step value_step
+
+-- the elements of an array
+abbrev pub items_view : List Value → Items
+items_view vs = items_of (map view vs)
+
+-- the entries of a table
+abbrev pub members_view : List (Key × Value) → Members
+members_view es = members_of (map (λ e. (e.0, view e.1)) es)
+
+-- what the node holds, or that it is taken
+abbrev pub inner_of : Node → Inner
+inner_of (node i span) = i
+
+abbrev pub span_of : Node → Span
+span_of (node i span) = span
+
+abbrev pub holds_nothing : Inner → Bool
+holds_nothing taken = true
+holds_nothing (scalar s) = false
+holds_nothing (array ns) = false
+holds_nothing (table ms) = false
+
+abbrev pub is_taken : Node → Bool
+is_taken n = holds_nothing (inner_of n)
+
+-- nothing is taken here or below
+abbrev mutual
+  pub is_whole : Node → Bool
+  is_whole (node i span) = holds_whole i
+
+  pub holds_whole : Inner → Bool
+  holds_whole taken = false
+  holds_whole (scalar s) = true
+  holds_whole (array ns) = all_whole ns
+  holds_whole (table ms) = all_members_whole ms
+
+  pub all_whole : Items → Bool
+  all_whole no_items = true
+  all_whole (item n ns) = is_whole n && all_whole ns
+
+  pub all_members_whole : Members → Bool
+  all_members_whole no_members = true
+  all_members_whole (member name key n ms) = is_whole n && all_members_whole ms
+
+-- the scalar, the elements, the entries; None of another kind, and where nothing is held
+abbrev pub scalar_in : Inner → Option Scalar
+scalar_in taken = None
+scalar_in (scalar s) = Some s
+scalar_in (array ns) = None
+scalar_in (table ms) = None
+
+abbrev pub items_in : Inner → Option Items
+items_in taken = None
+items_in (scalar s) = None
+items_in (array ns) = Some ns
+items_in (table ms) = None
+
+abbrev pub members_in : Inner → Option Members
+members_in taken = None
+members_in (scalar s) = None
+members_in (array ns) = None
+members_in (table ms) = Some ms
+
+-- a scalar of one kind; None of another
+abbrev pub text_of : Scalar → Option (List ℕ)
+text_of (text s) = Some s
+text_of (integer z) = None
+text_of (float x) = None
+text_of (boolean b) = None
+text_of (datetime d) = None
+
+abbrev pub integer_of : Scalar → Option ℤ
+integer_of (text s) = None
+integer_of (integer z) = Some z
+integer_of (float x) = None
+integer_of (boolean b) = None
+integer_of (datetime d) = None
+
+abbrev pub float_of : Scalar → Option Decimal
+float_of (text s) = None
+float_of (integer z) = None
+float_of (float x) = Some x
+float_of (boolean b) = None
+float_of (datetime d) = None
+
+abbrev pub boolean_of : Scalar → Option Bool
+boolean_of (text s) = None
+boolean_of (integer z) = None
+boolean_of (float x) = None
+boolean_of (boolean b) = Some b
+boolean_of (datetime d) = None
+
+abbrev pub datetime_of : Scalar → Option (List ℕ)
+datetime_of (text s) = None
+datetime_of (integer z) = None
+datetime_of (float x) = None
+datetime_of (boolean b) = None
+datetime_of (datetime d) = Some d
+
+abbrev pub text_in : Inner → Option (List ℕ)
+text_in i = option_and_then text_of (scalar_in i)
+
+abbrev pub integer_in : Inner → Option ℤ
+integer_in i = option_and_then integer_of (scalar_in i)
+
+abbrev pub float_in : Inner → Option Decimal
+float_in i = option_and_then float_of (scalar_in i)
+
+abbrev pub boolean_in : Inner → Option Bool
+boolean_in i = option_and_then boolean_of (scalar_in i)
+
+abbrev pub datetime_in : Inner → Option (List ℕ)
+datetime_in i = option_and_then datetime_of (scalar_in i)
+
+-- the name of the kind
+abbrev pub scalar_kind : Scalar → List ℕ
+scalar_kind (text s) = codes "string"
+scalar_kind (integer z) = codes "integer"
+scalar_kind (float x) = codes "float"
+scalar_kind (boolean b) = codes "boolean"
+scalar_kind (datetime d) = codes "datetime"
+
+abbrev pub kind_name : Inner → List ℕ
+kind_name taken = []
+kind_name (scalar s) = scalar_kind s
+kind_name (array ns) = codes "array"
+kind_name (table ms) = codes "table"
+
+-- whether there is an entry
+abbrev pub is_filled : Members → Bool
+is_filled no_members = false
+is_filled (member name key n ms) = true
+
+-- whether a table is held that has an entry
+abbrev pub has_members : Inner → Bool
+has_members taken = false
+has_members (scalar s) = false
+has_members (array ns) = false
+has_members (table ms) = is_filled ms
+
+-- the error that says what was expected of a value, and the kind of the value that was found
+abbrev pub not_a : List ℕ → Node → Fault
+not_a expected n = record { kind = wanted expected (kind_name (inner_of n)); span = span_of n; line_info = None }

@@ -1,0 +1,267 @@
+//! Dates and times as texts.
+ghost use Rattle.std.specs.Prelude.{◌≡◌, ◌<◌, ◌↔◌, ◌+◌, length, slice_index, IsTrue, IsSome, IfSome};
+ghost use Rattle.std.specs.Char.{is_ascii_digit};
+ghost use Rattle.std.specs.List.{list_all};
+ghost use Rattle.toml_span_tree.specs.Date as spec;
+ghost use Rattle.toml_span_tree.specs.Date.{IsDateText};
+
+/// A date, a time, or both, as it stands in the document.
+///
+/// Its grammar is that of TOML 1.1, "Offset Date-Time" to "Local Time".
+#[derive(Clone, Copy, PartialEq, Eq, Debug)]
+pub struct DateText<'de> {
+    text: &'de str,
+    ghost is_date: { IsDateText text.now },
+}
+
+impl<'de> DateText<'de> {
+    ghost use Rattle.toml_span_tree.specs.Value.{date_bytes};
+
+    /// The date text that this is, if it is one. The text is borrowed.
+    pub fn new(text: &'de str) -> Option<Self>
+        ensures found { IsSome result ↔ IsDateText text.now }
+        ensures text { IfSome result (λ date. date_bytes date ≡ text.now) }
+    {
+        if is_date_text(text.as_bytes()) {
+            Some(DateText { text })
+        } else {
+            None
+        }
+    }
+
+    /// The text.
+    pub fn text(&self) -> &'de str
+        ensures text { result.now ≡ date_bytes self.now }
+        ensures is_date { IsDateText result.now }
+    {
+        self.text
+    }
+}
+
+/// The byte at a place, or 0 behind the end.
+fn byte_at(text: &[u8], at: usize) -> u8
+    ensures { result ≡ slice_index text.now at }
+{
+    text.get(at).copied().unwrap_or(0)
+}
+
+/// The number that two digits at a place give.
+fn two_digits(text: &[u8], at: usize) -> u32
+    requires { at < 100 }
+    ensures value { result ≡ spec.two_digits text.now at }
+    ensures bound { result < 3000 }
+{
+    let tens = byte_at(text, at).saturating_sub(b'0');
+    let ones = byte_at(text, at + 1).saturating_sub(b'0');
+    10 * u32::from(tens) + u32::from(ones)
+}
+
+/// Whether two digits at a place give a number from `low` to `high`.
+fn is_two_digits(text: &[u8], at: usize, low: u32, high: u32) -> bool
+    requires { at < 100 }
+    ensures { result ≡ spec.is_two_digits low high text.now at }
+{
+    let number = two_digits(text, at);
+    byte_at(text, at).is_ascii_digit()
+        && byte_at(text, at + 1).is_ascii_digit()
+        && low <= number
+        && number <= high
+}
+
+fn is_leap_year(year: u32) -> bool
+    ensures { result ≡ spec.is_leap_year year }
+{
+    (year % 4 == 0 && year % 100 != 0) || year % 400 == 0
+}
+
+/// The last day of a month from 1 to 12.
+fn last_day(year: u32, month: u32) -> u32
+    ensures { result ≡ spec.last_day year month }
+{
+    match month {
+        2 => { if is_leap_year(year) { 29 } else { 28 } }
+        4 | 6 | 9 | 11 => 30,
+        _ => 31,
+    }
+}
+
+/// The year at the front.
+fn year_of(text: &[u8]) -> u32
+    ensures { result ≡ spec.year_of text.now }
+{
+    100 * two_digits(text, 0) + two_digits(text, 2)
+}
+
+fn has_year(text: &[u8]) -> bool
+    ensures { result ≡ spec.has_year text.now }
+{
+    is_two_digits(text, 0, 0, 99) && is_two_digits(text, 2, 0, 99)
+}
+
+/// `full-date = date-fullyear "-" date-month "-" date-mday`
+#[tactic(auto, unfolding(crate::specs::Date::is_full_date))]
+fn is_full_date(text: &[u8]) -> bool
+    ensures { result ≡ spec.is_full_date text.now }
+{
+    text.len() == 10
+        && has_year(text)
+        && byte_at(text, 4) == b'-'
+        && is_two_digits(text, 5, 1, 12)
+        && byte_at(text, 7) == b'-'
+        && is_two_digits(text, 8, 1, last_day(year_of(text), two_digits(text, 5)))
+}
+
+/// `time-hour ":" time-minute`, at the front.
+fn has_hour_minute(text: &[u8]) -> bool
+    ensures { result ≡ spec.has_hour_minute text.now }
+{
+    is_two_digits(text, 0, 0, 23) && byte_at(text, 2) == b':' && is_two_digits(text, 3, 0, 59)
+}
+
+fn are_digits(text: &[u8]) -> bool
+    ensures { result ≡ list_all is_ascii_digit text.now }
+{
+    text.iter().all(|byte| byte.is_ascii_digit())
+}
+
+/// `time-secfrac = "." 1*DIGIT`
+fn is_time_secfrac(text: &[u8]) -> bool
+    ensures { result ≡ spec.is_time_secfrac text.now }
+{
+    byte_at(text, 0) == b'.' && text.len() > 1 && are_digits(&text[1..])
+}
+
+/// `[ ":" time-second [ time-secfrac ] ]`
+fn is_seconds(text: &[u8]) -> bool
+    ensures { result ≡ spec.is_seconds text.now }
+{
+    if text.len() <= 3 {
+        return text.is_empty()
+            || (text.len() == 3 && byte_at(text, 0) == b':' && is_two_digits(text, 1, 0, 60));
+    }
+    byte_at(text, 0) == b':' && is_two_digits(text, 1, 0, 60) && is_time_secfrac(&text[3..])
+}
+
+/// `partial-time = time-hour ":" time-minute [ ":" time-second [ time-secfrac ] ]`
+#[tactic(auto, unfolding(crate::specs::Date::is_partial_time))]
+fn is_partial_time(text: &[u8]) -> bool
+    ensures { result ≡ spec.is_partial_time text.now }
+{
+    text.len() >= 5 && has_hour_minute(text) && is_seconds(&text[5..])
+}
+
+/// `time-offset = "Z" / ( "+" / "-" ) time-hour ":" time-minute`
+#[tactic(auto, unfolding(crate::specs::Date::is_time_offset))]
+fn is_time_offset(text: &[u8]) -> bool
+    ensures { result ≡ spec.is_time_offset text.now }
+{
+    match byte_at(text, 0) {
+        b'Z' | b'z' => text.len() == 1,
+        b'+' | b'-' => text.len() == 6 && has_hour_minute(&text[1..]),
+        _ => false,
+    }
+}
+
+/// A time, then an offset of `len` bytes.
+fn is_time_with(len: usize, text: &[u8]) -> bool
+    ensures { result ≡ spec.is_time_with len text.now }
+{
+    let (time, offset) = text.split_at(text.len().saturating_sub(len));
+    is_time_offset(offset) && is_partial_time(time)
+}
+
+/// `partial-time [ time-offset ]`, where a time offset has one byte or six.
+#[tactic(auto, unfolding(crate::specs::Date::is_time))]
+fn is_time(text: &[u8]) -> bool
+    ensures { result ≡ spec.is_time text.now }
+{
+    is_partial_time(text) || is_time_with(1, text) || is_time_with(6, text)
+}
+
+/// `time-delim = "T" / %x20`
+fn is_time_delim(byte: u8) -> bool
+    ensures { result ≡ spec.is_time_delim byte }
+{
+    byte == b'T' || byte == b't' || byte == b' '
+}
+
+/// `full-date time-delim partial-time [ time-offset ]`
+fn is_date_time(text: &[u8]) -> bool
+    ensures { result ≡ spec.is_date_time text.now }
+{
+    text.len() > 10 && is_full_date(&text[..10]) && is_time_delim(text[10]) && is_time(&text[11..])
+}
+
+#[tactic(auto, unfolding(crate::specs::Date::is_date_text))]
+fn is_date_text(text: &[u8]) -> bool
+    ensures { result ≡ spec.is_date_text text.now }
+{
+    is_full_date(text) || is_partial_time(text) || is_date_time(text)
+}
+
+#[cfg(test)]
+mod tests {
+    use super::*;
+    use std::test::Fail;
+
+    #[test]
+    fn date_texts(rt: HostRuntime) {
+        for text in [
+            "1979-05-27",
+            "0000-01-01",
+            "9999-12-31",
+            "2000-02-29",
+            "2024-02-29",
+            "07:32",
+            "07:32:00",
+            "07:32:00.25",
+            "23:59:60",
+            "1979-05-27 07:32:00Z",
+            "1979-05-27t07:32z",
+            "1979-05-27T00:32:00.999999-07:00",
+            "1979-05-27T00:32+23:59",
+        ] {
+            let date = DateText::new(text);
+            assert_eq!(rt; date.map(|date| date.text()), Some(text));
+        }
+    }
+
+    #[test]
+    fn other_texts(rt: HostRuntime) -> Result<(), Fail> {
+        for text in [
+            "",
+            "1900-02-29",
+            "2023-02-29",
+            "1979-00-27",
+            "1979-13-27",
+            "1979-05-00",
+            "1979-04-31",
+            "979-05-27",
+            "1979-5-27",
+            "1979-05-27 7",
+            "1979-05-27 ",
+            "1979-05-27 07",
+            "1979-05-27_07:32",
+            "1979-05-27  07:32",
+            "1979-05-27 07:32 Z",
+            "1979-05-27 07:32ZZ",
+            "1979-05-27 07:32+24:00",
+            "1979-05-27 07:32+01:60",
+            "1979-05-27 07:32+0100",
+            "1979-05-27Z",
+            "24:00",
+            "23:60",
+            "23:59:61",
+            "23:59:",
+            "23:59:6",
+            "23:59:60.",
+            "23:59:60.x",
+            "23:59:60.5+01:00",
+            "07:32Z",
+            "٠٧:٣٢",
+        ] {
+            assert!(rt; DateText::new(text).is_none(), "{text}");
+        }
+        Ok(())
+    }
+}

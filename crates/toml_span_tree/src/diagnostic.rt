@@ -1,0 +1,240 @@
+//! What an editor or a terminal shows of an error.
+ghost use Rattle.std.specs.Prelude.{◌≡◌, [], ◌∷◌, IfOk, map, string_bytes};
+ghost use Rattle.toml_span_tree.specs.Error.{kind_of, marked_keys};
+ghost use Rattle.toml_span_tree.specs.Message.{code_of};
+ghost use Rattle.toml_span_tree.specs.Diagnostic.{label_text_of, labels_of, mark_of, message_of, secondary, unexpected_keys_message};
+
+use crate::error::{Error, ErrorKind};
+use crate::listed::{LentNames, Names};
+use crate::message::Shown;
+use std::alloc::{AllocError, Global};
+use toml_span_lex::span::Span;
+
+#[cfg(test)]
+mod tests;
+
+/// An error with the places that it is about.
+#[derive(Debug, Drop)]
+pub struct Diagnostic<F> {
+    /// The code of the error's kind, such as `duplicate-key`.
+    pub code: String,
+    /// What is wrong, or nothing where the labels say it.
+    pub message: String,
+    /// The places.
+    pub labels: Vec<Label<F>>,
+}
+
+/// A place, and what is to be said of it.
+#[derive(Debug, Drop)]
+pub struct Label<F> {
+    /// Whether the error stands here. Another label is a place that it has to do with.
+    pub primary: bool,
+    /// The file.
+    pub file: F,
+    /// The bytes.
+    pub span: Span,
+    /// What is to be said, or nothing.
+    pub message: String,
+}
+
+impl ErrorKind<'_> {
+    /// The message of a diagnostic, which is empty where the label says all.
+    fn message(&self, alloc: Global) -> Result<String, AllocError>
+        ensures { IfOk result (λ text. string_bytes text ≡ message_of (kind_of self.now)) }
+    {
+        match self {
+            ErrorKind::UnexpectedEof => String::from_str(alloc, "unexpected end of file"),
+            ErrorKind::ExceededDepthLimit => {
+                String::from_str(alloc, "input exceeds the maximum allowed nesting depth")
+            }
+            ErrorKind::OutOfRange(name) => format!(in alloc; "number is out of range of '{name}'"),
+            ErrorKind::RedefineAsArray => String::from_str(alloc, "table redefined as array"),
+            ErrorKind::Custom(message) => String::from_str(alloc, message.as_str()),
+            ErrorKind::DottedKeyInvalidType { .. } => {
+                String::from_str(alloc, "dotted key attempted to extend non-table type")
+            }
+            ErrorKind::UnexpectedKeys { keys, expected } => {
+                unexpected_keys(alloc, keys.len(), expected.as_slice())
+            }
+            ErrorKind::MissingField(field) => format!(in alloc; "missing field '{field}'"),
+            ErrorKind::Deprecated { new, .. } => {
+                format!(in alloc; "deprecated field enountered, '{new}' should be used instead")
+            }
+            ErrorKind::UnexpectedValue { expected, .. } => {
+                let expected = LentNames(*expected);
+                format!(in alloc; "expected '{expected}'")
+            }
+            _ => Ok(String::new(alloc)),
+        }
+    }
+
+    /// The text of the label at the error's own span.
+    fn label_text(&self, alloc: Global) -> Result<String, AllocError>
+        ensures { IfOk result (λ text. string_bytes text ≡ label_text_of (kind_of self.now)) }
+    {
+        match self {
+            ErrorKind::ExceededDepthLimit => String::from_str(alloc, "too deeply nested"),
+            ErrorKind::InvalidCharInString(c) => {
+                let c = Shown(*c);
+                format!(in alloc; "invalid character '{c}' in string")
+            }
+            ErrorKind::InvalidEscape(c) => {
+                let c = Shown(*c);
+                format!(in alloc; "invalid escape character '{c}' in string")
+            }
+            ErrorKind::InvalidHexEscape(c) => {
+                let c = Shown(*c);
+                format!(in alloc; "invalid hex escape '{c}'")
+            }
+            ErrorKind::InvalidEscapeValue(_) => String::from_str(alloc, "invalid escape value"),
+            ErrorKind::Unexpected(c) => {
+                let c = Shown(*c);
+                format!(in alloc; "unexpected character '{c}'")
+            }
+            ErrorKind::UnterminatedString => {
+                String::from_str(alloc, "eof reached before string terminator")
+            }
+            ErrorKind::InvalidNumber => String::from_str(alloc, "unable to parse number"),
+            ErrorKind::InvalidDatetime => String::from_str(alloc, "unable to parse datetime"),
+            ErrorKind::Wanted { expected, .. } => format!(in alloc; "expected {expected}"),
+            ErrorKind::DuplicateTable { .. } => String::from_str(alloc, "duplicate table"),
+            ErrorKind::DuplicateKey { .. } => String::from_str(alloc, "duplicate key"),
+            ErrorKind::MultilineStringKey => {
+                String::from_str(alloc, "multiline keys are not allowed")
+            }
+            ErrorKind::DottedKeyInvalidType { .. } => {
+                String::from_str(alloc, "attempted to extend table here")
+            }
+            ErrorKind::UnquotedString => String::from_str(alloc, "string is not quoted"),
+            ErrorKind::MissingField(_) => String::from_str(alloc, "table with missing field"),
+            ErrorKind::Deprecated { .. } => String::from_str(alloc, "deprecated field"),
+            ErrorKind::UnexpectedValue { .. } => String::from_str(alloc, "unexpected value"),
+            _ => Ok(String::new(alloc)),
+        }
+    }
+}
+
+/// How many keys were found, and which were expected.
+fn unexpected_keys(alloc: Global, count: usize, expected: &[String]) -> Result<String, AllocError>
+    ensures { IfOk result (λ text. string_bytes text
+        ≡ unexpected_keys_message count (map string_bytes expected.now)) }
+{
+    let expected = Names(expected);
+    format!(in alloc; "found {count} unexpected keys, expected: {expected}")
+}
+
+/// A label beside the error, at each of these keys.
+fn key_labels<F: Copy>(
+    alloc: Global,
+    file: F,
+    keys: &[(String, Span)],
+) -> Result<Vec<Label<F>>, AllocError>
+    ensures { IfOk result (λ labels. map mark_of labels.items
+        ≡ map (λ key. secondary file key.1 []) (marked_keys keys.now)) }
+{
+    let mut labels = Vec::with_capacity(alloc, keys.len())?;
+    for key in keys {
+        labels.push(Label {
+            primary: false,
+            file,
+            span: key.1,
+            message: String::new(alloc),
+        })?;
+    }
+    Ok(labels)
+}
+
+impl Error<'_> {
+    /// The error with its places, for an editor or a terminal to show. `fid` names the file.
+    ///
+    /// On want of memory there is none, and the error is as before.
+    pub fn to_diagnostic<F: Copy + PartialEq>(
+        &self,
+        alloc: Global,
+        fid: F,
+    ) -> Result<Diagnostic<F>, AllocError>
+        ensures code { IfOk result (λ shown. string_bytes shown.code
+            ≡ code_of (kind_of self.now.kind)) }
+        ensures message { IfOk result (λ shown. string_bytes shown.message
+            ≡ message_of (kind_of self.now.kind)) }
+        ensures labels { IfOk result (λ shown. map mark_of shown.labels.items
+            ≡ labels_of fid self.now.span (kind_of self.now.kind)) }
+    {
+        Ok(Diagnostic {
+            code: String::from_str(alloc, self.kind.code())?,
+            message: self.kind.message(alloc)?,
+            labels: self.labels(alloc, fid)?,
+        })
+    }
+
+    /// The labels in order.
+    fn labels<F: Copy>(&self, alloc: Global, file: F) -> Result<Vec<Label<F>>, AllocError>
+        ensures { IfOk result (λ labels. map mark_of labels.items
+            ≡ labels_of file self.now.span (kind_of self.now.kind)) }
+    {
+        if let ErrorKind::UnexpectedKeys { keys, .. } = &self.kind {
+            return key_labels(alloc, file, keys.as_slice());
+        }
+        let primary = Label {
+            primary: true,
+            file,
+            span: self.span,
+            message: self.kind.label_text(alloc)?,
+        };
+        match &self.kind {
+            ErrorKind::DuplicateTable { first, .. } => {
+                let first = secondary(alloc, file, *first, "first table instance")?;
+                two(alloc, first, primary)
+            }
+            ErrorKind::DuplicateKey { first, .. } => {
+                let first = secondary(alloc, file, *first, "first key instance")?;
+                two(alloc, first, primary)
+            }
+            ErrorKind::DottedKeyInvalidType { first } => {
+                let first = secondary(alloc, file, *first, "non-table")?;
+                two(alloc, primary, first)
+            }
+            _ => one(alloc, primary),
+        }
+    }
+}
+
+/// A label beside the error.
+fn secondary<F: Copy>(
+    alloc: Global,
+    file: F,
+    span: Span,
+    message: &str,
+) -> Result<Label<F>, AllocError>
+    ensures { IfOk result (λ label. mark_of label ≡ secondary file span message.now) }
+{
+    Ok(Label {
+        primary: false,
+        file,
+        span,
+        message: String::from_str(alloc, message)?,
+    })
+}
+
+/// A list of one label.
+fn one<F: Copy>(alloc: Global, label: Label<F>) -> Result<Vec<Label<F>>, AllocError>
+    ensures { IfOk result (λ labels. labels.items ≡ label ∷ []) }
+{
+    let mut labels = Vec::with_capacity(alloc, 1)?;
+    labels.push(label)?;
+    Ok(labels)
+}
+
+/// A list of two labels.
+fn two<F: Copy>(
+    alloc: Global,
+    first: Label<F>,
+    second: Label<F>,
+) -> Result<Vec<Label<F>>, AllocError>
+    ensures { IfOk result (λ labels. labels.items ≡ first ∷ second ∷ []) }
+{
+    let mut labels = Vec::with_capacity(alloc, 2)?;
+    labels.push(first)?;
+    labels.push(second)?;
+    Ok(labels)
+}

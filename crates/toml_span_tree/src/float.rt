@@ -1,0 +1,59 @@
+//! Floats as texts.
+
+/// A float as a text. Two floats are equal exactly where their texts are: `1.0` and `1.00` differ.
+#[derive(PartialEq, Eq, Debug, Drop)]
+pub enum FloatText {
+    /// The literal with neither a plus nor underscores, and `E` before the exponent.
+    Finite(String),
+    /// `inf`, or `-inf` where it is negative.
+    Infinite { negative: bool },
+    /// `nan`, or `-nan` where it is negative.
+    NotANumber { negative: bool },
+}
+
+impl FloatText {
+    ghost use Rattle.std.specs.Prelude.{◌≡◌};
+    ghost use Rattle.toml_span_tree.specs.Float.{decimal_text};
+    ghost use Rattle.toml_span_tree.specs.Value.{decimal_of};
+
+    /// The text: the cleaned literal, `inf`, `-inf`, `nan` or `-nan`.
+    pub fn text(&self) -> &str
+        ensures { result.now ≡ decimal_text (decimal_of self.now) }
+    {
+        match self {
+            FloatText::Finite(text) => text.as_str(),
+            FloatText::Infinite { negative: false } => "inf",
+            FloatText::Infinite { negative: true } => "-inf",
+            FloatText::NotANumber { negative: false } => "nan",
+            FloatText::NotANumber { negative: true } => "-nan",
+        }
+    }
+}
+
+#[cfg(test)]
+mod tests {
+    use super::*;
+    use std::test::Fail;
+
+    #[test]
+    fn texts(rt: HostRuntime) -> Result<(), Fail> {
+        let alloc = rt.alloc();
+        let rows = [
+            (
+                FloatText::Finite(String::from_str(alloc, "-6.02E-23")?),
+                "-6.02E-23",
+            ),
+            (FloatText::Infinite { negative: false }, "inf"),
+            (FloatText::Infinite { negative: true }, "-inf"),
+            (FloatText::NotANumber { negative: false }, "nan"),
+            (FloatText::NotANumber { negative: true }, "-nan"),
+        ];
+        for (place, (float, text)) in rows.iter().enumerate() {
+            assert_eq!(rt; float.text(), *text);
+            for (other_place, (other, _)) in rows.iter().enumerate() {
+                assert_eq!(rt; float == other, place == other_place);
+            }
+        }
+        Ok(())
+    }
+}

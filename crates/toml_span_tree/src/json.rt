@@ -1,0 +1,70 @@
+//! JSON values of trees.
+ghost use Rattle.std.specs.Prelude.{◌≡◌, true, IfOk};
+ghost use Rattle.serde_json.specs.View.{view as json_view, items_view as json_items_view, members_view as json_members_view};
+ghost use Rattle.toml_span_tree.specs.Value.{view, inner_view, items_view, members_view, is_whole};
+ghost use Rattle.toml_span_tree.specs.Json.{json_of, json_in, json_items, json_members};
+
+use crate::value::{Array, Table, Value, ValueInner};
+use serde_json::{Map, Number, Value as Json};
+use std::alloc::{AllocError, Global};
+
+impl Value<'_> {
+    /// The JSON value of the same shape, without spans: a text, a whole number, a truth value, an
+    /// array, or an object with the keys by name; a float and a date as their texts.
+    ///
+    /// The value must be whole (`is_whole`). Only want of memory is refused.
+    pub fn to_json(&self, alloc: Global) -> Result<Json, AllocError>
+        requires { is_whole (view self.now) ≡ true }
+        ensures { IfOk result (λ json. json_view json ≡ json_of (view self.now)) }
+    {
+        json_of_value(alloc, self)
+    }
+}
+
+#[cycle(json)]
+fn json_of_value(alloc: Global, value: &Value<'_>) -> Result<Json, AllocError>
+    ensures { IfOk result (λ json. json_view json ≡ json_of (view value.now)) }
+{
+    match &value.value {
+        Some(inner) => json_of_inner(alloc, inner),
+        None => Ok(Json::Null),
+    }
+}
+
+#[cycle(json)]
+fn json_of_inner(alloc: Global, inner: &ValueInner<'_>) -> Result<Json, AllocError>
+    ensures { IfOk result (λ json. json_view json ≡ json_in (inner_view inner.now)) }
+{
+    match inner {
+        ValueInner::String(text) => Ok(Json::String(String::from_str(alloc, text.as_ref())?)),
+        ValueInner::Integer(number) => Ok(Json::Number(Number::from(*number))),
+        ValueInner::Float(float) => Ok(Json::String(String::from_str(alloc, float.text())?)),
+        ValueInner::Boolean(truth) => Ok(Json::Bool(*truth)),
+        ValueInner::Datetime(date) => Ok(Json::String(String::from_str(alloc, date.text())?)),
+        ValueInner::Array(array) => Ok(Json::Array(json_of_elements(alloc, array)?)),
+        ValueInner::Table(table) => Ok(Json::Object(json_of_entries(alloc, table)?)),
+    }
+}
+
+#[cycle(json)]
+fn json_of_elements(alloc: Global, array: &Array<'_>) -> Result<Vec<Json>, AllocError>
+    ensures { IfOk result (λ made. json_items_view made.items ≡ json_items (items_view array.now.items)) }
+{
+    let mut made = Vec::with_capacity(alloc, array.len())?;
+    for value in array {
+        made.push(json_of_value(alloc, value)?)?;
+    }
+    Ok(made)
+}
+
+#[cycle(json)]
+fn json_of_entries(alloc: Global, table: &Table<'_>) -> Result<Map<String, Json>, AllocError>
+    ensures { IfOk result (λ made. json_members_view made.entries ≡ json_members (members_view table.now.entries)) }
+{
+    let mut made = Map::new(alloc);
+    for (key, value) in table.iter() {
+        let name = String::from_str(alloc, key.name.as_ref())?;
+        drop(made.insert(name, json_of_value(alloc, value)?)?);
+    }
+    Ok(made)
+}

@@ -1,0 +1,73 @@
+//! Laws of the definitions.
+ghost use Rattle.std.specs.Prelude.{◌≡◌, ◌↔◌, ◌<◌, ◌^◌, ℕ, List, [], Some, IsTrue, true, false, decimal};
+ghost use Rattle.toml_span_tree.specs.Node.{Node};
+ghost use Rattle.toml_span_tree.specs.Path.{Path, Place, shape_of, place_at, node_at, put, BeginsWith};
+ghost use Rattle.toml_span_tree.specs.Pointer.{position_of, IsPointed, pointed, put_pointed, pointers_part};
+ghost use Rattle.toml_span_tree.specs.Date.{IsDateText, IsDateOrTime};
+ghost use Rattle.toml_span_tree.specs.declared.date.DateText.{DateText};
+ghost use Rattle.toml_span_tree.specs.declared.float.FloatText.{FloatText};
+ghost use Rattle.toml_span_tree.specs.Value.{inner_of, span_of, is_taken, date_bytes, decimal_of};
+
+use crate::date::DateText;
+use crate::float::FloatText;
+
+/// A date text is a date, a time, or a date, a delimiter, a time and, if there is one, an offset,
+/// put together.
+pub fn date_texts()
+    ensures { (text : List ℕ) → IsDateText text ↔ IsDateOrTime text }
+{}
+
+/// Two date texts are equal exactly where their bytes are.
+pub fn equal_dates()
+    ensures { (x y : DateText)
+        → IsTrue (⟦<DateText<'static> as PartialEq>⟧.eq x y) ↔ (date_bytes x ≡ date_bytes y) }
+{}
+
+/// Two floats are equal exactly where their kinds are, and their texts or signs.
+pub fn equal_floats()
+    ensures { (x y : FloatText)
+        → IsTrue (⟦<FloatText as PartialEq>⟧.eq x y) ↔ (decimal_of x ≡ decimal_of y) }
+{}
+
+/// What was put at a path stands there.
+pub fn put_stands()
+    ensures { (path : Path) (n m w : Node) → node_at path n ≡ Some m → node_at path (put path w n) ≡ Some w }
+{}
+
+/// It is shown there with the span of the key that was there.
+pub fn put_keeps_the_key()
+    ensures { (path : Path) (n w : Node) (p : Place) → place_at path n ≡ Some p
+        → place_at path (put path w n) ≡ Some (record { shape = shape_of (inner_of w); key_span = p.key_span; span = span_of w }) }
+{}
+
+/// Every other path shows what it showed, unless it leads through the place of the change.
+pub fn put_keeps_the_rest()
+    ensures { (path other : Path) (n w : Node) → (BeginsWith path other → ⊥) → place_at other (put path w n) ≡ place_at other n }
+{}
+
+/// A pointer names the value at the path whose steps its segments name, unless that value is taken
+/// and below the start.
+pub fn pointer_names_a_path()
+    ensures { (pointer : List ℕ) (n m : Node) → (pointed pointer n ≡ Some m) ↔ IsPointed pointer n m }
+{}
+
+/// A segment spells a position exactly where it is the position's decimal form.
+pub fn positions_are_decimal()
+    ensures { (i : ℕ) (segment : List ℕ) → i < 2 ^ 64 → (position_of segment ≡ Some i) ↔ (segment ≡ decimal i) }
+{}
+
+/// The empty pointer names the value itself, taken or not.
+pub fn empty_pointer()
+    ensures { (n : Node) → pointed [] n ≡ Some n }
+{}
+
+/// What was put in a pointer's place is what the pointer names.
+pub fn pointer_names_what_was_put()
+    ensures { (pointer : List ℕ) (n m w : Node) → is_taken w ≡ false → pointed pointer n ≡ Some m → pointed pointer (put_pointed pointer w n) ≡ Some w }
+{}
+
+/// A pointer that parts from the one of the change names what it named.
+pub fn other_pointers_keep()
+    ensures { (pointer other : List ℕ) (n m w : Node) → pointed pointer n ≡ Some m → pointers_part pointer other ≡ true
+        → pointed other (put_pointed pointer w n) ≡ pointed other n }
+{}

@@ -1,0 +1,21 @@
+//! Values with spans, and the errors that are told of a TOML document.
+#![tactic(auto)]
+
+mod date;
+mod diagnostic;
+mod error;
+mod float;
+mod json;
+pub mod laws;
+mod listed;
+mod message;
+mod pointer;
+#[cfg(test)]
+mod tests;
+mod value;
+
+pub use date::DateText;
+pub use diagnostic::{Diagnostic, Label};
+pub use error::{Error, ErrorKind};
+pub use float::FloatText;
+pub use value::{Array, Table, Value, ValueInner};

@@ -1,0 +1,371 @@
+//! The tree of values.
+ghost use Rattle.std.specs.Prelude.{◌≡◌, Some, None, IfOk, IfErr, option_map, option_and_then, unwrap_or, is_some, codes, false};
+ghost use Rattle.std.specs.Cow.{cow_str_bytes};
+ghost use Rattle.toml_span_tree.specs.Value.{items_view, members_view, all_whole as all_whole_items, all_members_whole};
+
+use crate::date::DateText;
+use crate::error::{Error, ErrorKind};
+use crate::float::FloatText;
+use std::borrow::CowStr;
+use std::collections::BTreeMap;
+use std::fmt;
+use std::fmt::{Debug, Formatter, Write};
+use toml_span_lex::key::Key;
+use toml_span_lex::span::Span;
+
+/// An array's elements.
+pub type Array<'de> = Vec<Value<'de>>;
+
+/// A table's entries, in the order of their names.
+pub type Table<'de> = BTreeMap<Key<'de>, Value<'de>>;
+
+/// A key of that name, to look a table up by. Keys compare by their names alone.
+pub(crate) fn named(name: &str) -> Key<'_>
+    ensures { cow_str_bytes result.name ≡ name.now }
+{
+    Key {
+        name: CowStr::Borrowed(name),
+        span: Span::default(),
+    }
+}
+
+/// What a value holds.
+#[cycle(tree)]
+#[derive(Debug, Drop)]
+pub enum ValueInner<'de> {
+    String(CowStr<'de>),
+    Integer(i64),
+    Float(FloatText),
+    Boolean(bool),
+    Datetime(DateText<'de>),
+    Array(Array<'de>),
+    Table(Table<'de>),
+}
+
+/// A value with its span, whose inner value may be taken.
+#[cycle(tree)]
+#[derive(Drop)]
+pub struct Value<'de> {
+    pub(crate) value: Option<ValueInner<'de>>,
+    /// The bytes at which the value stands.
+    pub span: Span,
+}
+
+impl Debug for Value<'_> {
+    #[cycle(tree)]
+    fn fmt<W: Write>(&self, f: &mut Formatter<W>) -> fmt::Result {
+        match &self.value {
+            Some(inner) => write!(f, "{inner:?}"),
+            None => f.write_str("taken"),
+        }
+    }
+}
+
+impl<'de> Value<'de> {
+    ghost use Rattle.toml_span_tree.specs.Error.{fault_of};
+    ghost use Rattle.toml_span_tree.specs.Node.{node, taken, get_member};
+    ghost use Rattle.toml_span_tree.specs.Value.{view, inner_view, date_bytes, decimal_of, items_view, members_view, inner_of, is_taken as is_taken_node, is_whole as is_whole_node, text_in, integer_in, float_in, boolean_in, datetime_in, items_in, members_in, not_a, has_members};
+
+    /// A value with the span 0..0.
+    pub fn new(value: ValueInner<'de>) -> Self
+        ensures { view result ≡ node (inner_view value.entry) (record { start = 0; end = 0 }) }
+    {
+        Self::with_span(value, Span::default())
+    }
+
+    /// A value that stands at these bytes.
+    pub fn with_span(value: ValueInner<'de>, span: Span) -> Self
+        ensures { view result ≡ node (inner_view value.entry) span }
+    {
+        Value {
+            value: Some(value),
+            span,
+        }
+    }
+
+    /// Puts another inner value in the place of the one that is held or taken. The span stays.
+    pub fn set(&mut self, value: ValueInner<'de>)
+        ensures { view self.new ≡ node (inner_view value.entry) self.old.span }
+    {
+        self.value = Some(value);
+    }
+
+    /// Whether the inner value is taken.
+    pub fn is_taken(&self) -> bool
+        ensures { result ≡ is_taken_node (view self.now) }
+    {
+        self.value.is_none()
+    }
+
+    /// Whether nothing is taken here or below.
+    #[cycle(whole)]
+    pub fn is_whole(&self) -> bool
+        ensures { result ≡ is_whole_node (view self.now) }
+    {
+        match &self.value {
+            Some(inner) => inner.is_whole(),
+            None => false,
+        }
+    }
+
+    /// The inner value, which is taken from here on. The span stays.
+    pub fn take(&mut self) -> ValueInner<'de>
+        requires { is_taken_node (view self.old) ≡ false }
+        ensures given { view self.old ≡ node (inner_view result) self.old.span }
+        ensures taken { view self.new ≡ node taken self.old.span }
+    {
+        match self.value.take() {
+            Some(inner) => inner,
+            None => unreachable!(),
+        }
+    }
+
+    /// The inner value.
+    pub fn as_ref(&self) -> &ValueInner<'de>
+        requires { is_taken_node (view self.now) ≡ false }
+        ensures { view self.now ≡ node (inner_view result.now) self.now.span }
+    {
+        match &self.value {
+            Some(inner) => inner,
+            None => unreachable!(),
+        }
+    }
+
+    /// The string. The value is taken from here on, whether it was a string or not.
+    ///
+    /// Of another kind, the error is `Wanted`, at the value's span: what was expected is the message
+    /// or, where none is given, "a string", and what was found is the kind's name.
+    pub fn take_string<'s>(&mut self, msg: Option<&'s str>) -> Result<CowStr<'de>, Error<'s>>
+        requires { is_taken_node (view self.old) ≡ false }
+        ensures text { IfOk result (λ text. text_in (inner_of (view self.old)) ≡ Some (cow_str_bytes text)) }
+        ensures refused { IfErr result (λ error. (text_in (inner_of (view self.old)) ≡ None) × (fault_of error ≡ not_a (unwrap_or (option_map (λ m. m.now) msg.entry) (codes "a string")) (view self.old))) }
+        ensures taken { view self.new ≡ node taken self.old.span }
+    {
+        let span = self.span;
+        match self.take() {
+            ValueInner::String(text) => Ok(text),
+            other => Err(Error {
+                kind: ErrorKind::Wanted {
+                    expected: msg.unwrap_or("a string"),
+                    found: other.type_str(),
+                },
+                span,
+                line_info: None,
+            }),
+        }
+    }
+
+    /// Whether this is a table that has a key.
+    pub fn has_keys(&self) -> bool
+        ensures { result ≡ has_members (inner_of (view self.now)) }
+    {
+        match self.as_table() {
+            Some(table) => !table.is_empty(),
+            None => false,
+        }
+    }
+
+    /// Whether this is a table that has a key of that name.
+    pub fn has_key(&self, key: &'de str) -> bool
+        ensures { result ≡ is_some (option_and_then (get_member key.now) (members_in (inner_of (view self.now)))) }
+    {
+        match self.as_table() {
+            Some(table) => table.contains_key(&named(key)),
+            None => false,
+        }
+    }
+
+    /// The text, if this is a string.
+    pub fn as_str(&self) -> Option<&str>
+        ensures { option_map (λ s. s.now) result ≡ text_in (inner_of (view self.now)) }
+    {
+        match &self.value {
+            Some(inner) => inner.as_str(),
+            None => None,
+        }
+    }
+
+    /// The entries, if this is a table.
+    pub fn as_table(&self) -> Option<&Table<'de>>
+        ensures { option_map (λ table. members_view table.now.entries) result ≡ members_in (inner_of (view self.now)) }
+    {
+        match &self.value {
+            Some(inner) => inner.as_table(),
+            None => None,
+        }
+    }
+
+    /// The elements, if this is an array.
+    pub fn as_array(&self) -> Option<&Array<'de>>
+        ensures { option_map (λ array. items_view array.now.items) result ≡ items_in (inner_of (view self.now)) }
+    {
+        match &self.value {
+            Some(inner) => inner.as_array(),
+            None => None,
+        }
+    }
+
+    /// The number, if this is an integer.
+    pub fn as_integer(&self) -> Option<i64>
+        ensures { result ≡ integer_in (inner_of (view self.now)) }
+    {
+        match &self.value {
+            Some(inner) => inner.as_integer(),
+            None => None,
+        }
+    }
+
+    /// The float, if this is one.
+    pub fn as_float(&self) -> Option<&FloatText>
+        ensures { option_map (λ x. decimal_of x.now) result ≡ float_in (inner_of (view self.now)) }
+    {
+        match &self.value {
+            Some(inner) => inner.as_float(),
+            None => None,
+        }
+    }
+
+    /// The truth value, if this is one.
+    pub fn as_bool(&self) -> Option<bool>
+        ensures { result ≡ boolean_in (inner_of (view self.now)) }
+    {
+        match &self.value {
+            Some(inner) => inner.as_bool(),
+            None => None,
+        }
+    }
+
+    /// The date or time, if this is one.
+    pub fn as_datetime(&self) -> Option<&DateText<'de>>
+        ensures { option_map (λ date. date_bytes date.now) result ≡ datetime_in (inner_of (view self.now)) }
+    {
+        match &self.value {
+            Some(inner) => inner.as_datetime(),
+            None => None,
+        }
+    }
+}
+
+impl<'de> ValueInner<'de> {
+    ghost use Rattle.toml_span_tree.specs.Value.{inner_view, holds_whole, date_bytes, decimal_of, items_view, members_view, text_in, integer_in, float_in, boolean_in, datetime_in, items_in, members_in, kind_name};
+
+    /// The name of the kind: `string`, `integer`, `float`, `boolean`, `datetime`, `array` or `table`.
+    pub fn type_str(&self) -> &'static str
+        ensures { result.now ≡ kind_name (inner_view self.now) }
+    {
+        match self {
+            ValueInner::String(_) => "string",
+            ValueInner::Integer(_) => "integer",
+            ValueInner::Float(_) => "float",
+            ValueInner::Boolean(_) => "boolean",
+            ValueInner::Datetime(_) => "datetime",
+            ValueInner::Array(_) => "array",
+            ValueInner::Table(_) => "table",
+        }
+    }
+
+    #[cycle(whole)]
+    fn is_whole(&self) -> bool
+        ensures { result ≡ holds_whole (inner_view self.now) }
+    {
+        match self {
+            ValueInner::Array(array) => all_whole(array.as_slice()),
+            ValueInner::Table(table) => all_entries_whole(table),
+            _ => true,
+        }
+    }
+
+    /// The text, if this is a string.
+    pub fn as_str(&self) -> Option<&str>
+        ensures { option_map (λ s. s.now) result ≡ text_in (inner_view self.now) }
+    {
+        match self {
+            ValueInner::String(text) => Some(text.as_ref()),
+            _ => None,
+        }
+    }
+
+    /// The entries, if this is a table.
+    pub fn as_table(&self) -> Option<&Table<'de>>
+        ensures { option_map (λ table. members_view table.now.entries) result ≡ members_in (inner_view self.now) }
+    {
+        match self {
+            ValueInner::Table(table) => Some(table),
+            _ => None,
+        }
+    }
+
+    /// The elements, if this is an array.
+    pub fn as_array(&self) -> Option<&Array<'de>>
+        ensures { option_map (λ array. items_view array.now.items) result ≡ items_in (inner_view self.now) }
+    {
+        match self {
+            ValueInner::Array(array) => Some(array),
+            _ => None,
+        }
+    }
+
+    /// The number, if this is an integer.
+    pub fn as_integer(&self) -> Option<i64>
+        ensures { result ≡ integer_in (inner_view self.now) }
+    {
+        match self {
+            ValueInner::Integer(number) => Some(*number),
+            _ => None,
+        }
+    }
+
+    /// The float, if this is one.
+    pub fn as_float(&self) -> Option<&FloatText>
+        ensures { option_map (λ x. decimal_of x.now) result ≡ float_in (inner_view self.now) }
+    {
+        match self {
+            ValueInner::Float(float) => Some(float),
+            _ => None,
+        }
+    }
+
+    /// The truth value, if this is one.
+    pub fn as_bool(&self) -> Option<bool>
+        ensures { result ≡ boolean_in (inner_view self.now) }
+    {
+        match self {
+            ValueInner::Boolean(truth) => Some(*truth),
+            _ => None,
+        }
+    }
+
+    /// The date or time, if this is one.
+    pub fn as_datetime(&self) -> Option<&DateText<'de>>
+        ensures { option_map (λ date. date_bytes date.now) result ≡ datetime_in (inner_view self.now) }
+    {
+        match self {
+            ValueInner::Datetime(date) => Some(date),
+            _ => None,
+        }
+    }
+}
+
+#[cycle(whole)]
+fn all_whole(values: &[Value<'_>]) -> bool
+    ensures { result ≡ all_whole_items (items_view values.now) }
+{
+    for value in values {
+        if !value.is_whole() {
+            return false;
+        }
+    }
+    true
+}
+
+#[cycle(whole)]
+fn all_entries_whole(table: &Table<'_>) -> bool
+    ensures { result ≡ all_members_whole (members_view table.now.entries) }
+{
+    for (_key, value) in table.iter() {
+        if !value.is_whole() {
+            return false;
+        }
+    }
+    true
+}
