@@ -1,0 +1,8 @@
+use Rattle.std.proofs.Common.{◌≡◌, ◌++◌, map}
+use Rattle.std.specs.BTreeMap.{keys}
+use Rattle.toml_span_typed.specs.TableHelper.{key_text}
+use Rattle.toml_span_typed.proofs.Tables.{key_place}
+use Rattle.toml_span_typed.proofs.de_helpers.table_helper.key_names.Given as goal
+
+abbrev pub invariant-loop-key : goal.invariant-loop-key
+invariant-loop-key l = map key_text l.names.items ++ map key_place l.key-iterator ≡ map key_place (keys l.table)

@@ -1,0 +1,5 @@
+pub mod Faults
+pub mod Reads
+pub mod Arrays
+pub mod TableHelper
+pub mod Parse

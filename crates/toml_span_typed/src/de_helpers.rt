@@ -1,0 +1,70 @@
+//! Helpers for reads.
+ghost use Rattle.std.specs.Prelude.{◌≡◌, IfOk, false};
+ghost use Rattle.toml_span_tree.specs.Error.{fault_of};
+ghost use Rattle.toml_span_tree.specs.Node.{node};
+ghost use Rattle.toml_span_tree.specs.Value.{inner_view, is_taken, not_a, view};
+ghost use Rattle.toml_span_typed.specs.Parse.{Parses, TellsRefusal};
+ghost use Rattle.toml_span_typed.specs.Reads.{Taken};
+
+mod table_helper;
+
+use std::alloc::{AllocError, Global};
+use std::borrow::CowStr;
+use std::fmt::Display;
+use std::str::FromStr;
+pub use table_helper::{TableHelper, Unfinished};
+use toml_span_lex::span::Span;
+use toml_span_lex::stop::Stop;
+use toml_span_tree::{Error, ErrorKind, Value, ValueInner};
+
+/// The error that something else was expected where this value stands. Takes no memory.
+pub fn expected<'s>(expected: &'s str, found: ValueInner, span: Span) -> Error<'s>
+    ensures { fault_of result ≡ not_a expected.now (node (inner_view found.entry) span) }
+{
+    Error::from((
+        ErrorKind::Wanted {
+            expected,
+            found: found.type_str(),
+        },
+        span,
+    ))
+}
+
+/// What `FromStr` makes of a value's string. The value, from which nothing may be taken before, is
+/// taken in every case.
+///
+/// Of another kind, the error is `Wanted` "a string". Where `FromStr` refuses the string, it is
+/// `Custom`: `failed to parse string: ` and the text of the refusal. Both stand at the value's span.
+/// Memory is taken for that text alone.
+pub fn parse<'de, T: FromStr<Err = E>, E: Display + Drop>(
+    alloc: Global,
+    value: &mut Value<'de>,
+) -> Result<T, Stop<Error<'de>>>
+    requires { is_taken (view value.old) ≡ false }
+    ensures answer { Parses T.from_str_gives E.output (view value.old) result }
+    ensures taken { Taken (view value.old) (view value.new) }
+{
+    let text = match value.take_string(None) {
+        Ok(text) => text,
+        Err(error) => return Err(Stop::Fault(error)),
+    };
+    match text.as_str().parse::<T>() {
+        Ok(parsed) => Ok(parsed),
+        Err(refusal) => match unparsed(alloc, refusal, value.span) {
+            Ok(error) => Err(Stop::Fault(error)),
+            Err(e) => Err(Stop::Memory(e)),
+        },
+    }
+}
+
+/// The error of a string that could not be read.
+fn unparsed<'s, E: Display + Drop>(
+    alloc: Global,
+    refusal: E,
+    span: Span,
+) -> Result<Error<'s>, AllocError>
+    ensures { IfOk result (λ error. TellsRefusal (E.output refusal) span (fault_of error)) }
+{
+    let message = format!(in alloc; "failed to parse string: {refusal}")?;
+    Ok(Error::from((ErrorKind::Custom(CowStr::Owned(message)), span)))
+}

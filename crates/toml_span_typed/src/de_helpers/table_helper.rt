@@ -1,0 +1,312 @@
+//! A helper that reads a table field by field, and keeps the errors.
+ghost use Rattle.std.specs.Prelude.{◌≡◌, Some, None, IfOk, IfSome, is_some, option_map, map, string_bytes};
+ghost use Rattle.std.specs.Cow.{cow_str_bytes};
+ghost use Rattle.toml_span_tree.specs.Error.{fault_of, missing_field};
+ghost use Rattle.toml_span_tree.specs.Node.{entry_at};
+ghost use Rattle.toml_span_tree.specs.Value.{members_view, span_of, view};
+ghost use Rattle.toml_span_typed.specs.TableHelper.{Closes, key_text, names_in, without};
+
+use crate::de_helpers::expected;
+use crate::deser_error::DeserError;
+use crate::deserialize::Deserialize;
+use std::alloc::{AllocError, Global};
+use std::borrow::CowStr;
+use toml_span_lex::key::Key;
+use toml_span_lex::span::Span;
+use toml_span_lex::spanned::Spanned;
+use toml_span_lex::stop::Stop;
+use toml_span_tree::{Error, ErrorKind, Table, Value, ValueInner};
+
+/// Reads the entries of a table one after the other, and keeps the errors and the names asked for.
+#[derive(Drop)]
+pub struct TableHelper<'de> {
+    /// The entries that were not asked for yet.
+    pub table: Table<'de>,
+    /// The errors of the reads, in order.
+    pub errors: Vec<Error<'de>>,
+    asked: Vec<&'de str>,
+    span: Span,
+    alloc: Global,
+}
+
+/// Why the reads of a table did not end well.
+#[derive(Drop)]
+pub enum Unfinished<'de> {
+    /// The errors that were kept.
+    Faults(DeserError<'de>),
+    /// Memory ran out: the helper comes back as it was.
+    Memory(TableHelper<'de>),
+}
+
+impl<'de> TableHelper<'de> {
+    ghost use Rattle.std.specs.Prelude.{[], ◌∷◌, IsTrue, OnOk, OnErr, false};
+    ghost use Rattle.toml_span_tree.specs.Value.{is_taken, is_whole};
+    ghost use Rattle.toml_span_typed.specs.Faults.{all};
+    ghost use Rattle.toml_span_typed.specs.Reads.{Taken, result_map, spanned};
+    ghost use Rattle.toml_span_typed.specs.TableHelper.{AllWhole, Closes, Finalizes, HoldsRest, Leaves, Opens, Refuses, Requires, Takes, Tries, found, fresh, keeping, missing, state_of, unasked, unexpected};
+
+    /// A helper over the table that a value is, from which nothing may be taken. The value is taken.
+    /// Of another kind, the error is `Wanted` "a table". Takes no memory.
+    pub fn new(alloc: Global, value: &mut Value<'de>) -> Result<TableHelper<'de>, DeserError<'de>>
+        requires { is_taken (view value.old) ≡ false }
+        ensures answer { Opens (view value.old) (result_map state_of result) }
+        ensures taken { Taken (view value.old) (view value.new) }
+        ensures whole { IsTrue (is_whole (view value.old)) → IfOk result (λ helper. AllWhole (state_of helper)) }
+    {
+        match value.take() {
+            ValueInner::Table(table) => Ok(TableHelper::from_table(alloc, table, value.span)),
+            other => Err(expected("a table", other, value.span).into()),
+        }
+    }
+
+    /// A helper over a table that stands at a span. Takes no memory.
+    pub fn from_table(alloc: Global, table: Table<'de>, span: Span) -> TableHelper<'de>
+        ensures { state_of result ≡ fresh (members_view table.entry.entries) span }
+    {
+        TableHelper {
+            table,
+            errors: Vec::new(alloc),
+            asked: Vec::new(alloc),
+            span,
+            alloc,
+        }
+    }
+
+    /// Whether the table holds the name now. Records nothing.
+    pub fn contains(&self, name: &'de str) -> bool
+        ensures { result ≡ is_some (found name.now (state_of self.now)) }
+    {
+        self.table.contains_key(&named(name))
+    }
+
+    /// Records the name, and moves its entry out, if there is one. Without memory for the name
+    /// nothing has changed.
+    #[tactic(auto, using(crate::proofs::Whole::without_whole))]
+    pub fn take(&mut self, name: &'de str) -> Result<Option<(Key<'de>, Value<'de>)>, AllocError>
+        ensures answer { Takes name.now (state_of self.old) result (state_of self.new) }
+        ensures whole { AllWhole (state_of self.old) → AllWhole (state_of self.new) }
+    {
+        if self.asked.push(name).is_err() {
+            return Err(AllocError);
+        }
+        Ok(remove(&mut self.table, name))
+    }
+
+    /// Records the name, moves its entry out and reads it.
+    ///
+    /// Where no entry stands, `MissingField` at the table's span is kept and answered. Where the read
+    /// fails, all its errors are kept, and the last one is answered. On want of memory nothing has
+    /// changed, or the name is recorded, its entry gone, and the errors are as before.
+    pub fn required<T: Deserialize<'de>>(&mut self, name: &'de str) -> Result<T, Stop<Error<'de>>>
+        requires { IfSome (found name.now (state_of self.old)) (λ value. IsTrue (is_whole value)) }
+        ensures answer { Requires T.reads name.now (state_of self.old) result (state_of self.new) }
+        ensures whole { AllWhole (state_of self.old) → AllWhole (state_of self.new) }
+    {
+        match self.take(name) {
+            Err(e) => Err(Stop::Memory(e)),
+            Ok(None) => match self.keep(missing_field(name, self.span)) {
+                Ok(()) => Err(Stop::Fault(missing_field(name, self.span))),
+                Err(e) => Err(Stop::Memory(e)),
+            },
+            Ok(Some((_key, mut value))) => match T::deserialize(self.alloc, &mut value) {
+                Ok(x) => Ok(x),
+                Err(Stop::Memory(e)) => Err(Stop::Memory(e)),
+                Err(Stop::Fault(faults)) => match self.keep_all(faults) {
+                    Ok(last) => Err(Stop::Fault(last)),
+                    Err(e) => Err(Stop::Memory(e)),
+                },
+            },
+        }
+    }
+
+    /// As `required`, with the span of the value.
+    pub fn required_s<T: Deserialize<'de>>(
+        &mut self,
+        name: &'de str,
+    ) -> Result<Spanned<T>, Stop<Error<'de>>>
+        requires { IfSome (found name.now (state_of self.old)) (λ value. IsTrue (is_whole value)) }
+        ensures answer { Requires (spanned T.reads (λ s. s.value) (λ s. s.span)) name.now (state_of self.old) result (state_of self.new) }
+        ensures whole { AllWhole (state_of self.old) → AllWhole (state_of self.new) }
+    {
+        self.required(name)
+    }
+
+    /// Records the name, moves its entry out, if there is one, and reads it.
+    ///
+    /// The answer is None both where no entry stands and where the read fails, whose errors are kept.
+    /// On want of memory nothing has changed, or the name is recorded, its entry gone, and the errors
+    /// are as before.
+    pub fn optional<T: Deserialize<'de>>(&mut self, name: &'de str) -> Result<Option<T>, AllocError>
+        requires { IfSome (found name.now (state_of self.old)) (λ value. IsTrue (is_whole value)) }
+        ensures answer { Tries T.reads name.now (state_of self.old) result (state_of self.new) }
+        ensures whole { AllWhole (state_of self.old) → AllWhole (state_of self.new) }
+    {
+        match self.take(name) {
+            Err(e) => Err(e),
+            Ok(None) => Ok(None),
+            Ok(Some((_key, mut value))) => match T::deserialize(self.alloc, &mut value) {
+                Ok(x) => Ok(Some(x)),
+                Err(Stop::Memory(e)) => Err(e),
+                Err(Stop::Fault(faults)) => match faults.append_to(&mut self.errors) {
+                    Ok(()) => Ok(None),
+                    Err(e) => Err(e),
+                },
+            },
+        }
+    }
+
+    /// As `optional`, with the span of the value.
+    pub fn optional_s<T: Deserialize<'de>>(
+        &mut self,
+        name: &'de str,
+    ) -> Result<Option<Spanned<T>>, AllocError>
+        requires { IfSome (found name.now (state_of self.old)) (λ value. IsTrue (is_whole value)) }
+        ensures answer { Tries (spanned T.reads (λ s. s.value) (λ s. s.span)) name.now (state_of self.old) result (state_of self.new) }
+        ensures whole { AllWhole (state_of self.old) → AllWhole (state_of self.new) }
+    {
+        self.optional(name)
+    }
+
+    /// Ends the reads. Ok exactly where there is no error; else the errors in order.
+    ///
+    /// With an original value, the rest of the table is put back into it, also where errors were kept;
+    /// its span stays, and no memory is taken. Without one, keys that remain add the error
+    /// `UnexpectedKeys` at the table's span, with the keys in the order of their names and all names
+    /// asked for in order; on want of memory the helper comes back as it was.
+    pub fn finalize(self, original: Option<&mut Value<'de>>) -> Result<(), Unfinished<'de>>
+        ensures answer { Finalizes (state_of self.entry) original.entry result }
+        ensures rest { Leaves (HoldsRest self.entry.table) original.entry original.exit }
+    {
+        match original {
+            Some(value) => self.put_back(value),
+            None => self.refuse_rest(),
+        }
+    }
+
+    /// Ends the reads, and puts the rest of the table back into a value.
+    fn put_back(self, value: &mut Value<'de>) -> Result<(), Unfinished<'de>>
+        ensures answer { Closes (state_of self.entry).errors result }
+        ensures rest { HoldsRest self.entry.table value.old value.new }
+    {
+        let TableHelper {
+            table,
+            errors,
+            asked: _,
+            span: _,
+            alloc: _,
+        } = self;
+        value.set(ValueInner::Table(table));
+        finish(errors)
+    }
+
+    /// Ends the reads, and refuses the keys that remain.
+    fn refuse_rest(mut self) -> Result<(), Unfinished<'de>>
+        ensures { Refuses (state_of self.entry) result }
+    {
+        if self.keep_unasked().is_err() {
+            return Err(Unfinished::Memory(self));
+        }
+        finish(self.errors)
+    }
+
+    /// Keeps the error of the keys that remain, if any do. Without memory nothing has changed.
+    fn keep_unasked(&mut self) -> Result<(), AllocError>
+        ensures ok { OnOk result (state_of self.new ≡ keeping (unasked (state_of self.old)) (state_of self.old)) }
+        ensures err { OnErr result (state_of self.new ≡ state_of self.old) }
+    {
+        if self.table.is_empty() {
+            return Ok(());
+        }
+        let error = self.unexpected_keys()?;
+        self.keep(error)
+    }
+
+    /// The error of the keys that remain.
+    fn unexpected_keys(&self) -> Result<Error<'de>, AllocError>
+        ensures { IfOk result (λ e. fault_of e ≡ unexpected (state_of self.now)) }
+    {
+        let keys = key_names(self.alloc, &self.table)?;
+        let expected = copied_texts(self.alloc, self.asked.as_slice())?;
+        Ok(Error::from((ErrorKind::UnexpectedKeys { keys, expected }, self.span)))
+    }
+
+    /// Keeps one error.
+    fn keep(&mut self, error: Error<'de>) -> Result<(), AllocError>
+        ensures ok { OnOk result (state_of self.new ≡ keeping (fault_of error.entry ∷ []) (state_of self.old)) }
+        ensures err { OnErr result (state_of self.new ≡ state_of self.old) }
+    {
+        match self.errors.push(error) {
+            Ok(()) => Ok(()),
+            Err(_) => Err(AllocError),
+        }
+    }
+
+    /// Keeps the errors of a read, and gives a copy of the last one. Without memory it keeps none.
+    fn keep_all(&mut self, faults: DeserError<'de>) -> Result<Error<'de>, AllocError>
+        ensures ok { IfOk result (λ e. (fault_of e ≡ faults.entry.last) × (state_of self.new ≡ keeping (all faults.entry) (state_of self.old))) }
+        ensures err { OnErr result (state_of self.new ≡ state_of self.old) }
+    {
+        let last = faults.last().clone(self.alloc)?;
+        faults.append_to(&mut self.errors)?;
+        Ok(last)
+    }
+}
+
+/// A key of this name, to look for.
+fn named<'de>(name: &'de str) -> Key<'de>
+    ensures { cow_str_bytes result.name ≡ name.now }
+{
+    Key {
+        name: CowStr::Borrowed(name),
+        span: Span::default(),
+    }
+}
+
+/// Moves the entry of a name out of a table.
+fn remove<'de>(table: &mut Table<'de>, name: &'de str) -> Option<(Key<'de>, Value<'de>)>
+    ensures rest { members_view table.new.entries ≡ without name.now (members_view table.old.entries) }
+    ensures entry { option_map (λ e. (Some e.0.span, view e.1)) result ≡ entry_at name.now (members_view table.old.entries) }
+    ensures name { IfSome result (λ e. cow_str_bytes e.0.name ≡ name.now) }
+{
+    table.remove_entry(&named(name))
+}
+
+/// The error of a field that is not there, in the table at this span.
+fn missing_field<'s>(name: &'s str, span: Span) -> Error<'s>
+    ensures { fault_of result ≡ record { kind = missing_field name.now; span = span; line_info = None } }
+{
+    Error::from((ErrorKind::MissingField(name), span))
+}
+
+/// The answer where these errors were kept.
+fn finish<'de>(errors: Vec<Error<'de>>) -> Result<(), Unfinished<'de>>
+    ensures { Closes (map fault_of errors.entry.items) result }
+{
+    match DeserError::from_list(errors) {
+        None => Ok(()),
+        Some(faults) => Err(Unfinished::Faults(faults)),
+    }
+}
+
+/// The names of a table's keys, in order, with their spans.
+fn key_names(alloc: Global, table: &Table) -> Result<Vec<(String, Span)>, AllocError>
+    ensures { IfOk result (λ names. map key_text names.items ≡ names_in (members_view table.now.entries)) }
+{
+    let mut names = Vec::new(alloc);
+    for key in table.keys() {
+        let name = String::from_str(alloc, key.name.as_str())?;
+        names.push((name, key.span))?;
+    }
+    Ok(names)
+}
+
+/// A copy of each text.
+fn copied_texts(alloc: Global, texts: &[&str]) -> Result<Vec<String>, AllocError>
+    ensures { IfOk result (λ copies. map string_bytes copies.items ≡ map (λ text. text.now) texts.now) }
+{
+    let mut copies = Vec::new(alloc);
+    for text in texts {
+        copies.push(String::from_str(alloc, *text)?)?;
+    }
+    Ok(copies)
+}

@@ -1,0 +1,203 @@
+//! The errors of a typed read.
+ghost use Rattle.std.specs.Prelude.{◌≡◌, ◌++◌, length, slice_get, option_map, OnOk, OnErr, IfErr, Some, map};
+ghost use Rattle.std.specs.Iterator.{YieldsFirstBy, item_count};
+ghost use Rattle.toml_span_tree.specs.Error.{fault_of};
+ghost use Rattle.toml_span_typed.specs.Faults.{all, all_of_option};
+
+use std::alloc::{AllocError, Global};
+use std::fmt::{Display, Formatter, Write};
+use std::marker::Model;
+use std::{fmt, mem};
+use toml_span_tree::Error;
+
+/// The errors of a read, in the order in which they were met. There is at least one.
+#[derive(Debug, Drop)]
+pub struct DeserError<'s> {
+    earlier: Option<Vec<Error<'s>>>,
+    last: Error<'s>,
+}
+
+impl<'s> Model for DeserError<'s> {
+    ghost use Rattle.toml_span_typed.specs.Faults.{Faults, faults_in};
+    ghost use Rattle.toml_span_tree.specs.Error.{fault_of};
+
+    ghost Value = { Faults };
+
+    ghost view = { λ e. record { earlier = faults_in e.earlier; last = fault_of e.last } };
+}
+
+impl<'s> From<Error<'s>> for DeserError<'s> {
+    ghost use Rattle.toml_span_typed.specs.Faults.{one};
+    ghost use Rattle.toml_span_tree.specs.Error.{fault_of};
+
+    ghost from_gives = { λ error faults. faults ≡ one (fault_of error) };
+
+    fn from(error: Error<'s>) -> Self {
+        DeserError {
+            earlier: None,
+            last: error,
+        }
+    }
+}
+
+impl Display for DeserError<'_> {
+    ghost use Rattle.toml_span_typed.specs.Faults.{lines};
+
+    ghost output = { λ faults. Some (lines (all faults)) };
+
+    fn fmt<W: Write>(&self, f: &mut Formatter<W>) -> fmt::Result {
+        for error in self.earlier() {
+            writeln!(f, "{error}")?;
+        }
+        let last = self.last();
+        writeln!(f, "{last}")
+    }
+}
+
+impl std::error::Error for DeserError<'_> {}
+
+/// A merge that found no memory: it hands the other errors back.
+#[derive(Debug, Drop)]
+pub struct Unmerged<'s> {
+    pub other: DeserError<'s>,
+    pub error: AllocError,
+}
+
+impl<'s> DeserError<'s> {
+    /// How many errors there are, at least one.
+    pub fn len(&self) -> usize
+        ensures { result ≡ length (all self.now) }
+    {
+        match &self.earlier {
+            Some(earlier) => earlier.len() + 1,
+            None => 1,
+        }
+    }
+
+    /// The error at this position, counted from 0, if there are so many.
+    pub fn get(&self, index: usize) -> Option<&Error<'s>>
+        ensures { option_map (λ e. fault_of e.now) result ≡ slice_get (all self.now) index }
+    {
+        let earlier = self.earlier();
+        if index < earlier.len() {
+            Some(&earlier[index])
+        } else if index == earlier.len() {
+            Some(self.last())
+        } else {
+            None
+        }
+    }
+
+    /// The last error.
+    pub fn last(&self) -> &Error<'s>
+        ensures { fault_of result.now ≡ self.now.last }
+    {
+        &self.last
+    }
+
+    /// The errors in order.
+    pub fn iter(&self) -> ErrorIter<'_, 's>
+        ensures { result ≡ all self.now }
+    {
+        ErrorIter {
+            earlier: self.earlier(),
+            last: Some(self.last()),
+        }
+    }
+
+    /// The errors before the last one.
+    fn earlier(&self) -> &[Error<'s>]
+        ensures { map fault_of result.now ≡ self.now.earlier }
+    {
+        match &self.earlier {
+            Some(earlier) => earlier.as_slice(),
+            None => &[],
+        }
+    }
+
+    /// Puts the errors of the other behind these. On want of memory these are as before, and the
+    /// other comes back.
+    pub fn merge(&mut self, alloc: Global, other: DeserError<'s>) -> Result<(), Unmerged<'s>>
+        ensures ok { OnOk result (all self.new ≡ all self.old ++ all other.entry) }
+        ensures err { IfErr result (λ u. (self.new ≡ self.old) × (u.other ≡ other.entry)) }
+    {
+        let mut earlier = match self.earlier.take() {
+            Some(earlier) => earlier,
+            None => Vec::new(alloc),
+        };
+        if let Err(error) = earlier.reserve(other.len()) {
+            self.earlier = Some(earlier);
+            return Err(Unmerged { other, error });
+        }
+        let DeserError {
+            earlier: more,
+            last,
+        } = other;
+        earlier.push(mem::replace(&mut self.last, last)).unwrap();
+        if let Some(mut more) = more {
+            earlier.append(&mut more).unwrap();
+        }
+        self.earlier = Some(earlier);
+        Ok(())
+    }
+
+    /// Puts the errors behind those of a list. On want of memory the list is as before.
+    pub(crate) fn append_to(self, list: &mut Vec<Error<'s>>) -> Result<(), AllocError>
+        ensures ok { OnOk result (map fault_of list.new.items ≡ map fault_of list.old.items ++ all self.entry) }
+        ensures err { OnErr result (list.new.items ≡ list.old.items) }
+    {
+        list.reserve(self.len())?;
+        let DeserError { earlier, last } = self;
+        if let Some(mut earlier) = earlier {
+            list.append(&mut earlier).unwrap();
+        }
+        list.push(last).unwrap();
+        Ok(())
+    }
+
+    /// The errors of a list, if it has any.
+    pub(crate) fn from_list(mut list: Vec<Error<'s>>) -> Option<DeserError<'s>>
+        ensures { all_of_option result ≡ map fault_of list.entry.items }
+    {
+        let last = list.pop()?;
+        Some(DeserError {
+            earlier: Some(list),
+            last,
+        })
+    }
+}
+
+/// The errors of a read, one after the other.
+#[derive(Drop)]
+pub struct ErrorIter<'a, 's> {
+    earlier: &'a [Error<'s>],
+    last: Option<&'a Error<'s>>,
+}
+
+impl<'a, 's> Model for ErrorIter<'a, 's> {
+    ghost use Rattle.std.specs.Prelude.{List, ◌++◌, map};
+    ghost use Rattle.toml_span_tree.specs.Error.{Fault, fault_of};
+    ghost use Rattle.toml_span_typed.specs.Faults.{last_left};
+
+    ghost Value = { List Fault };
+
+    ghost view = { λ i. map fault_of i.earlier.now ++ last_left i.last };
+}
+
+impl<'a, 's> Iterator for ErrorIter<'a, 's> {
+    type Item = &'a Error<'s>;
+
+    ghost next_gives = { YieldsFirstBy (λ e. fault_of e.now) (λ s. s) };
+
+    ghost remaining = { item_count (λ s. s) };
+
+    fn next(&mut self) -> Option<&'a Error<'s>> {
+        match self.earlier {
+            [first, rest @ ..] => {
+                self.earlier = rest;
+                Some(first)
+            }
+            [] => self.last.take(),
+        }
+    }
+}

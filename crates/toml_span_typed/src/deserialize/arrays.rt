@@ -1,0 +1,87 @@
+//! Reads of arrays.
+ghost use Rattle.std.specs.Prelude.{◌≡◌, ◌++◌, IsTrue, OnOk};
+ghost use Rattle.toml_span_tree.specs.Value.{all_whole, is_whole, items_view, view};
+ghost use Rattle.toml_span_typed.specs.Arrays.{AddsRead, Answered};
+ghost use Rattle.toml_span_typed.specs.Faults.{all, all_of_option};
+ghost use Rattle.toml_span_typed.specs.Reads.{ReadsAll, Taken, array_reads, nodes_of, result_map};
+
+use crate::de_helpers::expected;
+use crate::deser_error::DeserError;
+use crate::deserialize::Deserialize;
+use std::alloc::{AllocError, Global};
+use toml_span_lex::stop::Stop;
+use toml_span_tree::{Value, ValueInner};
+
+impl<'de, T: Deserialize<'de>> Deserialize<'de> for Vec<T> {
+    ghost reads = { λ v r w. array_reads T.reads v (result_map (λ x. x.items) r) w };
+
+    ghost starved = { Taken };
+
+    fn deserialize(alloc: Global, value: &mut Value<'de>) -> Result<Vec<T>, Stop<DeserError<'de>>> {
+        match value.take() {
+            ValueInner::Array(items) => read_all(alloc, items),
+            other => Err(Stop::Fault(expected("an array", other, value.span).into())),
+        }
+    }
+}
+
+/// Reads each value.
+fn read_all<'de, T: Deserialize<'de>>(
+    alloc: Global,
+    items: Vec<Value<'de>>,
+) -> Result<Vec<T>, Stop<DeserError<'de>>>
+    requires { IsTrue (all_whole (items_view items.items)) }
+    ensures { Answered result (λ r. ReadsAll T.reads (nodes_of (items_view items.entry.items)) (result_map (λ v. v.items) r)) }
+{
+    let mut read = Vec::new(alloc);
+    let mut faults = None;
+    for item in items {
+        if let Err(e) = read_next(alloc, item, &mut read, &mut faults) {
+            return Err(Stop::Memory(e));
+        }
+    }
+    match faults {
+        None => Ok(read),
+        Some(faults) => Err(Stop::Fault(faults)),
+    }
+}
+
+/// Reads one more value.
+fn read_next<'de, T: Deserialize<'de>>(
+    alloc: Global,
+    mut item: Value<'de>,
+    read: &mut Vec<T>,
+    faults: &mut Option<DeserError<'de>>,
+) -> Result<(), AllocError>
+    requires { IsTrue (is_whole (view item)) }
+    ensures { OnOk result (AddsRead T.reads (view item.entry) read.old.items (all_of_option faults.old) read.new.items (all_of_option faults.new)) }
+{
+    match T::deserialize(alloc, &mut item) {
+        Ok(element) => match read.push(element) {
+            Ok(()) => Ok(()),
+            Err(_) => Err(AllocError),
+        },
+        Err(Stop::Fault(more)) => add(faults, alloc, more),
+        Err(Stop::Memory(e)) => Err(e),
+    }
+}
+
+/// Puts errors behind those that there may be.
+fn add<'s>(
+    faults: &mut Option<DeserError<'s>>,
+    alloc: Global,
+    more: DeserError<'s>,
+) -> Result<(), AllocError>
+    ensures { OnOk result (all_of_option faults.new ≡ all_of_option faults.old ++ all more.entry) }
+{
+    match faults {
+        Some(faults) => match faults.merge(alloc, more) {
+            Ok(()) => Ok(()),
+            Err(refused) => Err(refused.error),
+        },
+        None => {
+            *faults = Some(more);
+            Ok(())
+        }
+    }
+}

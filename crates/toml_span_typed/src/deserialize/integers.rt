@@ -1,0 +1,144 @@
+//! Reads of integers.
+ghost use Rattle.std.specs.Prelude.{◌≡◌, ◌^◌, codes, Some, false};
+ghost use Rattle.toml_span_tree.specs.Value.{is_taken, view};
+ghost use Rattle.toml_span_typed.specs.Faults.{one};
+ghost use Rattle.toml_span_typed.specs.Reads.{Answers, Gives, Never, integer_of, beyond_range, unsigned, signed};
+
+use crate::de_helpers::expected;
+use crate::deser_error::DeserError;
+use crate::deserialize::Deserialize;
+use std::alloc::Global;
+use toml_span_lex::span::Span;
+use toml_span_lex::stop::Stop;
+use toml_span_tree::{Error, ErrorKind, Value, ValueInner};
+
+/// The integer that stands there, for the type of this name.
+fn integer<'s>(name: &'s str, value: &mut Value) -> Result<i64, Stop<DeserError<'s>>>
+    requires { is_taken (view value.old) ≡ false }
+    ensures { Answers (Gives (integer_of name.now Some)) Never (view value.old) result (view value.new) }
+{
+    match value.take() {
+        ValueInner::Integer(i) => Ok(i),
+        other => Err(Stop::Fault(expected(name, other, value.span).into())),
+    }
+}
+
+/// The error of an integer that the type of this name does not hold.
+fn out_of_range<'s>(name: &'s str, span: Span) -> DeserError<'s>
+    ensures { result ≡ one (beyond_range name.now span) }
+{
+    Error::from((ErrorKind::OutOfRange(name), span)).into()
+}
+
+/// The integer of the value as this type, or the errors of the read.
+macro_rules! narrowed {
+    ($ty:ident, $value:expr) => {
+        match integer(stringify!($ty), $value) {
+            Ok(i) => match $ty::try_from(i) {
+                Ok(n) => Ok(n),
+                Err(_) => Err(Stop::Fault(out_of_range(stringify!($ty), $value.span))),
+            },
+            Err(stop) => Err(stop),
+        }
+    };
+}
+
+impl<'de> Deserialize<'de> for u8 {
+    ghost reads = { Gives (integer_of (codes "u8") (unsigned (2 ^ 8))) };
+
+    ghost starved = { Never };
+
+    fn deserialize(_alloc: Global, value: &mut Value<'de>) -> Result<u8, Stop<DeserError<'de>>> {
+        narrowed!(u8, value)
+    }
+}
+
+impl<'de> Deserialize<'de> for u16 {
+    ghost reads = { Gives (integer_of (codes "u16") (unsigned (2 ^ 16))) };
+
+    ghost starved = { Never };
+
+    fn deserialize(_alloc: Global, value: &mut Value<'de>) -> Result<u16, Stop<DeserError<'de>>> {
+        narrowed!(u16, value)
+    }
+}
+
+impl<'de> Deserialize<'de> for u32 {
+    ghost reads = { Gives (integer_of (codes "u32") (unsigned (2 ^ 32))) };
+
+    ghost starved = { Never };
+
+    fn deserialize(_alloc: Global, value: &mut Value<'de>) -> Result<u32, Stop<DeserError<'de>>> {
+        narrowed!(u32, value)
+    }
+}
+
+impl<'de> Deserialize<'de> for u64 {
+    ghost reads = { Gives (integer_of (codes "u64") (unsigned (2 ^ 64))) };
+
+    ghost starved = { Never };
+
+    fn deserialize(_alloc: Global, value: &mut Value<'de>) -> Result<u64, Stop<DeserError<'de>>> {
+        narrowed!(u64, value)
+    }
+}
+
+impl<'de> Deserialize<'de> for usize {
+    ghost reads = { Gives (integer_of (codes "usize") (unsigned (2 ^ 64))) };
+
+    ghost starved = { Never };
+
+    fn deserialize(_alloc: Global, value: &mut Value<'de>) -> Result<usize, Stop<DeserError<'de>>> {
+        narrowed!(usize, value)
+    }
+}
+
+impl<'de> Deserialize<'de> for i8 {
+    ghost reads = { Gives (integer_of (codes "i8") (signed (2 ^ 7))) };
+
+    ghost starved = { Never };
+
+    fn deserialize(_alloc: Global, value: &mut Value<'de>) -> Result<i8, Stop<DeserError<'de>>> {
+        narrowed!(i8, value)
+    }
+}
+
+impl<'de> Deserialize<'de> for i16 {
+    ghost reads = { Gives (integer_of (codes "i16") (signed (2 ^ 15))) };
+
+    ghost starved = { Never };
+
+    fn deserialize(_alloc: Global, value: &mut Value<'de>) -> Result<i16, Stop<DeserError<'de>>> {
+        narrowed!(i16, value)
+    }
+}
+
+impl<'de> Deserialize<'de> for i32 {
+    ghost reads = { Gives (integer_of (codes "i32") (signed (2 ^ 31))) };
+
+    ghost starved = { Never };
+
+    fn deserialize(_alloc: Global, value: &mut Value<'de>) -> Result<i32, Stop<DeserError<'de>>> {
+        narrowed!(i32, value)
+    }
+}
+
+impl<'de> Deserialize<'de> for i64 {
+    ghost reads = { Gives (integer_of (codes "i64") (signed (2 ^ 63))) };
+
+    ghost starved = { Never };
+
+    fn deserialize(_alloc: Global, value: &mut Value<'de>) -> Result<i64, Stop<DeserError<'de>>> {
+        narrowed!(i64, value)
+    }
+}
+
+impl<'de> Deserialize<'de> for isize {
+    ghost reads = { Gives (integer_of (codes "isize") (signed (2 ^ 63))) };
+
+    ghost starved = { Never };
+
+    fn deserialize(_alloc: Global, value: &mut Value<'de>) -> Result<isize, Stop<DeserError<'de>>> {
+        narrowed!(isize, value)
+    }
+}

@@ -1,0 +1,94 @@
+//! Reads of strings, truth values, floats and dates.
+ghost use Rattle.std.specs.Prelude.{◌≡◌, string_bytes};
+ghost use Rattle.std.specs.Cow.{cow_str_bytes};
+ghost use Rattle.toml_span_tree.specs.Value.{decimal_of, date_bytes};
+ghost use Rattle.toml_span_typed.specs.Reads.{Gives, Never, Unchanged, result_map, string_of, boolean_of, float_of, datetime_of};
+
+use crate::de_helpers::expected;
+use crate::deser_error::DeserError;
+use crate::deserialize::Deserialize;
+use std::alloc::Global;
+use std::borrow::CowStr;
+use toml_span_lex::stop::Stop;
+use toml_span_tree::{DateText, FloatText, Value, ValueInner};
+
+impl<'de> Deserialize<'de> for bool {
+    ghost reads = { Gives boolean_of };
+
+    ghost starved = { Never };
+
+    fn deserialize(_alloc: Global, value: &mut Value<'de>) -> Result<bool, Stop<DeserError<'de>>> {
+        match value.take() {
+            ValueInner::Boolean(b) => Ok(b),
+            other => Err(Stop::Fault(expected("a bool", other, value.span).into())),
+        }
+    }
+}
+
+impl<'de> Deserialize<'de> for FloatText {
+    ghost reads = { λ v r w. Gives float_of v (result_map decimal_of r) w };
+
+    ghost starved = { Never };
+
+    fn deserialize(
+        _alloc: Global,
+        value: &mut Value<'de>,
+    ) -> Result<FloatText, Stop<DeserError<'de>>> {
+        match value.take() {
+            ValueInner::Float(x) => Ok(x),
+            other => Err(Stop::Fault(expected("a float", other, value.span).into())),
+        }
+    }
+}
+
+impl<'de> Deserialize<'de> for DateText<'de> {
+    ghost reads = { λ v r w. Gives datetime_of v (result_map date_bytes r) w };
+
+    ghost starved = { Never };
+
+    fn deserialize(
+        _alloc: Global,
+        value: &mut Value<'de>,
+    ) -> Result<DateText<'de>, Stop<DeserError<'de>>> {
+        match value.take() {
+            ValueInner::Datetime(d) => Ok(d),
+            other => Err(Stop::Fault(expected("a datetime", other, value.span).into())),
+        }
+    }
+}
+
+impl<'de> Deserialize<'de> for CowStr<'de> {
+    ghost reads = { λ v r w. Gives string_of v (result_map cow_str_bytes r) w };
+
+    ghost starved = { Never };
+
+    fn deserialize(
+        _alloc: Global,
+        value: &mut Value<'de>,
+    ) -> Result<CowStr<'de>, Stop<DeserError<'de>>> {
+        match value.take() {
+            ValueInner::String(s) => Ok(s),
+            other => Err(Stop::Fault(expected("a string", other, value.span).into())),
+        }
+    }
+}
+
+impl<'de> Deserialize<'de> for String {
+    ghost reads = { λ v r w. Gives string_of v (result_map string_bytes r) w };
+
+    ghost starved = { Unchanged };
+
+    fn deserialize(alloc: Global, value: &mut Value<'de>) -> Result<String, Stop<DeserError<'de>>> {
+        match value.take() {
+            ValueInner::String(CowStr::Owned(s)) => Ok(s),
+            ValueInner::String(CowStr::Borrowed(s)) => match String::from_str(alloc, s) {
+                Ok(s) => Ok(s),
+                Err(e) => {
+                    value.set(ValueInner::String(CowStr::Borrowed(s)));
+                    Err(Stop::Memory(e))
+                }
+            },
+            other => Err(Stop::Fault(expected("a string", other, value.span).into())),
+        }
+    }
+}

@@ -1,0 +1,12 @@
+//! Typed reads of TOML values, and a helper that reads a table field by field.
+#![tactic(auto)]
+
+pub mod de_helpers;
+mod deser_error;
+mod deserialize;
+
+pub use deser_error::{DeserError, ErrorIter, Unmerged};
+pub use deserialize::Deserialize;
+
+#[cfg(test)]
+mod tests;
