@@ -1,0 +1,6 @@
+use Rattle.std.proofs.Common.{◌≡◌, ◌≤◌, ◌<◌, ℕ, true, get_or}
+use Rattle.toml_span_read.specs.Dates as spec
+use Rattle.toml_span_read.proofs.dates.date_run_end.Given as goal
+
+abbrev pub invariant-loop-at : goal.invariant-loop-at
+invariant-loop-at l = (k : ℕ) → l.from ≤ k → k < l.at → spec.is_date_byte (get_or l.text k 0) ≡ true

@@ -1,0 +1,6 @@
+use Rattle.std.proofs.Common.{rules, arith}
+use Rattle.toml_span_read.proofs.Places.{behind_byte}
+use Rattle.toml_span_read.proofs.gaps.dot.Goals as goal
+
+pub blanks_end-requires : goal.blanks_end-requires
+blanks_end-requires c = behind_byte c.args.text.now c.blanks_end-end.result c.utf8.text (search rules) (search rules)

@@ -1,0 +1,46 @@
+use Rattle.std.proofs.Common.{arith, ◌≡◌}
+use Rattle.toml_span_read.specs.declared.fault.FaultKind.TheVariants.{ExceededDepthLimit}
+use Rattle.toml_span_read.specs.Faults.{fault_at}
+use Rattle.toml_span_read.specs.Keys.{too_many, dotted_on, onward}
+use Rattle.toml_span_read.proofs.KeyLemmas.{handed_on, one_more, first_fault, part_fault, dotted_first, dotted_more, same_stuck}
+use Rattle.toml_span_read.proofs.keys.dotted_key.Goals as goal
+
+pub returns-in_err-last-clause-gives : goal.returns-in_err-last-clause-gives
+returns-in_err-last-clause-gives c =
+    rw (handed_on c.from_residual.result c.in_err-last.field-0.0 c.from_residual.ensures.1)
+    (first_fault c.in_err-last.field-0.0 c.args.text.now c.args.limit c.args.at c.in_err-last.ensures.gives)
+
+pub parts-init : goal.parts-init
+parts-init c =
+    let k = c.in_ok-last.ensures in
+    let f = dotted_first c.new-inner.result.items c.in_ok-last.last c.args.text.now c.args.limit c.args.at c.in_ok-last.end c.new-inner.ensures.items k.gives in
+    record {
+      forward = k.advances.on;
+      boundary = k.advances.boundary;
+      few = omega (arith, f.0, c.requires.some);
+      whole = f.1;
+      stuck = f.2;
+    }
+
+pub returns-in_err-key-clause-gives : goal.returns-in_err-key-clause-gives
+returns-in_err-key-clause-gives c =
+    rw (handed_on c.from_residual-in_err-key.result c.in_err-key.field-0.0 c.from_residual-in_err-key.ensures.1)
+    (part_fault c.in_err-key.field-0.0 c.args.text.now c.args.limit c.args.at _ c.parts.end c.in-Some.next c.parts.invariant.stuck c.in-Some.ensures.0 c.in_err-key.ensures.gives)
+
+pub returns-then-len-limit-clause-gives : goal.returns-then-len-limit-clause-gives
+returns-then-len-limit-clause-gives c =
+    same_stuck c.fault_at.result _ c.args.text.now c.args.limit c.args.at c.fault_at.ensures
+    (c.parts.invariant.stuck _ (too_many _ _ _ _ _ c.in-Some.ensures.0 c.in_ok-key.ensures.gives (omega (arith, c.len.ensures))))
+
+pub parts-preserved : goal.parts-preserved
+parts-preserved c =
+    let k = c.in_ok-key.ensures in
+    let d = c.in-Some.ensures in
+    let n = one_more c.parts.inner.items c.add.new.items.items _ c.in_default-add.ensures in
+    record {
+      forward = omega (arith, k.advances.on, d.1.on);
+      boundary = k.advances.boundary;
+      few = omega (arith, n, c.len.ensures);
+      whole = dotted_more c.parts.inner.items c.add.new.items.items c.parts.last _ c.in_ok-key.key c.replace.new.dest c.args.text.now c.args.at c.parts.end _ _ c.in_default-add.ensures c.replace.ensures.value c.replace.ensures.after c.parts.invariant.whole d.0 k.gives;
+      stuck = λ e h. c.parts.invariant.stuck e (dotted_on _ _ _ _ _ _ d.0 k.gives (rw n at h));
+    }

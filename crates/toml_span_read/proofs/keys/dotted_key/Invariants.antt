@@ -1,0 +1,18 @@
+use Rattle.std.proofs.Common.{◌≡◌, ◌≤◌, ◌<◌, ◌-◌, ◌+◌, ◌++◌, ◌∷◌, ℕ, List, length, map}
+use Rattle.std.specs.Str.{IsCharBoundary}
+use Rattle.toml_span_read.specs.declared.fault.Fault.{Fault}
+use Rattle.toml_span_read.specs.Keys.{Part, part, Onward, Dotted, StuckOnward, StuckDotted}
+use Rattle.toml_span_read.proofs.keys.dotted_key.Given as goal
+
+-- whatever is read, or gets stuck, from here on is so from the start on, with the parts before it
+abbrev pub invariant-parts : goal.invariant-parts
+invariant-parts l = record {
+  forward : l.at < l.end;
+  boundary : IsCharBoundary l.text l.end;
+  few : length l.inner.items + 1 ≤ l.limit;
+  whole : (tail : List Part) (j : ℕ) → Onward tail l.text l.end j → Dotted (map part l.inner.items ++ (part l.last ∷ tail)) l.text l.at j;
+  stuck : (e : Fault) → StuckOnward l.text l.limit (length l.inner.items + 1) l.end e → StuckDotted l.text l.limit l.at e;
+}
+
+abbrev pub decreases-parts : goal.decreases-parts
+decreases-parts l = length l.text - l.end

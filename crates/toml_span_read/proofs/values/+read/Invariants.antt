@@ -1,0 +1,38 @@
+use Rattle.std.proofs.Common.{◌≡◌, ◌≤◌, ◌<◌, ◌+◌, ◌-◌, ◌*◌, ℕ, length, map}
+use Rattle.std.specs.Str.{IsCharBoundary}
+use Rattle.toml_span_read.specs.Data.{Items, Pairs, view, event, onto, pairs_onto}
+use Rattle.toml_span_read.specs.Limits.{WithinItems, WithinPairs}
+use Rattle.toml_span_read.proofs.values.+read.Given as goal
+
+abbrev pub decreases-value : goal.decreases-value
+decreases-value l = 3 * ((l.limit + 1) - l.depth) + 2
+
+abbrev pub decreases-array : goal.decreases-array
+decreases-array l = 3 * ((l.limit + 1) - l.depth) + 1
+
+abbrev pub decreases-inline_table : goal.decreases-inline_table
+decreases-inline_table l = 3 * ((l.limit + 1) - l.depth) + 1
+
+abbrev pub decreases-pair : goal.decreases-pair
+decreases-pair l = 3 * ((l.limit + 2) - l.depth)
+
+-- whatever elements follow within the limit, they are so with those before them
+abbrev pub invariant-array-items : goal.invariant-array-items
+invariant-array-items l = record {
+  forward : l.at < l.next;
+  boundary : IsCharBoundary l.text l.next;
+  whole : (tail : Items) → WithinItems l.limit (l.depth + 1) tail → WithinItems l.limit (l.depth + 1) (onto (map view l.items.items) tail);
+}
+
+abbrev pub decreases-array-items : goal.decreases-array-items
+decreases-array-items l = length l.text - l.next
+
+abbrev pub invariant-inline_table-pairs : goal.invariant-inline_table-pairs
+invariant-inline_table-pairs l = record {
+  forward : l.at < l.next;
+  boundary : IsCharBoundary l.text l.next;
+  whole : (tail : Pairs) → WithinPairs l.limit (l.depth + 1) tail → WithinPairs l.limit (l.depth + 1) (pairs_onto (map event l.pairs.items) tail);
+}
+
+abbrev pub decreases-inline_table-pairs : goal.decreases-inline_table-pairs
+decreases-inline_table-pairs l = length l.text - l.next

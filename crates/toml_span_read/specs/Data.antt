@@ -1,0 +1,84 @@
+-- What is read, as plain data: a text is its bytes, and whether it is borrowed is no part of it.
+use Rattle.std.specs.Prelude.{◌≡◌, ℕ, ℤ, List, [], ◌∷◌, map, Bool, true, false, Result, Ok, Err}
+use Rattle.std.specs.Cow.{cow_str_bytes}
+use Rattle.toml_span_lex.specs.declared.span.Span.{Span}
+use Rattle.toml_span_lex.specs.declared.stop.Stop.{Stop}
+use Rattle.toml_span_read.specs.declared.fault.Fault.{Fault}
+use Rattle.toml_span_tree.specs.Node.{Scalar, text, integer, float, boolean, datetime}
+use Rattle.toml_span_tree.specs.Value.{decimal_of, date_bytes}
+use Rattle.toml_span_read.specs.declared.value.Val.{Val}
+use Rattle.toml_span_read.specs.declared.value.ValKind.{ValKind}
+use Rattle.toml_span_read.specs.declared.value.Assignment.{Assignment}
+use Rattle.toml_span_read.specs.declared.value.ValKind.TheOpen.{Val-F, ValKind-F, Assignment-F}
+use Rattle.toml_span_read.specs.declared.value.ValKind.TheFolds.{fold-Val, fold-ValKind, fold-Assignment}
+use Rattle.toml_span_read.specs.Keys.{Part, parts}
+
+mutual
+  -- a value, with its span
+  pub data Node : Type 0 where
+    node : Inner → Span → Node
+
+  pub data Inner : Type 0 where
+    scalar : Scalar → Inner
+    array : Items → Inner
+    inline : Pairs → Inner
+
+  -- the elements of an array, in order
+  pub data Items : Type 0 where
+    no_items : Items
+    item : Node → Items → Items
+
+  -- the pairs of an inline table, in order: the parts of the key, the value and the extent
+  pub data Pairs : Type 0 where
+    no_pairs : Pairs
+    pair : List Part → Node → Span → Pairs → Pairs
+
+-- an assignment: the parts of its key, its value and its extent
+pub record Event : Type 0 where
+  pub parts : List Part
+  pub value : Node
+  pub extent : Span
+
+-- these values, and then those
+abbrev pub onto : List Node → Items → Items
+onto [] rest = rest
+onto (n ∷ ns) rest = item n (onto ns rest)
+
+abbrev pub pairs_onto : List Event → Pairs → Pairs
+pairs_onto [] rest = rest
+pairs_onto (p ∷ ps) rest = pair p.parts p.value p.extent (pairs_onto ps rest)
+
+-- one level of each type, with each value inside already seen as its meaning
+abbrev pub kind_step : ValKind-F Inner Event Node → Inner
+kind_step (ValKind-F.String s) = scalar (text (cow_str_bytes s))
+kind_step (ValKind-F.Integer n) = scalar (integer n)
+kind_step (ValKind-F.Float x) = scalar (float (decimal_of x))
+kind_step (ValKind-F.Boolean b) = scalar (boolean b)
+kind_step (ValKind-F.Datetime d) = scalar (datetime (date_bytes d))
+kind_step (ValKind-F.Array v) = array (onto v.items no_items)
+kind_step (ValKind-F.Inline v) = inline (pairs_onto v.items no_pairs)
+
+abbrev pub val_step : Val-F Inner Event Node → Node
+val_step v = node v.kind v.span
+
+abbrev pub assignment_step : Assignment-F Inner Event Node → Event
+assignment_step a = record { parts = parts a.parts; value = a.value; extent = a.extent }
+
+abbrev pub view : Val → Node
+view = fold-Val Inner Event Node kind_step assignment_step val_step
+
+abbrev pub kind_view : ValKind → Inner
+kind_view = fold-ValKind Inner Event Node kind_step assignment_step val_step
+
+abbrev pub event : Assignment → Event
+event = fold-Assignment Inner Event Node kind_step assignment_step val_step
+
+-- a value that is neither an array nor an inline table
+abbrev pub is_scalar : Inner → Bool
+is_scalar (scalar s) = true
+is_scalar (array vs) = false
+is_scalar (inline ps) = false
+
+abbrev pub IsScalarKind : Result (ValKind × ℕ) (Stop Fault) → Type 0
+IsScalarKind (Ok found) = is_scalar (kind_view found.0) ≡ true
+IsScalarKind (Err stop) = Unit {0}

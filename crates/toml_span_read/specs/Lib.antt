@@ -1,0 +1,9 @@
+pub mod Gaps
+pub mod Faults
+pub mod Wanted
+pub mod Keys
+pub mod Numbers
+pub mod Dates
+pub mod Data
+pub mod Limits
+pub mod Earlier

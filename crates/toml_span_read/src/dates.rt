@@ -1,0 +1,91 @@
+//! Dates and times.
+ghost use Rattle.std.specs.Prelude.{◌≡◌, ◌≤◌, true, length, slice_index};
+ghost use Rattle.std.specs.Str.{IsCharBoundary};
+ghost use Rattle.toml_span_lex.specs.Bytes.{MaximalRun};
+ghost use Rattle.toml_span_read.specs.Dates as spec;
+ghost use Rattle.toml_span_read.specs.Dates.{IsCandidate, DateGives};
+ghost use Rattle.toml_span_read.specs.Numbers.{IsPlacedFault};
+
+use crate::fault::{Fault, FaultKind};
+use crate::gaps::byte_at;
+use toml_span_lex::bytes::is_keylike;
+use toml_span_lex::span::Span;
+use toml_span_tree::DateText;
+
+/// Whether a decimal digit is at a place.
+#[inline]
+fn is_decimal_at(text: &str, at: usize) -> bool
+    ensures { result ≡ spec.is_decimal (slice_index text.now at) }
+{
+    byte_at(text, at).is_ascii_digit()
+}
+
+/// Whether a date or a time begins at a place: four digits and a dash, or two digits and a colon.
+#[inline]
+pub fn begins_date(text: &str, at: usize) -> bool
+    requires { at ≤ length text.now }
+    ensures { result ≡ spec.begins_date text.now at }
+{
+    is_decimal_at(text, at)
+        && is_decimal_at(text, at + 1)
+        && (byte_at(text, at + 2) == b':'
+            || (is_decimal_at(text, at + 2)
+                && is_decimal_at(text, at + 3)
+                && byte_at(text, at + 4) == b'-'))
+}
+
+/// A byte of a date or a time.
+#[inline]
+fn is_date_byte(byte: u8) -> bool
+    ensures { result ≡ spec.is_date_byte byte }
+{
+    is_keylike(byte) || byte == b':' || byte == b'.' || byte == b'+'
+}
+
+/// Where the run of bytes of dates and times ends.
+fn date_run_end(text: &str, from: usize) -> usize
+    requires { IsCharBoundary text.now from }
+    ensures run { MaximalRun spec.is_date_byte text.now from result }
+    ensures boundary { IsCharBoundary text.now result }
+{
+    let bytes = text.as_bytes();
+    for at in from..bytes.len() {
+        if !is_date_byte(bytes[at]) {
+            return at;
+        }
+    }
+    bytes.len()
+}
+
+/// Where the text ends that is to be a date or a time: a run of its bytes, with the space behind the
+/// tenth one if a digit stands behind that space.
+fn date_end(text: &str, at: usize) -> usize
+    requires { IsCharBoundary text.now at }
+    ensures candidate { IsCandidate text.now at result }
+    ensures forward { at ≤ result }
+    ensures boundary { IsCharBoundary text.now result }
+{
+    let end = date_run_end(text, at);
+    if end == at + 10 && byte_at(text, end) == b' ' && is_decimal_at(text, end + 1) {
+        date_run_end(text, end + 1)
+    } else {
+        end
+    }
+}
+
+/// The date or time at a place, and where it ends, or the fault.
+pub fn date<'de>(text: &'de str, at: usize) -> Result<(DateText<'de>, usize), Fault>
+    requires boundary { IsCharBoundary text.now at }
+    requires begins { spec.begins_date text.now at ≡ true }
+    ensures gives { DateGives text.now at result }
+    ensures placed { IsPlacedFault text.now result }
+{
+    let end = date_end(text, at);
+    match DateText::new(&text[at..end]) {
+        Some(date) => Ok((date, end)),
+        None => Err(Fault {
+            kind: FaultKind::InvalidDatetime,
+            span: Span { start: at, end },
+        }),
+    }
+}

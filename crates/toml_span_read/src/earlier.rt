@@ -1,0 +1,178 @@
+//! The earlier values of a section or an inline table, by their paths.
+ghost use Rattle.std.specs.Prelude.{◌≡◌, IfOk, IfSome, map};
+ghost use Rattle.toml_span_read.specs.Earlier.{IsStart, EndsAt, Crosses, AddsClear};
+ghost use Rattle.toml_span_read.specs.Keys.{part, parts};
+ghost use Rattle.toml_span_read.specs.Data.{event};
+
+use crate::fault::{Fault, FaultKind};
+use crate::keys::add;
+use crate::value::{Assignment, DottedKey};
+use std::alloc::{AllocError, Global};
+use std::collections::BTreeMap;
+use toml_span_lex::key::Key;
+use toml_span_lex::span::Span;
+use toml_span_lex::stop::Stop;
+
+/// What stands at a path and below it.
+#[derive(Drop)]
+struct Node<'de> {
+    /// The key's span of the first value at this path.
+    value: Option<Span>,
+    below: BTreeMap<Key<'de>, Node<'de>>,
+}
+
+/// A path on which nothing stands yet.
+fn empty<'de>(alloc: Global) -> Node<'de> {
+    Node {
+        value: None,
+        below: BTreeMap::new(alloc),
+    }
+}
+
+/// Puts a value at the end of the path of these parts.
+fn put<'de>(
+    alloc: Global,
+    node: &mut Node<'de>,
+    inner: &[Key<'de>],
+    last: &Key<'de>,
+) -> Result<(), AllocError> {
+    match inner {
+        [] => put_last(alloc, node, last),
+        [part, rest @ ..] => match node.below.get_mut(part) {
+            Some(child) => put(alloc, child, rest, last),
+            None => {
+                let mut child = empty(alloc);
+                put(alloc, &mut child, rest, last)?;
+                node.below.insert(part.clone(alloc)?, child)?;
+                Ok(())
+            }
+        },
+    }
+}
+
+/// Puts a value under a key.
+fn put_last<'de>(alloc: Global, node: &mut Node<'de>, last: &Key<'de>) -> Result<(), AllocError> {
+    match node.below.get_mut(last) {
+        Some(child) => {
+            if child.value.is_none() {
+                child.value = Some(last.span);
+            }
+        }
+        None => {
+            let mut child = empty(alloc);
+            child.value = Some(last.span);
+            node.below.insert(last.clone(alloc)?, child)?;
+        }
+    }
+    Ok(())
+}
+
+/// The first of these parts at whose path a value stands, with the key's span of that value.
+fn crossing<'de>(node: &Node<'de>, inner: &[Key<'de>]) -> Option<(usize, Span)>
+    ensures { IfSome result (λ found. IsStart found.0 (map part inner.now)) }
+{
+    let [part, rest @ ..] = inner else {
+        return None;
+    };
+    let child = node.below.get(part)?;
+    match child.value {
+        Some(first) => Some((part.span.start, first)),
+        None => crossing(child, rest),
+    }
+}
+
+/// The key of an assignment.
+#[inline]
+fn key_of<'x, 'de>(next: &'x Assignment<'de>) -> &'x DottedKey<'de>
+    ensures { parts result.now ≡ (event next.now).parts }
+{
+    &next.parts
+}
+
+/// Where the span of an assignment's value ends.
+#[inline]
+fn value_end<'de>(next: &Assignment<'de>) -> usize
+    ensures { EndsAt result (event next.now).value }
+{
+    next.value.span.end
+}
+
+/// The earlier values of a section or an inline table. Only once a key is met that has more parts than
+/// one of them are they put in by path.
+#[derive(Drop)]
+pub struct Earlier<'de> {
+    /// The fewest inner parts that a key has.
+    fewest: usize,
+    /// How many of the values are in the tree.
+    known: usize,
+    tree: Node<'de>,
+}
+
+impl<'de> Earlier<'de> {
+    /// No earlier values.
+    pub fn new(alloc: Global) -> Self {
+        Earlier {
+            fewest: usize::MAX,
+            known: 0,
+            tree: empty(alloc),
+        }
+    }
+
+    /// Puts in those of the values that are not in yet.
+    fn catch_up(&mut self, alloc: Global, values: &[Assignment<'de>]) -> Result<(), AllocError> {
+        for at in self.known..values.len() {
+            let parts = &values[at].parts;
+            put(alloc, &mut self.tree, &parts.inner, &parts.last)?;
+        }
+        self.known = values.len();
+        Ok(())
+    }
+
+    /// The fault of an assignment whose key goes through one of the earlier values, if it does.
+    pub fn fault(
+        &mut self,
+        alloc: Global,
+        values: &[Assignment<'de>],
+        next: &Assignment<'de>,
+    ) -> Result<Option<Fault>, AllocError>
+        ensures { IfOk result (λ found. IfSome found (λ fault. Crosses fault (event next.now))) }
+    {
+        let key = key_of(next);
+        let inner = key.inner.len();
+        if inner <= self.fewest {
+            self.fewest = inner;
+            return Ok(None);
+        }
+        self.catch_up(alloc, values)?;
+        match crossing(&self.tree, &key.inner) {
+            None => Ok(None),
+            Some((start, first)) => Ok(Some(Fault {
+                kind: FaultKind::DottedKeyInvalidType { first },
+                span: Span {
+                    start,
+                    end: value_end(next),
+                },
+            })),
+        }
+    }
+}
+
+/// Puts an assignment behind the earlier ones, unless its key goes through one of their values.
+pub fn add_clear<'de>(
+    alloc: Global,
+    earlier: &mut Earlier<'de>,
+    values: &mut Vec<Assignment<'de>>,
+    next: Assignment<'de>,
+) -> Result<(), Stop<Fault>>
+    ensures { AddsClear values.old.items values.new.items next.entry result }
+{
+    match earlier.fault(alloc, values, &next) {
+        Err(e) => return Err(Stop::Memory(e)),
+        Ok(Some(fault)) => return Err(Stop::Fault(fault)),
+        Ok(None) => {}
+    }
+    match add(values, next) {
+        Ok(()) => Ok(()),
+        Err(e) => Err(Stop::Memory(e)),
+    }
+}

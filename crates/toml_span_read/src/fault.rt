@@ -1,0 +1,193 @@
+//! What is wrong in a text, and where.
+ghost use Rattle.std.specs.Prelude.{◌≡◌, ◌<◌, ◌≤◌, length};
+ghost use Rattle.toml_span_tree.specs.Error.{kind_of, fault_of};
+ghost use Rattle.toml_span_read.specs.Faults as spec;
+ghost use Rattle.toml_span_read.specs.Faults.{IsLineInfo, Tells};
+
+use toml_span_lex::span::Span;
+use toml_span_tree::{Error, ErrorKind};
+
+/// What is due at a place, where another token stands.
+#[derive(Clone, Copy, PartialEq, Eq, Debug)]
+pub enum Due {
+    Value,
+    TableKey,
+    Equals,
+    /// A right bracket, also where a comma or a dot could stand.
+    RightBracket,
+    /// A comma or a right brace.
+    Comma,
+    Newline,
+}
+
+impl Due {
+    ghost use Rattle.toml_span_read.specs.Faults.{due_words};
+
+    /// What is due, in the words of an error.
+    pub fn words(self) -> &'static str
+        ensures { result.now ≡ due_words self }
+    {
+        match self {
+            Due::Value => "a value",
+            Due::TableKey => "a table key",
+            Due::Equals => "an equals",
+            Due::RightBracket => "a right bracket",
+            Due::Comma => "a comma",
+            Due::Newline => "newline",
+        }
+    }
+}
+
+/// What stands at a place: a token, or the end of the text.
+#[derive(Clone, Copy, PartialEq, Eq, Debug)]
+pub enum Found {
+    EndOfText,
+    Whitespace,
+    Newline,
+    Comment,
+    Equals,
+    Period,
+    Comma,
+    Colon,
+    Plus,
+    LeftBrace,
+    RightBrace,
+    LeftBracket,
+    RightBracket,
+    Keylike,
+    OneLineString,
+    MultilineString,
+}
+
+impl Found {
+    ghost use Rattle.toml_span_read.specs.Faults.{found_words};
+
+    /// What stands there, in the words of an error.
+    pub fn words(self) -> &'static str
+        ensures text { result.now ≡ found_words self }
+        ensures short { length result.now ≤ 18 }
+    {
+        match self {
+            Found::EndOfText => "eof",
+            Found::Whitespace => "whitespace",
+            Found::Newline => "a newline",
+            Found::Comment => "a comment",
+            Found::Equals => "an equals",
+            Found::Period => "a period",
+            Found::Comma => "a comma",
+            Found::Colon => "a colon",
+            Found::Plus => "a plus",
+            Found::LeftBrace => "a left brace",
+            Found::RightBrace => "a right brace",
+            Found::LeftBracket => "a left bracket",
+            Found::RightBracket => "a right bracket",
+            Found::Keylike => "an identifier",
+            Found::OneLineString => "a string",
+            Found::MultilineString => "a multiline string",
+        }
+    }
+}
+
+/// What is wrong.
+#[derive(Clone, Copy, PartialEq, Eq, Debug)]
+pub enum FaultKind {
+    UnexpectedEof,
+    ExceededDepthLimit,
+    InvalidCharInString(char),
+    InvalidEscape(char),
+    InvalidHexEscape(char),
+    InvalidEscapeValue(u32),
+    Unexpected(char),
+    UnterminatedString,
+    InvalidNumber,
+    InvalidDatetime,
+    UnquotedString,
+    Wanted { expected: Due, found: Found },
+    MultilineStringKey,
+    DottedKeyInvalidType { first: Span },
+}
+
+/// What is wrong, and where.
+#[derive(Clone, Copy, PartialEq, Eq, Debug)]
+pub struct Fault {
+    pub kind: FaultKind,
+    pub span: Span,
+}
+
+/// A fault of one byte.
+pub fn fault_at(kind: FaultKind, at: usize) -> Fault
+    requires { at < usize.MAX }
+    ensures { result ≡ spec.fault_at kind at }
+{
+    let span = Span {
+        start: at,
+        end: at + 1,
+    };
+    Fault { kind, span }
+}
+
+/// A number that is none.
+pub fn invalid_number(start: usize, end: usize) -> Fault
+    ensures { result ≡ spec.invalid_number start end }
+{
+    let span = Span { start, end };
+    Fault {
+        kind: FaultKind::InvalidNumber,
+        span,
+    }
+}
+
+/// What a fault is called among the errors of a document.
+fn error_kind<'s>(kind: FaultKind) -> ErrorKind<'s>
+    ensures { kind_of result ≡ spec.error_kind kind }
+{
+    match kind {
+        FaultKind::UnexpectedEof => ErrorKind::UnexpectedEof,
+        FaultKind::ExceededDepthLimit => ErrorKind::ExceededDepthLimit,
+        FaultKind::InvalidCharInString(c) => ErrorKind::InvalidCharInString(c),
+        FaultKind::InvalidEscape(c) => ErrorKind::InvalidEscape(c),
+        FaultKind::InvalidHexEscape(c) => ErrorKind::InvalidHexEscape(c),
+        FaultKind::InvalidEscapeValue(value) => ErrorKind::InvalidEscapeValue(value),
+        FaultKind::Unexpected(c) => ErrorKind::Unexpected(c),
+        FaultKind::UnterminatedString => ErrorKind::UnterminatedString,
+        FaultKind::InvalidNumber => ErrorKind::InvalidNumber,
+        FaultKind::InvalidDatetime => ErrorKind::InvalidDatetime,
+        FaultKind::UnquotedString => ErrorKind::UnquotedString,
+        FaultKind::Wanted { expected, found } => ErrorKind::Wanted {
+            expected: expected.words(),
+            found: found.words(),
+        },
+        FaultKind::MultilineStringKey => ErrorKind::MultilineStringKey,
+        FaultKind::DottedKeyInvalidType { first } => ErrorKind::DottedKeyInvalidType { first },
+    }
+}
+
+/// The line and the column of a place, both counted from 0: how many line feeds stand before it, and
+/// how many bytes behind the last of them, or behind the start of the text.
+pub fn line_info(text: &str, at: usize) -> (usize, usize)
+    requires { at ≤ length text.now }
+    ensures { IsLineInfo text.now at result.0 result.1 }
+{
+    let bytes = text.as_bytes();
+    let mut line = 0;
+    let mut start = 0;
+    for i in 0..at {
+        if bytes[i] == b'\n' {
+            line += 1;
+            start = i + 1;
+        }
+    }
+    (line, at - start)
+}
+
+/// A fault as an error of the document, with its line and column.
+pub fn error_of<'s>(text: &str, fault: Fault) -> Error<'s>
+    requires { fault.span.start ≤ length text.now }
+    ensures { Tells text.now fault (fault_of result) }
+{
+    Error {
+        kind: error_kind(fault.kind),
+        span: fault.span,
+        line_info: Some(line_info(text, fault.span.start)),
+    }
+}

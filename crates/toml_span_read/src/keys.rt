@@ -1,0 +1,142 @@
+//! Keys and dotted keys.
+ghost use Rattle.std.specs.Prelude.{◌≡◌, ◌<◌, ◌≤◌, ◌⊎◌, length, slice_index, [], ◌∷◌, ◌++◌, OnOk};
+ghost use Rattle.std.specs.Str.{IsCharBoundary};
+ghost use Rattle.toml_span_read.specs.Keys as spec;
+ghost use Rattle.toml_span_read.specs.Keys.{KeyGives, DottedGives, HeaderKeyGives};
+ghost use Rattle.toml_span_read.specs.Faults.{Advances};
+
+use crate::fault::{Due, Fault, FaultKind, fault_at};
+use crate::gaps::{byte_at, dot};
+use crate::value::DottedKey;
+use crate::wanted::{opens_string, string, wanted};
+use smallvec::SmallVec;
+use std::alloc::{AllocError, Global};
+use std::borrow::CowStr;
+use std::mem;
+use toml_span_lex::bytes::{is_keylike, keylike_end};
+use toml_span_lex::key::Key;
+use toml_span_lex::span::Span;
+use toml_span_lex::stop::Stop;
+
+/// Puts one more at the end.
+pub fn add<T: Drop>(items: &mut Vec<T>, item: T) -> Result<(), AllocError>
+    ensures { OnOk result (items.new.items ≡ items.old.items ++ (item ∷ [])) }
+{
+    items.push(item)?;
+    Ok(())
+}
+
+/// The string at a place as a key, and where it ends.
+fn quoted_key<'de>(
+    alloc: Global,
+    text: &'de str,
+    at: usize,
+) -> Result<(Key<'de>, usize), Stop<Fault>>
+    requires within { at < length text.now }
+    requires quote { (slice_index text.now at ≡ 34) ⊎ (slice_index text.now at ≡ 39) }
+    ensures gives { KeyGives text.now at result }
+    ensures advances { Advances text.now at result }
+{
+    let token = string(alloc, text, at)?;
+    if token.is_multiline {
+        let span = Span {
+            start: at,
+            end: at + token.content.as_ref().len(),
+        };
+        return Err(Stop::Fault(Fault {
+            kind: FaultKind::MultilineStringKey,
+            span,
+        }));
+    }
+    let key = Key {
+        name: token.content,
+        span: token.span,
+    };
+    Ok((key, token.end))
+}
+
+/// The key at a place, and where it ends.
+///
+/// `simple-key = quoted-key / unquoted-key` (TOML 1.1, Keys)
+pub fn simple_key<'de>(
+    alloc: Global,
+    text: &'de str,
+    at: usize,
+) -> Result<(Key<'de>, usize), Stop<Fault>>
+    requires { IsCharBoundary text.now at }
+    ensures gives { KeyGives text.now at result }
+    ensures advances { Advances text.now at result }
+{
+    let byte = byte_at(text, at);
+    if is_keylike(byte) {
+        let end = keylike_end(text, at);
+        let name = CowStr::Borrowed(&text[at..end]);
+        let span = Span { start: at, end };
+        Ok((Key { name, span }, end))
+    } else if opens_string(byte) {
+        quoted_key(alloc, text, at)
+    } else {
+        Err(wanted(alloc, text, at, Due::TableKey))
+    }
+}
+
+/// The dotted key at a place, of `limit` parts at most, and where it ends.
+///
+/// `key = simple-key / dotted-key`, `dotted-key = simple-key 1*( dot-sep simple-key )` (TOML 1.1, Keys)
+pub fn dotted_key<'de>(
+    alloc: Global,
+    text: &'de str,
+    at: usize,
+    limit: usize,
+) -> Result<(DottedKey<'de>, usize), Stop<Fault>>
+    requires boundary { IsCharBoundary text.now at }
+    requires some { 1 ≤ limit }
+    ensures gives { DottedGives text.now limit at result }
+    ensures advances { Advances text.now at result }
+{
+    let mut inner = Vec::new(alloc);
+    let (mut last, mut end) = simple_key(alloc, text, at)?;
+    'parts: while let Some(next) = dot(text, end) {
+        let (key, key_end) = simple_key(alloc, text, next)?;
+        if inner.len() + 1 >= limit {
+            return Err(Stop::Fault(fault_at(FaultKind::ExceededDepthLimit, next)));
+        }
+        if let Err(e) = add(&mut inner, mem::replace(&mut last, key)) {
+            return Err(Stop::Memory(e));
+        }
+        end = key_end;
+    }
+    Ok((DottedKey { inner, last }, end))
+}
+
+/// The parts of a header at a place, at most `limit`, and where they end.
+pub fn header_key<'de>(
+    alloc: Global,
+    text: &'de str,
+    at: usize,
+    limit: usize,
+) -> Result<(SmallVec<Key<'de>, 5>, usize), Stop<Fault>>
+    requires boundary { IsCharBoundary text.now at }
+    requires some { 1 ≤ limit }
+    ensures gives { HeaderKeyGives text.now limit at result }
+    ensures advances { Advances text.now at result }
+{
+    let mut parts = SmallVec::new(alloc);
+    let mut next = at;
+    'parts: loop {
+        let (key, end) = simple_key(alloc, text, next)?;
+        if parts.len() >= limit {
+            return Err(Stop::Fault(Fault {
+                kind: FaultKind::ExceededDepthLimit,
+                span: key.span,
+            }));
+        }
+        if let Err(e) = parts.push(key) {
+            return Err(Stop::Memory(e.into()));
+        }
+        match dot(text, end) {
+            None => return Ok((parts, end)),
+            Some(on) => next = on,
+        }
+    }
+}

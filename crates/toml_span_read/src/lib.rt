@@ -1,0 +1,20 @@
+//! Reads a TOML text into sections of assignments.
+#![tactic(auto)]
+
+pub mod dates;
+pub mod earlier;
+pub mod fault;
+pub mod gaps;
+pub mod keys;
+pub mod numbers;
+pub mod section;
+pub mod sections;
+#[cfg(test)]
+mod tests;
+pub mod value;
+pub mod values;
+pub mod wanted;
+
+pub use section::Section;
+pub use sections::read_sections;
+pub use value::{Assignment, DottedKey, Val, ValKind};

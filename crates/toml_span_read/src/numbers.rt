@@ -1,0 +1,397 @@
+//! Numbers.
+ghost use Rattle.std.specs.Prelude.{◌≡◌, ◌+◌, ◌<◌, ◌≤◌, ◌||◌, ◌==◌, ◌⊎◌, true, length, slice_index};
+ghost use Rattle.std.specs.Str.{IsCharBoundary};
+ghost use Rattle.toml_span_lex.specs.Bytes.{is_keylike, MaximalRun};
+ghost use Rattle.toml_span_read.specs.Faults.{Advances, IsPlaced};
+ghost use Rattle.toml_span_read.specs.Data.{IsScalarKind};
+ghost use Rattle.toml_span_read.specs.Numbers.{IsRun, DigitsEnd, NumberEnds, DecimalEnds, IsPlacedFault, RadixAt};
+
+use crate::fault::{Fault, invalid_number};
+use crate::gaps::byte_at;
+use crate::value::ValKind;
+use std::alloc::{AllocError, Global};
+use toml_span_lex::bytes::keylike_end;
+use toml_span_lex::span::Span;
+use toml_span_lex::stop::Stop;
+use toml_span_tree::FloatText;
+
+/// The value of a digit of a radix.
+#[inline]
+fn digit(byte: u8, radix: u8) -> Option<u8> {
+    let value = match byte {
+        b'0'..=b'9' => byte - b'0',
+        b'a'..=b'f' => byte - b'a' + 10,
+        b'A'..=b'F' => byte - b'A' + 10,
+        _ => return None,
+    };
+    if value < radix { Some(value) } else { None }
+}
+
+/// Where the digits end that begin a piece of a number at `from`, with single underscores between them,
+/// or the span of the fault.
+fn digits_end(text: &str, piece: Span, from: usize, radix: u8) -> Result<usize, Fault>
+    requires within { piece.end ≤ length text.now }
+    requires start { piece.start ≤ from }
+    requires end { from ≤ piece.end }
+    ensures ends { DigitsEnd text.now from piece.end result }
+{
+    let bytes = text.as_bytes();
+    if from < piece.end && bytes[from] == b'_' {
+        return Err(invalid_number(from, piece.end));
+    }
+    let mut was_digit = false;
+    for at in from..piece.end {
+        if digit(bytes[at], radix).is_some() {
+            was_digit = true;
+        } else if bytes[at] == b'_' && was_digit {
+            was_digit = false;
+        } else if was_digit {
+            return Ok(at);
+        } else {
+            return Err(invalid_number(piece.start, piece.end));
+        }
+    }
+    if was_digit {
+        Ok(piece.end)
+    } else {
+        Err(invalid_number(piece.start, piece.end))
+    }
+}
+
+/// The number that digits write, underscores left out, if it is below 2^64.
+fn magnitude(digits: &[u8], radix: u8) -> Option<u64> {
+    let mut value: u64 = 0;
+    for byte in digits {
+        if let Some(d) = digit(*byte, radix) {
+            value = value
+                .checked_mul(u64::from(radix))?
+                .checked_add(u64::from(d))?;
+        }
+    }
+    Some(value)
+}
+
+/// A number with its sign, if it is within 64 bits.
+fn signed(negative: bool, magnitude: u64) -> Option<i64> {
+    if !negative {
+        i64::try_from(magnitude).ok()
+    } else if magnitude == 1 << 63 {
+        Some(i64::MIN)
+    } else {
+        match i64::try_from(magnitude) {
+            Ok(value) => Some(-value),
+            Err(_) => None,
+        }
+    }
+}
+
+/// The integer that digits write, or the fault.
+fn integer(
+    text: &str,
+    piece: Span,
+    from: usize,
+    end: usize,
+    radix: u8,
+    negative: bool,
+) -> Result<i64, Fault>
+    requires within { piece.end ≤ length text.now }
+    requires start { piece.start ≤ from }
+    requires forward { from ≤ end }
+    requires end { end ≤ piece.end }
+    ensures placed { IsPlacedFault text.now result }
+{
+    match magnitude(&text.as_bytes()[from..end], radix).and_then(|m| signed(negative, m)) {
+        Some(value) => Ok(value),
+        None => Err(invalid_number(piece.start, piece.end)),
+    }
+}
+
+/// The radix that two bytes name.
+#[inline]
+fn radix_of(text: &str, run: usize) -> Option<u8>
+    requires { run < usize.MAX }
+    ensures { RadixAt text.now run result }
+{
+    if byte_at(text, run) != b'0' {
+        return None;
+    }
+    match byte_at(text, run + 1) {
+        b'x' => Some(16),
+        b'o' => Some(8),
+        b'b' => Some(2),
+        _ => None,
+    }
+}
+
+/// The integer of a run with a radix before it.
+///
+/// `hex-int`, `oct-int`, `bin-int` (TOML 1.1, Integer)
+fn radix_integer(text: &str, run: Span, radix: u8) -> Result<i64, Fault>
+    requires within { run.end ≤ length text.now }
+    requires prefix { run.start + 2 ≤ run.end }
+    ensures placed { IsPlacedFault text.now result }
+{
+    let piece = Span {
+        start: run.start + 2,
+        end: run.end,
+    };
+    let end = digits_end(text, piece, piece.start, radix)?;
+    if end < piece.end {
+        return Err(invalid_number(piece.start, piece.end));
+    }
+    integer(text, piece, piece.start, end, radix, false)
+}
+
+/// Where the digits of the integer part of a decimal number end, or the fault.
+///
+/// `dec-int = [ minus / plus ] unsigned-dec-int` (TOML 1.1, Integer)
+fn integer_part(text: &str, run: Span, from: usize) -> Result<usize, Fault>
+    requires within { run.end ≤ length text.now }
+    requires start { run.start ≤ from }
+    requires end { from ≤ run.end }
+    ensures ends { DigitsEnd text.now from run.end result }
+{
+    let end = digits_end(text, run, from, 10)?;
+    if text.as_bytes()[from] == b'0' && from + 1 < end {
+        let second = if text.as_bytes()[from + 1] == b'_' {
+            from + 2
+        } else {
+            from + 1
+        };
+        return Err(invalid_number(second, run.end));
+    }
+    Ok(end)
+}
+
+/// Whether the exponent of a float begins with this byte.
+#[inline]
+fn is_exponent(byte: u8) -> bool {
+    byte == b'e' || byte == b'E'
+}
+
+/// Where the exponent ends whose letter is at `letter`, in a run that ends at `end`, or the fault.
+///
+/// `exp = "e" float-exp-part`, `float-exp-part = [ minus / plus ] zero-prefixable-int` (TOML 1.1, Float)
+fn exponent_end(text: &str, first: Span, letter: usize, end: usize) -> Result<usize, Fault>
+    requires first { first.start ≤ first.end }
+    requires within { first.end ≤ end }
+    requires letter { letter < end }
+    requires boundary { IsCharBoundary text.now end }
+    ensures { NumberEnds text.now end result }
+{
+    if letter + 1 < end {
+        let piece = Span {
+            start: letter + 1,
+            end,
+        };
+        let minus = text.as_bytes()[piece.start] == b'-';
+        let from = if minus { piece.start + 1 } else { piece.start };
+        return exponent_digits(text, first, piece, from);
+    }
+    if byte_at(text, end) != b'+' {
+        return Err(invalid_number(first.start, first.end));
+    }
+    let start = end + 1;
+    let piece = Span {
+        start,
+        end: keylike_end(text, start),
+    };
+    if piece.start == piece.end {
+        return Err(invalid_number(first.start, first.end));
+    }
+    exponent_digits(text, first, piece, start)
+}
+
+/// Where the digits of an exponent end, which are all of their piece from `from` on, or the fault.
+fn exponent_digits(text: &str, first: Span, piece: Span, from: usize) -> Result<usize, Fault>
+    requires first { first.start ≤ first.end }
+    requires within { first.end ≤ piece.end }
+    requires start { piece.start ≤ from }
+    requires end { from ≤ piece.end }
+    requires boundary { IsCharBoundary text.now piece.end }
+    ensures { NumberEnds text.now piece.end result }
+{
+    if digits_end(text, piece, from, 10)? < piece.end {
+        return Err(invalid_number(first.start, first.end));
+    }
+    Ok(piece.end)
+}
+
+/// Where the float ends whose dot is at the end of the run `first`, or the fault. `start` is the
+/// number's first character.
+///
+/// `frac = decimal-point zero-prefixable-int` (TOML 1.1, Float)
+fn fraction_end(text: &str, start: usize, first: Span) -> Result<usize, Fault>
+    requires start { start ≤ first.start }
+    requires first { first.start ≤ first.end }
+    requires boundary { IsCharBoundary text.now first.end }
+    requires dot { slice_index text.now first.end ≡ 46 }
+    ensures { NumberEnds text.now first.end result }
+{
+    let from = first.end + 1;
+    let piece = Span {
+        start: from,
+        end: keylike_end(text, from),
+    };
+    if piece.start == piece.end {
+        return Err(invalid_number(start, from));
+    }
+    let digits = digits_end(text, piece, from, 10)?;
+    if digits == piece.end {
+        Ok(digits)
+    } else if is_exponent(text.as_bytes()[digits]) {
+        exponent_end(text, first, digits, piece.end)
+    } else {
+        Err(invalid_number(first.start, first.end))
+    }
+}
+
+/// A number without a radix: its value, or where its float ends.
+enum Decimal {
+    Integer(i64),
+    Float(usize),
+}
+
+/// The number without a radix that begins with the run `first`, or the fault.
+///
+/// `float = float-int-part ( exp / frac [ exp ] )` (TOML 1.1, Float)
+fn decimal_number(text: &str, start: usize, first: Span) -> Result<Decimal, Fault>
+    requires start { start ≤ first.start }
+    requires run { IsRun text.now first }
+    ensures { DecimalEnds text.now first.end result }
+{
+    let bytes = text.as_bytes();
+    let negative = bytes[first.start] == b'-';
+    let from = if negative {
+        first.start + 1
+    } else {
+        first.start
+    };
+    let end = integer_part(text, first, from)?;
+    if end < first.end {
+        if is_exponent(bytes[end]) {
+            return Ok(Decimal::Float(exponent_end(text, first, end, first.end)?));
+        }
+        return Err(invalid_number(first.start, first.end));
+    }
+    if byte_at(text, end) == b'.' {
+        return Ok(Decimal::Float(fraction_end(text, start, first)?));
+    }
+    Ok(Decimal::Integer(integer(text, first, from, end, 10, negative)?))
+}
+
+/// Whether a byte stands in the cleaned text of a float as it is.
+#[inline]
+fn is_clean(byte: u8) -> bool {
+    byte != b'_' && byte != b'+' && byte != b'e'
+}
+
+/// A float's literal without pluses and underscores, with `E` before its exponent.
+fn cleaned(alloc: Global, literal: &str) -> Result<String, AllocError> {
+    if literal.as_bytes().iter().all(|byte| is_clean(*byte)) {
+        return String::from_str(alloc, literal);
+    }
+    let mut text = String::new(alloc);
+    for byte in literal.as_bytes() {
+        if is_clean(*byte) {
+            text.push(char::from(*byte))?;
+        } else if *byte == b'e' {
+            text.push('E')?;
+        }
+    }
+    Ok(text)
+}
+
+/// The float that a word of letters writes.
+fn special_float(word: &[u8]) -> Option<FloatText> {
+    match word {
+        b"inf" => Some(FloatText::Infinite { negative: false }),
+        b"-inf" => Some(FloatText::Infinite { negative: true }),
+        b"nan" => Some(FloatText::NotANumber { negative: false }),
+        b"-nan" => Some(FloatText::NotANumber { negative: true }),
+        _ => None,
+    }
+}
+
+/// The fault of a dot behind a float of letters.
+fn special_dot(text: &str, start: usize, first: Span) -> Fault
+    requires start { start ≤ first.start }
+    requires run { IsRun text.now first }
+    requires dot { slice_index text.now first.end ≡ 46 }
+    ensures { IsPlaced text.now result }
+{
+    let behind = first.end + 1;
+    if keylike_end(text, behind) == behind {
+        invalid_number(start, behind)
+    } else {
+        invalid_number(first.start, first.end)
+    }
+}
+
+/// The number whose first character is at `start`, with its first run from `first` on, and where it
+/// ends.
+fn unsigned<'de>(
+    alloc: Global,
+    text: &'de str,
+    start: usize,
+    first: Span,
+) -> Result<(ValKind<'de>, usize), Stop<Fault>>
+    requires start { start ≤ first.start }
+    requires boundary { IsCharBoundary text.now first.start }
+    requires run { IsRun text.now first }
+    ensures advances { Advances text.now start result }
+    ensures scalar { IsScalarKind result }
+{
+    if let Some(radix) = radix_of(text, first.start) {
+        return match radix_integer(text, first, radix) {
+            Ok(value) => Ok((ValKind::Integer(value), first.end)),
+            Err(fault) => Err(Stop::Fault(fault)),
+        };
+    }
+    if let Some(float) = special_float(&text.as_bytes()[first.start..first.end]) {
+        if byte_at(text, first.end) == b'.' {
+            return Err(Stop::Fault(special_dot(text, start, first)));
+        }
+        return Ok((ValKind::Float(float), first.end));
+    }
+    match decimal_number(text, start, first) {
+        Err(fault) => Err(Stop::Fault(fault)),
+        Ok(Decimal::Integer(value)) => Ok((ValKind::Integer(value), first.end)),
+        Ok(Decimal::Float(end)) => match cleaned(alloc, &text[first.start..end]) {
+            Ok(digits) => Ok((ValKind::Float(FloatText::Finite(digits)), end)),
+            Err(e) => Err(Stop::Memory(e)),
+        },
+    }
+}
+
+/// The number at a place, and where it ends.
+pub fn number<'de>(
+    alloc: Global,
+    text: &'de str,
+    at: usize,
+) -> Result<(ValKind<'de>, usize), Stop<Fault>>
+    requires boundary { IsCharBoundary text.now at }
+    requires begins { (is_keylike (slice_index text.now at) || slice_index text.now at == 43) ≡ true }
+    ensures advances { Advances text.now at result }
+    ensures scalar { IsScalarKind result }
+{
+    if byte_at(text, at) != b'+' {
+        let first = Span {
+            start: at,
+            end: keylike_end(text, at),
+        };
+        return unsigned(alloc, text, at, first);
+    }
+    let start = at + 1;
+    let first = Span {
+        start,
+        end: keylike_end(text, start),
+    };
+    if first.start == first.end {
+        return Err(Stop::Fault(invalid_number(start, start)));
+    }
+    if text.as_bytes()[start] == b'-' || radix_of(text, start).is_some() {
+        return Err(Stop::Fault(invalid_number(at, first.end)));
+    }
+    unsigned(alloc, text, at, first)
+}

@@ -1,0 +1,236 @@
+//! Lines, headers and sections.
+ghost use Rattle.std.specs.Prelude.{◌≡◌, ℕ, ◌<◌, ◌≤◌, ◌+◌, ◌⊎◌, map, length, slice_index, IfSome};
+ghost use Rattle.std.specs.Str.{IsCharBoundary};
+ghost use Rattle.toml_span_read.specs.Data.{event};
+ghost use Rattle.toml_span_read.specs.Limits.{AssignmentReads, AssignmentsRead, LineReads, HeaderReads, SectionsRead, WithinSection, WithinEvents, EndsAtHeader, Reads};
+
+use crate::earlier::{Earlier, add_clear};
+use crate::fault::{Due, Fault, error_of};
+use crate::gaps::{behind_sign, byte_at, gap_end, line_equals, line_rest};
+use crate::keys::{add, dotted_key, header_key};
+use crate::section::Section;
+use crate::value::Assignment;
+use crate::values::{assigned, value};
+use crate::wanted::wanted;
+use smallvec::SmallVec;
+use std::alloc::Global;
+use toml_span_lex::bytes::blanks_end;
+use toml_span_lex::key::Key;
+use toml_span_lex::span::Span;
+use toml_span_lex::stop::Stop;
+use toml_span_lex::tokenizer::first_place;
+use toml_span_tree::Error;
+
+/// The assignment at a place, and where it ends.
+///
+/// `keyval = key keyval-sep val`, `keyval-sep = ws %x3D ws` (TOML 1.1, Key/Value Pair)
+fn assignment<'de>(
+    alloc: Global,
+    text: &'de str,
+    at: usize,
+    limit: usize,
+) -> Result<(Assignment<'de>, usize), Stop<Fault>>
+    requires boundary { IsCharBoundary text.now at }
+    requires some { 1 ≤ limit }
+    requires small { limit ≤ 128 }
+    ensures { AssignmentReads text.now limit 0 at result }
+{
+    let (parts, key_end) = dotted_key(alloc, text, at, limit)?;
+    let from = match line_equals(text, key_end) {
+        Ok(from) => from,
+        Err(here) => return Err(wanted(alloc, text, here, Due::Equals)),
+    };
+    let depth = parts.inner.len() + 1;
+    match value(alloc, text, from, depth, limit) {
+        Ok((value, end)) => Ok((assigned(parts, value, at, end), end)),
+        Err(stop) => Err(stop),
+    }
+}
+
+/// What is behind the line whose forms end at a place.
+fn next_line(alloc: Global, text: &str, at: usize) -> Result<usize, Stop<Fault>>
+    requires { IsCharBoundary text.now at }
+    ensures { LineReads text.now at result }
+{
+    match line_rest(text, at) {
+        Ok(next) => Ok(next),
+        Err(here) => Err(wanted(alloc, text, here, Due::Newline)),
+    }
+}
+
+/// The assignments from a place on, up to the next header or the end of the text, and where they end.
+fn assignments<'de>(
+    alloc: Global,
+    text: &'de str,
+    from: usize,
+    limit: usize,
+) -> Result<(Vec<Assignment<'de>>, usize), Stop<Fault>>
+    requires boundary { IsCharBoundary text.now from }
+    requires some { 1 ≤ limit }
+    requires small { limit ≤ 128 }
+    ensures read { AssignmentsRead text.now limit from result }
+    ensures header { EndsAtHeader text.now result }
+{
+    let mut found = Vec::new(alloc);
+    let mut earlier = Earlier::new(alloc);
+    let mut at = gap_end(text, from);
+    'lines: while at < text.len() && byte_at(text, at) != b'[' {
+        let (next, end) = match assignment(alloc, text, at, limit) {
+            Ok(read) => read,
+            Err(stop) => return Err(stop),
+        };
+        let line = match next_line(alloc, text, end) {
+            Ok(line) => line,
+            Err(stop) => return Err(stop),
+        };
+        if let Err(stop) = add_clear(alloc, &mut earlier, &mut found, next) {
+            return Err(stop);
+        }
+        at = gap_end(text, line);
+    }
+    Ok((found, at))
+}
+
+/// What is behind a header's closing brackets.
+fn header_close(alloc: Global, text: &str, at: usize, array: bool) -> Result<usize, Stop<Fault>>
+    requires { IsCharBoundary text.now at }
+    ensures { LineReads text.now at result }
+{
+    let close = blanks_end(text, at);
+    if byte_at(text, close) != b']' {
+        return Err(wanted(alloc, text, close, Due::RightBracket));
+    }
+    let behind = behind_sign(text, close);
+    if !array {
+        return Ok(behind);
+    }
+    if byte_at(text, behind) != b']' {
+        return Err(wanted(alloc, text, behind, Due::RightBracket));
+    }
+    Ok(behind_sign(text, behind))
+}
+
+/// A header: its parts, whether its brackets are double, and its extent.
+#[derive(Drop)]
+struct Header<'de> {
+    parts: SmallVec<Key<'de>, 5>,
+    array: bool,
+    extent: Span,
+}
+
+/// The header whose first bracket is at a place.
+///
+/// `table = std-table / array-table` (TOML 1.1, Table)
+fn read_header<'de>(
+    alloc: Global,
+    text: &'de str,
+    at: usize,
+    limit: usize,
+) -> Result<Header<'de>, Stop<Fault>>
+    requires opens { slice_index text.now at ≡ 91 }
+    requires some { 1 ≤ limit }
+    ensures { HeaderReads text.now limit at result }
+{
+    let behind = behind_sign(text, at);
+    let array = byte_at(text, behind) == b'[';
+    let open = if array {
+        behind_sign(text, behind)
+    } else {
+        behind
+    };
+    let (parts, key_end) = header_key(alloc, text, blanks_end(text, open), limit)?;
+    let close = header_close(alloc, text, key_end, array)?;
+    let end = next_line(alloc, text, close)?;
+    Ok(Header {
+        parts,
+        array,
+        extent: Span { start: at, end },
+    })
+}
+
+/// The section of a header with its assignments.
+fn section_of<'de>(header: Header<'de>, assignments: Vec<Assignment<'de>>) -> Section<'de>
+    ensures { (limit : ℕ) → length header.entry.parts.items ≤ limit → WithinEvents limit (map event assignments.entry.items) → WithinSection limit result }
+{
+    let Header {
+        parts,
+        array,
+        extent,
+    } = header;
+    let end = match assignments.last() {
+        Some(last) => last.extent.end,
+        None => extent.end,
+    };
+    Section {
+        header: parts,
+        array,
+        header_span: extent,
+        extent: Span {
+            start: extent.start,
+            end,
+        },
+        assignments,
+    }
+}
+
+/// The section of the assignments before the first header, if there are any.
+fn first_section<'de>(alloc: Global, assignments: Vec<Assignment<'de>>) -> Option<Section<'de>>
+    ensures { (limit : ℕ) → WithinEvents limit (map event assignments.entry.items) → IfSome result (λ section. WithinSection limit section) }
+{
+    let start = assignments.first()?.extent.start;
+    let end = assignments.last()?.extent.end;
+    Some(Section {
+        header: SmallVec::new(alloc),
+        array: false,
+        header_span: Span::default(),
+        extent: Span { start, end },
+        assignments,
+    })
+}
+
+/// The sections of a text, or its fault.
+fn sections<'de>(
+    alloc: Global,
+    text: &'de str,
+    limit: usize,
+) -> Result<Vec<Section<'de>>, Stop<Fault>>
+    requires some { 1 ≤ limit }
+    requires small { limit ≤ 128 }
+    ensures { SectionsRead text.now limit result }
+{
+    let mut found = Vec::new(alloc);
+    let (before, mut at) = assignments(alloc, text, first_place(text), limit)?;
+    if let Some(section) = first_section(alloc, before) {
+        if let Err(e) = add(&mut found, section) {
+            return Err(Stop::Memory(e));
+        }
+    }
+    'sections: while at < text.len() {
+        let header = read_header(alloc, text, at, limit)?;
+        let (behind, next) = assignments(alloc, text, header.extent.end, limit)?;
+        if let Err(e) = add(&mut found, section_of(header, behind)) {
+            return Err(Stop::Memory(e));
+        }
+        at = next;
+    }
+    Ok(found)
+}
+
+/// The sections of a document, in the order of the text, or the first fault of reading.
+///
+/// `toml = expression *( newline expression )` (TOML 1.1, Overall Structure)
+pub fn read_sections<'de>(
+    alloc: Global,
+    text: &'de str,
+    limit: usize,
+) -> Result<Vec<Section<'de>>, Stop<Error<'de>>>
+    requires some { 1 ≤ limit }
+    requires small { limit ≤ 128 }
+    ensures { Reads text.now limit result }
+{
+    match sections(alloc, text, limit) {
+        Ok(found) => Ok(found),
+        Err(Stop::Memory(e)) => Err(Stop::Memory(e)),
+        Err(Stop::Fault(fault)) => Err(Stop::Fault(error_of(text, fault))),
+    }
+}

@@ -1,0 +1,288 @@
+//! Values.
+ghost use Rattle.std.specs.Prelude.{◌≡◌, ◌+◌, ◌<◌, ◌≤◌, ◌||◌, ◌==◌, ◌⊎◌, ◌++◌, ◌∷◌, [], true, false, length, slice_index, map};
+ghost use Rattle.std.specs.Str.{IsCharBoundary};
+ghost use Rattle.toml_span_lex.specs.Bytes.{is_keylike};
+ghost use Rattle.toml_span_read.specs.Faults.{Advances, IsPlaced, IsPlacedStop};
+ghost use Rattle.std.specs.Cow.{cow_str_bytes};
+ghost use Rattle.toml_span_tree.specs.Node.{text as text_node};
+ghost use Rattle.toml_span_read.specs.Keys as spec;
+ghost use Rattle.toml_span_read.specs.Limits.{ValueReads, AssignmentReads};
+ghost use Rattle.toml_span_read.specs.Data.{IsScalarKind, view, event, node, scalar as scalar_node, array as array_node, inline as inline_node, onto, pairs_onto, no_items, no_pairs};
+
+use crate::dates::{begins_date, date};
+use crate::earlier::{Earlier, add_clear};
+use crate::fault::{Due, Fault, FaultKind, fault_at};
+use crate::gaps::{Behind, after_element, behind_sign, byte_at, opened, pair_equals};
+use crate::keys::{add, dotted_key};
+use crate::numbers::number;
+use crate::value::{Assignment, DottedKey, Val, ValKind};
+use crate::wanted::{no_value, string, wanted};
+use std::alloc::Global;
+use std::borrow::CowStr;
+use toml_span_lex::bytes::{is_keylike, keylike_end};
+use toml_span_lex::span::Span;
+use toml_span_lex::stop::Stop;
+
+/// The value at a place that `depth` brackets and key parts stand round, and where it ends.
+///
+/// `val = string / boolean / array / inline-table / date-time / float / integer` (TOML 1.1, Key/Value Pair)
+#[cycle(read)]
+pub fn value<'de>(
+    alloc: Global,
+    text: &'de str,
+    at: usize,
+    depth: usize,
+    limit: usize,
+) -> Result<(Val<'de>, usize), Stop<Fault>>
+    requires boundary { IsCharBoundary text.now at }
+    requires some { 1 ≤ limit }
+    requires small { limit ≤ 128 }
+    ensures { ValueReads text.now limit depth at result }
+{
+    match byte_at(text, at) {
+        b'[' | b'{' if depth > limit => Err(too_deep(text, at)),
+        b'[' => array(alloc, text, at, depth, limit),
+        b'{' => inline_table(alloc, text, at, depth, limit),
+        b'"' | b'\'' => string_value(alloc, text, at, depth, limit),
+        _ => scalar(alloc, text, at, depth, limit),
+    }
+}
+
+/// A value that is too deep.
+fn too_deep(text: &str, at: usize) -> Stop<Fault>
+    requires { at ≤ length text.now }
+    ensures { IsPlacedStop text.now result }
+{
+    let _text = text;
+    Stop::Fault(fault_at(FaultKind::ExceededDepthLimit, at))
+}
+
+/// The string at a place, and where it ends.
+fn string_value<'de>(
+    alloc: Global,
+    text: &'de str,
+    at: usize,
+    depth: usize,
+    limit: usize,
+) -> Result<(Val<'de>, usize), Stop<Fault>>
+    requires boundary { IsCharBoundary text.now at }
+    requires quote { (slice_index text.now at ≡ 34) ⊎ (slice_index text.now at ≡ 39) }
+    ensures { ValueReads text.now limit depth at result }
+{
+    let token = string(alloc, text, at)?;
+    if depth > limit {
+        return Err(too_deep(text, at));
+    }
+    Ok((string_of(token.content, token.span), token.end))
+}
+
+/// The value at a place that is no string and has no brackets, and where it ends.
+fn scalar<'de>(
+    alloc: Global,
+    text: &'de str,
+    at: usize,
+    depth: usize,
+    limit: usize,
+) -> Result<(Val<'de>, usize), Stop<Fault>>
+    requires boundary { IsCharBoundary text.now at }
+    ensures { ValueReads text.now limit depth at result }
+{
+    let byte = byte_at(text, at);
+    if !is_keylike(byte) && byte != b'+' {
+        return Err(no_value(alloc, text, at));
+    }
+    if depth > limit {
+        return Err(too_deep(text, at));
+    }
+    let (kind, end) = if begins_date(text, at) {
+        match date(text, at) {
+            Ok((date, end)) => (ValKind::Datetime(date), end),
+            Err(fault) => return Err(Stop::Fault(fault)),
+        }
+    } else if byte.is_ascii_digit() || byte == b'-' || byte == b'+' {
+        number(alloc, text, at)?
+    } else {
+        word(alloc, text, at)?
+    };
+    let span = Span { start: at, end };
+    Ok((Val { kind, span }, end))
+}
+
+/// The truth value, or the number of letters, at a place, and where it ends.
+///
+/// `boolean = true / false` (TOML 1.1, Boolean)
+fn word<'de>(alloc: Global, text: &'de str, at: usize) -> Result<(ValKind<'de>, usize), Stop<Fault>>
+    requires boundary { IsCharBoundary text.now at }
+    requires begins { is_keylike (slice_index text.now at) ≡ true }
+    ensures advances { Advances text.now at result }
+    ensures scalar { IsScalarKind result }
+{
+    let end = keylike_end(text, at);
+    match &text.as_bytes()[at..end] {
+        b"true" => Ok((ValKind::Boolean(true), end)),
+        b"false" => Ok((ValKind::Boolean(false), end)),
+        b"inf" | b"nan" => number(alloc, text, at),
+        _ => Err(Stop::Fault(Fault {
+            kind: FaultKind::UnquotedString,
+            span: Span { start: at, end },
+        })),
+    }
+}
+
+/// The array at a place, and where it ends.
+///
+/// `array = array-open [ array-values ] ws-comment-newline array-close` (TOML 1.1, Array)
+#[cycle(read)]
+fn array<'de>(
+    alloc: Global,
+    text: &'de str,
+    at: usize,
+    depth: usize,
+    limit: usize,
+) -> Result<(Val<'de>, usize), Stop<Fault>>
+    requires boundary { IsCharBoundary text.now at }
+    requires opens { slice_index text.now at ≡ 91 }
+    requires some { 1 ≤ limit }
+    requires small { limit ≤ 128 }
+    requires depth { depth ≤ limit }
+    ensures { ValueReads text.now limit depth at result }
+{
+    let mut items = Vec::new(alloc);
+    let mut next = opened(text, at);
+    'items: loop {
+        if byte_at(text, next) == b']' {
+            let close = behind_sign(text, next);
+            return Ok((array_of(items, at, close), close));
+        }
+        let (item, end) = match value(alloc, text, next, depth + 1, limit) {
+            Ok(found) => found,
+            Err(stop) => return Err(stop),
+        };
+        if let Err(e) = add(&mut items, item) {
+            return Err(Stop::Memory(e));
+        }
+        match after_element(text, end, b']') {
+            Behind::Comma(on) => next = on,
+            Behind::Closed(close) => return Ok((array_of(items, at, close), close)),
+            Behind::Neither(here) => return Err(wanted(alloc, text, here, Due::RightBracket)),
+        }
+    }
+}
+
+/// The inline table at a place, and where it ends.
+///
+/// `inline-table = inline-table-open [ inline-table-keyvals ] ws-comment-newline inline-table-close`
+/// (TOML 1.1, Inline Table)
+#[cycle(read)]
+fn inline_table<'de>(
+    alloc: Global,
+    text: &'de str,
+    at: usize,
+    depth: usize,
+    limit: usize,
+) -> Result<(Val<'de>, usize), Stop<Fault>>
+    requires boundary { IsCharBoundary text.now at }
+    requires opens { slice_index text.now at ≡ 123 }
+    requires some { 1 ≤ limit }
+    requires small { limit ≤ 128 }
+    requires depth { depth ≤ limit }
+    ensures { ValueReads text.now limit depth at result }
+{
+    let mut pairs = Vec::new(alloc);
+    let mut earlier = Earlier::new(alloc);
+    let mut next = opened(text, at);
+    'pairs: loop {
+        if byte_at(text, next) == b'}' {
+            let close = behind_sign(text, next);
+            return Ok((inline_of(pairs, at, close), close));
+        }
+        let (found, end) = match pair(alloc, text, next, depth + 1, limit) {
+            Ok(found) => found,
+            Err(stop) => return Err(stop),
+        };
+        if let Err(stop) = add_clear(alloc, &mut earlier, &mut pairs, found) {
+            return Err(stop);
+        }
+        match after_element(text, end, b'}') {
+            Behind::Comma(on) => next = on,
+            Behind::Closed(close) => return Ok((inline_of(pairs, at, close), close)),
+            Behind::Neither(here) => return Err(wanted(alloc, text, here, Due::Comma)),
+        }
+    }
+}
+
+/// The pair of an inline table at a place, and where it ends.
+///
+/// `keyval = key keyval-sep val` (TOML 1.1, Inline Table)
+#[cycle(read)]
+fn pair<'de>(
+    alloc: Global,
+    text: &'de str,
+    at: usize,
+    depth: usize,
+    limit: usize,
+) -> Result<(Assignment<'de>, usize), Stop<Fault>>
+    requires boundary { IsCharBoundary text.now at }
+    requires some { 1 ≤ limit }
+    requires small { limit ≤ 128 }
+    requires depth { depth ≤ limit + 1 }
+    ensures { AssignmentReads text.now limit depth at result }
+{
+    let (parts, key_end) = dotted_key(alloc, text, at, limit)?;
+    let from = match pair_equals(text, key_end) {
+        Ok(from) => from,
+        Err(here) => return Err(wanted(alloc, text, here, Due::Equals)),
+    };
+    let inside = depth + (parts.inner.len() + 1);
+    match value(alloc, text, from, inside, limit) {
+        Ok((value, end)) => Ok((assigned(parts, value, at, end), end)),
+        Err(stop) => Err(stop),
+    }
+}
+
+/// The string of this content.
+fn string_of<'de>(content: CowStr<'de>, span: Span) -> Val<'de>
+    ensures { view result ≡ node (scalar_node (text_node (cow_str_bytes content.entry))) span }
+{
+    let kind = ValKind::String(content);
+    Val { kind, span }
+}
+
+/// The array of these elements.
+fn array_of<'de>(items: Vec<Val<'de>>, start: usize, end: usize) -> Val<'de>
+    ensures { view result ≡ node (array_node (onto (map view items.entry.items) no_items)) (record { start = start; end = end }) }
+{
+    let kind = ValKind::Array(items);
+    Val {
+        kind,
+        span: Span { start, end },
+    }
+}
+
+/// The inline table of these pairs.
+fn inline_of<'de>(pairs: Vec<Assignment<'de>>, start: usize, end: usize) -> Val<'de>
+    ensures { view result ≡ node (inline_node (pairs_onto (map event pairs.entry.items) no_pairs)) (record { start = start; end = end }) }
+{
+    let kind = ValKind::Inline(pairs);
+    Val {
+        kind,
+        span: Span { start, end },
+    }
+}
+
+/// The assignment of a value to a key.
+pub fn assigned<'de>(
+    parts: DottedKey<'de>,
+    value: Val<'de>,
+    start: usize,
+    end: usize,
+) -> Assignment<'de>
+    ensures { event result ≡ record { parts = spec.parts parts.entry; value = view value.entry; extent = record { start = start; end = end } } }
+{
+    let extent = Span { start, end };
+    Assignment {
+        parts,
+        value,
+        extent,
+    }
+}
