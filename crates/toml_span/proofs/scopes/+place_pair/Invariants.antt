@@ -1,0 +1,8 @@
+use Rattle.std.proofs.Common.{◌+◌, ◌*◌, length}
+use Rattle.toml_span.proofs.scopes.+place_pair.Given as goal
+
+abbrev pub decreases-place_pair : goal.decreases-place_pair
+decreases-place_pair l = 2 * length l.inner.now
+
+abbrev pub decreases-pass_pair : goal.decreases-pass_pair
+decreases-pass_pair l = 2 * length l.rest.now + 1

@@ -1,0 +1,30 @@
+-- What `parse` refuses.
+use Rattle.std.specs.Prelude.{◌≡◌, ◌≤◌, ◌⊎◌, ⊤, ℕ, List, length}
+use Rattle.toml_span_lex.specs.declared.stop.Stop.{Stop}
+use Rattle.toml_span_lex.specs.declared.stop.Stop.TheVariants as stops
+use Rattle.toml_span_tree.specs.declared.error.Error.{Error}
+use Rattle.toml_span_tree.specs.Error.{fault_of}
+use Rattle.toml_span_read.specs.declared.fault.Fault.{Fault}
+use Rattle.toml_span_read.specs.Faults.{IsLineInfo, IsPlaced, Tells}
+use Rattle.toml_span.specs.declared.claims.Meeting.{Meeting}
+use Rattle.toml_span.specs.Clashes.{told}
+
+-- a fault of reading is told, which is placed in the text
+abbrev pub IsFault : List ℕ → Error → Type 0
+IsFault text error = (fault : Fault) × IsPlaced text fault × Tells text fault (fault_of error)
+
+-- a clash over a name is told, with the line and the column of its place
+abbrev pub IsClash : List ℕ → Error → Type 0
+IsClash text error =
+    (clash : Meeting) × (name : List ℕ) × (line column : ℕ)
+    × (fault_of error ≡ told clash name (line, column))
+    × (clash.place.start ≤ length text → IsLineInfo text clash.place.start line column)
+
+-- of sections that were read only a clash is told
+abbrev pub IsClashStop : List ℕ → Stop Error → Type 0
+IsClashStop text (stops.Memory e) = ⊤
+IsClashStop text (stops.Fault error) = IsClash text error
+
+abbrev pub IsRefusal : List ℕ → Stop Error → Type 0
+IsRefusal text (stops.Memory e) = ⊤
+IsRefusal text (stops.Fault error) = IsFault text error ⊎ IsClash text error

@@ -1,0 +1,64 @@
+//! Reads a document into a tree.
+ghost use Rattle.std.specs.Prelude.{◌≤◌, IfOk, IfErr, length};
+ghost use Rattle.toml_span.specs.Parsing.{IsClashStop, IsRefusal};
+ghost use Rattle.toml_span.specs.Roots.{IsRoot};
+
+use crate::claims::Halt;
+use crate::sections::assemble;
+use std::alloc::Global;
+use toml_span_lex::stop::Stop;
+use toml_span_read::fault::line_info;
+use toml_span_read::{Section, read_sections};
+use toml_span_tree::{Error, Value};
+
+/// How deep a value, a header and a dotted key may be.
+const LIMIT: usize = 128;
+
+/// The tree of the sections of a document.
+fn tree_of<'de>(
+    alloc: Global,
+    sections: Vec<Section<'de>>,
+    text: &'de str,
+) -> Result<Value<'de>, Stop<Error<'de>>>
+    ensures root { IfOk result (IsRoot (length text.now)) }
+    ensures refused { IfErr result (IsClashStop text.now) }
+{
+    match assemble(alloc, sections, text.len()) {
+        Ok(root) => Ok(root),
+        Err(Halt::Memory(error)) => Err(Stop::Memory(error)),
+        Err(Halt::Clash(clash)) => {
+            let start = clash.meeting.place.start.min(text.len());
+            let place = line_info(text, start);
+            Err(Stop::Fault(clash.into_error(place)))
+        }
+    }
+}
+
+/// The tree of a document, with the limit of 128 levels.
+///
+/// The error is the first fault of reading or, where the text is read, the clash of two claims on one
+/// path; there is no tree then.
+pub fn parse<'de>(alloc: Global, s: &'de str) -> Result<Value<'de>, Stop<Error<'de>>>
+    ensures root { IfOk result (IsRoot (length s.now)) }
+    ensures refused { IfErr result (IsRefusal s.now) }
+{
+    parse_with_limit(alloc, s, LIMIT)
+}
+
+/// The tree of a document. A value may be so many brackets, braces and key parts deep, and a header and
+/// a dotted key may have so many parts, as `limit` says, which is from 1 to 128.
+pub fn parse_with_limit<'de>(
+    alloc: Global,
+    s: &'de str,
+    limit: usize,
+) -> Result<Value<'de>, Stop<Error<'de>>>
+    requires some { 1 ≤ limit }
+    requires small { limit ≤ 128 }
+    ensures root { IfOk result (IsRoot (length s.now)) }
+    ensures refused { IfErr result (IsRefusal s.now) }
+{
+    match read_sections(alloc, s, limit) {
+        Ok(sections) => tree_of(alloc, sections, s),
+        Err(stop) => Err(stop),
+    }
+}

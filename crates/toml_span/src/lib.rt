@@ -1,0 +1,38 @@
+//! Parses TOML into a tree that knows, for each key and each value, the bytes at which it stands.
+#![tactic(auto)]
+
+mod claims;
+pub mod de;
+mod node;
+mod scopes;
+mod sections;
+
+pub use de::parse;
+pub use toml_span_lex::span::Span;
+pub use toml_span_lex::spanned::Spanned;
+pub use toml_span_lex::stop::Stop;
+pub use toml_span_tree::{Diagnostic, Error, ErrorKind, Label, Value};
+pub use toml_span_typed::{DeserError, Deserialize, ErrorIter, Unmerged};
+
+/// Typed reads of a table's fields.
+pub mod de_helpers {
+    pub use toml_span_typed::de_helpers::{TableHelper, Unfinished, expected, parse};
+}
+
+/// Places in a text.
+pub mod span {
+    pub use toml_span_lex::span::Span;
+    pub use toml_span_lex::spanned::Spanned;
+}
+
+/// The tokens of a text.
+pub mod tokens {
+    pub use toml_span_lex::tokenizer::Tokenizer;
+    pub use toml_span_lex::tokens::{Error, Token};
+}
+
+/// The tree of values.
+pub mod value {
+    pub use toml_span_lex::key::Key;
+    pub use toml_span_tree::{Array, DateText, FloatText, Table, Value, ValueInner};
+}

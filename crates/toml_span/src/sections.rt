@@ -1,0 +1,184 @@
+//! Sections placed one by one into a tree.
+ghost use Rattle.std.specs.Prelude.{IfOk};
+ghost use Rattle.toml_span.specs.Roots.{IsRoot};
+
+use crate::claims::{Halt, Mark, Sort, claim};
+use crate::node::{Node, into_table};
+use crate::scopes::{admit_beside_value, place_pairs};
+use std::alloc::Global;
+use toml_span_lex::key::Key;
+use toml_span_lex::span::Span;
+use toml_span_read::{Assignment, Section};
+use toml_span_tree::{Value, ValueInner};
+
+/// What a header says beside its parts.
+#[derive(Clone, Copy)]
+struct Head {
+    /// Whether the header stands in double brackets.
+    array: bool,
+    /// The header's line.
+    line: Span,
+    /// The header's section.
+    extent: Span,
+}
+
+/// The claim of a part of a header.
+fn header_mark(head: Head, sort: Sort, key: &Key<'_>) -> Mark {
+    Mark {
+        sort,
+        key: key.span,
+        line: head.line,
+        extent: head.extent,
+    }
+}
+
+/// What the part of a header claims that is followed by these.
+fn sort_of(head: Head, rest: &[Key<'_>]) -> Sort {
+    if !rest.is_empty() {
+        Sort::Passed
+    } else if head.array {
+        Sort::ArrayOfTables
+    } else {
+        Sort::Section
+    }
+}
+
+/// Places a section below a node, part by part of its header.
+#[cycle(place_section)]
+fn place_section<'de>(
+    alloc: Global,
+    node: &mut Node<'de>,
+    parts: &[Key<'de>],
+    head: Head,
+    pairs: Vec<Assignment<'de>>,
+) -> Result<(), Halt> {
+    let [part, rest @ ..] = parts else {
+        return place_pairs(alloc, pairs, node);
+    };
+    match node.tables.get_mut(part) {
+        Some(child) => pass_header(alloc, child, part, rest, head, pairs),
+        None => {
+            let mark = header_mark(head, sort_of(head, rest), part);
+            admit_beside_value(alloc, &node.values, mark, part)?;
+            let mut child = Node::new(alloc);
+            pass_header(alloc, &mut child, part, rest, head, pairs)?;
+            node.tables.insert(part.clone(alloc)?, child)?;
+            Ok(())
+        }
+    }
+}
+
+/// From the node of a part on: into the latest entry where it is an array.
+#[cycle(place_section)]
+fn pass_header<'de>(
+    alloc: Global,
+    node: &mut Node<'de>,
+    part: &Key<'de>,
+    rest: &[Key<'de>],
+    head: Head,
+    pairs: Vec<Assignment<'de>>,
+) -> Result<(), Halt> {
+    if rest.is_empty() {
+        return end_header(alloc, node, part, head, pairs);
+    }
+    match node.entries.last_mut() {
+        Some(latest) => descend(alloc, latest, part, rest, head, pairs),
+        None => descend(alloc, node, part, rest, head, pairs),
+    }
+}
+
+/// Passes through a node.
+#[cycle(place_section)]
+fn descend<'de>(
+    alloc: Global,
+    node: &mut Node<'de>,
+    part: &Key<'de>,
+    rest: &[Key<'de>],
+    head: Head,
+    pairs: Vec<Assignment<'de>>,
+) -> Result<(), Halt> {
+    claim(
+        alloc,
+        &mut node.marks,
+        header_mark(head, Sort::Passed, part),
+        part,
+    )?;
+    place_section(alloc, node, rest, head, pairs)
+}
+
+/// Claims a node for a section or an entry, and places the assignments below it.
+fn open_table<'de>(
+    alloc: Global,
+    node: &mut Node<'de>,
+    sort: Sort,
+    part: &Key<'de>,
+    head: Head,
+    pairs: Vec<Assignment<'de>>,
+) -> Result<(), Halt> {
+    claim(alloc, &mut node.marks, header_mark(head, sort, part), part)?;
+    place_pairs(alloc, pairs, node)
+}
+
+/// Adds an entry to an array of tables.
+fn add_entry<'de>(
+    alloc: Global,
+    node: &mut Node<'de>,
+    part: &Key<'de>,
+    head: Head,
+    pairs: Vec<Assignment<'de>>,
+) -> Result<(), Halt> {
+    let mut entry = Node::new(alloc);
+    open_table(alloc, &mut entry, Sort::Entry, part, head, pairs)?;
+    node.entries.push(entry)?;
+    Ok(())
+}
+
+/// Claims the node at the end of a header, and places the assignments there.
+fn end_header<'de>(
+    alloc: Global,
+    node: &mut Node<'de>,
+    part: &Key<'de>,
+    head: Head,
+    pairs: Vec<Assignment<'de>>,
+) -> Result<(), Halt> {
+    if !head.array {
+        return open_table(alloc, node, Sort::Section, part, head, pairs);
+    }
+    if node.entries.is_empty() {
+        let mark = header_mark(head, Sort::ArrayOfTables, part);
+        claim(alloc, &mut node.marks, mark, part)?;
+    }
+    add_entry(alloc, node, part, head, pairs)
+}
+
+/// The tree of a document's sections, which is `length` bytes long.
+pub(crate) fn assemble<'de>(
+    alloc: Global,
+    sections: Vec<Section<'de>>,
+    length: usize,
+) -> Result<Value<'de>, Halt>
+    ensures { IfOk result (IsRoot length) }
+{
+    let mut root = Node::new(alloc);
+    for section in sections {
+        let Section {
+            header,
+            array,
+            header_span: line,
+            extent,
+            assignments,
+        } = section;
+        let head = Head {
+            array,
+            line,
+            extent,
+        };
+        place_section(alloc, &mut root, header.as_slice(), head, assignments)?;
+    }
+    let table = into_table(root.tables, root.values)?;
+    let span = Span {
+        start: 0,
+        end: length,
+    };
+    Ok(Value::with_span(ValueInner::Table(table), span))
+}

@@ -1,0 +1,12 @@
+-- When a reader and a writer have failed.
+use Rattle.std.specs.Prelude.{ℕ, Bool, true, ◌||◌, ◌&&◌, nat_eq, nat_lt, List, length, Result, Ok, Err}
+
+-- an error sets it, and every other read keeps it
+abbrev pub after_read : {X E : Type 0} → Bool → Result X E → Bool
+after_read failed (Ok n) = failed
+after_read failed (Err e) = true
+
+-- an error sets it, and a write that takes nothing of something
+abbrev pub after_write : {E : Type 0} → Bool → Result ℕ E → List ℕ → Bool
+after_write failed (Ok n) bytes = failed || (nat_eq n 0 && nat_lt 0 (length bytes))
+after_write failed (Err e) bytes = true
