@@ -12,7 +12,7 @@ use Rattle.toml_span_lex.specs.declared.span.Span.{Span}
 use Rattle.toml_span_tree.specs.declared.value.Value.{Value}
 use Rattle.toml_span_tree.specs.Error.{Fault}
 use Rattle.toml_span_tree.specs.Node.{Node, entry_at, member}
-use Rattle.toml_span_tree.specs.Value.{members_view, view}
+use Rattle.toml_span_tree.specs.Value.{is_filled, members_view, view}
 use Rattle.toml_span_tree.proofs.Values.{Entry, at_name}
 use Rattle.toml_span_typed.specs.TableHelper.{names_in, where_filled, without}
 
@@ -103,3 +103,7 @@ names-of_keys (e ∷ es) = ap (λ names. key_place e.0 ∷ names) (names-of_keys
 pub unasked-of_entries : (es : List Entry) (faults : List Fault) → (length es ≡ 0 → ⊥) → where_filled (members_view es) faults ≡ faults
 unasked-of_entries [] faults h = absurd (h refl)
 unasked-of_entries (e ∷ es) faults h = refl
+
+pub filled-of_entries : (es : List Entry) → (length es ≡ 0 → ⊥) → is_filled (members_view es) ≡ true
+filled-of_entries [] h = absurd (h refl)
+filled-of_entries (e ∷ es) h = refl

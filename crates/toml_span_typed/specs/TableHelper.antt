@@ -1,5 +1,5 @@
 -- What a helper over a table holds, and what its calls do to it.
-use Rattle.std.specs.Prelude.{◌≡◌, ◌⊎◌, ℕ, List, [], ◌∷◌, ◌++◌, map, IsTrue, cond, Option, Some, None, option_map, Result, Ok, Err, MatchOption, String, string_bytes, codes}
+use Rattle.std.specs.Prelude.{◌≡◌, ◌⊎◌, ℕ, List, [], ◌∷◌, ◌++◌, map, IsTrue, cond, Option, Some, None, option_map, Result, Ok, Err, MatchOption, String, string_bytes, codes, true}
 use Rattle.std.specs.Borrow.{MutBor}
 use Rattle.std.specs.Cow.{cow_str_bytes}
 use Rattle.std.specs.Str.{bytes_eq}
@@ -14,7 +14,7 @@ use Rattle.toml_span_tree.specs.declared.error.Error.{Error}
 use Rattle.toml_span_tree.specs.declared.value.Value.{Value}
 use Rattle.toml_span_tree.specs.Error.{Fault, fault_of, missing_field, unexpected_keys}
 use Rattle.toml_span_tree.specs.Node.{Members, Node, entry_at, member, no_members, node, table}
-use Rattle.toml_span_tree.specs.Value.{all_members_whole, members_view, span_of, view}
+use Rattle.toml_span_tree.specs.Value.{all_members_whole, is_filled, members_view, span_of, view}
 use Rattle.std.specs.BTreeMap.{BTreeMap}
 use Rattle.toml_span_typed.specs.Faults.{Faults, all}
 use Rattle.toml_span_typed.specs.Reads.{refused}
@@ -138,10 +138,10 @@ Closes errors (Ok done) = errors ≡ []
 Closes errors (Err (unfinished.Faults faults)) = errors ≡ all faults
 Closes errors (Err (unfinished.Memory helper)) = ⊥
 
--- without a value for the rest: the keys that remain are an error, and want of memory hands the
--- helper back as it was
+-- without a value for the rest: the keys that remain are an error; want of memory comes only where keys
+-- remain, and hands the helper back as it was
 abbrev pub Refuses : State → Result (Unit {0}) Unfinished → Type 0
-Refuses s (Err (unfinished.Memory helper)) = state_of helper ≡ s
+Refuses s (Err (unfinished.Memory helper)) = (is_filled s.members ≡ true) × (state_of helper ≡ s)
 Refuses s (Err (unfinished.Faults faults)) = with_unasked s ≡ all faults
 Refuses s (Ok done) = with_unasked s ≡ []
 

@@ -1,9 +1,9 @@
 //! A helper that reads a table field by field, and keeps the errors.
-ghost use Rattle.std.specs.Prelude.{◌≡◌, Some, None, IfOk, IfSome, is_some, option_map, map, string_bytes};
+ghost use Rattle.std.specs.Prelude.{◌≡◌, true, Some, None, IfOk, IfSome, is_some, option_map, map, string_bytes};
 ghost use Rattle.std.specs.Cow.{cow_str_bytes};
 ghost use Rattle.toml_span_tree.specs.Error.{fault_of, missing_field};
 ghost use Rattle.toml_span_tree.specs.Node.{entry_at};
-ghost use Rattle.toml_span_tree.specs.Value.{members_view, span_of, view};
+ghost use Rattle.toml_span_tree.specs.Value.{is_filled, members_view, span_of, view};
 ghost use Rattle.toml_span_typed.specs.TableHelper.{Closes, key_text, names_in, without};
 
 use crate::de_helpers::expected;
@@ -212,6 +212,7 @@ impl<'de> TableHelper<'de> {
     /// Keeps the error of the keys that remain, if any do. Without memory nothing has changed.
     fn keep_unasked(&mut self) -> Result<(), AllocError>
         ensures ok { OnOk result (state_of self.new ≡ keeping (unasked (state_of self.old)) (state_of self.old)) }
+        ensures some { OnErr result (is_filled (state_of self.old).members ≡ true) }
         ensures err { OnErr result (state_of self.new ≡ state_of self.old) }
     {
         if self.table.is_empty() {

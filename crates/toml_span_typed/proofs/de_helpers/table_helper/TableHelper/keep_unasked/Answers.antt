@@ -1,8 +1,9 @@
-use Rattle.std.proofs.Common.{◌≡◌, [], ◌∷◌, List, sym, subst, ap, ◌∙◌, OnOk}
+use Rattle.std.proofs.Common.{◌≡◌, [], ◌∷◌, List, sym, subst, ap, ◌∙◌, OnOk, OnErr, Result, Ok, Err}
 use Rattle.std.proofs.lemmas.Bool.{false≢true}
 use Rattle.toml_span_tree.specs.Error.{Fault}
 use Rattle.toml_span_typed.specs.TableHelper.{State, keeping, state_of, unasked, unexpected}
-use Rattle.toml_span_typed.proofs.Tables.{unasked-of_entries}
+use Rattle.toml_span_tree.specs.Value.{is_filled, members_view}
+use Rattle.toml_span_typed.proofs.Tables.{filled-of_entries, unasked-of_entries}
 use Rattle.toml_span_typed.proofs.de_helpers.table_helper.TableHelper.keep_unasked.Goals as goal
 
 pub returns-clause-ok : goal.returns-clause-ok
@@ -12,3 +13,16 @@ returns-clause-ok c =
     let same : keeping (_ ∷ []) before ≡ keeping (unasked before) before = ap (λ (fs : List Fault). keeping fs before) (ap (λ (f : Fault). f ∷ []) c.in_ok-error.ensures ∙ sym some) in
     let P = λ (s : State). OnOk c.keep.result (state_of c.keep.new.self ≡ s) in
     subst P same c.keep.ensures.ok
+
+-- what holds in any case holds of an error
+on_error : {T E : Type 0} {P : Type 0} → (r : Result T E) → P → OnErr r P
+on_error (Ok x) p = tt
+on_error (Err e) p = p
+
+pub returns-in_err-error-clause-some : goal.returns-in_err-error-clause-some
+returns-in_err-error-clause-some c =
+    on_error c.from_residual.result (filled-of_entries c.args.self.now.table.entries (λ none. false≢true (sym c.if-is_empty.false ∙ c.is_empty.ensures.1 none)))
+
+pub returns-clause-some : goal.returns-clause-some
+returns-clause-some c =
+    on_error c.keep.result (filled-of_entries c.args.self.now.table.entries (λ none. false≢true (sym c.if-is_empty.false ∙ c.is_empty.ensures.1 none)))
