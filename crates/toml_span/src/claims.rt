@@ -163,7 +163,7 @@ impl<T: Drop> From<AllocFailed<T>> for Halt {
 
 /// The first claim of each sort on a node, in the order of the text: whether two claims clash depends
 /// on their sorts alone.
-pub(crate) type Marks = SmallVec<Mark, 2>;
+pub(crate) type Marks = SmallVec<Mark, 1>;
 
 /// The clash of a claim with the earliest of those on its path.
 fn first_meeting(marks: &[Mark], mark: Mark) -> Option<Meeting>

@@ -4,6 +4,7 @@
 mod claims;
 pub mod de;
 mod node;
+mod rest;
 mod scopes;
 mod sections;
 

@@ -10,6 +10,9 @@ use toml_span_lex::key::Key;
 use toml_span_lex::span::Span;
 use toml_span_tree::{Array, Table, Value, ValueInner};
 
+/// Nodes by name. Each is in a block of its own, since a leaf of the map has room for fifteen entries.
+pub(crate) type Nodes<'de> = BTreeMap<Key<'de>, Box<Node<'de>>>;
+
 /// A table or an array of tables, while the sections are placed.
 ///
 /// An assigned value is closed: it stands in `values` as it will in the tree, and its key's span is all
@@ -21,7 +24,7 @@ pub(crate) struct Node<'de> {
     /// The assigned values.
     pub values: Table<'de>,
     /// What headers and dotted keys made: tables, and arrays of tables.
-    pub tables: BTreeMap<Key<'de>, Node<'de>>,
+    pub tables: Nodes<'de>,
     /// The entries, if this is an array of tables. An array has one at least.
     pub entries: Vec<Node<'de>>,
 }
@@ -67,11 +70,11 @@ fn spans(marks: &[Mark]) -> (Span, Span) {
 /// The table of what these nodes have become, and of these values.
 #[cycle(finish)]
 pub(crate) fn into_table<'de>(
-    tables: BTreeMap<Key<'de>, Node<'de>>,
+    tables: Nodes<'de>,
     mut values: Table<'de>,
 ) -> Result<Table<'de>, AllocError> {
     for (key, child) in tables {
-        let (span, value) = into_value(child)?;
+        let (span, value) = into_value(Box::into_inner(child))?;
         values.insert(
             Key {
                 name: key.name,

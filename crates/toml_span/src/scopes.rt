@@ -1,6 +1,7 @@
 //! Assignments placed into a scope: a section's table, or an inline table.
 use crate::claims::{Halt, Mark, Sort, admit, claim};
 use crate::node::{Node, into_table};
+use crate::rest::{MANY, Rest};
 use std::alloc::Global;
 use std::collections::btree_map::Entry;
 use toml_span_lex::key::Key;
@@ -79,7 +80,7 @@ fn place_pair<'de>(
         return assign(alloc, node, last, value, span);
     };
     match node.tables.get_mut(part) {
-        Some(child) => pass_pair(alloc, child, part, rest, last, value, span),
+        Some(child) => pass_pair(alloc, child.as_mut(), part, rest, last, value, span),
         None => {
             admit_beside_value(
                 alloc,
@@ -89,7 +90,8 @@ fn place_pair<'de>(
             )?;
             let mut child = Node::new(alloc);
             pass_pair(alloc, &mut child, part, rest, last, value, span)?;
-            node.tables.insert(part.clone(alloc)?, child)?;
+            node.tables
+                .insert(part.clone(alloc)?, Box::new(alloc, child)?)?;
             Ok(())
         }
     }
@@ -115,25 +117,46 @@ fn pass_pair<'de>(
     place_pair(alloc, node, rest, last, value, span)
 }
 
+/// Places an assignment below a node.
+#[cycle(value_of)]
+fn place_one<'de>(alloc: Global, pair: Assignment<'de>, node: &mut Node<'de>) -> Result<(), Halt> {
+    let Assignment {
+        parts: DottedKey { inner, last },
+        value,
+        extent: _,
+    } = pair;
+    let span = value.span;
+    let value = value_of(alloc, value);
+    place_pair(alloc, node, inner.as_slice(), last, value, span)
+}
+
 /// Places assignments below a node.
 ///
 /// An inline table is a scope of its own. What clashes in it is told behind the clashes of the key to
 /// which it is assigned, since it stands behind that key.
 #[cycle(value_of)]
-pub(crate) fn place_pairs<'de>(
+fn place_pairs<'de>(
     alloc: Global,
     pairs: Vec<Assignment<'de>>,
     node: &mut Node<'de>,
 ) -> Result<(), Halt> {
     for pair in pairs {
-        let Assignment {
-            parts: DottedKey { inner, last },
-            value,
-            extent: _,
-        } = pair;
-        let span = value.span;
-        let value = value_of(alloc, value);
-        place_pair(alloc, node, inner.as_slice(), last, value, span)?;
+        place_one(alloc, pair, node)?;
+    }
+    Ok(())
+}
+
+/// Places the assignments of a section below its node.
+pub(crate) fn place_all<'de>(
+    alloc: Global,
+    pairs: Vec<Assignment<'de>>,
+    node: &mut Node<'de>,
+) -> Result<(), Halt> {
+    if pairs.len() <= MANY {
+        return place_pairs(alloc, pairs, node);
+    }
+    for pair in Rest::new(pairs) {
+        place_one(alloc, pair, node)?;
     }
     Ok(())
 }

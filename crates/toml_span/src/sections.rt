@@ -4,7 +4,8 @@ ghost use Rattle.toml_span.specs.Roots.{IsRoot};
 
 use crate::claims::{Halt, Mark, Sort, claim};
 use crate::node::{Node, into_table};
-use crate::scopes::{admit_beside_value, place_pairs};
+use crate::rest::Rest;
+use crate::scopes::{admit_beside_value, place_all};
 use std::alloc::Global;
 use toml_span_lex::key::Key;
 use toml_span_lex::span::Span;
@@ -53,16 +54,17 @@ fn place_section<'de>(
     pairs: Vec<Assignment<'de>>,
 ) -> Result<(), Halt> {
     let [part, rest @ ..] = parts else {
-        return place_pairs(alloc, pairs, node);
+        return place_all(alloc, pairs, node);
     };
     match node.tables.get_mut(part) {
-        Some(child) => pass_header(alloc, child, part, rest, head, pairs),
+        Some(child) => pass_header(alloc, child.as_mut(), part, rest, head, pairs),
         None => {
             let mark = header_mark(head, sort_of(head, rest), part);
             admit_beside_value(alloc, &node.values, mark, part)?;
             let mut child = Node::new(alloc);
             pass_header(alloc, &mut child, part, rest, head, pairs)?;
-            node.tables.insert(part.clone(alloc)?, child)?;
+            node.tables
+                .insert(part.clone(alloc)?, Box::new(alloc, child)?)?;
             Ok(())
         }
     }
@@ -116,7 +118,7 @@ fn open_table<'de>(
     pairs: Vec<Assignment<'de>>,
 ) -> Result<(), Halt> {
     claim(alloc, &mut node.marks, header_mark(head, sort, part), part)?;
-    place_pairs(alloc, pairs, node)
+    place_all(alloc, pairs, node)
 }
 
 /// Adds an entry to an array of tables.
@@ -160,7 +162,7 @@ pub(crate) fn assemble<'de>(
     ensures { IfOk result (IsRoot length) }
 {
     let mut root = Node::new(alloc);
-    for section in sections {
+    for section in Rest::new(sections) {
         let Section {
             header,
             array,
