@@ -4,8 +4,8 @@ ghost use Rattle.std.specs.Iterator.{YieldsFirst, item_count};
 
 use std::marker::Model;
 
-/// A block of so many items is worth being made smaller before it is given back.
-pub(crate) const MANY: usize = 256;
+/// A block of so many items is small enough to be given back whole.
+const FEW: usize = 4096;
 
 /// What is left of a list that is taken apart from its front.
 ///
@@ -45,7 +45,7 @@ impl<T: Drop> Iterator for Rest<T> {
     fn next(&mut self) -> Option<T> {
         let next = self.turned.pop();
         let capacity = self.turned.capacity();
-        if capacity > MANY && self.turned.len() < capacity / 4 * 3 {
+        if capacity > FEW && self.turned.len() < capacity / 4 * 3 {
             self.turned.shrink_to_fit();
         }
         next

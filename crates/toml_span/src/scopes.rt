@@ -1,13 +1,17 @@
 //! Assignments placed into a scope: a section's table, or an inline table.
 use crate::claims::{Halt, Mark, Sort, admit, claim};
 use crate::node::{Node, into_table};
-use crate::rest::{MANY, Rest};
+use crate::rest::Rest;
 use std::alloc::Global;
 use std::collections::btree_map::Entry;
 use toml_span_lex::key::Key;
 use toml_span_lex::span::Span;
 use toml_span_read::{Assignment, DottedKey, Val, ValKind};
 use toml_span_tree::{Array, Table, Value, ValueInner};
+
+/// Up to so many assignments are taken apart without giving their memory back on the way, which takes
+/// time: the system clears memory that is asked for anew.
+const FEW: usize = 65_536;
 
 /// The claim of a part of an assignment's key.
 fn pair_mark(sort: Sort, key: &Key<'_>, span: Span) -> Mark {
@@ -152,7 +156,7 @@ pub(crate) fn place_all<'de>(
     pairs: Vec<Assignment<'de>>,
     node: &mut Node<'de>,
 ) -> Result<(), Halt> {
-    if pairs.len() <= MANY {
+    if pairs.len() <= FEW {
         return place_pairs(alloc, pairs, node);
     }
     for pair in Rest::new(pairs) {
