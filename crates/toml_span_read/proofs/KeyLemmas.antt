@@ -16,7 +16,6 @@ use Rattle.toml_span_read.specs.Faults.{IsPlaced}
 use Rattle.toml_span_read.specs.declared.fault.Fault.{Fault}
 use Rattle.toml_span_read.specs.declared.value.DottedKey.{DottedKey}
 use Rattle.toml_span_read.specs.Gaps.{Dot}
-use Rattle.toml_span_read.specs.Earlier.{IsStart}
 use Rattle.toml_span_read.specs.Keys.{Part, part, parts, IsKey, KeyGives, Onward, Dotted, StuckOnward, no_part, dotted_on, StuckDotted, no_first, onward, DottedGives, StuckHeaderKey, no_header_part, HeaderKeyGives}
 
 -- an error that `?` hands on
@@ -124,11 +123,3 @@ string_before text v src i j s m h =
     let f = content_fits (get_or text i 0) m text v h.from h.to j h.content_is in
     let a = content_from_after m text i h.from h.begins in
     rw h.span_is (span_before (not m && h.from == h.to) i h.from h.to j a (omega (arith, f.0)) f.1)
-
-pub start_first : (n : ℕ) (ps rest : List Part) → IsStart n ps → IsStart n (ps ++ rest)
-start_first n [] rest h = absurd h
-start_first n (p ∷ ps) rest (inl e) = inl e
-start_first n (p ∷ ps) rest (inr h) = inr (start_first n ps rest h)
-
-pub start_event : (n : ℕ) (keys : List Key) (k : DottedKey) (ps : List Part) → keys ≡ k.inner.items → parts k ≡ ps → IsStart n (map part keys) → IsStart n ps
-start_event n keys k ps e f h = let g : IsStart n (map part k.inner.items) = rw e at h in rw (← f) (start_first n (map part k.inner.items) (part k.last ∷ []) g)

@@ -1,5 +1,5 @@
 -- What is put together stays within the limit.
-use Rattle.std.proofs.Common.{◌≡◌, ℕ, ◌+◌, ◌<◌, ◌≤◌, ◌⊎◌, Bool, true, false, List, [], ◌∷◌, ◌++◌, length, map, arith, inl, inr, sym, refl, ap, length-append}
+use Rattle.std.proofs.Common.{◌≡◌, ℕ, ◌+◌, ◌<◌, ◌≤◌, ◌⊎◌, Bool, true, false, List, [], ◌∷◌, ◌++◌, length, map, arith, inl, inr, sym, refl, ap, subst, length-append}
 use Rattle.std.proofs.lemmas.Bool.{false≢true}
 use Rattle.toml_span_lex.specs.declared.span.Span.{Span}
 use Rattle.toml_span_lex.specs.declared.key.Key.{Key}
@@ -13,7 +13,7 @@ use Rattle.toml_span_lex.specs.declared.stop.Stop.TheVariants as stops
 use Rattle.toml_span_read.specs.declared.fault.Fault.{Fault}
 use Rattle.toml_span_read.specs.Faults.{IsPlaced, IsPlacedStop}
 use Rattle.toml_span_read.specs.Gaps.{Dot}
-use Rattle.toml_span_read.specs.Earlier.{IsStart, EndsAt, StartBefore, AddsClear}
+use Rattle.toml_span_read.specs.Earlier.{span_of, StartBefore, AddsClear}
 use Rattle.toml_span_read.specs.Keys.{Part, part, IsKey, Onward, Dotted}
 use Rattle.toml_span_read.proofs.KeyLemmas.{string_before}
 use Rattle.toml_span_read.specs.Limits.{Within, WithinInner, WithinItems, WithinPairs, WithinEvent, WithinEvents, WithinSection, WithinSections, IsSpanned}
@@ -94,22 +94,21 @@ assignment_made e ps v extent text limit d r i k from j is key few on u within s
 
 -- ---- crossing keys
 
-start_before : (n m : ℕ) (ps : List Part) → IsStart n ps → StartBefore m ps → n ≤ m
-start_before n m [] h b = absurd h
-start_before n m (p ∷ ps) (inl e) b = omega (arith, e, b.0)
-start_before n m (p ∷ ps) (inr h) b = start_before n m ps h b.1
+part_before : (n : ℕ) (outer : List Part) (p : Part) (rest : List Part) → StartBefore n (outer ++ (p ∷ rest)) → p.span.start ≤ n
+part_before n [] p rest h = h.0
+part_before n (q ∷ outer) p rest h = part_before n outer p rest h.1
 
-ends_within : (n k j : ℕ) (v : Node) → EndsAt n v → IsSpanned v k j → (k ≤ n) × (n ≤ j)
-ends_within n k j (node x span) e s = (omega (arith, e, s.0), omega (arith, e, s.1))
+ends_within : (k j : ℕ) (v : Node) → IsSpanned v k j → (k ≤ (span_of v).end) × ((span_of v).end ≤ j)
+ends_within k j (node x span) s = (omega (arith, s.0), omega (arith, s.1))
 
 pub crossing_placed : (stop : Stop Fault) (text : List ℕ) (old new : List Assignment) (next : Assignment) (j : ℕ) → j ≤ length text
     → (x : ℕ) × StartBefore x (event next).parts × IsSpanned (event next).value x j
     → AddsClear old new next (Err stop) → IsPlacedStop text stop
 crossing_placed (stops.Memory e) text old new next j w h c = tt
 crossing_placed (stops.Fault fault) text old new next j w (x, before, spanned) c =
-    let a = start_before fault.span.start x (event next).parts c.0 before in
-    let b = ends_within fault.span.end x j (event next).value c.1 spanned in
-    record { within = omega (arith, a, b.0, b.1); forward = omega (arith, a, b.0) }
+    let a = part_before x c.outer c.part (c.more ∷ c.rest) (subst (λ (ps : List Part). StartBefore x ps) c.key before) in
+    let b = ends_within x j (event next).value spanned in
+    rw c.fault_is (record { within = omega (arith, a, b.0, b.1, w); forward = omega (arith, a, b.0) })
 
 -- ---- sections
 

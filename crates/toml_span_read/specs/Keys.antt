@@ -95,3 +95,8 @@ abbrev pub HeaderKeyGives : List ℕ → ℕ → ℕ → Result (SmallVec Key ×
 HeaderKeyGives text limit i (Ok (keys, j)) = Dotted (map part keys.items) text i j × (length keys.items ≤ limit)
 HeaderKeyGives text limit i (Err (stops.Memory e)) = Unit {0}
 HeaderKeyGives text limit i (Err (stops.Fault fault)) = StuckHeaderKey text limit 0 i fault
+
+-- from i to j the spans of the parts ascend: none is empty, and each ends before the next one begins
+abbrev pub Ascend : List Part → ℕ → ℕ → Type 0
+Ascend [] i j = i ≤ j
+Ascend (p ∷ ps) i j = (i ≤ p.span.start) × (p.span.start < p.span.end) × Ascend ps p.span.end j

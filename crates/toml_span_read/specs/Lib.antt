@@ -7,3 +7,9 @@ pub mod Dates
 pub mod Data
 pub mod Limits
 pub mod Earlier
+pub mod Grammar
+pub mod Stuck
+pub mod Lines
+pub mod Inside
+pub mod Spans
+pub mod Order

@@ -1,6 +1,7 @@
 //! The earlier values of a section or an inline table, by their paths.
-ghost use Rattle.std.specs.Prelude.{◌≡◌, IfOk, IfSome, map};
-ghost use Rattle.toml_span_read.specs.Earlier.{IsStart, EndsAt, Crosses, AddsClear};
+ghost use Rattle.std.specs.Prelude.{◌≡◌, ◌≤◌, ◌+◌, ◌++◌, ◌∷◌, [], map, length, OnOk, Some, unwrap_or};
+ghost use Rattle.std.specs.Cow.{cow_str_bytes};
+ghost use Rattle.toml_span_read.specs.Earlier as spec;
 ghost use Rattle.toml_span_read.specs.Keys.{part, parts};
 ghost use Rattle.toml_span_read.specs.Data.{event};
 
@@ -22,7 +23,9 @@ struct Node<'de> {
 }
 
 /// A path on which nothing stands yet.
-fn empty<'de>(alloc: Global) -> Node<'de> {
+fn empty<'de>(alloc: Global) -> Node<'de>
+    ensures { spec.holds result ≡ spec.nothing }
+{
     Node {
         value: None,
         below: BTreeMap::new(alloc),
@@ -35,7 +38,9 @@ fn put<'de>(
     node: &mut Node<'de>,
     inner: &[Key<'de>],
     last: &Key<'de>,
-) -> Result<(), AllocError> {
+) -> Result<(), AllocError>
+    ensures { OnOk result (spec.Puts (spec.path (map part inner.now ++ (part last.now ∷ []))) last.now.span (spec.holds node.old) (spec.holds node.new)) }
+{
     match inner {
         [] => put_last(alloc, node, last),
         [part, rest @ ..] => match node.below.get_mut(part) {
@@ -51,7 +56,9 @@ fn put<'de>(
 }
 
 /// Puts a value under a key.
-fn put_last<'de>(alloc: Global, node: &mut Node<'de>, last: &Key<'de>) -> Result<(), AllocError> {
+fn put_last<'de>(alloc: Global, node: &mut Node<'de>, last: &Key<'de>) -> Result<(), AllocError>
+    ensures { OnOk result (spec.Puts (cow_str_bytes last.now.name ∷ []) last.now.span (spec.holds node.old) (spec.holds node.new)) }
+{
     match node.below.get_mut(last) {
         Some(child) => {
             if child.value.is_none() {
@@ -69,12 +76,14 @@ fn put_last<'de>(alloc: Global, node: &mut Node<'de>, last: &Key<'de>) -> Result
 
 /// The first of these parts at whose path a value stands, with the key's span of that value.
 fn crossing<'de>(node: &Node<'de>, inner: &[Key<'de>]) -> Option<(usize, Span)>
-    ensures { IfSome result (λ found. IsStart found.0 (map part inner.now)) }
+    ensures { spec.FindsOutermost (spec.holds node.now) (map part inner.now) result }
 {
     let [part, rest @ ..] = inner else {
         return None;
     };
-    let child = node.below.get(part)?;
+    let Some(child) = node.below.get(part) else {
+        return None;
+    };
     match child.value {
         Some(first) => Some((part.span.start, first)),
         None => crossing(child, rest),
@@ -92,7 +101,7 @@ fn key_of<'x, 'de>(next: &'x Assignment<'de>) -> &'x DottedKey<'de>
 /// Where the span of an assignment's value ends.
 #[inline]
 fn value_end<'de>(next: &Assignment<'de>) -> usize
-    ensures { EndsAt result (event next.now).value }
+    ensures { result ≡ (spec.span_of (event next.now).value).end }
 {
     next.value.span.end
 }
@@ -100,7 +109,7 @@ fn value_end<'de>(next: &Assignment<'de>) -> usize
 /// The earlier values of a section or an inline table. Only once a key is met that has more parts than
 /// one of them are they put in by path.
 #[derive(Drop)]
-pub struct Earlier<'de> {
+pub(crate) struct Earlier<'de> {
     /// The fewest inner parts that a key has.
     fewest: usize,
     /// How many of the values are in the tree.
@@ -110,7 +119,9 @@ pub struct Earlier<'de> {
 
 impl<'de> Earlier<'de> {
     /// No earlier values.
-    pub fn new(alloc: Global) -> Self {
+    pub fn new(alloc: Global) -> Self
+        ensures { spec.Knows result [] }
+    {
         Earlier {
             fewest: usize::MAX,
             known: 0,
@@ -119,9 +130,14 @@ impl<'de> Earlier<'de> {
     }
 
     /// Puts in those of the values that are not in yet.
-    fn catch_up(&mut self, alloc: Global, values: &[Assignment<'de>]) -> Result<(), AllocError> {
+    fn catch_up(&mut self, alloc: Global, values: &[Assignment<'de>]) -> Result<(), AllocError>
+        requires { spec.Knows self.now (map event values.now) }
+        ensures knows { OnOk result (spec.Knows self.new (map event values.now)) }
+        ensures all { OnOk result (self.new.known ≡ length values.now) }
+        ensures fewest { OnOk result (self.new.fewest ≡ self.old.fewest) }
+    {
         for at in self.known..values.len() {
-            let parts = &values[at].parts;
+            let parts = key_of(&values[at]);
             put(alloc, &mut self.tree, &parts.inner, &parts.last)?;
         }
         self.known = values.len();
@@ -129,13 +145,14 @@ impl<'de> Earlier<'de> {
     }
 
     /// The fault of an assignment whose key goes through one of the earlier values, if it does.
-    pub fn fault(
+    fn fault(
         &mut self,
         alloc: Global,
         values: &[Assignment<'de>],
         next: &Assignment<'de>,
     ) -> Result<Option<Fault>, AllocError>
-        ensures { IfOk result (λ found. IfSome found (λ fault. Crosses fault (event next.now))) }
+        requires { spec.Knows self.now (map event values.now) }
+        ensures { spec.Judges self.new (map event values.now) (event next.now) result }
     {
         let key = key_of(next);
         let inner = key.inner.len();
@@ -158,13 +175,15 @@ impl<'de> Earlier<'de> {
 }
 
 /// Puts an assignment behind the earlier ones, unless its key goes through one of their values.
-pub fn add_clear<'de>(
+pub(crate) fn add_clear<'de>(
     alloc: Global,
     earlier: &mut Earlier<'de>,
     values: &mut Vec<Assignment<'de>>,
     next: Assignment<'de>,
 ) -> Result<(), Stop<Fault>>
-    ensures { AddsClear values.old.items values.new.items next.entry result }
+    requires knows { spec.Knows earlier.now (map event values.now.items) }
+    ensures adds { spec.AddsClear values.old.items values.new.items next.entry result }
+    ensures knows { OnOk result (spec.Knows earlier.new (map event values.new.items)) }
 {
     match earlier.fault(alloc, values, &next) {
         Err(e) => return Err(Stop::Memory(e)),

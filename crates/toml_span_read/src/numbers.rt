@@ -1,10 +1,13 @@
 //! Numbers.
-ghost use Rattle.std.specs.Prelude.{◌≡◌, ◌+◌, ◌<◌, ◌≤◌, ◌||◌, ◌==◌, ◌⊎◌, true, length, slice_index};
+ghost use Rattle.std.specs.Prelude.{◌≡◌, ℕ, ◌+◌, ◌*◌, ◌<◌, ◌≤◌, ◌||◌, ◌&&◌, ◌==◌, ◌⊎◌, not, true, false, length, slice_index, filter, string_bytes, IfOk};
 ghost use Rattle.std.specs.Str.{IsCharBoundary};
 ghost use Rattle.toml_span_lex.specs.Bytes.{is_keylike, MaximalRun};
 ghost use Rattle.toml_span_read.specs.Faults.{Advances, IsPlaced};
-ghost use Rattle.toml_span_read.specs.Data.{IsScalarKind};
-ghost use Rattle.toml_span_read.specs.Numbers.{IsRun, DigitsEnd, NumberEnds, DecimalEnds, IsPlacedFault, RadixAt};
+ghost use Rattle.toml_span_read.specs.Data.{IsScalarKind, kind_view, scalar};
+ghost use Rattle.toml_span_tree.specs.Node.{integer, float};
+ghost use Rattle.toml_span_tree.specs.Value.{decimal_of};
+ghost use Rattle.toml_span_read.specs.Numbers as spec;
+ghost use Rattle.toml_span_read.specs.Numbers.{IsRun, Run, IsSpecial, UnsignedDecimal, NoDecimal, DigitsEnd, NumberEnds, DecimalEnds, IsPlacedFault, DigitGives, DigitsGive, WithinGives, sum_of_digits, is_digit, SignedGives, IntegerGives, RadixIntegerGives, IntegerPartGives, ExponentDigitsGive, ExponentGives, FractionGives, DecimalGives, SpecialGives, UnsignedGives, NumberGives, behind_sign, is_negative};
 
 use crate::fault::{Fault, invalid_number};
 use crate::gaps::byte_at;
@@ -17,7 +20,9 @@ use toml_span_tree::FloatText;
 
 /// The value of a digit of a radix.
 #[inline]
-fn digit(byte: u8, radix: u8) -> Option<u8> {
+fn digit(byte: u8, radix: u8) -> Option<u8>
+    ensures { DigitGives radix byte result }
+{
     let value = match byte {
         b'0'..=b'9' => byte - b'0',
         b'a'..=b'f' => byte - b'a' + 10,
@@ -33,7 +38,9 @@ fn digits_end(text: &str, piece: Span, from: usize, radix: u8) -> Result<usize, 
     requires within { piece.end ≤ length text.now }
     requires start { piece.start ≤ from }
     requires end { from ≤ piece.end }
+    requires last { is_keylike (slice_index text.now piece.end) ≡ false }
     ensures ends { DigitsEnd text.now from piece.end result }
+    ensures gives { DigitsGive radix text.now piece.start from piece.end result }
 {
     let bytes = text.as_bytes();
     if from < piece.end && bytes[from] == b'_' {
@@ -58,21 +65,33 @@ fn digits_end(text: &str, piece: Span, from: usize, radix: u8) -> Result<usize, 
     }
 }
 
+/// A number with one more digit behind its digits, if it is below 2^64.
+#[inline]
+fn with_digit(number: u64, radix: u8, digit: u8) -> Option<u64>
+    ensures { WithinGives (number * radix + digit) result }
+{
+    number
+        .checked_mul(u64::from(radix))?
+        .checked_add(u64::from(digit))
+}
+
 /// The number that digits write, underscores left out, if it is below 2^64.
-fn magnitude(digits: &[u8], radix: u8) -> Option<u64> {
+fn magnitude(digits: &[u8], radix: u8) -> Option<u64>
+    ensures { WithinGives (sum_of_digits radix (filter (is_digit radix) digits.now)) result }
+{
     let mut value: u64 = 0;
     for byte in digits {
         if let Some(d) = digit(*byte, radix) {
-            value = value
-                .checked_mul(u64::from(radix))?
-                .checked_add(u64::from(d))?;
+            value = with_digit(value, radix, d)?;
         }
     }
     Some(value)
 }
 
 /// A number with its sign, if it is within 64 bits.
-fn signed(negative: bool, magnitude: u64) -> Option<i64> {
+fn signed(negative: bool, magnitude: u64) -> Option<i64>
+    ensures { SignedGives negative magnitude result }
+{
     if !negative {
         i64::try_from(magnitude).ok()
     } else if magnitude == 1 << 63 {
@@ -99,8 +118,13 @@ fn integer(
     requires forward { from ≤ end }
     requires end { end ≤ piece.end }
     ensures placed { IsPlacedFault text.now result }
+    ensures gives { IntegerGives negative (spec.magnitude radix text.now from end) piece.start piece.end result }
 {
-    match magnitude(&text.as_bytes()[from..end], radix).and_then(|m| signed(negative, m)) {
+    let value = match magnitude(&text.as_bytes()[from..end], radix) {
+        Some(magnitude) => signed(negative, magnitude),
+        None => None,
+    };
+    match value {
         Some(value) => Ok(value),
         None => Err(invalid_number(piece.start, piece.end)),
     }
@@ -110,7 +134,7 @@ fn integer(
 #[inline]
 fn radix_of(text: &str, run: usize) -> Option<u8>
     requires { run < usize.MAX }
-    ensures { RadixAt text.now run result }
+    ensures { result ≡ spec.radix_at text.now run }
 {
     if byte_at(text, run) != b'0' {
         return None;
@@ -129,7 +153,9 @@ fn radix_of(text: &str, run: usize) -> Option<u8>
 fn radix_integer(text: &str, run: Span, radix: u8) -> Result<i64, Fault>
     requires within { run.end ≤ length text.now }
     requires prefix { run.start + 2 ≤ run.end }
+    requires last { is_keylike (slice_index text.now run.end) ≡ false }
     ensures placed { IsPlacedFault text.now result }
+    ensures gives { RadixIntegerGives radix text.now (run.start + 2) run.end result }
 {
     let piece = Span {
         start: run.start + 2,
@@ -149,7 +175,9 @@ fn integer_part(text: &str, run: Span, from: usize) -> Result<usize, Fault>
     requires within { run.end ≤ length text.now }
     requires start { run.start ≤ from }
     requires end { from ≤ run.end }
+    requires last { is_keylike (slice_index text.now run.end) ≡ false }
     ensures ends { DigitsEnd text.now from run.end result }
+    ensures gives { IntegerPartGives text.now run.start from run.end result }
 {
     let end = digits_end(text, run, from, 10)?;
     if text.as_bytes()[from] == b'0' && from + 1 < end {
@@ -165,7 +193,9 @@ fn integer_part(text: &str, run: Span, from: usize) -> Result<usize, Fault>
 
 /// Whether the exponent of a float begins with this byte.
 #[inline]
-fn is_exponent(byte: u8) -> bool {
+fn is_exponent(byte: u8) -> bool
+    ensures { result ≡ spec.is_exponent byte }
+{
     byte == b'e' || byte == b'E'
 }
 
@@ -175,9 +205,11 @@ fn is_exponent(byte: u8) -> bool {
 fn exponent_end(text: &str, first: Span, letter: usize, end: usize) -> Result<usize, Fault>
     requires first { first.start ≤ first.end }
     requires within { first.end ≤ end }
-    requires letter { letter < end }
+    requires run { Run text.now letter end }
+    requires letter { spec.is_exponent (slice_index text.now letter) ≡ true }
     requires boundary { IsCharBoundary text.now end }
-    ensures { NumberEnds text.now end result }
+    ensures ends { NumberEnds text.now end result }
+    ensures gives { ExponentGives text.now first.start first.end letter end result }
 {
     if letter + 1 < end {
         let piece = Span {
@@ -209,7 +241,9 @@ fn exponent_digits(text: &str, first: Span, piece: Span, from: usize) -> Result<
     requires start { piece.start ≤ from }
     requires end { from ≤ piece.end }
     requires boundary { IsCharBoundary text.now piece.end }
-    ensures { NumberEnds text.now piece.end result }
+    requires last { is_keylike (slice_index text.now piece.end) ≡ false }
+    ensures ends { NumberEnds text.now piece.end result }
+    ensures gives { ExponentDigitsGive text.now first.start first.end piece.start from piece.end result }
 {
     if digits_end(text, piece, from, 10)? < piece.end {
         return Err(invalid_number(first.start, first.end));
@@ -226,7 +260,8 @@ fn fraction_end(text: &str, start: usize, first: Span) -> Result<usize, Fault>
     requires first { first.start ≤ first.end }
     requires boundary { IsCharBoundary text.now first.end }
     requires dot { slice_index text.now first.end ≡ 46 }
-    ensures { NumberEnds text.now first.end result }
+    ensures ends { NumberEnds text.now first.end result }
+    ensures gives { FractionGives text.now start first.start first.end result }
 {
     let from = first.end + 1;
     let piece = Span {
@@ -246,6 +281,20 @@ fn fraction_end(text: &str, start: usize, first: Span) -> Result<usize, Fault>
     }
 }
 
+/// What is behind the minus at a place of a run, if there is one.
+#[inline]
+fn behind_minus(text: &str, at: usize) -> usize
+    requires within { at < length text.now }
+    requires run { is_keylike (slice_index text.now at) ≡ true }
+    ensures { result ≡ behind_sign text.now at }
+{
+    if byte_at(text, at) == b'-' {
+        at + 1
+    } else {
+        at
+    }
+}
+
 /// A number without a radix: its value, or where its float ends.
 enum Decimal {
     Integer(i64),
@@ -258,18 +307,15 @@ enum Decimal {
 fn decimal_number(text: &str, start: usize, first: Span) -> Result<Decimal, Fault>
     requires start { start ≤ first.start }
     requires run { IsRun text.now first }
-    ensures { DecimalEnds text.now first.end result }
+    requires digits { IsSpecial text.now first.start first.end → ⊥ }
+    ensures ends { DecimalEnds text.now first.end result }
+    ensures gives { DecimalGives text.now start first.start first.end result }
 {
-    let bytes = text.as_bytes();
-    let negative = bytes[first.start] == b'-';
-    let from = if negative {
-        first.start + 1
-    } else {
-        first.start
-    };
+    let negative = byte_at(text, first.start) == b'-';
+    let from = behind_minus(text, first.start);
     let end = integer_part(text, first, from)?;
     if end < first.end {
-        if is_exponent(bytes[end]) {
+        if is_exponent(text.as_bytes()[end]) {
             return Ok(Decimal::Float(exponent_end(text, first, end, first.end)?));
         }
         return Err(invalid_number(first.start, first.end));
@@ -282,13 +328,30 @@ fn decimal_number(text: &str, start: usize, first: Span) -> Result<Decimal, Faul
 
 /// Whether a byte stands in the cleaned text of a float as it is.
 #[inline]
-fn is_clean(byte: u8) -> bool {
+fn is_clean(byte: u8) -> bool
+    ensures { result ≡ not ((byte == 95 || byte == 43) || byte == 101) }
+{
     byte != b'_' && byte != b'+' && byte != b'e'
 }
 
+/// Whether the literal of a float is kept as it stands.
+fn is_kept(literal: &str) -> bool
+    ensures { result ≡ true → spec.cleaned literal.now ≡ literal.now }
+{
+    for byte in literal.as_bytes() {
+        if !is_clean(*byte) {
+            return false;
+        }
+    }
+    true
+}
+
 /// A float's literal without pluses and underscores, with `E` before its exponent.
-fn cleaned(alloc: Global, literal: &str) -> Result<String, AllocError> {
-    if literal.as_bytes().iter().all(|byte| is_clean(*byte)) {
+fn cleaned(alloc: Global, literal: &str) -> Result<String, AllocError>
+    requires ascii { (k : ℕ) → slice_index literal.now k < 128 }
+    ensures { IfOk result (λ kept. string_bytes kept ≡ spec.cleaned literal.now) }
+{
+    if is_kept(literal) {
         return String::from_str(alloc, literal);
     }
     let mut text = String::new(alloc);
@@ -303,7 +366,9 @@ fn cleaned(alloc: Global, literal: &str) -> Result<String, AllocError> {
 }
 
 /// The float that a word of letters writes.
-fn special_float(word: &[u8]) -> Option<FloatText> {
+fn special_float(word: &[u8]) -> Option<FloatText>
+    ensures { SpecialGives word.now result }
+{
     match word {
         b"inf" => Some(FloatText::Infinite { negative: false }),
         b"-inf" => Some(FloatText::Infinite { negative: true }),
@@ -318,7 +383,9 @@ fn special_dot(text: &str, start: usize, first: Span) -> Fault
     requires start { start ≤ first.start }
     requires run { IsRun text.now first }
     requires dot { slice_index text.now first.end ≡ 46 }
-    ensures { IsPlaced text.now result }
+    requires special { IsSpecial text.now first.start first.end }
+    ensures placed { IsPlaced text.now result }
+    ensures gives { NoDecimal text.now start first.start first.end result }
 {
     let behind = first.end + 1;
     if keylike_end(text, behind) == behind {
@@ -326,6 +393,22 @@ fn special_dot(text: &str, start: usize, first: Span) -> Fault
     } else {
         invalid_number(first.start, first.end)
     }
+}
+
+/// The integer of this value.
+#[inline]
+fn integer_kind<'de>(value: i64) -> ValKind<'de>
+    ensures { kind_view result ≡ scalar (integer value) }
+{
+    ValKind::Integer(value)
+}
+
+/// The float of this text.
+#[inline]
+fn float_kind<'de>(text: FloatText) -> ValKind<'de>
+    ensures { kind_view result ≡ scalar (float (decimal_of text)) }
+{
+    ValKind::Float(text)
 }
 
 /// The number whose first character is at `start`, with its first run from `first` on, and where it
@@ -341,10 +424,11 @@ fn unsigned<'de>(
     requires run { IsRun text.now first }
     ensures advances { Advances text.now start result }
     ensures scalar { IsScalarKind result }
+    ensures gives { UnsignedGives text.now start first.start first.end result }
 {
     if let Some(radix) = radix_of(text, first.start) {
         return match radix_integer(text, first, radix) {
-            Ok(value) => Ok((ValKind::Integer(value), first.end)),
+            Ok(value) => Ok((integer_kind(value), first.end)),
             Err(fault) => Err(Stop::Fault(fault)),
         };
     }
@@ -352,13 +436,13 @@ fn unsigned<'de>(
         if byte_at(text, first.end) == b'.' {
             return Err(Stop::Fault(special_dot(text, start, first)));
         }
-        return Ok((ValKind::Float(float), first.end));
+        return Ok((float_kind(float), first.end));
     }
     match decimal_number(text, start, first) {
         Err(fault) => Err(Stop::Fault(fault)),
-        Ok(Decimal::Integer(value)) => Ok((ValKind::Integer(value), first.end)),
+        Ok(Decimal::Integer(value)) => Ok((integer_kind(value), first.end)),
         Ok(Decimal::Float(end)) => match cleaned(alloc, &text[first.start..end]) {
-            Ok(digits) => Ok((ValKind::Float(FloatText::Finite(digits)), end)),
+            Ok(digits) => Ok((float_kind(FloatText::Finite(digits)), end)),
             Err(e) => Err(Stop::Memory(e)),
         },
     }
@@ -374,6 +458,8 @@ pub fn number<'de>(
     requires begins { (is_keylike (slice_index text.now at) || slice_index text.now at == 43) ≡ true }
     ensures advances { Advances text.now at result }
     ensures scalar { IsScalarKind result }
+    // A literal is read exactly where one stands: otherwise the fault says what stands in its place.
+    ensures gives { NumberGives text.now at result }
 {
     if byte_at(text, at) != b'+' {
         let first = Span {

@@ -1,7 +1,11 @@
 //! Lines, headers and sections.
-ghost use Rattle.std.specs.Prelude.{◌≡◌, ℕ, ◌<◌, ◌≤◌, ◌+◌, ◌⊎◌, map, length, slice_index, IfSome};
+ghost use Rattle.std.specs.Prelude.{◌≡◌, ℕ, ◌<◌, ◌≤◌, ◌+◌, ◌⊎◌, map, length, slice_index, IfSome, IfOk};
 ghost use Rattle.std.specs.Str.{IsCharBoundary};
 ghost use Rattle.toml_span_read.specs.Data.{event};
+ghost use Rattle.toml_span_read.specs.Lines as spec;
+ghost use Rattle.toml_span_read.specs.Lines.{Opens, EventGives, LineGives, LinesGive, CloseGives, HeaderGives, SectionsGive, ReadsDocument, block, block_of, first_block, first_blocks};
+ghost use Rattle.toml_span_read.specs.Gaps.{Further};
+ghost use Rattle.toml_span_read.specs.Inside.{SectionsInside};
 ghost use Rattle.toml_span_read.specs.Limits.{AssignmentReads, AssignmentsRead, LineReads, HeaderReads, SectionsRead, WithinSection, WithinEvents, EndsAtHeader, Reads};
 
 use crate::earlier::{Earlier, add_clear};
@@ -33,7 +37,8 @@ fn assignment<'de>(
     requires boundary { IsCharBoundary text.now at }
     requires some { 1 ≤ limit }
     requires small { limit ≤ 128 }
-    ensures { AssignmentReads text.now limit 0 at result }
+    ensures reads { AssignmentReads text.now limit 0 at result }
+    ensures gives { EventGives text.now limit at result }
 {
     let (parts, key_end) = dotted_key(alloc, text, at, limit)?;
     let from = match line_equals(text, key_end) {
@@ -50,7 +55,8 @@ fn assignment<'de>(
 /// What is behind the line whose forms end at a place.
 fn next_line(alloc: Global, text: &str, at: usize) -> Result<usize, Stop<Fault>>
     requires { IsCharBoundary text.now at }
-    ensures { LineReads text.now at result }
+    ensures reads { LineReads text.now at result }
+    ensures gives { LineGives text.now at result }
 {
     match line_rest(text, at) {
         Ok(next) => Ok(next),
@@ -70,6 +76,7 @@ fn assignments<'de>(
     requires small { limit ≤ 128 }
     ensures read { AssignmentsRead text.now limit from result }
     ensures header { EndsAtHeader text.now result }
+    ensures gives { LinesGive text.now limit from result }
 {
     let mut found = Vec::new(alloc);
     let mut earlier = Earlier::new(alloc);
@@ -91,10 +98,25 @@ fn assignments<'de>(
     Ok((found, at))
 }
 
+/// Whether a header's brackets are double, and what is behind those that open it.
+fn header_open(text: &str, at: usize) -> (bool, usize)
+    requires opens { slice_index text.now at ≡ 91 }
+    ensures opens { Opens result.0 text.now at result.1 }
+    ensures further { Further text.now at result.1 }
+{
+    let behind = behind_sign(text, at);
+    if byte_at(text, behind) == b'[' {
+        (true, behind_sign(text, behind))
+    } else {
+        (false, behind)
+    }
+}
+
 /// What is behind a header's closing brackets.
 fn header_close(alloc: Global, text: &str, at: usize, array: bool) -> Result<usize, Stop<Fault>>
     requires { IsCharBoundary text.now at }
-    ensures { LineReads text.now at result }
+    ensures reads { LineReads text.now at result }
+    ensures gives { CloseGives array text.now at result }
 {
     let close = blanks_end(text, at);
     if byte_at(text, close) != b']' {
@@ -129,15 +151,10 @@ fn read_header<'de>(
 ) -> Result<Header<'de>, Stop<Fault>>
     requires opens { slice_index text.now at ≡ 91 }
     requires some { 1 ≤ limit }
-    ensures { HeaderReads text.now limit at result }
+    ensures reads { HeaderReads text.now limit at result }
+    ensures gives { HeaderGives text.now limit at result }
 {
-    let behind = behind_sign(text, at);
-    let array = byte_at(text, behind) == b'[';
-    let open = if array {
-        behind_sign(text, behind)
-    } else {
-        behind
-    };
+    let (array, open) = header_open(text, at);
     let (parts, key_end) = header_key(alloc, text, blanks_end(text, open), limit)?;
     let close = header_close(alloc, text, key_end, array)?;
     let end = next_line(alloc, text, close)?;
@@ -148,19 +165,35 @@ fn read_header<'de>(
     })
 }
 
+/// The extent of an assignment.
+#[inline]
+fn extent_of(assignment: &Assignment<'_>) -> Span
+    ensures { result ≡ (event assignment.now).extent }
+{
+    assignment.extent
+}
+
+/// Where the last of these assignments ends, or, without one, the place given.
+fn last_end(assignments: &[Assignment<'_>], without: usize) -> usize
+    ensures { result ≡ spec.last_end without (map event assignments.now) }
+{
+    match assignments.last() {
+        Some(last) => extent_of(last).end,
+        None => without,
+    }
+}
+
 /// The section of a header with its assignments.
 fn section_of<'de>(header: Header<'de>, assignments: Vec<Assignment<'de>>) -> Section<'de>
-    ensures { (limit : ℕ) → length header.entry.parts.items ≤ limit → WithinEvents limit (map event assignments.entry.items) → WithinSection limit result }
+    ensures within { (limit : ℕ) → length header.entry.parts.items ≤ limit → WithinEvents limit (map event assignments.entry.items) → WithinSection limit result }
+    ensures gives { block result ≡ block_of header.entry (map event assignments.entry.items) }
 {
     let Header {
         parts,
         array,
         extent,
     } = header;
-    let end = match assignments.last() {
-        Some(last) => last.extent.end,
-        None => extent.end,
-    };
+    let end = last_end(&assignments, extent.end);
     Section {
         header: parts,
         array,
@@ -175,10 +208,11 @@ fn section_of<'de>(header: Header<'de>, assignments: Vec<Assignment<'de>>) -> Se
 
 /// The section of the assignments before the first header, if there are any.
 fn first_section<'de>(alloc: Global, assignments: Vec<Assignment<'de>>) -> Option<Section<'de>>
-    ensures { (limit : ℕ) → WithinEvents limit (map event assignments.entry.items) → IfSome result (λ section. WithinSection limit section) }
+    ensures within { (limit : ℕ) → WithinEvents limit (map event assignments.entry.items) → IfSome result (λ section. WithinSection limit section) }
+    ensures gives { first_blocks result ≡ first_block (map event assignments.entry.items) }
 {
-    let start = assignments.first()?.extent.start;
-    let end = assignments.last()?.extent.end;
+    let start = extent_of(assignments.first()?).start;
+    let end = last_end(&assignments, start);
     Some(Section {
         header: SmallVec::new(alloc),
         array: false,
@@ -196,7 +230,8 @@ fn sections<'de>(
 ) -> Result<Vec<Section<'de>>, Stop<Fault>>
     requires some { 1 ≤ limit }
     requires small { limit ≤ 128 }
-    ensures { SectionsRead text.now limit result }
+    ensures reads { SectionsRead text.now limit result }
+    ensures gives { SectionsGive text.now limit result }
 {
     let mut found = Vec::new(alloc);
     let (before, mut at) = assignments(alloc, text, first_place(text), limit)?;
@@ -226,7 +261,11 @@ pub fn read_sections<'de>(
 ) -> Result<Vec<Section<'de>>, Stop<Error<'de>>>
     requires some { 1 ≤ limit }
     requires small { limit ≤ 128 }
-    ensures { Reads text.now limit result }
+    ensures reads { Reads text.now limit result }
+    // The sections are those that the text spells. A fault stands where the forms before it lead.
+    ensures document { ReadsDocument text.now limit result }
+    // Keys and headers stand inside the text.
+    ensures inside { IfOk result (λ found. SectionsInside (length text.now) found.items) }
 {
     match sections(alloc, text, limit) {
         Ok(found) => Ok(found),

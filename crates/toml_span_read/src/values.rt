@@ -4,10 +4,14 @@ ghost use Rattle.std.specs.Str.{IsCharBoundary};
 ghost use Rattle.toml_span_lex.specs.Bytes.{is_keylike};
 ghost use Rattle.toml_span_read.specs.Faults.{Advances, IsPlaced, IsPlacedStop};
 ghost use Rattle.std.specs.Cow.{cow_str_bytes};
-ghost use Rattle.toml_span_tree.specs.Node.{text as text_node};
+ghost use Rattle.toml_span_tree.specs.Node.{text as text_node, boolean, datetime};
+ghost use Rattle.toml_span_tree.specs.Value.{date_bytes};
 ghost use Rattle.toml_span_read.specs.Keys as spec;
 ghost use Rattle.toml_span_read.specs.Limits.{ValueReads, AssignmentReads};
-ghost use Rattle.toml_span_read.specs.Data.{IsScalarKind, view, event, node, scalar as scalar_node, array as array_node, inline as inline_node, onto, pairs_onto, no_items, no_pairs};
+ghost use Rattle.toml_span_read.specs.Stuck.{opens_nested, begins_bare, begins_number, IsRunOf, IsTooDeep, ValueGives, BareGives, PairGives};
+ghost use Rattle.toml_span_read.specs.Dates as date_spec;
+ghost use Rattle.toml_span_read.specs.Keys.{opens_string};
+ghost use Rattle.toml_span_read.specs.Data.{view, kind_view, event, node, scalar as scalar_node, array as array_node, inline as inline_node, onto, pairs_onto, no_items, no_pairs};
 
 use crate::dates::{begins_date, date};
 use crate::earlier::{Earlier, add_clear};
@@ -22,6 +26,7 @@ use std::borrow::CowStr;
 use toml_span_lex::bytes::{is_keylike, keylike_end};
 use toml_span_lex::span::Span;
 use toml_span_lex::stop::Stop;
+use toml_span_tree::DateText;
 
 /// The value at a place that `depth` brackets and key parts stand round, and where it ends.
 ///
@@ -37,7 +42,8 @@ pub fn value<'de>(
     requires boundary { IsCharBoundary text.now at }
     requires some { 1 ≤ limit }
     requires small { limit ≤ 128 }
-    ensures { ValueReads text.now limit depth at result }
+    ensures reads { ValueReads text.now limit depth at result }
+    ensures gives { ValueGives text.now limit depth at result }
 {
     match byte_at(text, at) {
         b'[' | b'{' if depth > limit => Err(too_deep(text, at)),
@@ -51,7 +57,8 @@ pub fn value<'de>(
 /// A value that is too deep.
 fn too_deep(text: &str, at: usize) -> Stop<Fault>
     requires { at ≤ length text.now }
-    ensures { IsPlacedStop text.now result }
+    ensures gives { IsTooDeep at result }
+    ensures placed { IsPlacedStop text.now result }
 {
     let _text = text;
     Stop::Fault(fault_at(FaultKind::ExceededDepthLimit, at))
@@ -67,7 +74,8 @@ fn string_value<'de>(
 ) -> Result<(Val<'de>, usize), Stop<Fault>>
     requires boundary { IsCharBoundary text.now at }
     requires quote { (slice_index text.now at ≡ 34) ⊎ (slice_index text.now at ≡ 39) }
-    ensures { ValueReads text.now limit depth at result }
+    ensures reads { ValueReads text.now limit depth at result }
+    ensures gives { ValueGives text.now limit depth at result }
 {
     let token = string(alloc, text, at)?;
     if depth > limit {
@@ -85,7 +93,9 @@ fn scalar<'de>(
     limit: usize,
 ) -> Result<(Val<'de>, usize), Stop<Fault>>
     requires boundary { IsCharBoundary text.now at }
-    ensures { ValueReads text.now limit depth at result }
+    requires plain { (opens_nested (slice_index text.now at) || opens_string (slice_index text.now at)) ≡ false }
+    ensures reads { ValueReads text.now limit depth at result }
+    ensures gives { ValueGives text.now limit depth at result }
 {
     let byte = byte_at(text, at);
     if !is_keylike(byte) && byte != b'+' {
@@ -94,18 +104,50 @@ fn scalar<'de>(
     if depth > limit {
         return Err(too_deep(text, at));
     }
-    let (kind, end) = if begins_date(text, at) {
-        match date(text, at) {
-            Ok((date, end)) => (ValKind::Datetime(date), end),
-            Err(fault) => return Err(Stop::Fault(fault)),
-        }
-    } else if byte.is_ascii_digit() || byte == b'-' || byte == b'+' {
-        number(alloc, text, at)?
+    let (kind, end) = bare(alloc, text, at)?;
+    Ok((scalar_of(kind, at, end), end))
+}
+
+/// The date, number or truth value at a place, and where it ends.
+fn bare<'de>(alloc: Global, text: &'de str, at: usize) -> Result<(ValKind<'de>, usize), Stop<Fault>>
+    requires boundary { IsCharBoundary text.now at }
+    requires begins { begins_bare (slice_index text.now at) ≡ true }
+    ensures advances { Advances text.now at result }
+    ensures gives { BareGives text.now at result }
+{
+    if begins_date(text, at) {
+        return match date(text, at) {
+            Ok((date, end)) => Ok((dated(date), end)),
+            Err(fault) => Err(Stop::Fault(fault)),
+        };
+    }
+    let byte = byte_at(text, at);
+    if byte.is_ascii_digit() || byte == b'-' || byte == b'+' {
+        number(alloc, text, at)
     } else {
-        word(alloc, text, at)?
-    };
-    let span = Span { start: at, end };
-    Ok((Val { kind, span }, end))
+        word(alloc, text, at)
+    }
+}
+
+/// A run of letters.
+pub enum Run {
+    True,
+    False,
+    /// A number of letters, as `inf`.
+    Special,
+    Other,
+}
+
+/// What a run of letters is.
+fn run_of(bytes: &[u8]) -> Run
+    ensures { IsRunOf bytes.now result }
+{
+    match bytes {
+        b"true" => Run::True,
+        b"false" => Run::False,
+        b"inf" | b"nan" => Run::Special,
+        _ => Run::Other,
+    }
 }
 
 /// The truth value, or the number of letters, at a place, and where it ends.
@@ -114,15 +156,17 @@ fn scalar<'de>(
 fn word<'de>(alloc: Global, text: &'de str, at: usize) -> Result<(ValKind<'de>, usize), Stop<Fault>>
     requires boundary { IsCharBoundary text.now at }
     requires begins { is_keylike (slice_index text.now at) ≡ true }
+    requires no_date { date_spec.begins_date text.now at ≡ false }
+    requires no_number { begins_number (slice_index text.now at) ≡ false }
     ensures advances { Advances text.now at result }
-    ensures scalar { IsScalarKind result }
+    ensures gives { BareGives text.now at result }
 {
     let end = keylike_end(text, at);
-    match &text.as_bytes()[at..end] {
-        b"true" => Ok((ValKind::Boolean(true), end)),
-        b"false" => Ok((ValKind::Boolean(false), end)),
-        b"inf" | b"nan" => number(alloc, text, at),
-        _ => Err(Stop::Fault(Fault {
+    match run_of(&text.as_bytes()[at..end]) {
+        Run::True => Ok((truth(true), end)),
+        Run::False => Ok((truth(false), end)),
+        Run::Special => number(alloc, text, at),
+        Run::Other => Err(Stop::Fault(Fault {
             kind: FaultKind::UnquotedString,
             span: Span { start: at, end },
         })),
@@ -145,7 +189,8 @@ fn array<'de>(
     requires some { 1 ≤ limit }
     requires small { limit ≤ 128 }
     requires depth { depth ≤ limit }
-    ensures { ValueReads text.now limit depth at result }
+    ensures reads { ValueReads text.now limit depth at result }
+    ensures gives { ValueGives text.now limit depth at result }
 {
     let mut items = Vec::new(alloc);
     let mut next = opened(text, at);
@@ -186,7 +231,8 @@ fn inline_table<'de>(
     requires some { 1 ≤ limit }
     requires small { limit ≤ 128 }
     requires depth { depth ≤ limit }
-    ensures { ValueReads text.now limit depth at result }
+    ensures reads { ValueReads text.now limit depth at result }
+    ensures gives { ValueGives text.now limit depth at result }
 {
     let mut pairs = Vec::new(alloc);
     let mut earlier = Earlier::new(alloc);
@@ -226,7 +272,8 @@ fn pair<'de>(
     requires some { 1 ≤ limit }
     requires small { limit ≤ 128 }
     requires depth { depth ≤ limit + 1 }
-    ensures { AssignmentReads text.now limit depth at result }
+    ensures reads { AssignmentReads text.now limit depth at result }
+    ensures gives { PairGives text.now limit depth at result }
 {
     let (parts, key_end) = dotted_key(alloc, text, at, limit)?;
     let from = match pair_equals(text, key_end) {
@@ -245,6 +292,28 @@ fn string_of<'de>(content: CowStr<'de>, span: Span) -> Val<'de>
     ensures { view result ≡ node (scalar_node (text_node (cow_str_bytes content.entry))) span }
 {
     let kind = ValKind::String(content);
+    Val { kind, span }
+}
+
+/// The truth value.
+fn truth<'de>(value: bool) -> ValKind<'de>
+    ensures { kind_view result ≡ scalar_node (boolean value) }
+{
+    ValKind::Boolean(value)
+}
+
+/// The date or time.
+fn dated<'de>(date: DateText<'de>) -> ValKind<'de>
+    ensures { kind_view result ≡ scalar_node (datetime (date_bytes date.entry)) }
+{
+    ValKind::Datetime(date)
+}
+
+/// The value of this kind that is no string.
+fn scalar_of<'de>(kind: ValKind<'de>, start: usize, end: usize) -> Val<'de>
+    ensures { view result ≡ node (kind_view kind.entry) (record { start = start; end = end }) }
+{
+    let span = Span { start, end };
     Val { kind, span }
 }
 

@@ -1,14 +1,20 @@
 use Rattle.std.proofs.Common.{◌≤◌, ◌-◌, length, map}
 use Rattle.std.specs.Str.{IsCharBoundary}
 use Rattle.toml_span_read.specs.Data.{event}
+use Rattle.toml_span_read.specs.Earlier.{Knows}
 use Rattle.toml_span_read.specs.Limits.{WithinEvents}
+use Rattle.toml_span_read.proofs.LineLemmas.{WholeLines, StuckOn}
 use Rattle.toml_span_read.proofs.sections.assignments.Given as goal
 
+-- whatever assignments follow, or get stuck, do so behind those that are read
 abbrev pub invariant-lines : goal.invariant-lines
 invariant-lines l = record {
   forward : l.from ≤ l.at;
   boundary : IsCharBoundary l.text l.at;
   within : WithinEvents l.limit (map event l.found.items);
+  knows : Knows l.earlier (map event l.found.items);
+  whole : WholeLines l.found.items l.text l.limit l.from l.at;
+  stuck : StuckOn l.found.items l.text l.limit l.from l.at;
 }
 
 abbrev pub decreases-lines : goal.decreases-lines

@@ -1,7 +1,11 @@
-use Rattle.std.proofs.Common.{◌≡◌, ◌≤◌, ◌<◌, ◌+◌, ◌-◌, ◌*◌, ℕ, length, map}
+use Rattle.std.proofs.Common.{◌≡◌, ◌≤◌, ◌<◌, ◌+◌, ◌-◌, ◌*◌, ℕ, length, map, []}
 use Rattle.std.specs.Str.{IsCharBoundary}
+use Rattle.toml_span_read.specs.declared.fault.Fault.{Fault}
 use Rattle.toml_span_read.specs.Data.{Items, Pairs, view, event, onto, pairs_onto}
 use Rattle.toml_span_read.specs.Limits.{WithinItems, WithinPairs}
+use Rattle.toml_span_read.specs.Earlier.{Knows}
+use Rattle.toml_span_read.specs.Grammar.{SpellsItems, SpellsPairs}
+use Rattle.toml_span_read.specs.Stuck.{StuckItems, StuckPairs}
 use Rattle.toml_span_read.proofs.values.+read.Given as goal
 
 abbrev pub decreases-value : goal.decreases-value
@@ -16,12 +20,15 @@ decreases-inline_table l = 3 * ((l.limit + 1) - l.depth) + 1
 abbrev pub decreases-pair : goal.decreases-pair
 decreases-pair l = 3 * ((l.limit + 2) - l.depth)
 
--- whatever elements follow within the limit, they are so with those before them
+-- whatever elements follow, within the limit or spelled, they are so with those before them; whatever is stuck from here on is so
+-- from the first element on
 abbrev pub invariant-array-items : goal.invariant-array-items
 invariant-array-items l = record {
   forward : l.at < l.next;
   boundary : IsCharBoundary l.text l.next;
   whole : (tail : Items) → WithinItems l.limit (l.depth + 1) tail → WithinItems l.limit (l.depth + 1) (onto (map view l.items.items) tail);
+  spells : (tail : Items) (j : ℕ) → SpellsItems tail l.text l.limit (l.depth + 1) l.next j → SpellsItems (onto (map view l.items.items) tail) l.text l.limit (l.depth + 1) l.initial.next j;
+  stuck : (e : Fault) → StuckItems l.text l.limit (l.depth + 1) l.next e → StuckItems l.text l.limit (l.depth + 1) l.initial.next e;
 }
 
 abbrev pub decreases-array-items : goal.decreases-array-items
@@ -31,7 +38,11 @@ abbrev pub invariant-inline_table-pairs : goal.invariant-inline_table-pairs
 invariant-inline_table-pairs l = record {
   forward : l.at < l.next;
   boundary : IsCharBoundary l.text l.next;
+  knows : Knows l.earlier (map event l.pairs.items);
   whole : (tail : Pairs) → WithinPairs l.limit (l.depth + 1) tail → WithinPairs l.limit (l.depth + 1) (pairs_onto (map event l.pairs.items) tail);
+  spells : (tail : Pairs) (j : ℕ) → SpellsPairs tail (map event l.pairs.items) l.text l.limit (l.depth + 1) l.next j
+      → SpellsPairs (pairs_onto (map event l.pairs.items) tail) [] l.text l.limit (l.depth + 1) l.initial.next j;
+  stuck : (e : Fault) → StuckPairs l.text l.limit (map event l.pairs.items) (l.depth + 1) l.next e → StuckPairs l.text l.limit [] (l.depth + 1) l.initial.next e;
 }
 
 abbrev pub decreases-inline_table-pairs : goal.decreases-inline_table-pairs

@@ -1,5 +1,42 @@
-use Rattle.toml_span_read.proofs.KeyLemmas.{start_event}
+use Rattle.std.proofs.Common.{arith, map, Some, None, refl, sym}
+use Rattle.toml_span_read.specs.Data.{event}
+use Rattle.toml_span_read.specs.Keys.{part}
+use Rattle.toml_span_read.specs.Earlier.{holds}
+use Rattle.toml_span_read.proofs.EarlierKnows.{length_parts, clear_short, clear_found, crossing_found, knows_more, tells_all, finds_same}
 use Rattle.toml_span_read.proofs.earlier.Earlier.fault.Goals as goal
 
+pub returns-then-inner-self : goal.returns-then-inner-self
+returns-then-inner-self c =
+    let events = map event c.args.values.now in
+    let inner = map part c.key_of-key.result.now.inner.items in
+    let last = part c.key_of-key.result.now.last in
+    let key = sym c.key_of-key.ensures in
+    let l = length_parts c.key_of-key.result.now.inner.items in (
+      clear_short events (event c.args.next.now) inner last c.args.self.now.fewest key c.requires.fewest (omega (arith, l, c.len-inner.ensures, c.if-inner-self.true)),
+      knows_more c.args.self.now _ events (event c.args.next.now) inner last key c.requires refl refl (omega (arith, c.if-inner-self.true)) (omega (arith, l, c.len-inner.ensures)),
+    )
+
+pub returns-in-None : goal.returns-in-None
+returns-in-None c =
+    let events = map event c.args.values.now in
+    let keys = c.key_of-key.result.now.inner.items in
+    let inner = map part keys in
+    let last = part c.key_of-key.result.now.last in
+    let key = sym c.key_of-key.ensures in
+    let l = length_parts keys in
+    let new = c.catch_up.new.self in
+    let knows = c.in_ok-catch_up.ensures.knows in
+    let tells = tells_all new c.args.values.now knows c.in_ok-catch_up.ensures.all in
+    let none = finds_same (holds new.tree) c.deref.result.now keys _ None c.deref.ensures.value c.in-None.is c.crossing.ensures in (
+      clear_found events (event c.args.next.now) inner last (holds new.tree) key tells none,
+      knows_more new new events (event c.args.next.now) inner last key knows refl refl (omega arith) (omega (arith, l, c.len-inner.ensures, c.if-inner-self.false, c.in_ok-catch_up.ensures.fewest)),
+    )
+
 pub returns-in-Some : goal.returns-in-Some
-returns-in-Some c = (start_event c.in-Some.start _ c.key_of-key.result.now _ c.deref.ensures.value c.key_of-key.ensures c.in-Some.ensures, c.value_end.ensures)
+returns-in-Some c =
+    let keys = c.key_of-key.result.now.inner.items in
+    let new = c.catch_up.new.self in
+    let tells = tells_all new c.args.values.now c.in_ok-catch_up.ensures.knows c.in_ok-catch_up.ensures.all in
+    let some = finds_same (holds new.tree) c.deref.result.now keys _ (Some (c.in-Some.start, c.in-Some.first)) c.deref.ensures.value c.in-Some.is c.crossing.ensures in
+    crossing_found (map event c.args.values.now) (event c.args.next.now) (map part keys) (part c.key_of-key.result.now.last) (holds new.tree) c.in-Some.start c.in-Some.first c.value_end.result
+    (sym c.key_of-key.ensures) tells some c.value_end.ensures

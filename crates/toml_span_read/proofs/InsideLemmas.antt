@@ -1,0 +1,121 @@
+-- Keys and headers of a spelled document stand inside the text.
+use Rattle.std.proofs.Common.{ℕ, ◌+◌, ◌<◌, ◌≤◌, Bool, true, false, List, [], ◌∷◌, ◌++◌, length, map, arith, inl, inr}
+use Rattle.toml_span_lex.specs.Text.{LineEnd}
+use Rattle.toml_span_lex.proofs.Runs.{read_within}
+use Rattle.toml_span_lex.proofs.Folded.{second}
+use Rattle.toml_span_lex.proofs.PieceLemmas.{line_forward}
+use Rattle.toml_span_read.specs.declared.section.Section.{Section}
+use Rattle.toml_span_read.specs.Data.{Node, node, scalar, array, inline, Items, no_items, item, Pairs, no_pairs, pair, Event}
+use Rattle.toml_span_read.specs.Gaps.{Skipped, Tail}
+use Rattle.toml_span_read.specs.Grammar.{Spells, SpellsItems, SpellsPairs}
+use Rattle.toml_span_read.specs.Keys.{Part, Dotted, Ascend}
+use Rattle.toml_span_read.specs.Lines.{SpellsEvents, SpellsLines, Opens, Shuts, SpellsHeader, Block, block, SpellsSection, first_block, SpellsSections, SpellsDocument}
+use Rattle.toml_span_read.specs.Inside.{IsInside, PartsInside, KeysInside, ItemKeysInside, PairKeysInside, EventsInside, SectionsInside}
+use Rattle.toml_span_read.proofs.KeyOrder.{dotted_ascend}
+
+-- ---- keys
+
+ascend_forward : (ps : List Part) (i j : ℕ) → Ascend ps i j → i ≤ j
+ascend_forward [] i j h = h
+ascend_forward (p ∷ ps) i j (a, b, rest) = omega (arith, a, b, ascend_forward ps p.span.end j rest)
+
+ascend_inside : (ps : List Part) (n i j : ℕ) → j ≤ n → Ascend ps i j → PartsInside n ps
+ascend_inside [] n i j l h = tt
+ascend_inside (p ∷ ps) n i j l (a, b, rest) =
+    ((omega (arith, b), omega (arith, l, ascend_forward ps p.span.end j rest)), ascend_inside ps n p.span.end j l rest)
+
+dotted_inside : (ps : List Part) (text : List ℕ) (i j : ℕ) → Dotted ps text i j → PartsInside (length text) ps
+dotted_inside ps text i j h = let f = dotted_ascend ps text i j h in ascend_inside ps (length text) i j f.1 f.0
+
+-- ---- values
+
+mutual
+  value_keys : (v : Node) (text : List ℕ) (limit d i j : ℕ) → Spells v text limit d i j → KeysInside (length text) v
+  value_keys (node (scalar s) span) text limit d i j h = tt
+  value_keys (node (array vs) span) text limit d i j (l, (here, e, k, gap, items)) = items_keys vs text limit (d + 1) k j items
+  value_keys (node (inline ps) span) text limit d i j (l, (here, e, k, gap, pairs)) = pairs_keys ps [] text limit (d + 1) k j pairs
+
+  items_keys : (vs : Items) (text : List ℕ) (limit d i j : ℕ) → SpellsItems vs text limit d i j → ItemKeysInside (length text) vs
+  items_keys no_items text limit d i j h = tt
+  items_keys (item v vs) text limit d i j (m, s, inl (e, close)) = (value_keys v text limit d i m s, rw e tt)
+  items_keys (item v vs) text limit d i j (m, s, inr (p, sign, rest)) = (value_keys v text limit d i m s, items_keys vs text limit d p j rest)
+
+  pairs_keys : (ps : Pairs) (es : List Event) (text : List ℕ) (limit d i j : ℕ) → SpellsPairs ps es text limit d i j → PairKeysInside (length text) ps
+  pairs_keys no_pairs es text limit d i j h = tt
+  pairs_keys (pair ss v extent ps) es text limit d i j (m, (a, b, key, few, sign, s, e), clear, inl (none, close)) =
+      (dotted_inside ss text i a key, value_keys v text limit (d + length ss) b m s, rw none tt)
+  pairs_keys (pair ss v extent ps) es text limit d i j (m, (a, b, key, few, sign, s, e), clear, inr (p, comma, rest)) =
+      (dotted_inside ss text i a key, value_keys v text limit (d + length ss) b m s, pairs_keys ps (es ++ (record { parts = ss; value = v; extent = extent } ∷ [])) text limit d p j rest)
+
+-- ---- assignments
+
+events_keys : (evs earlier : List Event) (text : List ℕ) (limit i j : ℕ) → SpellsEvents evs earlier text limit i j → EventsInside (length text) evs
+events_keys [] earlier text limit i j h = tt
+events_keys (ev ∷ evs) earlier text limit i j (m, n, k, s, tail, clear, gap, rest) =
+    ((dotted_inside ev.parts text i s.key_end s.key, value_keys ev.value text limit (length ev.parts) s.from m s.spelled), events_keys evs (earlier ++ (ev ∷ [])) text limit k j rest)
+
+lines_keys : (evs : List Event) (text : List ℕ) (limit i j : ℕ) → SpellsLines evs text limit i j → EventsInside (length text) evs
+lines_keys evs text limit i j (k, gap, h) = events_keys evs [] text limit k j h
+
+-- ---- sections
+
+-- a block's header with its parts, and the keys of its assignments
+abbrev BlockInside : ℕ → Block → Type 0
+BlockInside n b = IsInside n b.header_span × PartsInside n b.header × EventsInside n b.events
+
+abbrev BlocksInside : ℕ → List Block → Type 0
+BlocksInside n [] = Unit {0}
+BlocksInside n (b ∷ bs) = BlockInside n b × BlocksInside n bs
+
+pub opens_on : (double : Bool) (text : List ℕ) (i j : ℕ) → Opens double text i j → i < j
+opens_on false text i j h = omega (arith, h.2)
+opens_on true text i j h = omega (arith, h.2)
+
+pub shuts_on : (double : Bool) (text : List ℕ) (i j : ℕ) → Shuts double text i j → i < j
+shuts_on false text i j h = omega (arith, h.1)
+shuts_on true text i j h = omega (arith, h.2)
+
+skipped_on : (text : List ℕ) (i j : ℕ) → Skipped text i j → i ≤ j
+skipped_on text i j h = elim h.comment [ inl c ↦ omega (arith, h.blank.forward, c.1.forward) | inr c ↦ omega (arith, h.blank.forward, c.1) ]
+
+line_within : (text : List ℕ) (i j : ℕ) → LineEnd text i j → j ≤ length text
+line_within text i j (inl h) = omega (arith, h.1, read_within text i (omega (arith, h.0)))
+line_within text i j (inr h) = omega (arith, h.1, read_within text (i + 1) (omega (arith, second text i h.0)))
+
+pub tail_inside : (text : List ℕ) (i j : ℕ) → Tail text i j → (i ≤ j) × (j ≤ length text)
+tail_inside text i j (k, skipped, inl line) = (omega (arith, skipped_on text i k skipped, line_forward text k j line), line_within text k j line)
+tail_inside text i j (k, skipped, inr (a, b)) = (omega (arith, skipped_on text i k skipped, b), omega (arith, a, b))
+
+header_inside : (ps : List Part) (double : Bool) (text : List ℕ) (limit i j : ℕ) → SpellsHeader ps double text limit i j → ((i ≤ j) × (j ≤ length text)) × PartsInside (length text) ps
+header_inside ps double text limit i j h =
+    let f = h.front in
+    let rest = tail_inside text h.end j h.rest in
+    let key = dotted_ascend ps text f.start f.end f.key in
+    let on = ascend_forward ps f.start f.end key.0 in
+    let opened = opens_on double text i f.inside f.opens in
+    let shut = shuts_on double text h.close h.end h.shuts in
+    ((omega (arith, rest.0, on, opened, shut, f.before.forward, f.behind.forward), rest.1), dotted_inside ps text f.start f.end f.key)
+
+section_block : (b : Block) (text : List ℕ) (limit i j : ℕ) → SpellsSection b text limit i j → BlockInside (length text) b
+section_block b text limit i j h =
+    let f = header_inside b.header b.array text limit i h.end h.header in
+    (rw h.header_span f.0, f.1, lines_keys b.events text limit h.end j h.lines)
+
+sections_blocks : (bs : List Block) (text : List ℕ) (limit i : ℕ) → SpellsSections bs text limit i → BlocksInside (length text) bs
+sections_blocks [] text limit i h = tt
+sections_blocks (b ∷ bs) text limit i (j, s, rest) = (section_block b text limit i j s, sections_blocks bs text limit j rest)
+
+first_inside : (n : ℕ) (evs : List Event) (bs : List Block) → EventsInside n evs → BlocksInside n bs → BlocksInside n (first_block evs ++ bs)
+first_inside n [] bs h g = g
+first_inside n (ev ∷ evs) bs h g = (((omega arith, omega arith), tt, h), g)
+
+document_blocks : (bs : List Block) (text : List ℕ) (limit : ℕ) → SpellsDocument bs text limit → BlocksInside (length text) bs
+document_blocks bs text limit h =
+    rw h.all (first_inside (length text) h.first h.rest (lines_keys h.first text limit h.start h.end h.lines) (sections_blocks h.rest text limit h.end h.sections))
+
+of_blocks : (n : ℕ) (ss : List Section) → BlocksInside n (map block ss) → SectionsInside n ss
+of_blocks n [] h = tt
+of_blocks n (s ∷ ss) (a, rest) = (a, of_blocks n ss rest)
+
+pub document_inside : (ss : List Section) (text : List ℕ) (limit : ℕ) → SpellsDocument (map block ss) text limit → SectionsInside (length text) ss
+document_inside ss text limit h = of_blocks (length text) ss (document_blocks (map block ss) text limit h)

@@ -1,0 +1,153 @@
+-- The spans of a value lie within the text that it is spelled by.
+use Rattle.std.proofs.Common.{◌≡◌, ℕ, ◌+◌, ◌<◌, ◌≤◌, ◌⊎◌, Bool, true, false, List, [], ◌∷◌, ◌++◌, length, get_or, arith, inl, inr}
+use Rattle.std.specs.Prelude.{◌==◌, ◌||◌, ◌&&◌, not, if◌then◌else◌}
+use Rattle.toml_span_lex.specs.declared.span.Span.{Span}
+use Rattle.toml_span_lex.specs.Strings.{IsString}
+use Rattle.toml_span_lex.proofs.Copies.{content_fits}
+use Rattle.toml_span_lex.proofs.MadeStrings.{content_from_after}
+use Rattle.toml_span_tree.specs.Node.{Scalar, text as text_scalar, integer, float, boolean, datetime, finite, infinite, not_a_number}
+use Rattle.toml_span_read.specs.Gaps.{Sign, Closes}
+use Rattle.toml_span_read.specs.Keys.{Part, Ascend}
+use Rattle.toml_span_read.specs.Dates.{IsCandidate}
+use Rattle.toml_span_read.specs.Numbers.{IsNumber, behind_sign, UnsignedDecimal, Exponent, Fraction, FloatLiteral, SpecialFloat}
+use Rattle.toml_span_read.specs.Data.{Node, node, Inner, scalar, array, inline, Items, no_items, item, Pairs, no_pairs, pair, Event}
+use Rattle.toml_span_read.specs.Grammar.{from_to, IsScalar, Spells, SpellsInner, SpellsItems, SpellsPairs}
+use Rattle.toml_span_read.specs.Spans.{Inside, InsideItems, InsidePairs}
+use Rattle.toml_span_read.proofs.Places.{read_within}
+use Rattle.toml_span_read.proofs.KeyOrder.{dotted_ascend}
+
+sign_on : (b : Bool) (i : ℕ) → i ≤ (if b then i + 1 else i)
+sign_on true i = omega arith
+sign_on false i = omega arith
+
+behind_on : (text : List ℕ) (i : ℕ) → i ≤ behind_sign text i
+behind_on text i = sign_on (get_or text i 0 == 43 || get_or text i 0 == 45) i
+
+-- ---- numbers
+
+unsigned_on : (text : List ℕ) (i j : ℕ) → UnsignedDecimal text (behind_sign text i) j → (i ≤ j) × (j ≤ length text)
+unsigned_on text i j h = (omega (arith, behind_on text i, h.digits.run.forward), h.digits.run.within)
+
+exponent_on : (text : List ℕ) (i j : ℕ) → Exponent text i j → (i ≤ j) × (j ≤ length text)
+exponent_on text i j h = (omega (arith, behind_on text (i + 1), h.digits.run.forward), h.digits.run.within)
+
+fraction_on : (text : List ℕ) (i j : ℕ) → Fraction text i j → (i ≤ j) × (j ≤ length text)
+fraction_on text i j h = (omega (arith, h.digits.run.forward), h.digits.run.within)
+
+rest_on : (text : List ℕ) (i j : ℕ) → Exponent text i j ⊎ ((m : ℕ) × Fraction text i m × ((j ≡ m) ⊎ Exponent text m j)) → (i ≤ j) × (j ≤ length text)
+rest_on text i j (inl h) = exponent_on text i j h
+rest_on text i j (inr (m, f, inl e)) = let a = fraction_on text i m f in (omega (arith, a.0, e), omega (arith, a.1, e))
+rest_on text i j (inr (m, f, inr e)) = let a = fraction_on text i m f in let b = exponent_on text m j e in (omega (arith, a.0, b.0), b.1)
+
+float_on : (text : List ℕ) (i j : ℕ) → FloatLiteral text i j → (i ≤ j) × (j ≤ length text)
+float_on text i j h =
+    let a = unsigned_on text i h.integer_end h.integer_part in
+    let b = rest_on text h.integer_end j h.rest in
+    (omega (arith, a.0, b.0), b.1)
+
+special_on : (word text : List ℕ) (i j : ℕ) → SpecialFloat word text i j → (i ≤ j) × (j ≤ length text)
+special_on word text i j h = (omega (arith, behind_on text i, h.some), h.within)
+
+number_on : (s : Scalar) (text : List ℕ) (i j : ℕ) → IsNumber s text i j → (i ≤ j) × (j ≤ length text)
+number_on (integer n) text i j (inl h) = unsigned_on text i j h.digits
+number_on (integer n) text i j (inr h) = (omega (arith, h.digits.run.forward), h.digits.run.within)
+number_on (float (finite digits)) text i j h = float_on text i j h.0
+number_on (float (infinite b)) text i j h = special_on _ text i j h.0
+number_on (float (not_a_number b)) text i j h = special_on _ text i j h.0
+number_on (text_scalar x) text i j h = absurd h
+number_on (boolean b) text i j h = absurd h
+number_on (datetime d) text i j h = absurd h
+
+-- ---- scalars
+
+-- a span that is not turned round lies from i to j, which is within the text
+record Lies (text : List ℕ) (i j : ℕ) (s : Span) : Type 0 where
+  begins : i ≤ s.start
+  forward : s.start ≤ s.end
+  ends : s.end ≤ j
+  within : j ≤ length text
+
+whole : (text : List ℕ) (i j : ℕ) (s : Span) → s ≡ from_to i j → (i ≤ j) × (j ≤ length text) → Lies text i j s
+whole text i j s e h = rw e (record { begins = omega arith; forward = h.0; ends = omega arith; within = h.1 })
+
+content_lies : (text : List ℕ) (b : Bool) (i from to j : ℕ) → i < from → from ≤ to → to < j → j ≤ length text → Lies text i j (if b then record { start = i; end = i + 1 } else record { start = from; end = to })
+content_lies text true i from to j a f l w = record { begins = omega arith; forward = omega arith; ends = omega arith; within = w }
+content_lies text false i from to j a f l w = record { begins = omega arith; forward = f; ends = omega arith; within = w }
+
+string_lies : (text v src : List ℕ) (i j : ℕ) (s : Span) (m : Bool) → IsString text i j s src v m → Lies text i j s
+string_lies text v src i j s m h =
+    let f = content_fits (get_or text i 0) m text v h.from h.to j h.content_is in
+    let a = content_from_after m text i h.from h.begins in
+    rw h.span_is (content_lies text (not m && h.from == h.to) i h.from h.to j a (omega (arith, f.0)) f.1 f.2)
+
+candidate_on : (text : List ℕ) (i j : ℕ) → IsCandidate text i j → (i ≤ j) × (j ≤ length text)
+candidate_on text i j (inl h) = (h.0.forward, h.0.within)
+candidate_on text i j (inr h) = (omega (arith, h.2.forward), h.2.within)
+
+scalar_lies : (s : Scalar) (span : Span) (t : List ℕ) (i j : ℕ) → IsScalar s span t i j → Lies t i j span
+scalar_lies (text_scalar v) span t i j (src, m, h) = string_lies t v src i j span m h
+scalar_lies (boolean b) span t i j (run, e) = whole t i j span e (run.1.forward, run.1.within)
+scalar_lies (datetime d) span t i j (b, c, is, same, e) = whole t i j span e (candidate_on t i j c)
+scalar_lies (integer n) span t i j (b, h, e) = whole t i j span e (number_on (integer n) t i j h)
+scalar_lies (float x) span t i j (b, h, e) = whole t i j span e (number_on (float x) t i j h)
+
+-- ---- values
+
+sign_onward : (c : ℕ) (text : List ℕ) (i j : ℕ) → Sign c text i j → i ≤ j
+sign_onward c text i j s = omega (arith, s.before.forward, s.behind.forward)
+
+closes_on : (c : ℕ) (text : List ℕ) (i j : ℕ) → 0 < c → Closes c text i j → (i ≤ j) × (j ≤ length text)
+closes_on c text i j l s =
+    let w : s.at < length text = read_within text s.at (omega (arith, s.here)) in (omega (arith, s.before.forward, s.ends), omega (arith, s.ends, w))
+
+-- a value that lies from i on lies from n on, before it
+nearer : (v : Node) (n i j : ℕ) → n ≤ i → Inside v i j → Inside v n j
+nearer (node k span) n i j l (begins, forward, ends, inner) = (omega arith, forward, ends, inner)
+
+ascend_nearer : (ps : List Part) (n i j : ℕ) → n ≤ i → Ascend ps i j → Ascend ps n j
+ascend_nearer [] n i j l h = omega arith
+ascend_nearer (p ∷ ps) n i j l (begins, some, rest) = (omega arith, some, rest)
+
+ascend_forward : (ps : List Part) (i j : ℕ) → Ascend ps i j → i ≤ j
+ascend_forward [] i j h = h
+ascend_forward (p ∷ ps) i j (begins, some, rest) = let f = ascend_forward ps p.span.end j rest in omega arith
+
+mutual
+  pub value_lies : (v : Node) (text : List ℕ) (limit d i j : ℕ) → Spells v text limit d i j → Inside v i j × (i ≤ j) × (j ≤ length text)
+  value_lies (node x s) text limit d i j (few, h) = inner_lies x s text limit d i j h
+
+  inner_lies : (x : Inner) (s : Span) (text : List ℕ) (limit d i j : ℕ) → SpellsInner x s text limit d i j → Inside (node x s) i j × (i ≤ j) × (j ≤ length text)
+  inner_lies (scalar x) s text limit d i j h =
+      let a = scalar_lies x s text i j h in ((a.begins, a.forward, a.ends, tt), omega (arith, a.begins, a.forward, a.ends), a.within)
+  inner_lies (array vs) s text limit d i j (here, e, k, gap, h) =
+      let a = items_lie vs text limit (d + 1) i k j (omega (arith, gap.forward)) h in (rw e (omega arith, a.1, omega arith, a.0), a.1, a.2)
+  inner_lies (inline ps) s text limit d i j (here, e, k, gap, h) =
+      let a = pairs_lie ps [] text limit (d + 1) i k j (omega (arith, gap.forward)) h in (rw e (omega arith, a.1, omega arith, a.0), a.1, a.2)
+
+  items_lie : (vs : Items) (text : List ℕ) (limit d n i j : ℕ) → n ≤ i → SpellsItems vs text limit d i j → InsideItems vs n j × (n ≤ j) × (j ≤ length text)
+  items_lie no_items text limit d n i j l h = let w : i < length text = read_within text i (omega (arith, h.0)) in (omega (arith, h.1), omega (arith, h.1), omega (arith, h.1, w))
+  items_lie (item v vs) text limit d n i j l (m, h, inl (e, close)) =
+      let a = value_lies v text limit d i m h in
+      let c = closes_on 93 text m j (omega arith) close in
+      ((m, nearer v n i m l a.0, (rw e c.0)), omega (arith, l, a.1, c.0), c.1)
+  items_lie (item v vs) text limit d n i j l (m, h, inr (p, sign, rest)) =
+      let a = value_lies v text limit d i m h in
+      let r = items_lie vs text limit d m p j (sign_onward 44 text m p sign) rest in
+      ((m, nearer v n i m l a.0, r.0), omega (arith, l, a.1, r.1), r.2)
+
+  pairs_lie : (ps : Pairs) (es : List Event) (text : List ℕ) (limit d n i j : ℕ) → n ≤ i → SpellsPairs ps es text limit d i j → InsidePairs ps n j × (n ≤ j) × (j ≤ length text)
+  pairs_lie no_pairs es text limit d n i j l h = let w : i < length text = read_within text i (omega (arith, h.0)) in (omega (arith, h.1), omega (arith, h.1), omega (arith, h.1, w))
+  pairs_lie (pair ss v x ps) es text limit d n i j l (m, (a, b, key, few, sign, h, extent), clear, inl (e, close)) =
+      let k = dotted_ascend ss text i a key in
+      let s = sign_onward 61 text a b sign in
+      let u = value_lies v text limit (d + length ss) b m h in
+      let c = closes_on 125 text m j (omega arith) close in
+      let f = ascend_forward ss i a k.0 in
+      ((a, m, ascend_nearer ss n i a l k.0, nearer v a b m s u.0, (rw extent (omega arith)), (rw extent (omega arith)), (rw e c.0)), omega (arith, l, f, s, u.1, c.0), c.1)
+  pairs_lie (pair ss v x ps) es text limit d n i j l (m, (a, b, key, few, sign, h, extent), clear, inr (p, comma, rest)) =
+      let k = dotted_ascend ss text i a key in
+      let s = sign_onward 61 text a b sign in
+      let u = value_lies v text limit (d + length ss) b m h in
+      let r = pairs_lie ps (es ++ (record { parts = ss; value = v; extent = x } ∷ [])) text limit d m p j (sign_onward 44 text m p comma) rest in
+      let f = ascend_forward ss i a k.0 in
+      ((a, m, ascend_nearer ss n i a l k.0, nearer v a b m s u.0, (rw extent (omega arith)), (rw extent (omega arith)), r.0), omega (arith, l, f, s, u.1, r.1), r.2)

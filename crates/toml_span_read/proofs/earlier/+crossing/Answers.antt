@@ -1,0 +1,19 @@
+use Rattle.std.proofs.Common.{sym, ap, ◌∙◌}
+use Rattle.std.specs.Option.{option_copied}
+use Rattle.toml_span_read.proofs.EarlierTree.{parts-first, finds-missing, finds-here, finds-below}
+use Rattle.toml_span_read.proofs.earlier.+crossing.Goals as goal
+
+pub returns-in_default-get : goal.returns-in_default-get
+returns-in_default-get t c =
+    let front = parts-first c.args.inner.now c.part-item.result _ c.in-len1-up.len_at_least c.part-item.is in
+    rw front (finds-missing c.args.node.now _ _ (sym c.get.ensures.value ∙ ap option_copied c.in_default-get.is))
+
+pub returns-in-Some-value : goal.returns-in-Some-value
+returns-in-Some-value t c =
+    let front = parts-first c.args.inner.now c.part-item.result _ c.in-len1-up.len_at_least c.part-item.is in
+    rw front (finds-here c.args.node.now _ _ c.in-Some.child.now c.in-Some-value.first (sym c.get.ensures.value ∙ ap option_copied c.in-Some.is) c.in-Some-value.is)
+
+pub returns-in-None : goal.returns-in-None
+returns-in-None t c =
+    let front = parts-first c.args.inner.now c.part-item.result _ c.in-len1-up.len_at_least c.part-item.is in
+    rw front (finds-below c.args.node.now _ _ c.in-Some.child.now _ (sym c.get.ensures.value ∙ ap option_copied c.in-Some.is) c.in-None.is c.crossing.ensures)

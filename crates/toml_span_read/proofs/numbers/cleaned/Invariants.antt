@@ -1,0 +1,7 @@
+use Rattle.std.proofs.Common.{◌≡◌, ◌++◌, drop}
+use Rattle.std.specs.Prelude.{string_bytes}
+use Rattle.toml_span_read.specs.Numbers.{cleaned}
+use Rattle.toml_span_read.proofs.numbers.cleaned.Given as goal
+
+abbrev pub invariant-loop-byte : goal.invariant-loop-byte
+invariant-loop-byte l = string_bytes l.text ++ cleaned (drop l.byte-index l.literal) ≡ cleaned l.literal

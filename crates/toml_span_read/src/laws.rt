@@ -1,0 +1,8 @@
+//! Laws of the definitions.
+
+pub mod earlier;
+pub mod keys;
+pub mod keys_order;
+pub mod lines;
+pub mod numbers;
+pub mod values;

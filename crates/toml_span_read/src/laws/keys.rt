@@ -1,0 +1,19 @@
+//! Laws of keys.
+ghost use Rattle.std.specs.Prelude.{◌≡◌, ◌≤◌, ℕ, List, length};
+ghost use Rattle.toml_span_read.specs.declared.fault.Fault.{Fault};
+ghost use Rattle.toml_span_read.specs.Keys.{Part, IsKey, Dotted, StuckDotted};
+
+/// At most one key stands at a place.
+pub fn one_key()
+    ensures { (text : List ℕ) (i j k : ℕ) (p q : Part) → IsKey p text i j → IsKey q text i k → (p ≡ q) × (j ≡ k) }
+{}
+
+/// At most one dotted key stands at a place.
+pub fn one_dotted_key()
+    ensures { (text : List ℕ) (i j k : ℕ) (ps qs : List Part) → Dotted ps text i j → Dotted qs text i k → (ps ≡ qs) × (j ≡ k) }
+{}
+
+/// Where a dotted key within the limit stands, none gets stuck.
+pub fn dotted_key_or_fault()
+    ensures { (text : List ℕ) (limit i j : ℕ) (ps : List Part) (fault : Fault) → Dotted ps text i j → length ps ≤ limit → StuckDotted text limit i fault → ⊥ }
+{}

@@ -1,0 +1,8 @@
+//! Laws of the places of keys.
+ghost use Rattle.std.specs.Prelude.{ℕ, ◌≤◌, List, length};
+ghost use Rattle.toml_span_read.specs.Keys.{Part, Dotted, Ascend};
+
+/// The parts of a dotted key stand one behind the other, within it, and it within the text.
+pub fn parts_ascend()
+    ensures { (parts : List Part) (text : List ℕ) (i j : ℕ) → Dotted parts text i j → Ascend parts i j × (j ≤ length text) }
+{}
