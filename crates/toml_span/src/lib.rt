@@ -7,6 +7,8 @@ mod node;
 mod rest;
 mod scopes;
 mod sections;
+#[cfg(test)]
+mod tests;
 
 pub use de::parse;
 pub use toml_span_lex::span::Span;
