@@ -126,7 +126,7 @@ impl<'de> Value<'de> {
         ensures { view self.now ≡ node (inner_view result.now) self.now.span }
     {
         match &self.value {
-            Some(inner) => inner,
+            Some(held) => held,
             None => unreachable!(),
         }
     }
