@@ -6,12 +6,17 @@ use Rattle.toml_span_tree.specs.declared.error.Error.{Error}
 use Rattle.toml_span_tree.specs.Error.{fault_of}
 use Rattle.toml_span_read.specs.declared.fault.Fault.{Fault}
 use Rattle.toml_span_read.specs.Faults.{IsLineInfo, IsPlaced, Tells}
+use Rattle.toml_span_read.specs.Lines.{Block, SpellsDocument, StuckDocument}
 use Rattle.toml_span.specs.declared.claims.Meeting.{Meeting}
 use Rattle.toml_span.specs.Clashes.{told}
 
--- a fault of reading is told, which is placed in the text
-abbrev pub IsFault : List ℕ → Error → Type 0
-IsFault text error = (fault : Fault) × IsPlaced text fault × Tells text fault (fault_of error)
+-- the text spells a document, within the limit
+abbrev pub IsRead : List ℕ → ℕ → Type 0
+IsRead text limit = (blocks : List Block) × SpellsDocument blocks text limit
+
+-- the text is stuck where the error says, and that is a place of the text
+abbrev pub IsFault : List ℕ → ℕ → Error → Type 0
+IsFault text limit error = (fault : Fault) × StuckDocument text limit fault × IsPlaced text fault × Tells text fault (fault_of error)
 
 -- a clash over a name is told, with the line and the column of its place
 abbrev pub IsClash : List ℕ → Error → Type 0
@@ -25,6 +30,7 @@ abbrev pub IsClashStop : List ℕ → Stop Error → Type 0
 IsClashStop text (stops.Memory e) = ⊤
 IsClashStop text (stops.Fault error) = IsClash text error
 
-abbrev pub IsRefusal : List ℕ → Stop Error → Type 0
-IsRefusal text (stops.Memory e) = ⊤
-IsRefusal text (stops.Fault error) = IsFault text error ⊎ IsClash text error
+-- A text that is not read is stuck somewhere, and that fault is told. Of one that is read a clash is told.
+abbrev pub IsRefusal : List ℕ → ℕ → Stop Error → Type 0
+IsRefusal text limit (stops.Memory e) = ⊤
+IsRefusal text limit (stops.Fault error) = IsFault text limit error ⊎ (IsRead text limit × IsClash text error)

@@ -1,6 +1,6 @@
 //! Reads a document into a tree.
 ghost use Rattle.std.specs.Prelude.{◌≤◌, IfOk, IfErr, length};
-ghost use Rattle.toml_span.specs.Parsing.{IsClashStop, IsRefusal};
+ghost use Rattle.toml_span.specs.Parsing.{IsClashStop, IsRead, IsRefusal};
 ghost use Rattle.toml_span.specs.Roots.{IsRoot};
 
 use crate::claims::Halt;
@@ -39,8 +39,9 @@ fn tree_of<'de>(
 /// The error is the first fault of reading or, where the text is read, the clash of two claims on one
 /// path; there is no tree then.
 pub fn parse<'de>(alloc: Global, s: &'de str) -> Result<Value<'de>, Stop<Error<'de>>>
+    ensures read { IfOk result (λ _. IsRead s.now LIMIT) }
     ensures root { IfOk result (IsRoot (length s.now)) }
-    ensures refused { IfErr result (IsRefusal s.now) }
+    ensures refused { IfErr result (IsRefusal s.now LIMIT) }
 {
     parse_with_limit(alloc, s, LIMIT)
 }
@@ -54,8 +55,9 @@ pub fn parse_with_limit<'de>(
 ) -> Result<Value<'de>, Stop<Error<'de>>>
     requires some { 1 ≤ limit }
     requires small { limit ≤ 128 }
+    ensures read { IfOk result (λ _. IsRead s.now limit) }
     ensures root { IfOk result (IsRoot (length s.now)) }
-    ensures refused { IfErr result (IsRefusal s.now) }
+    ensures refused { IfErr result (IsRefusal s.now limit) }
 {
     match read_sections(alloc, s, limit) {
         Ok(sections) => tree_of(alloc, sections, s),
