@@ -6,5 +6,6 @@ pub use Rattle.toml_span_tree.specs.Pointer
 pub use Rattle.toml_span_tree.specs.Value
 pub mod Clashes
 pub mod Marks
+pub mod Places
 pub mod Roots
 pub mod Parsing

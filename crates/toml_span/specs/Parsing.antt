@@ -18,12 +18,14 @@ IsRead text limit = (blocks : List Block) × SpellsDocument blocks text limit
 abbrev pub IsFault : List ℕ → ℕ → Error → Type 0
 IsFault text limit error = (fault : Fault) × StuckDocument text limit fault × IsPlaced text fault × Tells text fault (fault_of error)
 
--- a clash over a name is told, with the line and the column of its place
+-- a clash over a name is told, at a place in the text, with its line and its column
 abbrev pub IsClash : List ℕ → Error → Type 0
 IsClash text error =
     (clash : Meeting) × (name : List ℕ) × (line column : ℕ)
     × (fault_of error ≡ told clash name (line, column))
-    × (clash.place.start ≤ length text → IsLineInfo text clash.place.start line column)
+    × (clash.place.start ≤ length text)
+    × (clash.place.start ≤ clash.place.end)
+    × IsLineInfo text clash.place.start line column
 
 -- of sections that were read only a clash is told
 abbrev pub IsClashStop : List ℕ → Stop Error → Type 0

@@ -1,10 +1,11 @@
 //! What headers and assignments claim of a path, and which claims clash.
-ghost use Rattle.std.specs.Prelude.{◌≡◌, ⊤, string_bytes};
+ghost use Rattle.std.specs.Prelude.{◌≡◌, ⊤, ℕ, string_bytes, IfErr};
 ghost use Rattle.std.specs.List.{list_any};
 ghost use Rattle.std.specs.Cow.{cow_str_bytes};
 ghost use Rattle.toml_span_tree.specs.Error.{fault_of};
 ghost use Rattle.toml_span.specs.Clashes as clashes;
 ghost use Rattle.toml_span.specs.Marks as kept;
+ghost use Rattle.toml_span.specs.Places.{IsMarkInside, IsHaltInside};
 
 use smallvec::SmallVec;
 use std::alloc::{AllocError, AllocFailed, Global};
@@ -201,7 +202,8 @@ fn halted(alloc: Global, meeting: Meeting, key: &Key<'_>) -> Halt
 
 /// Halts where a claim clashes with one of the earlier ones.
 pub(crate) fn admit(alloc: Global, marks: &[Mark], mark: Mark, key: &Key<'_>) -> Result<(), Halt>
-    ensures { kept.Answers result (clashes.partner marks.now mark) (cow_str_bytes key.now.name) (λ _. ⊤) }
+    ensures answers { kept.Answers result (clashes.partner marks.now mark) (cow_str_bytes key.now.name) (λ _. ⊤) }
+    ensures placed { (n : ℕ) → IsMarkInside n mark → IfErr result (IsHaltInside n) }
 {
     match first_meeting(marks, mark) {
         Some(meeting) => Err(halted(alloc, meeting, key)),
@@ -211,7 +213,8 @@ pub(crate) fn admit(alloc: Global, marks: &[Mark], mark: Mark, key: &Key<'_>) ->
 
 /// Keeps a claim on a node, unless it clashes with an earlier one.
 pub(crate) fn claim(alloc: Global, marks: &mut Marks, mark: Mark, key: &Key<'_>) -> Result<(), Halt>
-    ensures { kept.Answers result (clashes.partner marks.old.items mark) (cow_str_bytes key.now.name) (λ _. marks.new.items ≡ kept.remember marks.old.items mark) }
+    ensures answers { kept.Answers result (clashes.partner marks.old.items mark) (cow_str_bytes key.now.name) (λ _. marks.new.items ≡ kept.remember marks.old.items mark) }
+    ensures placed { (n : ℕ) → IsMarkInside n mark → IfErr result (IsHaltInside n) }
 {
     admit(alloc, marks.as_slice(), mark, key)?;
     if !knows(marks.as_slice(), mark.sort) {

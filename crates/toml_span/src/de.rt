@@ -1,5 +1,6 @@
 //! Reads a document into a tree.
 ghost use Rattle.std.specs.Prelude.{◌≤◌, IfOk, IfErr, length};
+ghost use Rattle.toml_span_read.specs.Inside.{SectionsInside};
 ghost use Rattle.toml_span.specs.Parsing.{IsClashStop, IsRead, IsRefusal};
 ghost use Rattle.toml_span.specs.Roots.{IsRoot};
 
@@ -20,6 +21,7 @@ fn tree_of<'de>(
     sections: Vec<Section<'de>>,
     text: &'de str,
 ) -> Result<Value<'de>, Stop<Error<'de>>>
+    requires inside { SectionsInside (length text.now) sections.items }
     ensures root { IfOk result (IsRoot (length text.now)) }
     ensures refused { IfErr result (IsClashStop text.now) }
 {
@@ -27,8 +29,7 @@ fn tree_of<'de>(
         Ok(root) => Ok(root),
         Err(Halt::Memory(error)) => Err(Stop::Memory(error)),
         Err(Halt::Clash(clash)) => {
-            let start = clash.meeting.place.start.min(text.len());
-            let place = line_info(text, start);
+            let place = line_info(text, clash.meeting.place.start);
             Err(Stop::Fault(clash.into_error(place)))
         }
     }

@@ -1,4 +1,10 @@
 //! Assignments placed into a scope: a section's table, or an inline table.
+ghost use Rattle.std.specs.Prelude.{◌≡◌, ℕ, map, IfErr};
+ghost use Rattle.toml_span_read.specs.Data.{event, view, onto, no_items};
+ghost use Rattle.toml_span_read.specs.Inside.{IsInside, PartsInside, EventInside, EventsInside, KeysInside, ItemKeysInside};
+ghost use Rattle.toml_span_read.specs.Keys.{part as part_of};
+ghost use Rattle.toml_span.specs.Places.{IsMarkInside, IsHaltInside};
+
 use crate::claims::{Halt, Mark, Sort, admit, claim};
 use crate::node::{Node, into_table};
 use crate::rest::Rest;
@@ -14,7 +20,9 @@ use toml_span_tree::{Array, Table, Value, ValueInner};
 const FEW: usize = 65_536;
 
 /// The claim of a part of an assignment's key.
-fn pair_mark(sort: Sort, key: &Key<'_>, span: Span) -> Mark {
+fn pair_mark(sort: Sort, key: &Key<'_>, span: Span) -> Mark
+    ensures { result ≡ record { sort = sort; key = key.now.span; line = span; extent = span } }
+{
     Mark {
         sort,
         key: key.span,
@@ -29,7 +37,9 @@ pub(crate) fn admit_beside_value<'de>(
     values: &Table<'de>,
     mark: Mark,
     key: &Key<'de>,
-) -> Result<(), Halt> {
+) -> Result<(), Halt>
+    ensures { (n : ℕ) → IsMarkInside n mark → IfErr result (IsHaltInside n) }
+{
     match values.get_key_value(key) {
         Some((earlier, _)) => admit(
             alloc,
@@ -48,7 +58,9 @@ fn assign<'de>(
     key: Key<'de>,
     value: Result<Value<'de>, Halt>,
     span: Span,
-) -> Result<(), Halt> {
+) -> Result<(), Halt>
+    ensures { (n : ℕ) → IsInside n key.entry.span → IfErr value.entry (IsHaltInside n) → IfErr result (IsHaltInside n) }
+{
     let mark = pair_mark(Sort::Assigned, &key, span);
     if let Some(child) = node.tables.get(&key) {
         admit(alloc, child.marks.as_slice(), mark, &key)?;
@@ -79,7 +91,9 @@ fn place_pair<'de>(
     last: Key<'de>,
     value: Result<Value<'de>, Halt>,
     span: Span,
-) -> Result<(), Halt> {
+) -> Result<(), Halt>
+    ensures { (n : ℕ) → PartsInside n (map part_of inner.now) → IsInside n last.entry.span → IfErr value.entry (IsHaltInside n) → IfErr result (IsHaltInside n) }
+{
     let [part, rest @ ..] = inner else {
         return assign(alloc, node, last, value, span);
     };
@@ -111,7 +125,9 @@ fn pass_pair<'de>(
     last: Key<'de>,
     value: Result<Value<'de>, Halt>,
     span: Span,
-) -> Result<(), Halt> {
+) -> Result<(), Halt>
+    ensures { (n : ℕ) → IsInside n part.now.span → PartsInside n (map part_of rest.now) → IsInside n last.entry.span → IfErr value.entry (IsHaltInside n) → IfErr result (IsHaltInside n) }
+{
     claim(
         alloc,
         &mut node.marks,
@@ -123,7 +139,9 @@ fn pass_pair<'de>(
 
 /// Places an assignment below a node.
 #[cycle(value_of)]
-fn place_one<'de>(alloc: Global, pair: Assignment<'de>, node: &mut Node<'de>) -> Result<(), Halt> {
+fn place_one<'de>(alloc: Global, pair: Assignment<'de>, node: &mut Node<'de>) -> Result<(), Halt>
+    ensures { (n : ℕ) → EventInside n (event pair.entry) → IfErr result (IsHaltInside n) }
+{
     let Assignment {
         parts: DottedKey { inner, last },
         value,
@@ -143,7 +161,9 @@ fn place_pairs<'de>(
     alloc: Global,
     pairs: Vec<Assignment<'de>>,
     node: &mut Node<'de>,
-) -> Result<(), Halt> {
+) -> Result<(), Halt>
+    ensures { (n : ℕ) → EventsInside n (map event pairs.entry.items) → IfErr result (IsHaltInside n) }
+{
     for pair in pairs {
         place_one(alloc, pair, node)?;
     }
@@ -155,7 +175,9 @@ pub(crate) fn place_all<'de>(
     alloc: Global,
     pairs: Vec<Assignment<'de>>,
     node: &mut Node<'de>,
-) -> Result<(), Halt> {
+) -> Result<(), Halt>
+    ensures { (n : ℕ) → EventsInside n (map event pairs.entry.items) → IfErr result (IsHaltInside n) }
+{
     if pairs.len() <= FEW {
         return place_pairs(alloc, pairs, node);
     }
@@ -167,7 +189,9 @@ pub(crate) fn place_all<'de>(
 
 /// The table of an inline table.
 #[cycle(value_of)]
-fn table_of<'de>(alloc: Global, pairs: Vec<Assignment<'de>>) -> Result<Table<'de>, Halt> {
+fn table_of<'de>(alloc: Global, pairs: Vec<Assignment<'de>>) -> Result<Table<'de>, Halt>
+    ensures { (n : ℕ) → EventsInside n (map event pairs.entry.items) → IfErr result (IsHaltInside n) }
+{
     let mut scope = Node::new(alloc);
     place_pairs(alloc, pairs, &mut scope)?;
     Ok(into_table(scope.tables, scope.values)?)
@@ -175,7 +199,9 @@ fn table_of<'de>(alloc: Global, pairs: Vec<Assignment<'de>>) -> Result<Table<'de
 
 /// The elements of an array.
 #[cycle(value_of)]
-fn array_of<'de>(alloc: Global, elements: Vec<Val<'de>>) -> Result<Array<'de>, Halt> {
+fn array_of<'de>(alloc: Global, elements: Vec<Val<'de>>) -> Result<Array<'de>, Halt>
+    ensures { (n : ℕ) → ItemKeysInside n (onto (map view elements.entry.items) no_items) → IfErr result (IsHaltInside n) }
+{
     let mut array = Vec::with_capacity(alloc, elements.len())?;
     for element in elements {
         array.push(value_of(alloc, element)?)?;
@@ -185,7 +211,9 @@ fn array_of<'de>(alloc: Global, elements: Vec<Val<'de>>) -> Result<Array<'de>, H
 
 /// The value that was read.
 #[cycle(value_of)]
-fn value_of<'de>(alloc: Global, val: Val<'de>) -> Result<Value<'de>, Halt> {
+fn value_of<'de>(alloc: Global, val: Val<'de>) -> Result<Value<'de>, Halt>
+    ensures { (n : ℕ) → KeysInside n (view val.entry) → IfErr result (IsHaltInside n) }
+{
     let Val { kind, span } = val;
     let inner = match kind {
         ValKind::String(text) => ValueInner::String(text),

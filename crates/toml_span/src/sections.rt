@@ -1,5 +1,9 @@
 //! Sections placed one by one into a tree.
-ghost use Rattle.std.specs.Prelude.{IfOk};
+ghost use Rattle.std.specs.Prelude.{◌≡◌, ℕ, map, IfOk, IfErr};
+ghost use Rattle.toml_span_read.specs.Data.{event};
+ghost use Rattle.toml_span_read.specs.Inside.{IsInside, PartsInside, EventsInside, SectionsInside};
+ghost use Rattle.toml_span_read.specs.Keys.{part as part_of};
+ghost use Rattle.toml_span.specs.Places.{IsHaltInside};
 ghost use Rattle.toml_span.specs.Roots.{IsRoot};
 
 use crate::claims::{Halt, Mark, Sort, claim};
@@ -24,7 +28,9 @@ struct Head {
 }
 
 /// The claim of a part of a header.
-fn header_mark(head: Head, sort: Sort, key: &Key<'_>) -> Mark {
+fn header_mark(head: Head, sort: Sort, key: &Key<'_>) -> Mark
+    ensures { result ≡ record { sort = sort; key = key.now.span; line = head.line; extent = head.extent } }
+{
     Mark {
         sort,
         key: key.span,
@@ -52,7 +58,9 @@ fn place_section<'de>(
     parts: &[Key<'de>],
     head: Head,
     pairs: Vec<Assignment<'de>>,
-) -> Result<(), Halt> {
+) -> Result<(), Halt>
+    ensures { (n : ℕ) → PartsInside n (map part_of parts.now) → IsInside n head.line → EventsInside n (map event pairs.entry.items) → IfErr result (IsHaltInside n) }
+{
     let [part, rest @ ..] = parts else {
         return place_all(alloc, pairs, node);
     };
@@ -79,7 +87,9 @@ fn pass_header<'de>(
     rest: &[Key<'de>],
     head: Head,
     pairs: Vec<Assignment<'de>>,
-) -> Result<(), Halt> {
+) -> Result<(), Halt>
+    ensures { (n : ℕ) → IsInside n part.now.span → PartsInside n (map part_of rest.now) → IsInside n head.line → EventsInside n (map event pairs.entry.items) → IfErr result (IsHaltInside n) }
+{
     if rest.is_empty() {
         return end_header(alloc, node, part, head, pairs);
     }
@@ -98,7 +108,9 @@ fn descend<'de>(
     rest: &[Key<'de>],
     head: Head,
     pairs: Vec<Assignment<'de>>,
-) -> Result<(), Halt> {
+) -> Result<(), Halt>
+    ensures { (n : ℕ) → IsInside n part.now.span → PartsInside n (map part_of rest.now) → IsInside n head.line → EventsInside n (map event pairs.entry.items) → IfErr result (IsHaltInside n) }
+{
     claim(
         alloc,
         &mut node.marks,
@@ -116,7 +128,9 @@ fn open_table<'de>(
     part: &Key<'de>,
     head: Head,
     pairs: Vec<Assignment<'de>>,
-) -> Result<(), Halt> {
+) -> Result<(), Halt>
+    ensures { (n : ℕ) → IsInside n part.now.span → IsInside n head.line → EventsInside n (map event pairs.entry.items) → IfErr result (IsHaltInside n) }
+{
     claim(alloc, &mut node.marks, header_mark(head, sort, part), part)?;
     place_all(alloc, pairs, node)
 }
@@ -128,7 +142,9 @@ fn add_entry<'de>(
     part: &Key<'de>,
     head: Head,
     pairs: Vec<Assignment<'de>>,
-) -> Result<(), Halt> {
+) -> Result<(), Halt>
+    ensures { (n : ℕ) → IsInside n part.now.span → IsInside n head.line → EventsInside n (map event pairs.entry.items) → IfErr result (IsHaltInside n) }
+{
     let mut entry = Node::new(alloc);
     open_table(alloc, &mut entry, Sort::Entry, part, head, pairs)?;
     node.entries.push(entry)?;
@@ -142,7 +158,9 @@ fn end_header<'de>(
     part: &Key<'de>,
     head: Head,
     pairs: Vec<Assignment<'de>>,
-) -> Result<(), Halt> {
+) -> Result<(), Halt>
+    ensures { (n : ℕ) → IsInside n part.now.span → IsInside n head.line → EventsInside n (map event pairs.entry.items) → IfErr result (IsHaltInside n) }
+{
     if !head.array {
         return open_table(alloc, node, Sort::Section, part, head, pairs);
     }
@@ -159,7 +177,8 @@ pub(crate) fn assemble<'de>(
     sections: Vec<Section<'de>>,
     length: usize,
 ) -> Result<Value<'de>, Halt>
-    ensures { IfOk result (IsRoot length) }
+    ensures root { IfOk result (IsRoot length) }
+    ensures placed { (n : ℕ) → SectionsInside n sections.entry.items → IfErr result (IsHaltInside n) }
 {
     let mut root = Node::new(alloc);
     for section in Rest::new(sections) {
