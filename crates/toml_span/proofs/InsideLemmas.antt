@@ -4,7 +4,7 @@ use Rattle.toml_span_lex.specs.declared.key.Key.{Key}
 use Rattle.toml_span_read.specs.declared.section.Section.{Section}
 use Rattle.toml_span_read.specs.declared.value.Assignment.{Assignment}
 use Rattle.toml_span_read.specs.declared.value.Val.{Val}
-use Rattle.toml_span_read.specs.declared.value.ValKind.{ValKind, Inline}
+use Rattle.toml_span_read.specs.declared.value.ValKind.{Inline}
 use Rattle.toml_span_read.specs.Data.{view, event, onto, no_items}
 use Rattle.toml_span_read.specs.Inside.{IsInside, PartsInside, KeysInside, ItemKeysInside, EventInside, EventsInside, SectionInside, SectionsInside}
 use Rattle.toml_span_read.specs.Keys.{part}
