@@ -26,3 +26,4 @@ pub mod NumberRows
 pub mod SpanLaws
 pub mod DepthLaws
 pub mod AscendLaws
+pub mod WiderDocument

@@ -3,6 +3,7 @@
 pub mod earlier;
 pub mod keys;
 pub mod keys_order;
+pub mod limits;
 pub mod lines;
 pub mod numbers;
 pub mod values;
