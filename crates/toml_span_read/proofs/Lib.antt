@@ -27,3 +27,5 @@ pub mod SpanLaws
 pub mod DepthLaws
 pub mod AscendLaws
 pub mod WiderDocument
+pub mod StartLaws
+pub mod StringLaws

@@ -13,3 +13,5 @@ pub mod Lines
 pub mod Inside
 pub mod Spans
 pub mod Order
+pub mod Starts
+pub mod Between

@@ -6,4 +6,6 @@ pub mod keys_order;
 pub mod limits;
 pub mod lines;
 pub mod numbers;
+pub mod starts;
+pub mod strings;
 pub mod values;
