@@ -25,6 +25,7 @@ pub mod InsideLemmas
 pub mod NumberRows
 pub mod SpanLaws
 pub mod DepthLaws
+pub mod UndatedLaws
 pub mod AscendLaws
 pub mod WiderDocument
 pub mod StartLaws

@@ -10,6 +10,7 @@ pub mod Earlier
 pub mod Grammar
 pub mod Stuck
 pub mod Lines
+pub mod Undated
 pub mod Inside
 pub mod Spans
 pub mod Order

@@ -8,4 +8,5 @@ pub mod lines;
 pub mod numbers;
 pub mod starts;
 pub mod strings;
+pub mod undated;
 pub mod values;
