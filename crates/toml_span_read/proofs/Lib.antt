@@ -30,3 +30,8 @@ pub mod AscendLaws
 pub mod WiderDocument
 pub mod StartLaws
 pub mod StringLaws
+pub mod AgainRuns
+pub mod AgainStrings
+pub mod AgainNumbers
+pub mod AgainValues
+pub mod AgainLines

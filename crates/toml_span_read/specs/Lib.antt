@@ -16,3 +16,4 @@ pub mod Spans
 pub mod Order
 pub mod Starts
 pub mod Between
+pub mod Again

@@ -1,5 +1,6 @@
 //! Laws of the definitions.
 
+pub mod again;
 pub mod earlier;
 pub mod keys;
 pub mod keys_order;
