@@ -1,6 +1,6 @@
 -- Strings that stand in a part of a text stand in its copy.
 use Rattle.std.proofs.Common.{◌≡◌, ℕ, ◌+◌, ◌-◌, ◌<◌, ◌≤◌, ◌⊎◌, Bool, true, false, List, [], ◌∷◌, length, get_or, arith, inl, inr, sym, ◌∙◌, refl, cond}
-use Rattle.std.specs.Prelude.{◌==◌, ◌||◌, ◌&&◌, not, min}
+use Rattle.std.specs.Prelude.{◌==◌, ◌||◌, ◌&&◌, not, min, slice_range}
 use Rattle.std.proofs.lemmas.Bool.{cases_lt, false≢true}
 use Rattle.std.proofs.lemmas.Bool.Decides.{nat_tests}
 use Rattle.std.proofs.lemmas.List.{get_or_past}
@@ -141,13 +141,14 @@ is_content a b s t q m w v from to end from' to' end' o e f g u h =
     let less : to < end = omega (arith, c.some, h.to_is) in
     let at : h.at + t ≡ ((h.at + t) - s) + s = omega arith in
     let ps = cut a b s t q m w h.pieces from h.at from' ((h.at + t) - s) o e at (omega arith) h.cut in
+    let range : slice_range a h.at to ≡ slice_range b ((h.at + t) - s) to' = same_range a b s t w h.at to ((h.at + t) - s) to' (omega arith) on at f (omega arith) in
     record {
       pieces = ps.0;
       at = (h.at + t) - s;
       cut = ps.1;
       closes = close a b s t q m w h.at end ((h.at + t) - s) end' (omega arith) at g u h.closes;
       to_is = content_end_moved m s t to end to' end' (close_three q m a h.at end h.closes) h.to_is (omega arith) less f g;
-      value_is = rw (sym ps.2, sym (same_range a b s t w h.at to ((h.at + t) - s) to' (omega arith) on at f (omega arith))) h.value_is;
+      value_is = rw (sym ps.2, sym range) h.value_is;
     }
 
 -- ---- strings

@@ -35,3 +35,4 @@ pub mod AgainStrings
 pub mod AgainNumbers
 pub mod AgainValues
 pub mod AgainLines
+pub mod AgainLaws

@@ -1,8 +1,11 @@
 -- What is spelled at one place of a text, read again at another place of another text.
 use Rattle.std.specs.Prelude.{ℕ, ◌+◌, ◌-◌, List, [], ◌∷◌, ◌++◌, map, slice_range, codes}
 use Rattle.toml_span_lex.specs.declared.span.Span.{Span}
+use Rattle.toml_span_tree.specs.Node.{Scalar, text, integer, float, boolean, datetime}
 use Rattle.toml_span_read.specs.Keys.{Part}
 use Rattle.toml_span_read.specs.Data.{Node, node, Inner, scalar, array, inline, Items, no_items, item, Pairs, no_pairs, pair, Event}
+use Rattle.toml_span_read.specs.Earlier.{span_of}
+use Rattle.toml_span_read.specs.Lines.{Block, first_block, SpellsDocument}
 
 -- a span, moved so that what stood at `from` stands at `to`
 abbrev pub moved_span : ℕ → ℕ → Span → Span
@@ -31,9 +34,52 @@ abbrev mutual
 
 -- a document of one assignment: `x = `, and behind it the text from i to j
 abbrev pub assigned_again : List ℕ → ℕ → ℕ → List ℕ
-assigned_again text i j = codes "x = " ++ slice_range text i j
+assigned_again t i j = codes "x = " ++ slice_range t i j
 
 -- that assignment: its key is x, its value is that which was spelled from i to j, moved to 4, and its extent is the whole text
 abbrev pub event_again : Node → ℕ → ℕ → Event
 event_again v i j =
     record { parts = record { name = codes "x"; span = record { start = 0; end = 1 } } ∷ []; value = moved i 4 v; extent = record { start = 0; end = (j + 4) - i } }
+
+-- the text from i to j spells the value again: behind `x = ` it is a document of that assignment alone
+abbrev pub SpellsAgain : Node → List ℕ → ℕ → ℕ → ℕ → Type 0
+SpellsAgain v t limit i j = SpellsDocument (first_block (event_again v i j ∷ [])) (assigned_again t i j) limit
+
+-- the text at the value's span spells it again
+abbrev pub ReadsAgain : List ℕ → ℕ → Node → Type 0
+ReadsAgain t limit v = SpellsAgain v t limit (span_of v).start (span_of v).end
+
+-- The span of a string is its content's, without the quotes.
+abbrev pub ScalarReadsAgain : List ℕ → ℕ → Scalar → Span → Type 0
+ScalarReadsAgain t limit (text value) span = Unit {0}
+ScalarReadsAgain t limit (integer n) span = ReadsAgain t limit (node (scalar (integer n)) span)
+ScalarReadsAgain t limit (float x) span = ReadsAgain t limit (node (scalar (float x)) span)
+ScalarReadsAgain t limit (boolean b) span = ReadsAgain t limit (node (scalar (boolean b)) span)
+ScalarReadsAgain t limit (datetime d) span = ReadsAgain t limit (node (scalar (datetime d)) span)
+
+-- a value and the values in it, at every nesting, read again, but for strings
+abbrev mutual
+  pub AllReadAgain : List ℕ → ℕ → Node → Type 0
+  AllReadAgain t limit (node k span) = InnerReadAgain t limit k span
+
+  pub InnerReadAgain : List ℕ → ℕ → Inner → Span → Type 0
+  InnerReadAgain t limit (scalar s) span = ScalarReadsAgain t limit s span
+  InnerReadAgain t limit (array vs) span = ReadsAgain t limit (node (array vs) span) × ItemsReadAgain t limit vs
+  InnerReadAgain t limit (inline ps) span = ReadsAgain t limit (node (inline ps) span) × PairsReadAgain t limit ps
+
+  pub ItemsReadAgain : List ℕ → ℕ → Items → Type 0
+  ItemsReadAgain t limit no_items = Unit {0}
+  ItemsReadAgain t limit (item v vs) = AllReadAgain t limit v × ItemsReadAgain t limit vs
+
+  pub PairsReadAgain : List ℕ → ℕ → Pairs → Type 0
+  PairsReadAgain t limit no_pairs = Unit {0}
+  PairsReadAgain t limit (pair parts v extent ps) = AllReadAgain t limit v × PairsReadAgain t limit ps
+
+-- so do the values of these assignments, and those of these sections
+abbrev pub EventsReadAgain : List ℕ → ℕ → List Event → Type 0
+EventsReadAgain t limit [] = Unit {0}
+EventsReadAgain t limit (e ∷ es) = AllReadAgain t limit e.value × EventsReadAgain t limit es
+
+abbrev pub BlocksReadAgain : List ℕ → ℕ → List Block → Type 0
+BlocksReadAgain t limit [] = Unit {0}
+BlocksReadAgain t limit (b ∷ bs) = EventsReadAgain t limit b.events × BlocksReadAgain t limit bs
