@@ -1,7 +1,7 @@
 -- The values of a document are read again from the texts at their spans.
 use Rattle.std.proofs.Common.{◌≡◌, ℕ, ◌+◌, ◌≤◌, List, [], ◌∷◌, ◌++◌, length, arith, inl, inr, sym, subst}
 use Rattle.toml_span_lex.specs.declared.span.Span.{Span}
-use Rattle.toml_span_tree.specs.Node.{Scalar, text as text_scalar, integer, float, boolean, datetime}
+use Rattle.toml_span_tree.specs.Node.{text as text_scalar, integer, float, boolean, datetime}
 use Rattle.toml_span_read.specs.Keys.{Part, Dotted}
 use Rattle.toml_span_read.specs.Data.{Node, node, Inner, scalar, array, inline, Items, no_items, item, Pairs, no_pairs, pair, Event}
 use Rattle.toml_span_read.specs.Earlier.{span_of}
