@@ -36,3 +36,4 @@ pub mod AgainNumbers
 pub mod AgainValues
 pub mod AgainLines
 pub mod AgainLaws
+pub mod JudgedLemmas

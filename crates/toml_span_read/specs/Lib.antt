@@ -17,3 +17,4 @@ pub mod Order
 pub mod Starts
 pub mod Between
 pub mod Again
+pub mod Judged

@@ -2,6 +2,7 @@
 
 pub mod again;
 pub mod earlier;
+pub mod judged;
 pub mod keys;
 pub mod keys_order;
 pub mod limits;

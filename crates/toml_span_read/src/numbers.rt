@@ -132,7 +132,7 @@ fn integer(
 
 /// The radix that two bytes name.
 #[inline]
-fn radix_of(text: &str, run: usize) -> Option<u8>
+pub fn radix_of(text: &str, run: usize) -> Option<u8>
     requires { run < usize.MAX }
     ensures { result ≡ spec.radix_at text.now run }
 {
@@ -150,7 +150,7 @@ fn radix_of(text: &str, run: usize) -> Option<u8>
 /// The integer of a run with a radix before it.
 ///
 /// `hex-int`, `oct-int`, `bin-int` (TOML 1.1, Integer)
-fn radix_integer(text: &str, run: Span, radix: u8) -> Result<i64, Fault>
+pub fn radix_integer(text: &str, run: Span, radix: u8) -> Result<i64, Fault>
     requires within { run.end ≤ length text.now }
     requires prefix { run.start + 2 ≤ run.end }
     requires last { is_keylike (slice_index text.now run.end) ≡ false }
@@ -296,7 +296,7 @@ fn behind_minus(text: &str, at: usize) -> usize
 }
 
 /// A number without a radix: its value, or where its float ends.
-enum Decimal {
+pub enum Decimal {
     Integer(i64),
     Float(usize),
 }
@@ -304,7 +304,7 @@ enum Decimal {
 /// The number without a radix that begins with the run `first`, or the fault.
 ///
 /// `float = float-int-part ( exp / frac [ exp ] )` (TOML 1.1, Float)
-fn decimal_number(text: &str, start: usize, first: Span) -> Result<Decimal, Fault>
+pub fn decimal_number(text: &str, start: usize, first: Span) -> Result<Decimal, Fault>
     requires start { start ≤ first.start }
     requires run { IsRun text.now first }
     requires digits { IsSpecial text.now first.start first.end → ⊥ }
@@ -366,7 +366,7 @@ fn cleaned(alloc: Global, literal: &str) -> Result<String, AllocError>
 }
 
 /// The float that a word of letters writes.
-fn special_float(word: &[u8]) -> Option<FloatText>
+pub fn special_float(word: &[u8]) -> Option<FloatText>
     ensures { SpecialGives word.now result }
 {
     match word {
@@ -379,7 +379,7 @@ fn special_float(word: &[u8]) -> Option<FloatText>
 }
 
 /// The fault of a dot behind a float of letters.
-fn special_dot(text: &str, start: usize, first: Span) -> Fault
+pub fn special_dot(text: &str, start: usize, first: Span) -> Fault
     requires start { start ≤ first.start }
     requires run { IsRun text.now first }
     requires dot { slice_index text.now first.end ≡ 46 }
