@@ -26,6 +26,7 @@ pub mod NumberRows
 pub mod SpanLaws
 pub mod DepthLaws
 pub mod UndatedLaws
+pub mod DueLaws
 pub mod AscendLaws
 pub mod WiderDocument
 pub mod StartLaws

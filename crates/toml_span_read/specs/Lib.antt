@@ -11,6 +11,7 @@ pub mod Grammar
 pub mod Stuck
 pub mod Lines
 pub mod Undated
+pub mod Due
 pub mod Inside
 pub mod Spans
 pub mod Order

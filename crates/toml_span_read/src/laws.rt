@@ -1,6 +1,7 @@
 //! Laws of the definitions.
 
 pub mod again;
+pub mod due;
 pub mod earlier;
 pub mod judged;
 pub mod keys;

@@ -1,0 +1,5 @@
+use Rattle.toml_span_read.proofs.DueLaws.{document_due}
+use Rattle.toml_span_read.proofs.laws.due.faults_are_due.Goals as goal
+
+pub returns : goal.returns
+returns c = λ text limit e h. document_due text limit e h
