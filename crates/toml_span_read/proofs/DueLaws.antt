@@ -97,10 +97,10 @@ closed_due : (array : Bool) (text : List ℕ) (limit k m : ℕ) (fs : List Frame
 closed_due false text limit k m fs (here, u) w = rw u (header_tail fs k w here)
 closed_due true text limit k m fs (here, again, u) w = let x : m ≡ (k + 1) + 1 = omega (arith, u) in rw x (header_tail fs (k + 1) (closes_again fs k w here) again)
 
-header_due : (text : List ℕ) (limit : ℕ) {i : ℕ} {e : Fault} → StuckHeader text limit i e → (fs : List Frame) → DueAt text limit a_line fs i → IsDue text limit e
-header_due text limit (l.header_key i m k array e opens run r) fs w = header_key_due text limit {n = 0} {i = k} {e = e} r fs (opens_header fs i m k array w opens run)
-header_due text limit (l.header_close i k array ps e front r) fs w = closing_due array text limit k e fs r (header_closes fs i k array ps w front)
-header_due text limit (l.header_rest i k m array ps e front shuts r) fs w = tail_due text limit m e fs r (closed_due array text limit k m fs shuts (header_closes fs i k array ps w front))
+header_due : (text : List ℕ) (limit : ℕ) {i : ℕ} {e : Fault} → StuckHeader text limit i e → (es : List Event) → DueAt text limit a_line (in_section es ∷ []) i → IsDue text limit e
+header_due text limit (l.header_key i m k array e opens run r) es w = header_key_due text limit {n = 0} {i = k} {e = e} r (in_section es ∷ []) (opens_header es i m k array w opens run)
+header_due text limit (l.header_close i k array ps e front r) es w = closing_due array text limit k e (in_section es ∷ []) r (header_closes es i k array ps w front)
+header_due text limit (l.header_rest i k m array ps e front shuts r) es w = tail_due text limit m e (in_section es ∷ []) r (closed_due array text limit k m (in_section es ∷ []) shuts (header_closes es i k array ps w front))
 
 -- ---- sections and the document
 
@@ -110,14 +110,14 @@ lines_on [] es text limit i j h w = (es, rw h w)
 lines_on (ev ∷ evs) es text limit i j (m, n, k, h, t, clear, gap, r) w =
     lines_on evs (es ++ (ev ∷ [])) text limit k j r (next_line es n k ev (line_verdict es i m n ev w h t) clear gap)
 
-sections_due : (text : List ℕ) (limit : ℕ) {i : ℕ} {e : Fault} → StuckSections text limit i e → (fs : List Frame) → DueAt text limit a_line fs i → IsDue text limit e
-sections_due text limit (l.in_header i e r) fs w = header_due text limit {i = i} {e = e} r fs w
-sections_due text limit (l.in_section i m array ps e h (k, gap, r)) fs w = events_due text limit {es = []} {i = k} {e = e} r (next_section fs i m k array ps w h gap)
-sections_due text limit (l.section_on i j b e t r) fs w =
-    let on = lines_on b.events [] text limit t.lines.0 j t.lines.2 (next_section fs i t.end t.lines.0 b.array b.header w t.header t.lines.1) in
-    sections_due text limit {i = j} {e = e} r (in_section on.0 ∷ []) on.1
+sections_due : (text : List ℕ) (limit : ℕ) {i : ℕ} {e : Fault} → StuckSections text limit i e → (es : List Event) → DueAt text limit a_line (in_section es ∷ []) i → IsDue text limit e
+sections_due text limit (l.in_header i e r) es w = header_due text limit {i = i} {e = e} r es w
+sections_due text limit (l.in_section i m array ps e h (k, gap, r)) es w = events_due text limit {es = []} {i = k} {e = e} r (next_section es i m k array ps w h gap)
+sections_due text limit (l.section_on i j b e t r) es w =
+    let on = lines_on b.events [] text limit t.lines.0 j t.lines.2 (next_section es i t.end t.lines.0 b.array b.header w t.header t.lines.1) in
+    sections_due text limit {i = j} {e = e} r on.0 on.1
 
 pub document_due : (text : List ℕ) (limit : ℕ) (e : Fault) → StuckDocument text limit e → IsDue text limit e
 document_due text limit e (l.before_headers i e' begins (k, gap, r)) = events_due text limit {es = []} {i = k} {e = e'} r (first_line i k begins gap)
 document_due text limit e (l.behind_header i j evs e' begins (k, gap, h) r) =
-    let on = lines_on evs [] text limit k j h (first_line i k begins gap) in sections_due text limit {i = j} {e = e'} r (in_section on.0 ∷ []) on.1
+    let on = lines_on evs [] text limit k j h (first_line i k begins gap) in sections_due text limit {i = j} {e = e'} r on.0 on.1

@@ -71,12 +71,12 @@ pub data DueAt (text : List ℕ) (limit : ℕ) : What → List Frame → ℕ →
   -- `key = simple-key / dotted-key`
   part_next : (fs : List Frame) (n i m p : ℕ) (s : Part) → DueAt text limit (a_part n) fs i → IsKey s text i m → Dot text m p → DueAt text limit (a_part (n + 1)) fs p
   -- `std-table = std-table-open key std-table-close`, `array-table = array-table-open key array-table-close`, and the rest of its line
-  opens_header : (fs : List Frame) (i m k : ℕ) (array : Bool) → DueAt text limit a_line fs i → Opens array text i m → MaximalRun is_blank text m k → DueAt text limit (a_header_part 0) fs k
+  opens_header : (es : List Event) (i m k : ℕ) (array : Bool) → DueAt text limit a_line (in_section es ∷ []) i → Opens array text i m → MaximalRun is_blank text m k → DueAt text limit (a_header_part 0) (in_section es ∷ []) k
   header_part_next : (fs : List Frame) (n i m p : ℕ) (s : Part) → DueAt text limit (a_header_part n) fs i → IsKey s text i m → Dot text m p → DueAt text limit (a_header_part (n + 1)) fs p
-  header_closes : (fs : List Frame) (i k : ℕ) (array : Bool) (ps : List Part) → DueAt text limit a_line fs i → HeaderFront ps array text limit i k → DueAt text limit (a_closing array) fs k
+  header_closes : (es : List Event) (i k : ℕ) (array : Bool) (ps : List Part) → DueAt text limit a_line (in_section es ∷ []) i → HeaderFront ps array text limit i k → DueAt text limit (a_closing array) (in_section es ∷ []) k
   closes_again : (fs : List Frame) (k : ℕ) → DueAt text limit (a_closing true) fs k → slice_index text k ≡ right_bracket → DueAt text limit (a_closing false) fs (k + 1)
   header_tail : (fs : List Frame) (k : ℕ) → DueAt text limit (a_closing false) fs k → slice_index text k ≡ right_bracket → DueAt text limit a_tail fs (k + 1)
-  next_section : (fs : List Frame) (i m k : ℕ) (array : Bool) (ps : List Part) → DueAt text limit a_line fs i → SpellsHeader ps array text limit i m → MaximalGap text m k → DueAt text limit a_line (in_section [] ∷ []) k
+  next_section : (es : List Event) (i m k : ℕ) (array : Bool) (ps : List Part) → DueAt text limit a_line (in_section es ∷ []) i → SpellsHeader ps array text limit i m → MaximalGap text m k → DueAt text limit a_line (in_section [] ∷ []) k
   -- `array = array-open [ array-values ] ws-comment-newline array-close`
   opens_array : (fs : List Frame) (i k : ℕ) → DueAt text limit a_value fs i → depth fs ≤ limit → slice_index text i ≡ left_bracket → MaximalGap text (i + 1) k → DueAt text limit an_element (in_brackets ∷ fs) k
   item_value : (fs : List Frame) (i : ℕ) → DueAt text limit an_element (in_brackets ∷ fs) i → (slice_index text i == right_bracket) ≡ false → DueAt text limit a_value (in_brackets ∷ fs) i
