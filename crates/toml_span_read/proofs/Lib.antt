@@ -27,6 +27,7 @@ pub mod SpanLaws
 pub mod DepthLaws
 pub mod UndatedLaws
 pub mod DueLaws
+pub mod DueMade
 pub mod AscendLaws
 pub mod WiderDocument
 pub mod StartLaws
