@@ -38,7 +38,7 @@ FromComma text limit fs n e = ⊥
 data FromPart (text : List ℕ) (limit n i : ℕ) : Fault → Type 0 where
   here : (e : Fault) → NoKey text i e → FromPart text limit n i e
   past : (s : Part) (j : ℕ) → IsKey s text i j → limit ≤ n → FromPart text limit n i (fault_at kinds.ExceededDepthLimit i)
-  behind : (s : Part) (j : ℕ) (e : Fault) → IsKey s text i j → StuckOnward text limit (n + 1) j e → FromPart text limit n i e
+  behind : (s : Part) (j : ℕ) (e : Fault) → IsKey s text i j → n < limit → StuckOnward text limit (n + 1) j e → FromPart text limit n i e
 
 abbrev FromKey : List ℕ → ℕ → List Frame → ℕ → Fault → Type 0
 FromKey text limit (in_section es ∷ fs) i e = StuckEvent text limit i e
@@ -83,7 +83,7 @@ From text limit what fs i e = ⊥
 onward_made : (text : List ℕ) (limit n m p : ℕ) {e : Fault} → Dot text m p → FromPart text limit n p e → StuckOnward text limit n m e
 onward_made text limit n m p dot (here e h) = no_part n m p e dot h
 onward_made text limit n m p dot (past part j key o) = too_many n m p j part dot key o
-onward_made text limit n m p dot (behind part j e key r) = dotted_on n m p j part e dot key r
+onward_made text limit n m p dot (behind part j e key few r) = dotted_on n m p j part e dot key few r
 
 key_made : (fs : List Frame) (text : List ℕ) (limit i : ℕ) (e : Fault) → StuckDotted text limit i e → FromKey text limit fs i e
 key_made [] text limit i e h = h
@@ -129,10 +129,10 @@ leads text limit (line_verdict es i m n ev w h t) e (inl c) = leads text limit {
 leads text limit (line_verdict es i m n ev w h t) e (inr (clear, k, gap, inl r)) = leads text limit {what = a_line} {fs = in_section es ∷ []} {i = i} w e (inl (l.line_on es i m n k ev e h t clear gap r))
 leads text limit (line_verdict es i m n ev w h t) e (inr (clear, k, gap, inr (evs, j, more, r))) = leads text limit {what = a_line} {fs = in_section es ∷ []} {i = i} w e (inr (ev ∷ evs, j, (m, n, k, h, t, clear, gap, more), r))
 leads text limit (next_line es n k ev w clear gap) e r = leads text limit {what = a_verdict ev} {fs = in_section es ∷ []} {i = n} w e (inr (clear, k, gap, r))
-leads text limit (part_next fs zero i m p part w key dot) e r = leads text limit {what = a_part 0} {fs = fs} {i = i} w e (key_made fs text limit i e (onward i m part e key (onward_made text limit 1 m p dot r)))
-leads text limit (part_next fs (suc n) i m p part w key dot) e r = leads text limit {what = a_part (suc n)} {fs = fs} {i = i} w e (behind part m e key (onward_made text limit (suc n + 1) m p dot (later_part fs text limit (suc n + 1) (suc n) p e (omega arith) r)))
+leads text limit (part_next fs zero i m p part w key few dot) e r = leads text limit {what = a_part 0} {fs = fs} {i = i} w e (key_made fs text limit i e (onward i m part e key (onward_made text limit 1 m p dot r)))
+leads text limit (part_next fs (suc n) i m p part w key few dot) e r = leads text limit {what = a_part (suc n)} {fs = fs} {i = i} w e (behind part m e key few (onward_made text limit (suc n + 1) m p dot (later_part fs text limit (suc n + 1) (suc n) p e (omega arith) r)))
 leads text limit (opens_header es i m k array w opens run) e r = leads text limit {what = a_line} {fs = in_section es ∷ []} {i = i} w e (inr ([], i, refl, l.in_header i e (l.header_key i m k array e opens run r)))
-leads text limit (header_part_next fs n i m p part w key dot) e r = leads text limit {what = a_header_part n} {fs = fs} {i = i} w e (header_on n i m p part e key dot r)
+leads text limit (header_part_next fs n i m p part w key few dot) e r = leads text limit {what = a_header_part n} {fs = fs} {i = i} w e (header_on n i m p part e key few dot r)
 leads text limit (header_closes es i k array ps w front) e (inl r) = leads text limit {what = a_line} {fs = in_section es ∷ []} {i = i} w e (inr ([], i, refl, l.in_header i e (l.header_close i k array ps e front r)))
 leads text limit (header_closes es i k array ps w front) e (inr (m, shuts, r)) = leads text limit {what = a_line} {fs = in_section es ∷ []} {i = i} w e (inr ([], i, refl, l.in_header i e (l.header_rest i k m array ps e front shuts r)))
 leads text limit (closes_again fs k w h) e (inl (none, r)) = leads text limit {what = a_closing true} {fs = fs} {i = k} w e (inl (inr (h, none, r)))

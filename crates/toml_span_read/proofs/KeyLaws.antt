@@ -188,8 +188,8 @@ onward_excluded text limit (no_part n m p e d h) (s ∷ ss) j (p', q, d', key, r
     let f : p' ≡ p = dot_unique text m p' p d' d in key_or_none s text p q e (rw f at key) h
 onward_excluded text limit (too_many n m p q s d k o) [] j a l = dot_or_none text m p d a.1
 onward_excluded text limit (too_many n m p q s d k o) (t ∷ ts) j a l = omega arith
-onward_excluded text limit (dotted_on n m p q s e d k h) [] j a l = dot_or_none text m p d a.1
-onward_excluded text limit (dotted_on n m p q s e d k h) (t ∷ ts) j (p', q', d', key, rest) l =
+onward_excluded text limit (dotted_on n m p q s e d k few h) [] j a l = dot_or_none text m p d a.1
+onward_excluded text limit (dotted_on n m p q s e d k few h) (t ∷ ts) j (p', q', d', key, rest) l =
     let f : p' ≡ p = dot_unique text m p' p d' d in
     let u = key_unique t s text p q' q (rw f at key) k in
     onward_excluded text limit {n = n + 1} {m = q} {e = e} h ts j (rw u.1 at rest) (omega arith)

@@ -198,9 +198,9 @@ header_key_excluded : (text : List ℕ) (limit : ℕ) {n i : ℕ} {e : Fault} �
 header_key_excluded text limit h [] j a l = a
 header_key_excluded text limit (no_header_part n i e h) (s ∷ ss) j (m, key, rest) l = key_or_none s text i m e key h
 header_key_excluded text limit (header_too_many n i m s k o) (t ∷ ts) j a l = omega (arith, o, l)
-header_key_excluded text limit (header_on n i m p s e k d h) (t ∷ []) j (m', key, rest) l =
+header_key_excluded text limit (header_on n i m p s e k few d h) (t ∷ []) j (m', key, rest) l =
     let u = key_unique t s text i m' m key k in dot_or_none text m p d (rw u.1 at rest.1)
-header_key_excluded text limit (header_on n i m p s e k d h) (t ∷ t' ∷ ts) j (m', key, (p', q, d', key', rest)) l =
+header_key_excluded text limit (header_on n i m p s e k few d h) (t ∷ t' ∷ ts) j (m', key, (p', q, d', key', rest)) l =
     let u = key_unique t s text i m' m key k in
     let f : p' ≡ p = dot_unique text m p' p (rw u.1 at d') d in
     header_key_excluded text limit {n = n + 1} {i = p} {e = e} h (t' ∷ ts) j (q, (rw f at key'), rest) (omega (arith, l))

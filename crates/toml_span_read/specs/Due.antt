@@ -69,10 +69,10 @@ pub data DueAt (text : List ℕ) (limit : ℕ) : What → List Frame → ℕ →
   line_verdict : (es : List Event) (i m n : ℕ) (ev : Event) → DueAt text limit a_line (in_section es ∷ []) i → SpellsEvent ev text limit i m → Tail text m n → DueAt text limit (a_verdict ev) (in_section es ∷ []) n
   next_line : (es : List Event) (n k : ℕ) (ev : Event) → DueAt text limit (a_verdict ev) (in_section es ∷ []) n → Clear es ev → MaximalGap text n k → DueAt text limit a_line (in_section (es ++ (ev ∷ [])) ∷ []) k
   -- `key = simple-key / dotted-key`
-  part_next : (fs : List Frame) (n i m p : ℕ) (s : Part) → DueAt text limit (a_part n) fs i → IsKey s text i m → Dot text m p → DueAt text limit (a_part (n + 1)) fs p
+  part_next : (fs : List Frame) (n i m p : ℕ) (s : Part) → DueAt text limit (a_part n) fs i → IsKey s text i m → n < limit → Dot text m p → DueAt text limit (a_part (n + 1)) fs p
   -- `std-table = std-table-open key std-table-close`, `array-table = array-table-open key array-table-close`, and the rest of its line
   opens_header : (es : List Event) (i m k : ℕ) (array : Bool) → DueAt text limit a_line (in_section es ∷ []) i → Opens array text i m → MaximalRun is_blank text m k → DueAt text limit (a_header_part 0) (in_section es ∷ []) k
-  header_part_next : (fs : List Frame) (n i m p : ℕ) (s : Part) → DueAt text limit (a_header_part n) fs i → IsKey s text i m → Dot text m p → DueAt text limit (a_header_part (n + 1)) fs p
+  header_part_next : (fs : List Frame) (n i m p : ℕ) (s : Part) → DueAt text limit (a_header_part n) fs i → IsKey s text i m → n < limit → Dot text m p → DueAt text limit (a_header_part (n + 1)) fs p
   header_closes : (es : List Event) (i k : ℕ) (array : Bool) (ps : List Part) → DueAt text limit a_line (in_section es ∷ []) i → HeaderFront ps array text limit i k → DueAt text limit (a_closing array) (in_section es ∷ []) k
   closes_again : (fs : List Frame) (k : ℕ) → DueAt text limit (a_closing true) fs k → slice_index text k ≡ right_bracket → DueAt text limit (a_closing false) fs (k + 1)
   header_tail : (fs : List Frame) (k : ℕ) → DueAt text limit (a_closing false) fs k → slice_index text k ≡ right_bracket → DueAt text limit a_tail fs (k + 1)

@@ -73,7 +73,7 @@ Dotted (s ∷ ss) text i j = (m : ℕ) × IsKey s text i m × Onward ss text m j
 pub data StuckOnward (text : List ℕ) (limit : ℕ) : ℕ → ℕ → Fault → Type 0 where
   no_part : (n m p : ℕ) (e : Fault) → Dot text m p → NoKey text p e → StuckOnward text limit n m e
   too_many : (n m p q : ℕ) (s : Part) → Dot text m p → IsKey s text p q → limit ≤ n → StuckOnward text limit n m (fault_at kinds.ExceededDepthLimit p)
-  dotted_on : (n m p q : ℕ) (s : Part) (e : Fault) → Dot text m p → IsKey s text p q → StuckOnward text limit (n + 1) q e → StuckOnward text limit n m e
+  dotted_on : (n m p q : ℕ) (s : Part) (e : Fault) → Dot text m p → IsKey s text p q → n < limit → StuckOnward text limit (n + 1) q e → StuckOnward text limit n m e
 
 -- a dotted key of at most so many parts is due at i, and this fault stands there or behind its first parts
 pub data StuckDotted (text : List ℕ) (limit : ℕ) : ℕ → Fault → Type 0 where
@@ -89,7 +89,7 @@ DottedGives text limit i (Err (stops.Fault fault)) = StuckDotted text limit i fa
 pub data StuckHeaderKey (text : List ℕ) (limit : ℕ) : ℕ → ℕ → Fault → Type 0 where
   no_header_part : (n i : ℕ) (e : Fault) → NoKey text i e → StuckHeaderKey text limit n i e
   header_too_many : (n i m : ℕ) (s : Part) → IsKey s text i m → limit ≤ n → StuckHeaderKey text limit n i (record { kind = kinds.ExceededDepthLimit; span = s.span })
-  header_on : (n i m p : ℕ) (s : Part) (e : Fault) → IsKey s text i m → Dot text m p → StuckHeaderKey text limit (n + 1) p e → StuckHeaderKey text limit n i e
+  header_on : (n i m p : ℕ) (s : Part) (e : Fault) → IsKey s text i m → n < limit → Dot text m p → StuckHeaderKey text limit (n + 1) p e → StuckHeaderKey text limit n i e
 
 abbrev pub HeaderKeyGives : List ℕ → ℕ → ℕ → Result (SmallVec Key × ℕ) (Stop Fault) → Type 0
 HeaderKeyGives text limit i (Ok (keys, j)) = Dotted (map part keys.items) text i j × (length keys.items ≤ limit)

@@ -6,7 +6,7 @@ ghost use Rattle.toml_span_read.specs.Lines.{Block, SpellsDocument, StuckDocumen
 
 /// Each fault of a document is one that is told where something is due.
 pub fn faults_are_due()
-    ensures { (text : List ℕ) (limit : ℕ) (fault : Fault) → StuckDocument text limit fault → IsDue text limit fault }
+    ensures { (text : List ℕ) (limit : ℕ) (fault : Fault) → 1 ≤ limit → StuckDocument text limit fault → IsDue text limit fault }
 {}
 
 /// What is told where something is due is a fault of the document.

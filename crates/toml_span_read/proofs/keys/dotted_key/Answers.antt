@@ -42,5 +42,5 @@ parts-preserved c =
       boundary = k.advances.boundary;
       few = omega (arith, n, c.len.ensures);
       whole = dotted_more c.parts.inner.items c.add.new.items.items c.parts.last _ c.in_ok-key.key c.replace.new.dest c.args.text.now c.args.at c.parts.end _ _ c.in_default-add.ensures c.replace.ensures.value c.replace.ensures.after c.parts.invariant.whole d.0 k.gives;
-      stuck = λ e h. c.parts.invariant.stuck e (dotted_on _ _ _ _ _ _ d.0 k.gives (rw n at h));
+      stuck = λ e h. c.parts.invariant.stuck e (dotted_on _ _ _ _ _ _ d.0 k.gives (omega (arith, c.len.ensures)) (rw n at h));
     }

@@ -25,5 +25,5 @@ parts-preserved c =
       boundary = d.1.boundary;
       few = omega (arith, n, c.len.ensures.value);
       whole = header_more c.parts.parts.items c.push.new.self.items c.in_ok-key.key c.args.text.now c.args.at c.parts.next _ _ pushed c.parts.invariant.whole k.gives d.0;
-      stuck = λ e h. c.parts.invariant.stuck e (header_on _ _ _ _ _ _ k.gives d.0 (rw n at h));
+      stuck = λ e h. c.parts.invariant.stuck e (header_on _ _ _ _ _ _ k.gives (omega (arith, c.len.ensures.value)) d.0 (rw n at h));
     }
