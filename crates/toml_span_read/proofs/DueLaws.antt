@@ -1,13 +1,16 @@
 -- Where a text gets stuck, something is due.
-use Rattle.std.proofs.Common.{◌≡◌, ℕ, ◌+◌, ◌<◌, ◌≤◌, ◌⊎◌, Bool, true, false, List, [], ◌∷◌, ◌++◌, length, get_or, arith, inl, inr, refl, sym}
-use Rattle.toml_span_lex.specs.Bytes.{right_bracket}
+use Rattle.std.proofs.Common.{◌≡◌, ℕ, ◌+◌, ◌≤◌, Bool, true, false, List, [], ◌∷◌, ◌++◌, length, Result, Ok, Err, Vec, Global, arith, inl, inr, refl}
+use Rattle.toml_span_lex.specs.declared.stop.Stop.{Stop}
+use Rattle.toml_span_lex.specs.declared.stop.Stop.TheVariants as stops
+use Rattle.toml_span_tree.specs.declared.error.Error.{Error}
+use Rattle.toml_span_read.specs.declared.section.Section.{Section}
 use Rattle.toml_span_read.specs.declared.fault.Fault.{Fault}
-use Rattle.toml_span_read.specs.Data.{Node, Event}
-use Rattle.toml_span_read.specs.Due.{Frame, in_section, in_brackets, in_braces, under_key, depth, What, a_line, a_part, an_equals, a_value, an_element, a_comma, a_verdict, a_header_part, a_closing, a_tail, a_line_end, DueAt, first_line, line_part, line_equals, line_value, line_tail, tail_rest, line_verdict, next_line, part_next, opens_header, header_part_next, header_closes, closes_again, header_tail, next_section, opens_array, item_value, behind_item, behind_comma, opens_table, pair_part, pair_equals, pair_value, pair_verdict, behind_pair, Told, IsDue}
+use Rattle.toml_span_read.specs.Data.{Event}
+use Rattle.toml_span_read.specs.Due.{Frame, in_section, in_brackets, in_braces, under_key, depth, a_line, a_part, an_equals, a_value, an_element, a_comma, a_verdict, a_header_part, a_closing, a_tail, a_line_end, DueAt, first_line, line_part, line_equals, line_value, line_tail, tail_rest, line_verdict, next_line, part_next, opens_header, header_part_next, header_closes, closes_again, header_tail, next_section, opens_array, item_value, behind_item, behind_comma, opens_table, pair_part, pair_equals, pair_value, pair_verdict, behind_pair, IsDue, RefusedWhereDue}
 use Rattle.toml_span_read.specs.Gaps.{Dot}
-use Rattle.toml_span_read.specs.Keys.{Part, StuckOnward, no_part, too_many, dotted_on, StuckDotted, no_first, onward, StuckHeaderKey, no_header_part, header_too_many, header_on}
+use Rattle.toml_span_read.specs.Keys.{StuckOnward, no_part, too_many, dotted_on, StuckDotted, no_first, onward, StuckHeaderKey, no_header_part, header_too_many, header_on}
 use Rattle.toml_span_read.specs.Lines as l
-use Rattle.toml_span_read.specs.Lines.{Shuts, NoShuts, SpellsEvents, SpellsSection, StuckEvent, StuckTail, StuckEvents, StuckHeader, StuckSections, StuckDocument}
+use Rattle.toml_span_read.specs.Lines.{Shuts, NoShuts, SpellsEvents, StuckEvent, StuckTail, StuckEvents, StuckHeader, StuckSections, StuckDocument, ReadsDocument}
 use Rattle.toml_span_read.specs.Stuck as s
 use Rattle.toml_span_read.specs.Stuck.{StuckValue, StuckItems, StuckPairs, StuckPair}
 
@@ -121,3 +124,8 @@ pub document_due : (text : List ℕ) (limit : ℕ) (some : 1 ≤ limit) (e : Fau
 document_due text limit some e (l.before_headers i e' begins (k, gap, r)) = events_due text limit some {es = []} {i = k} {e = e'} r (first_line i k begins gap)
 document_due text limit some e (l.behind_header i j evs e' begins (k, gap, h) r) =
     let on = lines_on evs [] text limit k j h (first_line i k begins gap) in sections_due text limit some {i = j} {e = e'} r on.0 on.1
+
+pub refused_due : (text : List ℕ) (limit : ℕ) (some : 1 ≤ limit) (result : Result (Vec Section Global) (Stop Error)) → ReadsDocument text limit result → RefusedWhereDue text limit result
+refused_due text limit some (Ok found) h = tt
+refused_due text limit some (Err (stops.Memory e)) h = tt
+refused_due text limit some (Err (stops.Fault error)) (fault, h, t) = (fault, document_due text limit some fault h, t)

@@ -1,12 +1,12 @@
 -- What is told where something is due is a fault of the document.
-use Rattle.std.proofs.Common.{◌≡◌, ℕ, ◌+◌, zero, suc, ◌<◌, ◌≤◌, ◌⊎◌, Bool, true, false, List, [], ◌∷◌, ◌++◌, length, get_or, arith, inl, inr, refl, sym}
+use Rattle.std.proofs.Common.{◌≡◌, ℕ, ◌+◌, zero, suc, ◌<◌, ◌≤◌, ◌⊎◌, Bool, true, false, List, [], ◌∷◌, ◌++◌, length, get_or, arith, inl, inr, refl}
 use Rattle.std.specs.Prelude.{◌==◌}
 use Rattle.toml_span_lex.specs.Bytes.{is_blank, equals, comma, right_bracket, right_brace, MaximalRun}
 use Rattle.toml_span_lex.specs.Text.{NoLineEnd}
 use Rattle.toml_span_read.specs.declared.fault.Due.TheVariants as dues
 use Rattle.toml_span_read.specs.declared.fault.Fault.{Fault}
 use Rattle.toml_span_read.specs.declared.fault.FaultKind.TheVariants as kinds
-use Rattle.toml_span_read.specs.Data.{Node, Event}
+use Rattle.toml_span_read.specs.Data.{Event}
 use Rattle.toml_span_read.specs.Due.{Frame, in_section, in_brackets, in_braces, under_key, depth, What, a_line, a_part, an_equals, a_value, an_element, a_comma, a_verdict, a_header_part, a_closing, a_tail, a_line_end, DueAt, first_line, line_part, line_equals, line_value, line_tail, tail_rest, line_verdict, next_line, part_next, opens_header, header_part_next, header_closes, closes_again, header_tail, next_section, opens_array, item_value, behind_item, behind_comma, opens_table, pair_part, pair_equals, pair_value, pair_verdict, behind_pair, Told, IsDue}
 use Rattle.toml_span_read.specs.Earlier.{Clear, Crossing}
 use Rattle.toml_span_read.specs.Faults.{fault_at}
@@ -14,7 +14,7 @@ use Rattle.toml_span_read.specs.Gaps.{MaximalGap, Dot}
 use Rattle.toml_span_read.specs.Grammar.{from_to}
 use Rattle.toml_span_read.specs.Keys.{Part, IsKey, NoKey, StuckOnward, no_part, too_many, dotted_on, StuckDotted, no_first, onward, StuckHeaderKey, no_header_part, header_too_many, header_on}
 use Rattle.toml_span_read.specs.Lines as l
-use Rattle.toml_span_read.specs.Lines.{last_end, Block, Shuts, NoShuts, SpellsHeader, SpellsEvents, StuckEvent, StuckTail, StuckEvents, StuckHeader, StuckSections, StuckDocument}
+use Rattle.toml_span_read.specs.Lines.{last_end, Block, Shuts, NoShuts, SpellsHeader, SpellsEvents, StuckEvent, StuckTail, StuckEvents, StuckSections, StuckDocument}
 use Rattle.toml_span_read.specs.Stuck as s
 use Rattle.toml_span_read.specs.Stuck.{StuckValue, StuckItems, StuckPairs, StuckPair}
 use Rattle.toml_span_read.specs.Wanted.{IsWanted}

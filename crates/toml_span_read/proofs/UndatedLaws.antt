@@ -1,22 +1,21 @@
 -- What is spelled without dates is spelled with them.
-use Rattle.std.proofs.Common.{◌≡◌, ℕ, ◌+◌, ◌<◌, ◌≤◌, ◌⊎◌, Bool, true, false, Option, Some, None, List, [], ◌∷◌, ◌++◌, length, get_or, arith, inl, inr, refl, sym, ◌∙◌}
-use Rattle.std.specs.Prelude.{◌==◌, ◌||◌, ◌&&◌, slice_range, codes}
+use Rattle.std.proofs.Common.{◌≡◌, ℕ, ◌+◌, ◌<◌, ◌≤◌, ◌⊎◌, Bool, true, false, Some, None, List, [], ◌∷◌, ◌++◌, length, get_or, arith, inl, inr, refl, sym, ◌∙◌}
+use Rattle.std.specs.Prelude.{◌==◌, ◌||◌, ◌&&◌, slice_range}
 use Rattle.std.proofs.lemmas.Bool.{cases_lt, false≢true}
 use Rattle.std.proofs.lemmas.List.{get_or_past}
 use Rattle.toml_span_lex.specs.declared.span.Span.{Span}
-use Rattle.toml_span_lex.specs.Bytes.{is_blank, is_keylike, is_printed, MaximalRun}
+use Rattle.toml_span_lex.specs.Bytes.{is_blank, is_printed, MaximalRun}
 use Rattle.toml_span_lex.specs.Text.{LineEnd}
 use Rattle.toml_span_lex.proofs.Runs.{crlf_first}
 use Rattle.toml_span_tree.specs.Node.{Scalar, text as text_scalar, integer, float, boolean, datetime, finite, infinite, not_a_number}
 use Rattle.toml_span_read.specs.Data.{Node, node, Inner, scalar, array, inline, Items, no_items, item, Pairs, no_pairs, pair, Event}
 use Rattle.toml_span_read.specs.Dates.{is_decimal, begins_date}
-use Rattle.toml_span_read.specs.Gaps.{GapPiece, GapBy, MaximalGap, Sign, Closes, Skipped, Tail}
+use Rattle.toml_span_read.specs.Gaps.{GapPiece, GapBy, Sign, Closes, Tail}
 use Rattle.toml_span_read.specs.Grammar.{IsScalar, Spells, SpellsInner, SpellsItems, SpellsPairs}
 use Rattle.toml_span_read.specs.Lines.{SpellsEvent, SpellsEvents, Block, SpellsSection, SpellsSections, SpellsDocument}
-use Rattle.toml_span_read.specs.Numbers.{is_figure, is_exponent, behind_sign, Digits, UnsignedDecimal, Exponent, Fraction, goes_on, radix_at, FloatLiteral, SpecialFloat, IsNumber}
+use Rattle.toml_span_read.specs.Numbers.{is_figure, is_exponent, behind_sign, Digits, Exponent, Fraction, goes_on, radix_at, SpecialFloat, IsNumber}
 use Rattle.toml_span_read.specs.Undated.{UndatedScalar, SpellsUndated, UndatedInner, UndatedItems, UndatedPairs, UndatedEvent, UndatedEvents, UndatedSection, UndatedSections, SpellsUndatedDocument}
 use Rattle.toml_span_read.proofs.NumberLemmas.{is_false, and_left, byte_is, bool_cases, clash, none_some, slice_first}
-use Rattle.toml_span_read.proofs.Places.{read_within}
 
 -- ---- bytes
 

@@ -1,14 +1,20 @@
 -- What is due at a place, by the text before it, and the faults that are told there.
-use Rattle.std.specs.Prelude.{◌≡◌, ℕ, ◌+◌, ◌<◌, ◌≤◌, ◌⊎◌, Bool, true, false, ◌||◌, ◌==◌, List, [], ◌∷◌, ◌++◌, length, slice_index}
+use Rattle.std.specs.Prelude.{◌≡◌, ℕ, ◌+◌, ◌<◌, ◌≤◌, ◌⊎◌, Bool, true, false, ◌||◌, ◌==◌, List, [], ◌∷◌, ◌++◌, length, slice_index, Vec, Result, Ok, Err}
+use Rattle.std.specs.Global.{Global}
+use Rattle.toml_span_lex.specs.declared.stop.Stop.{Stop}
+use Rattle.toml_span_lex.specs.declared.stop.Stop.TheVariants as stops
 use Rattle.toml_span_lex.specs.Bytes.{is_blank, equals, comma, left_bracket, right_bracket, left_brace, right_brace, MaximalRun}
 use Rattle.toml_span_lex.specs.Text.{NoLineEnd}
 use Rattle.toml_span_lex.specs.Tokenizer.{FirstPlace}
+use Rattle.toml_span_tree.specs.Error.{fault_of}
+use Rattle.toml_span_tree.specs.declared.error.Error.{Error}
+use Rattle.toml_span_read.specs.declared.section.Section.{Section}
 use Rattle.toml_span_read.specs.declared.fault.Due.TheVariants as dues
 use Rattle.toml_span_read.specs.declared.fault.Fault.{Fault}
 use Rattle.toml_span_read.specs.declared.fault.FaultKind.TheVariants as kinds
 use Rattle.toml_span_read.specs.Data.{Node, Event}
 use Rattle.toml_span_read.specs.Earlier.{Clear, Crossing}
-use Rattle.toml_span_read.specs.Faults.{fault_at}
+use Rattle.toml_span_read.specs.Faults.{fault_at, Tells}
 use Rattle.toml_span_read.specs.Gaps.{MaximalGap, Skipped, Tail, Dot}
 use Rattle.toml_span_read.specs.Grammar.{Spells, SpellsPair}
 use Rattle.toml_span_read.specs.Keys.{Part, IsKey, Dotted, NoKey, opens_string}
@@ -32,6 +38,7 @@ depth (in_brackets ∷ fs) = depth fs + 1
 depth (in_braces es ∷ fs) = depth fs + 1
 depth (under_key n ∷ fs) = depth fs + n
 
+-- what is due
 pub data What : Type 0 where
   -- an assignment, a header or the end of the text
   a_line : What
@@ -117,3 +124,9 @@ Told text limit what fs i e = ⊥
 -- the fault is one of the table, at a place where something is due
 abbrev pub IsDue : List ℕ → ℕ → Fault → Type 0
 IsDue text limit e = (what : What) × (fs : List Frame) × (i : ℕ) × DueAt text limit what fs i × Told text limit what fs i e
+
+-- what a text is refused for is told where something is due
+abbrev pub RefusedWhereDue : List ℕ → ℕ → Result (Vec Section Global) (Stop Error) → Type 0
+RefusedWhereDue text limit (Ok found) = Unit {0}
+RefusedWhereDue text limit (Err (stops.Memory e)) = Unit {0}
+RefusedWhereDue text limit (Err (stops.Fault error)) = (fault : Fault) × IsDue text limit fault × Tells text fault (fault_of error)
