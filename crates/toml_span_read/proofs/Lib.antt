@@ -39,3 +39,5 @@ pub mod AgainValues
 pub mod AgainLines
 pub mod AgainLaws
 pub mod JudgedLemmas
+pub mod TotalKeys
+pub mod TotalValues

@@ -1,7 +1,7 @@
 //! Laws of what stands at a place: a form, or what is wrong where it is due.
 //!
 //! The bodies judge single forms: they are the proof.
-ghost use Rattle.std.specs.Prelude.{◌≡◌, ◌≤◌, ◌<◌, ◌||◌, ◌==◌, ℕ, true, slice_index, Result};
+ghost use Rattle.std.specs.Prelude.{◌≡◌, ◌≤◌, ◌<◌, ◌⊎◌, ◌||◌, ◌==◌, ℕ, true, List, length, slice_index, Result};
 ghost use Rattle.std.specs.Str.{IsCharBoundary};
 ghost use Rattle.toml_span_lex.specs.Bytes.{is_keylike};
 ghost use Rattle.toml_span_tree.specs.declared.date.DateText.{DateText};
@@ -11,6 +11,10 @@ ghost use Rattle.toml_span_read.specs.Gaps.{BehindGives};
 ghost use Rattle.toml_span_read.specs.Dates as date_spec;
 ghost use Rattle.toml_span_read.specs.Dates.{DateGives};
 ghost use Rattle.toml_span_read.specs.Judged.{UnsignedStands, NumberStands, EndsFurther, Judged};
+ghost use Rattle.toml_span_read.specs.Data.{Node};
+ghost use Rattle.toml_span_read.specs.Grammar.{Spells};
+ghost use Rattle.toml_span_read.specs.Stuck.{StuckValue};
+ghost use Rattle.toml_span_read.specs.Keys.{Part, Dotted, StuckDotted};
 ghost use Rattle.toml_span_read.specs.Numbers.{IsRun};
 
 use crate::dates::{begins_date, date};
@@ -146,4 +150,18 @@ pub fn places_are_judged(text: &str)
         }
     }
     place_is_judged(text, end);
+}
+
+/// At each place of a text a dotted key within the limit stands, or one is stuck there.
+pub fn key_or_stuck(text: &str)
+    ensures { (limit i : ℕ) → 1 ≤ limit → IsCharBoundary text.now i → ((j : ℕ) × (parts : List Part) × Dotted parts text.now i j × (length parts ≤ limit)) ⊎ ((fault : Fault) × StuckDotted text.now limit i fault) }
+{
+    places_are_judged(text);
+}
+
+/// At each place of a text, at each depth, a value within the limit stands, or one is stuck there.
+pub fn value_or_stuck(text: &str)
+    ensures { (limit depth i : ℕ) → 1 ≤ limit → IsCharBoundary text.now i → ((j : ℕ) × (v : Node) × Spells v text.now limit depth i j) ⊎ ((fault : Fault) × StuckValue text.now limit depth i fault) }
+{
+    places_are_judged(text);
 }
