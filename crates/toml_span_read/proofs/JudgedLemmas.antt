@@ -1,5 +1,5 @@
 -- Numbers that stand, and those that are stuck.
-use Rattle.std.proofs.Common.{◌≡◌, ℕ, ◌+◌, ◌⊎◌, List, get_or, arith, inl, inr, sym, ◌∙◌, false, Option, None, Result, Ok, Err}
+use Rattle.std.proofs.Common.{◌≡◌, ℕ, ◌+◌, List, get_or, arith, inl, inr, sym, ◌∙◌, false, None, Result, Ok, Err}
 use Rattle.std.specs.Prelude.{◌==◌}
 use Rattle.toml_span_read.specs.declared.fault.Fault.{Fault}
 use Rattle.toml_span_read.specs.Judged.{UnsignedStands, NumberStands}

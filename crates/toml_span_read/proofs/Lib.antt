@@ -41,3 +41,4 @@ pub mod AgainLaws
 pub mod JudgedLemmas
 pub mod TotalKeys
 pub mod TotalValues
+pub mod TotalLines

@@ -1,12 +1,12 @@
 -- At each place of a text a key stands, or one is stuck.
-use Rattle.std.proofs.Common.{◌≡◌, ℕ, zero, suc, ◌+◌, ◌<◌, ◌≤◌, ◌⊎◌, Bool, true, false, List, [], ◌∷◌, length, get_or, arith, inl, inr, refl, sym, ◌∙◌, Option, Some, None, Result, Ok, Err}
-use Rattle.std.specs.Prelude.{◌==◌, ◌||◌, slice_range}
+use Rattle.std.proofs.Common.{◌≡◌, ℕ, zero, suc, ◌+◌, ◌<◌, ◌≤◌, ◌⊎◌, Bool, true, false, List, [], ◌∷◌, length, get_or, arith, inl, inr, refl, ◌∙◌, Option, Some, None}
+use Rattle.std.specs.Prelude.{slice_range}
 use Rattle.std.specs.Str.{IsUtf8, IsCharBoundary}
 use Rattle.std.proofs.lemmas.Bool.{cases_lt, false≢true}
 use Rattle.std.proofs.lemmas.Bool.Decides.{nat_tests}
 use Rattle.std.proofs.lemmas.List.{get_or_past}
 use Rattle.toml_span_lex.specs.declared.span.Span.{Span}
-use Rattle.toml_span_lex.specs.Bytes.{is_keylike, MaximalRun}
+use Rattle.toml_span_lex.specs.Bytes.{is_keylike}
 use Rattle.toml_span_lex.specs.Laws.{SomethingStands}
 use Rattle.toml_span_lex.specs.Strings.{IsString}
 use Rattle.toml_span_lex.specs.Tokens.{Lexeme, string, Stands}
@@ -23,7 +23,7 @@ use Rattle.toml_span_read.specs.Faults.{fault_at, token_fault}
 use Rattle.toml_span_read.specs.Gaps.{Further, Dot, NoDot, DotGives}
 use Rattle.toml_span_read.specs.Judged.{Judged}
 use Rattle.toml_span_read.specs.Keys.{Part, IsKey, opens_string, NoKey, Onward, Dotted, StuckOnward, StuckDotted, StuckHeaderKey, no_part, too_many, dotted_on, no_first, onward, no_header_part, header_too_many, header_on}
-use Rattle.toml_span_read.specs.Wanted.{found_of, IsFound, IsTokenFault, IsWanted, IsNoValue, wanted_fault}
+use Rattle.toml_span_read.specs.Wanted.{found_of, IsTokenFault, IsWanted, IsNoValue, wanted_fault}
 use Rattle.toml_span_read.proofs.NumberLemmas.{bool_cases}
 use Rattle.toml_span_read.proofs.Places.{run_some}
 

@@ -1,11 +1,10 @@
 -- At each place of a text a value stands, or one is stuck.
-use Rattle.std.proofs.Common.{◌≡◌, ℕ, zero, suc, ◌+◌, ◌*◌, ◌<◌, ◌≤◌, ◌⊎◌, Bool, true, false, List, [], ◌∷◌, ◌++◌, length, get_or, arith, inl, inr, refl, sym, ◌∙◌, Result, Ok, Err}
+use Rattle.std.proofs.Common.{◌≡◌, ℕ, zero, suc, ◌+◌, ◌*◌, ◌<◌, ◌≤◌, ◌⊎◌, Bool, true, false, List, [], ◌∷◌, ◌++◌, length, get_or, arith, inl, inr, refl, sym, Result, Ok, Err}
 use Rattle.std.specs.Prelude.{◌==◌, ◌||◌, slice_range, codes}
 use Rattle.std.specs.Str.{IsUtf8, IsCharBoundary}
 use Rattle.std.proofs.lemmas.Bool.{cases_lt, false≢true}
 use Rattle.std.proofs.lemmas.Bool.Decides.{nat_tests}
-use Rattle.toml_span_lex.specs.declared.span.Span.{Span}
-use Rattle.toml_span_lex.specs.Bytes.{is_keylike, MaximalRun}
+use Rattle.toml_span_lex.specs.Bytes.{is_keylike}
 use Rattle.toml_span_tree.specs.Node.{Scalar, text as text_scalar, integer, float, boolean, datetime}
 use Rattle.toml_span_tree.specs.declared.date.DateText.{DateText}
 use Rattle.toml_span_read.specs.declared.fault.Due.TheVariants as dues
@@ -21,10 +20,10 @@ use Rattle.toml_span_read.specs.Grammar.{from_to, IsScalar, Spells, SpellsItems,
 use Rattle.toml_span_read.specs.Judged.{Judged, NumberStands, EndsFurther}
 use Rattle.toml_span_read.specs.Keys.{opens_string}
 use Rattle.toml_span_read.specs.Numbers.{IsNumber}
-use Rattle.toml_span_read.specs.Stuck.{begins_bare, opens_nested, begins_number, IsOther, IsUnquoted, NoBare, StuckValue, StuckItems, StuckPairs, StuckPair, no_value, no_string, too_deep, no_bare, in_array, in_inline, in_item, behind_item, item_on, in_pair, crosses, behind_pair, pair_on, in_key, no_equals, in_value}
+use Rattle.toml_span_read.specs.Stuck.{begins_bare, opens_nested, begins_number, NoBare, StuckValue, StuckItems, StuckPairs, StuckPair, no_value, no_string, too_deep, no_bare, in_array, in_inline, in_item, behind_item, item_on, in_pair, crosses, behind_pair, pair_on, in_key, no_equals, in_value}
 use Rattle.toml_span_read.proofs.EarlierLaws.{every_key}
 use Rattle.toml_span_read.proofs.NumberLemmas.{bool_cases, byte_is}
-use Rattle.toml_span_read.proofs.Places.{run_some, behind_byte, read_within}
+use Rattle.toml_span_read.proofs.Places.{run_some, behind_byte}
 use Rattle.toml_span_read.proofs.TotalKeys.{AllJudged, further_on, wanted_stands, no_value_stands, string_stands, dotted_stands}
 
 -- ---- what is behind a form

@@ -14,6 +14,7 @@ ghost use Rattle.toml_span_read.specs.Judged.{UnsignedStands, NumberStands, Ends
 ghost use Rattle.toml_span_read.specs.Data.{Node};
 ghost use Rattle.toml_span_read.specs.Grammar.{Spells};
 ghost use Rattle.toml_span_read.specs.Stuck.{StuckValue};
+ghost use Rattle.toml_span_read.specs.Lines.{Block, SpellsDocument, StuckDocument};
 ghost use Rattle.toml_span_read.specs.Keys.{Part, Dotted, StuckDotted};
 ghost use Rattle.toml_span_read.specs.Numbers.{IsRun};
 
@@ -28,6 +29,7 @@ use crate::numbers::{
 use toml_span_lex::bytes::{blanks_end, keylike_end};
 use toml_span_lex::laws::something_stands;
 use toml_span_lex::span::Span;
+use toml_span_lex::tokenizer::first_place;
 
 /// Where the number ends whose first run is `first`, or the fault.
 fn unsigned_end(text: &str, start: usize, first: Span) -> Result<usize, Fault>
@@ -164,4 +166,12 @@ pub fn value_or_stuck(text: &str)
     ensures { (limit depth i : ℕ) → 1 ≤ limit → IsCharBoundary text.now i → ((j : ℕ) × (v : Node) × Spells v text.now limit depth i j) ⊎ ((fault : Fault) × StuckValue text.now limit depth i fault) }
 {
     places_are_judged(text);
+}
+
+/// Each text spells a document within the limit, or is stuck.
+pub fn document_or_stuck(text: &str)
+    ensures { (limit : ℕ) → 1 ≤ limit → ((blocks : List Block) × SpellsDocument blocks text.now limit) ⊎ ((fault : Fault) × StuckDocument text.now limit fault) }
+{
+    places_are_judged(text);
+    let _ = first_place(text);
 }

@@ -1,7 +1,6 @@
-use Rattle.std.proofs.Common.{rules, arith, ◌≡◌, ◌≤◌, ◌<◌, ℕ, false, true, length, inl, inr}
+use Rattle.std.proofs.Common.{rules, arith, ◌≡◌, length, inl, inr}
 use Rattle.std.specs.Str.{IsCharBoundary}
 use Rattle.std.proofs.lemmas.Bool.{cases_lt}
-use Rattle.toml_span_read.specs.Judged.{Judged}
 use Rattle.toml_span_read.proofs.laws.judged.places_are_judged.Goals as goal
 use Rattle.toml_span_read.proofs.laws.judged.places_are_judged.Goals.{then-is_char_boundary, else-is_char_boundary}
 

@@ -1,4 +1,4 @@
-use Rattle.std.proofs.Common.{rules, arith, ◌≡◌, ◌≤◌, true, false, get_or, inl, inr, Some, None, refl}
+use Rattle.std.proofs.Common.{rules, arith, ◌≡◌, true, false, get_or, inl, inr, Some, None, refl}
 use Rattle.std.specs.Prelude.{◌==◌, slice_range}
 use Rattle.toml_span_lex.specs.Bytes.{is_keylike}
 use Rattle.toml_span_tree.specs.Node.{integer, float, finite}
