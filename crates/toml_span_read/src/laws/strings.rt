@@ -23,3 +23,8 @@ pub fn unchanged_is_the_text()
 pub fn borrowed_is_the_text()
     ensures { (text : List ℕ) (i : ℕ) (token : StringToken) → StringReads text i (Ok token) → (IsEmptyOnOneLine i token.end → ⊥) → IsBorrowedStr token.content ↔ (cow_str_bytes token.content ≡ slice_range text token.span.start token.span.end) }
 {}
+
+/// So it is borrowed exactly where no backslash between quotation marks and no carriage return is in it.
+pub fn borrowed_where_unchanged()
+    ensures { (text : List ℕ) (i : ℕ) (token : StringToken) → StringReads text i (Ok token) → (IsEmptyOnOneLine i token.end → ⊥) → IsBorrowedStr token.content ↔ (HasChange (slice_index text i) text token.span.start token.span.end → ⊥) }
+{}
