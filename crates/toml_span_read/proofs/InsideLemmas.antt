@@ -15,7 +15,7 @@ use Rattle.toml_span_read.proofs.KeyOrder.{dotted_ascend}
 
 -- ---- keys
 
-ascend_forward : (ps : List Part) (i j : ℕ) → Ascend ps i j → i ≤ j
+pub ascend_forward : (ps : List Part) (i j : ℕ) → Ascend ps i j → i ≤ j
 ascend_forward [] i j h = h
 ascend_forward (p ∷ ps) i j (a, b, rest) = omega (arith, a, b, ascend_forward ps p.span.end j rest)
 

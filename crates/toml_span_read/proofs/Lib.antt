@@ -42,3 +42,4 @@ pub mod JudgedLemmas
 pub mod TotalKeys
 pub mod TotalValues
 pub mod TotalLines
+pub mod MemoryLemmas

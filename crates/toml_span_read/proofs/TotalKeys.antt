@@ -132,7 +132,7 @@ onward_stands (suc fuel) text limit n m u all l few b =
                   | inl under ↦
                       elim (onward_stands fuel text limit (n + 1) k.0 u all (omega (arith, l, d.2.on, k.3.on)) (omega (arith, under)) k.3.boundary) [
                         | inl o ↦ inl (o.0, k.1 ∷ o.1, (d.0, k.0, d.1, k.2, o.2), omega (arith, o.3), omega (arith, d.2.on, k.3.on, o.4), o.5)
-                        | inr x ↦ inr (x.0, dotted_on n m d.0 k.0 k.1 x.0 d.1 k.2 x.1)
+                        | inr x ↦ inr (x.0, dotted_on n m d.0 k.0 k.1 x.0 d.1 k.2 under x.1)
                       ]
                 ]
           ]
@@ -178,7 +178,7 @@ header_key_stands (suc fuel) text limit n i u all l b =
                   | inr d ↦
                       elim (header_key_stands fuel text limit (n + 1) d.0 u all (omega (arith, l, k.3.on, d.2.on)) d.2.boundary) [
                         | inl o ↦ inl (o.0, k.1 ∷ o.1, one_more k.1 o.1 text i k.0 d.0 o.0 k.2 d.1 o.2, omega (arith, o.3), further_on text i d.0 o.0 (omega (arith, k.3.on, d.2.on)) o.4)
-                        | inr x ↦ inr (x.0, header_on n i k.0 d.0 k.1 x.0 k.2 d.1 x.1)
+                        | inr x ↦ inr (x.0, header_on n i k.0 d.0 k.1 x.0 k.2 under d.1 x.1)
                       ]
                 ]
           ]

@@ -230,6 +230,16 @@ SectionsGive text limit (Ok found) = SpellsDocument (map block found.items) text
 SectionsGive text limit (Err (stops.Memory e)) = Unit {0}
 SectionsGive text limit (Err (stops.Fault e)) = StuckDocument text limit e
 
+-- more than blank lines stand from i on
+abbrev pub HoldsForm : List ℕ → ℕ → Type 0
+HoldsForm text i = (k : ℕ) × MaximalGap text i k × (k < length text)
+
+-- memory is wanted only where there is something to keep
+abbrev pub KeepsForm : {A E : Type 0} → List ℕ → ℕ → Result A (Stop E) → Type 0
+KeepsForm text i (Err (stops.Memory e)) = HoldsForm text i
+KeepsForm text i (Err (stops.Fault fault)) = Unit {0}
+KeepsForm text i (Ok found) = Unit {0}
+
 -- the text spells the sections, or the error tells where it is stuck
 abbrev pub ReadsDocument : List ℕ → ℕ → Result (Vec Section Global) (Stop Error) → Type 0
 ReadsDocument text limit (Ok found) = SpellsDocument (map block found.items) text limit

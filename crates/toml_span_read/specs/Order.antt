@@ -15,4 +15,4 @@ EventsAscend (ev ∷ evs) i j =
 abbrev pub BlocksAscend : List Block → ℕ → ℕ → Type 0
 BlocksAscend [] i j = i ≤ j
 BlocksAscend (b ∷ bs) i j =
-    (i ≤ b.extent.start) × Ascend b.header b.header_span.start b.header_span.end × EventsAscend b.events b.header_span.end b.extent.end × BlocksAscend bs b.extent.end j
+    (i ≤ b.header_span.start) × Ascend b.header b.header_span.start b.header_span.end × EventsAscend b.events b.header_span.end b.extent.end × BlocksAscend bs b.extent.end j

@@ -3,8 +3,9 @@ ghost use Rattle.std.specs.Prelude.{◌≡◌, ℕ, ◌<◌, ◌≤◌, ◌+◌,
 ghost use Rattle.std.specs.Str.{IsCharBoundary};
 ghost use Rattle.toml_span_read.specs.Data.{event};
 ghost use Rattle.toml_span_read.specs.Lines as spec;
-ghost use Rattle.toml_span_read.specs.Lines.{Opens, EventGives, LineGives, LinesGive, CloseGives, HeaderGives, SectionsGive, ReadsDocument, block, block_of, first_block, first_blocks};
+ghost use Rattle.toml_span_read.specs.Lines.{Opens, EventGives, LineGives, LinesGive, CloseGives, HeaderGives, SectionsGive, KeepsForm, ReadsDocument, block, block_of, first_block, first_blocks};
 ghost use Rattle.toml_span_read.specs.Gaps.{Further};
+ghost use Rattle.toml_span_lex.specs.Tokenizer.{FirstPlace};
 ghost use Rattle.toml_span_read.specs.Inside.{SectionsInside};
 ghost use Rattle.toml_span_read.specs.Limits.{AssignmentReads, AssignmentsRead, LineReads, HeaderReads, SectionsRead, WithinSection, WithinEvents, EndsAtHeader, Reads};
 
@@ -77,6 +78,7 @@ fn assignments<'de>(
     ensures read { AssignmentsRead text.now limit from result }
     ensures header { EndsAtHeader text.now result }
     ensures gives { LinesGive text.now limit from result }
+    ensures memory { KeepsForm text.now from result }
 {
     let mut found = Vec::new(alloc);
     let mut earlier = Earlier::new(alloc);
@@ -232,6 +234,7 @@ fn sections<'de>(
     requires small { limit ≤ 128 }
     ensures reads { SectionsRead text.now limit result }
     ensures gives { SectionsGive text.now limit result }
+    ensures memory { (start : ℕ) × FirstPlace text.now start × KeepsForm text.now start result }
 {
     let mut found = Vec::new(alloc);
     let (before, mut at) = assignments(alloc, text, first_place(text), limit)?;
@@ -264,6 +267,8 @@ pub fn read_sections<'de>(
     ensures reads { Reads text.now limit result }
     // The sections are those that the text spells. A fault stands where the forms before it lead.
     ensures document { ReadsDocument text.now limit result }
+    // Memory is wanted only where more than blank lines stand in the text.
+    ensures memory { (start : ℕ) × FirstPlace text.now start × KeepsForm text.now start result }
     // Keys and headers stand inside the text.
     ensures inside { IfOk result (λ found. SectionsInside (length text.now) found.items) }
 {

@@ -1,8 +1,18 @@
 //! Laws of documents and limits.
-ghost use Rattle.std.specs.Prelude.{◌≤◌, ℕ, List};
-ghost use Rattle.toml_span_read.specs.Lines.{Block, SpellsDocument};
+ghost use Rattle.std.specs.Prelude.{◌≤◌, ℕ, List, Vec, Result, Ok, map};
+ghost use Rattle.std.specs.Global.{Global};
+ghost use Rattle.toml_span_lex.specs.declared.stop.Stop.{Stop};
+ghost use Rattle.toml_span_tree.specs.declared.error.Error.{Error};
+ghost use Rattle.toml_span_read.specs.declared.section.Section.{Section};
+ghost use Rattle.toml_span_read.specs.Lines.{Block, block, SpellsDocument, ReadsDocument, AreRead};
 
 /// A text that spells a document within a limit spells the same document within each greater one.
 pub fn wider_document()
     ensures { (text : List ℕ) (limit wider : ℕ) (blocks : List Block) → limit ≤ wider → SpellsDocument blocks text limit → SpellsDocument blocks text wider }
+{}
+
+/// A text that is read within a limit is read within each greater one, and as the same sections, unless
+/// memory runs out.
+pub fn read_within_wider()
+    ensures { (text : List ℕ) (limit wider : ℕ) (found : Vec Section Global) (result : Result (Vec Section Global) (Stop Error)) → limit ≤ wider → ReadsDocument text limit (Ok found) → ReadsDocument text wider result → AreRead (map block found.items) result }
 {}

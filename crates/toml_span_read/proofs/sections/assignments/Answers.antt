@@ -11,6 +11,7 @@ lines-init c =
     let b = lines_begin c.new-found.result.items c.args.text.now c.args.limit c.args.from c.gap_end-at.result e g.run in
     record {
       forward = omega (arith, g.run.forward);
+      begun = (c.gap_end-at.result, g.run, omega arith);
       boundary = g.boundary;
       within = rw e tt;
       knows = rw e c.new-earlier.ensures;
@@ -46,6 +47,7 @@ lines-preserved c =
     let i = c.lines.invariant in
     record {
       forward = omega (arith, i.forward, v.1.on, c.in-Ok-next_line.ensures.reads.0, g.run.forward);
+      begun = (i.begun.0, i.begun.1, omega (arith, i.begun.2, v.1.on, c.in-Ok-next_line.ensures.reads.0, g.run.forward));
       boundary = g.boundary;
       within = events_more c.args.limit c.lines.found.items c.add_clear.new.values.items c.in-Ok.read.0 a.0 i.within v.0;
       knows = c.in_default.ensures.knows;

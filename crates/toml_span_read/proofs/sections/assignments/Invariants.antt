@@ -1,7 +1,8 @@
-use Rattle.std.proofs.Common.{◌≤◌, ◌-◌, length, map}
+use Rattle.std.proofs.Common.{ℕ, ◌≤◌, ◌-◌, length, map}
 use Rattle.std.specs.Str.{IsCharBoundary}
 use Rattle.toml_span_read.specs.Data.{event}
 use Rattle.toml_span_read.specs.Earlier.{Knows}
+use Rattle.toml_span_read.specs.Gaps.{MaximalGap}
 use Rattle.toml_span_read.specs.Limits.{WithinEvents}
 use Rattle.toml_span_read.proofs.LineLemmas.{WholeLines, StuckOn}
 use Rattle.toml_span_read.proofs.sections.assignments.Given as goal
@@ -10,6 +11,7 @@ use Rattle.toml_span_read.proofs.sections.assignments.Given as goal
 abbrev pub invariant-lines : goal.invariant-lines
 invariant-lines l = record {
   forward : l.from ≤ l.at;
+  begun : (k : ℕ) × MaximalGap l.text l.from k × (k ≤ l.at);
   boundary : IsCharBoundary l.text l.at;
   within : WithinEvents l.limit (map event l.found.items);
   knows : Knows l.earlier (map event l.found.items);

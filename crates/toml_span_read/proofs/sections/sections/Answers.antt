@@ -4,6 +4,7 @@ use Rattle.toml_span_read.specs.Lines.{block, first_block}
 use Rattle.toml_span_read.proofs.KeyLemmas.{handed_on}
 use Rattle.toml_span_read.proofs.LimitLemmas.{sections_more, first_within, none_within}
 use Rattle.toml_span_read.proofs.LineLemmas as lines
+use Rattle.toml_span_read.proofs.MemoryLemmas.{begun_by_lines, begun_on, keeps, lines_keep}
 use Rattle.toml_span_read.proofs.sections.sections.Goals as goal
 use Rattle.toml_span_read.proofs.sections.sections.Goals.{in-Some+in_default-add, in_default}
 
@@ -18,6 +19,7 @@ sections-init c =
     let b = lines.sections_begin c.match-first_section.found.items _ c.args.text.now c.args.limit c.first_place.result _ first c.first_place.ensures.gives r.gives in
     record {
       boundary = r.read.2;
+      begun = begun_by_lines _ c.args.text.now c.args.limit c.first_place.result _ c.first_place.ensures.gives r.gives;
       header = r.header;
       within = elim c.match-first_section.branch [
         | in-Some+in_default-add w ↦ rw w.found-is (first_within c.args.limit c.new-found.result.items w.add.new.items.items _ e w.in_default-add.ensures (w.in-Some.ensures.within c.args.limit r.read.0))
@@ -36,6 +38,7 @@ sections-preserved c =
     let s = lines.section_made _ c.in_ok-header.header _ c.args.text.now c.args.limit c.sections.at _ c.section_of.ensures.gives h.gives r.gives in
     record {
       boundary = r.read.2;
+      begun = begun_on c.args.text.now c.sections.at _ i.begun (omega (arith, h.reads.1.on, r.read.1));
       header = r.header;
       within = sections_more c.args.limit c.sections.found.items c.add-in-sections.new.items.items _ m i.within (c.section_of.ensures.within c.args.limit h.reads.0 r.read.0);
       whole = lines.sections_more c.sections.found.items c.add-in-sections.new.items.items _ c.args.text.now c.args.limit c.sections.at _ m i.whole s;
@@ -61,3 +64,7 @@ pub returns-clause-gives : goal.returns-clause-gives
 returns-clause-gives c =
     let e : c.sections.at ≡ length c.args.text.now = omega (arith, c.sections.invariant.boundary.0) in
     lines.sections_end c.sections.found.items c.args.text.now c.args.limit c.sections.at c.sections.invariant.whole e
+
+pub returns-in-Err-clause-memory : goal.returns-in-Err-clause-memory
+returns-in-Err-clause-memory c =
+    lines_keep c.in-Some.section _ c.args.text.now c.args.limit c.first_place.result _ c.in-Some.ensures.gives c.first_place.ensures.gives c.in_ok-before.ensures.gives

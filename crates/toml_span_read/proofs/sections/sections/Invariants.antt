@@ -2,12 +2,14 @@ use Rattle.std.proofs.Common.{◌≡◌, ◌≤◌, ◌-◌, ◌⊎◌, length, 
 use Rattle.std.specs.Str.{IsCharBoundary}
 use Rattle.toml_span_read.specs.Limits.{WithinSections}
 use Rattle.toml_span_read.proofs.LineLemmas.{WholeSections, StuckFrom}
+use Rattle.toml_span_read.proofs.MemoryLemmas.{Begun}
 use Rattle.toml_span_read.proofs.sections.sections.Given as goal
 
 -- whatever sections follow, or get stuck, do so behind those that are read
 abbrev pub invariant-sections : goal.invariant-sections
 invariant-sections l = record {
   boundary : IsCharBoundary l.text l.at;
+  begun : Begun l.text l.at;
   header : (l.at ≡ length l.text) ⊎ (get_or l.text l.at 0 ≡ 91);
   within : WithinSections l.limit l.found.items;
   whole : WholeSections l.found.items l.text l.limit l.at;
