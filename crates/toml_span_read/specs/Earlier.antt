@@ -22,7 +22,7 @@ use Rattle.toml_span_read.specs.Keys.{Part}
 abbrev pub span_of : Node → Span
 span_of (node inner span) = span
 
--- each key starts at n or before
+-- each part starts at n or before
 abbrev pub StartBefore : ℕ → List Part → Type 0
 StartBefore n [] = Unit {0}
 StartBefore n (p ∷ ps) = (p.span.start ≤ n) × StartBefore n ps

@@ -88,7 +88,7 @@ Tells text fault error =
 
 -- ---- the faults of strings
 
--- the fault that a token's refusal is
+-- the fault that a token's refusal is (a multi-line key and a wanted token are no token's fault, and don't occur here)
 abbrev pub token_fault : Error → Fault
 token_fault (tokens.InvalidCharInString at c) = fault_at (kinds.InvalidCharInString c) at
 token_fault (tokens.InvalidEscape at c) = fault_at (kinds.InvalidEscape c) at

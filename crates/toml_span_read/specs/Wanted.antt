@@ -55,7 +55,8 @@ FoundGives text i (Err (stops.Fault fault)) = IsTokenFault text i fault
 abbrev pub wanted_fault : Due → Found → ℕ → Fault
 wanted_fault expected found i = record { kind = kinds.Wanted expected found; span = record { start = i; end = i + length (found_words found) } }
 
--- Another token stands at i than the one that is due, or the text ends there, or no token begins there.
+-- What stands at i is told where this is due: a token, the end of the text, or the fault of no token. That it is another one than
+-- the one that is due, is said where this is used.
 abbrev pub IsWanted : List ℕ → ℕ → Due → Fault → Type 0
 IsWanted text i expected fault =
     ((j : ℕ) × (found : Found) × IsFound text i j found × (fault ≡ wanted_fault expected found i))
