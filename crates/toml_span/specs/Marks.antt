@@ -1,5 +1,5 @@
 -- What a node of the tree under construction keeps of the claims on it.
-use Rattle.std.specs.Prelude.{◌≡◌, ⊤, ℕ, List, [], ◌∷◌, ◌++◌, Bool, true, false, if◌then◌else◌, Option, Some, None, nat_eq, Result, Ok, Err, string_bytes}
+use Rattle.std.specs.Prelude.{◌≡◌, ⊤, ℕ, List, [], ◌∷◌, ◌++◌, Bool, true, false, if◌then◌else◌, Option, Some, None, nat_eq, string_bytes}
 use Rattle.std.specs.List.{list_any}
 use Rattle.toml_span.specs.declared.claims.Sort.{Sort}
 use Rattle.toml_span.specs.declared.claims.Sort.TheVariants.{Passed, Section, ArrayOfTables, Entry, Dotted, Assigned}
@@ -23,12 +23,6 @@ same_sort a b = nat_eq (sort_number a) (sort_number b)
 -- the first claim of each sort is kept, in the order of the text
 abbrev pub remember : List Mark → Mark → List Mark
 remember marks mark = if list_any (λ seen. same_sort seen.sort mark.sort) marks then marks else marks ++ mark ∷ []
-
--- Ok, where P holds, if there is no clash, and else that clash over the name. It may be want of memory.
-abbrev pub Answers : {A : Type 0} → Result A Halt → Option Meeting → List ℕ → (A → Type 0) → Type 0
-Answers (Ok x) o name P = (o ≡ None) × P x
-Answers (Err (Clash c)) o name P = (o ≡ Some c.meeting) × (string_bytes c.name ≡ name)
-Answers (Err (Memory e)) o name P = ⊤
 
 -- the halt at a clash over a name; or want of memory
 abbrev pub Halts : Halt → Meeting → List ℕ → Type 0

@@ -4,6 +4,7 @@ ghost use Rattle.std.specs.List.{list_any};
 ghost use Rattle.std.specs.Cow.{cow_str_bytes};
 ghost use Rattle.toml_span_tree.specs.Error.{fault_of};
 ghost use Rattle.toml_span.specs.Clashes as clashes;
+ghost use Rattle.toml_span.specs.Machine.{Gives, met, told_by};
 ghost use Rattle.toml_span.specs.Marks as kept;
 ghost use Rattle.toml_span.specs.Places.{IsMarkInside, IsHaltInside};
 
@@ -117,7 +118,7 @@ pub(crate) struct Clash {
 impl Clash {
     /// The error that tells of the clash, in a text where its place has this line and column.
     pub fn into_error<'s>(self, line_info: (usize, usize)) -> Error<'s>
-        ensures { fault_of result ≡ clashes.told self.meeting (string_bytes self.name) line_info }
+        ensures { fault_of result ≡ clashes.fault_told self.meeting (string_bytes self.name) line_info }
     {
         let Clash { meeting, name } = self;
         let kind = match meeting.blame {
@@ -202,7 +203,7 @@ fn halted(alloc: Global, meeting: Meeting, key: &Key<'_>) -> Halt
 
 /// Halts where a claim clashes with one of the earlier ones.
 pub(crate) fn admit(alloc: Global, marks: &[Mark], mark: Mark, key: &Key<'_>) -> Result<(), Halt>
-    ensures answers { kept.Answers result (clashes.partner marks.now mark) (cow_str_bytes key.now.name) (λ _. ⊤) }
+    ensures gives { Gives result (met marks.now mark (cow_str_bytes key.now.name)) (λ _. ⊤) }
     ensures placed { (n : ℕ) → IsMarkInside n mark → IfErr result (IsHaltInside n) }
 {
     match first_meeting(marks, mark) {
@@ -213,7 +214,7 @@ pub(crate) fn admit(alloc: Global, marks: &[Mark], mark: Mark, key: &Key<'_>) ->
 
 /// Keeps a claim on a node, unless it clashes with an earlier one.
 pub(crate) fn claim(alloc: Global, marks: &mut Marks, mark: Mark, key: &Key<'_>) -> Result<(), Halt>
-    ensures answers { kept.Answers result (clashes.partner marks.old.items mark) (cow_str_bytes key.now.name) (λ _. marks.new.items ≡ kept.remember marks.old.items mark) }
+    ensures gives { Gives result (met marks.old.items mark (cow_str_bytes key.now.name)) (λ _. marks.new.items ≡ kept.remember marks.old.items mark) }
     ensures placed { (n : ℕ) → IsMarkInside n mark → IfErr result (IsHaltInside n) }
 {
     admit(alloc, marks.as_slice(), mark, key)?;

@@ -1,7 +1,11 @@
 //! Reads a document into a tree.
-ghost use Rattle.std.specs.Prelude.{◌≤◌, IfOk, IfErr, length};
+ghost use Rattle.std.specs.Prelude.{◌≡◌, ◌≤◌, true, IfOk, IfErr, length, map};
 ghost use Rattle.toml_span_read.specs.Inside.{SectionsInside};
-ghost use Rattle.toml_span.specs.Parsing.{IsClashStop, IsRead, IsRefusal};
+ghost use Rattle.toml_span_read.specs.Lines.{block};
+ghost use Rattle.toml_span_tree.specs.Value.{is_whole, view};
+ghost use Rattle.toml_span.specs.Ordered.{IsOrdered};
+ghost use Rattle.toml_span.specs.Parsing.{IsClashStop, IsRefusal, IsTree, IsTreeOf};
+ghost use Rattle.toml_span.specs.Placing.{AreSections};
 ghost use Rattle.toml_span.specs.Roots.{IsRoot};
 
 use crate::claims::Halt;
@@ -22,8 +26,12 @@ fn tree_of<'de>(
     text: &'de str,
 ) -> Result<Value<'de>, Stop<Error<'de>>>
     requires inside { SectionsInside (length text.now) sections.items }
+    requires headers { AreSections (map block sections.items) }
+    ensures tree { IfOk result (IsTreeOf (map block sections.entry.items) (length text.now)) }
     ensures root { IfOk result (IsRoot (length text.now)) }
-    ensures refused { IfErr result (IsClashStop text.now) }
+    ensures ordered { IfOk result (λ root. IsOrdered (view root)) }
+    ensures whole { IfOk result (λ root. is_whole (view root) ≡ true) }
+    ensures refused { IfErr result (IsClashStop (map block sections.entry.items) text.now) }
 {
     match assemble(alloc, sections, text.len()) {
         Ok(root) => Ok(root),
@@ -37,11 +45,13 @@ fn tree_of<'de>(
 
 /// The tree of a document, with the limit of 128 levels.
 ///
-/// The error is the first fault of reading or, where the text is read, the clash of two claims on one
-/// path; there is no tree then.
+/// The error is the first fault of reading or, where the text is read, the first clash of two claims on
+/// one path; there is no tree then.
 pub fn parse<'de>(alloc: Global, s: &'de str) -> Result<Value<'de>, Stop<Error<'de>>>
-    ensures read { IfOk result (λ _. IsRead s.now LIMIT) }
+    ensures tree { IfOk result (IsTree s.now LIMIT) }
     ensures root { IfOk result (IsRoot (length s.now)) }
+    ensures ordered { IfOk result (λ root. IsOrdered (view root)) }
+    ensures whole { IfOk result (λ root. is_whole (view root) ≡ true) }
     ensures refused { IfErr result (IsRefusal s.now LIMIT) }
 {
     parse_with_limit(alloc, s, LIMIT)
@@ -56,8 +66,10 @@ pub fn parse_with_limit<'de>(
 ) -> Result<Value<'de>, Stop<Error<'de>>>
     requires some { 1 ≤ limit }
     requires small { limit ≤ 128 }
-    ensures read { IfOk result (λ _. IsRead s.now limit) }
+    ensures tree { IfOk result (IsTree s.now limit) }
     ensures root { IfOk result (IsRoot (length s.now)) }
+    ensures ordered { IfOk result (λ root. IsOrdered (view root)) }
+    ensures whole { IfOk result (λ root. is_whole (view root) ≡ true) }
     ensures refused { IfErr result (IsRefusal s.now limit) }
 {
     match read_sections(alloc, s, limit) {

@@ -3,6 +3,7 @@
 
 mod claims;
 pub mod de;
+pub mod laws;
 mod node;
 mod rest;
 mod scopes;

@@ -1,6 +1,8 @@
 //! The tree under construction.
-ghost use Rattle.std.specs.Prelude.{◌≡◌};
+ghost use Rattle.std.specs.Prelude.{◌≡◌, IfSome};
 ghost use Rattle.toml_span.specs.Marks as kept;
+ghost use Rattle.toml_span.specs.Tree.{IsFresh};
+ghost use Rattle.toml_span.specs.Placing.{Becomes, EachBecomes, Finishes, NamesAscend};
 
 use crate::claims::{Mark, Marks, Sort};
 use smallvec::SmallVec;
@@ -30,7 +32,9 @@ pub(crate) struct Node<'de> {
 }
 
 impl<'de> Node<'de> {
-    pub fn new(alloc: Global) -> Self {
+    pub fn new(alloc: Global) -> Self
+        ensures { IsFresh result }
+    {
         Self {
             marks: SmallVec::new(alloc),
             values: BTreeMap::new(alloc),
@@ -60,11 +64,21 @@ fn deciding(marks: &[Mark]) -> Option<Mark>
 }
 
 /// The key's span and the span of the node with these claims.
-fn spans(marks: &[Mark]) -> (Span, Span) {
+fn spans(marks: &[Mark]) -> (Span, Span)
+    ensures { IfSome (kept.deciding marks.now) (λ m. result ≡ (m.key, m.extent)) }
+{
     match deciding(marks) {
         Some(mark) => (mark.key, mark.extent),
         None => (Span::default(), Span::default()),
     }
+}
+
+/// The names of a table are in order, and none stands there twice.
+fn in_order(table: &Table<'_>)
+    ensures { NamesAscend table.now }
+{
+    // A map keeps its keys in order, and says so when it is asked for its length.
+    let _ = table.len();
 }
 
 /// The table of what these nodes have become, and of these values.
@@ -72,23 +86,26 @@ fn spans(marks: &[Mark]) -> (Span, Span) {
 pub(crate) fn into_table<'de>(
     tables: Nodes<'de>,
     mut values: Table<'de>,
-) -> Result<Table<'de>, AllocError> {
+) -> Result<Table<'de>, AllocError>
+    ensures { Finishes tables.entry values.entry result }
+{
     for (key, child) in tables {
         let (span, value) = into_value(Box::into_inner(child))?;
-        values.insert(
-            Key {
-                name: key.name,
-                span,
-            },
-            value,
-        )?;
+        let key = Key {
+            name: key.name,
+            span,
+        };
+        drop(values.insert(key, value)?);
     }
+    in_order(&values);
     Ok(values)
 }
 
 /// The value that a node has become, and the span of its key.
 #[cycle(finish)]
-fn into_value<'de>(node: Node<'de>) -> Result<(Span, Value<'de>), AllocError> {
+fn into_value<'de>(node: Node<'de>) -> Result<(Span, Value<'de>), AllocError>
+    ensures { Becomes node.entry result }
+{
     let Node {
         marks,
         values,
@@ -109,7 +126,9 @@ fn into_value<'de>(node: Node<'de>) -> Result<(Span, Value<'de>), AllocError> {
 
 /// The elements that the entries of an array of tables have become.
 #[cycle(finish)]
-fn into_array<'de>(entries: Vec<Node<'de>>) -> Result<Array<'de>, AllocError> {
+fn into_array<'de>(entries: Vec<Node<'de>>) -> Result<Array<'de>, AllocError>
+    ensures { EachBecomes entries.entry.items result }
+{
     let mut array = Vec::with_capacity(*entries.allocator(), entries.len())?;
     for entry in entries {
         let (_, value) = into_value(entry)?;

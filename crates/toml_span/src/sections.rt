@@ -1,9 +1,16 @@
 //! Sections placed one by one into a tree.
-ghost use Rattle.std.specs.Prelude.{◌≡◌, ℕ, map, IfOk, IfErr};
+ghost use Rattle.std.specs.Prelude.{◌≡◌, ℕ, map, [], IfOk, IfErr};
 ghost use Rattle.toml_span_read.specs.Data.{event};
 ghost use Rattle.toml_span_read.specs.Inside.{IsInside, PartsInside, EventsInside, SectionsInside};
 ghost use Rattle.toml_span_read.specs.Keys.{part as part_of};
+ghost use Rattle.toml_span_read.specs.Lines.{block};
+ghost use Rattle.toml_span.specs.declared.claims.Sort.TheVariants.{Passed};
+ghost use Rattle.toml_span.specs.Claims as claims;
+ghost use Rattle.toml_span.specs.Claims.{event_claims};
 ghost use Rattle.toml_span.specs.Places.{IsHaltInside};
+ghost use Rattle.toml_span.specs.Placing.{AreSections, Assembles, Opening, Opens, Passes, Places, Reaches};
+ghost use Rattle.toml_span.specs.Relative.{adding, ending, grown, grown_here, grown_through, one_more, opening, part_sort, passing, section_at, through};
+ghost use Rattle.toml_span.specs.Tree.{counts, IsHeld, IsOpen, IsScope};
 ghost use Rattle.toml_span.specs.Roots.{IsRoot};
 
 use crate::claims::{Halt, Mark, Sort, claim};
@@ -29,7 +36,7 @@ struct Head {
 
 /// The claim of a part of a header.
 fn header_mark(head: Head, sort: Sort, key: &Key<'_>) -> Mark
-    ensures { result ≡ record { sort = sort; key = key.now.span; line = head.line; extent = head.extent } }
+    ensures { result ≡ claims.header_mark head sort key.now.span }
 {
     Mark {
         sort,
@@ -40,7 +47,9 @@ fn header_mark(head: Head, sort: Sort, key: &Key<'_>) -> Mark
 }
 
 /// What the part of a header claims that is followed by these.
-fn sort_of(head: Head, rest: &[Key<'_>]) -> Sort {
+fn sort_of(head: Head, rest: &[Key<'_>]) -> Sort
+    ensures { result ≡ part_sort head (map part_of rest.now) }
+{
     if !rest.is_empty() {
         Sort::Passed
     } else if head.array {
@@ -59,13 +68,14 @@ fn place_section<'de>(
     head: Head,
     pairs: Vec<Assignment<'de>>,
 ) -> Result<(), Halt>
-    ensures { (n : ℕ) → PartsInside n (map part_of parts.now) → IsInside n head.line → EventsInside n (map event pairs.entry.items) → IfErr result (IsHaltInside n) }
+    ensures gives { Places node.old node.new result (section_at (counts node.old) head (map part_of parts.now) (event_claims (map event pairs.entry.items) [])) (grown (counts node.old) head (map part_of parts.now)) }
+    ensures placed { (n : ℕ) → PartsInside n (map part_of parts.now) → IsInside n head.line → EventsInside n (map event pairs.entry.items) → IfErr result (IsHaltInside n) }
 {
     let [part, rest @ ..] = parts else {
         return place_all(alloc, pairs, node);
     };
     match node.tables.get_mut(part) {
-        Some(child) => pass_header(alloc, child.as_mut(), part, rest, head, pairs),
+        Some(child) => pass_child(alloc, child, part, rest, head, pairs),
         None => {
             let mark = header_mark(head, sort_of(head, rest), part);
             admit_beside_value(alloc, &node.values, mark, part)?;
@@ -78,6 +88,22 @@ fn place_section<'de>(
     }
 }
 
+/// From the node of a part on, in its block.
+#[cycle(place_section)]
+fn pass_child<'de>(
+    alloc: Global,
+    child: &mut Box<Node<'de>>,
+    part: &Key<'de>,
+    rest: &[Key<'de>],
+    head: Head,
+    pairs: Vec<Assignment<'de>>,
+) -> Result<(), Halt>
+    ensures gives { Passes child.old.value child.new.value result (through (counts child.old.value) head (part_of part.now) (map part_of rest.now) (event_claims (map event pairs.entry.items) [])) (grown_through (counts child.old.value) head (map part_of rest.now)) }
+    ensures placed { (n : ℕ) → IsInside n part.now.span → PartsInside n (map part_of rest.now) → IsInside n head.line → EventsInside n (map event pairs.entry.items) → IfErr result (IsHaltInside n) }
+{
+    pass_header(alloc, child.as_mut(), part, rest, head, pairs)
+}
+
 /// From the node of a part on: into the latest entry where it is an array.
 #[cycle(place_section)]
 fn pass_header<'de>(
@@ -88,7 +114,8 @@ fn pass_header<'de>(
     head: Head,
     pairs: Vec<Assignment<'de>>,
 ) -> Result<(), Halt>
-    ensures { (n : ℕ) → IsInside n part.now.span → PartsInside n (map part_of rest.now) → IsInside n head.line → EventsInside n (map event pairs.entry.items) → IfErr result (IsHaltInside n) }
+    ensures gives { Passes node.old node.new result (through (counts node.old) head (part_of part.now) (map part_of rest.now) (event_claims (map event pairs.entry.items) [])) (grown_through (counts node.old) head (map part_of rest.now)) }
+    ensures placed { (n : ℕ) → IsInside n part.now.span → PartsInside n (map part_of rest.now) → IsInside n head.line → EventsInside n (map event pairs.entry.items) → IfErr result (IsHaltInside n) }
 {
     if rest.is_empty() {
         return end_header(alloc, node, part, head, pairs);
@@ -109,7 +136,8 @@ fn descend<'de>(
     head: Head,
     pairs: Vec<Assignment<'de>>,
 ) -> Result<(), Halt>
-    ensures { (n : ℕ) → IsInside n part.now.span → PartsInside n (map part_of rest.now) → IsInside n head.line → EventsInside n (map event pairs.entry.items) → IfErr result (IsHaltInside n) }
+    ensures gives { Opening IsScope (claims.header_mark head Passed part.now.span) node.old node.new result (passing head (part_of part.now) (map part_of rest.now) (event_claims (map event pairs.entry.items) []) (counts node.old)) (grown (counts node.old) head (map part_of rest.now)) }
+    ensures placed { (n : ℕ) → IsInside n part.now.span → PartsInside n (map part_of rest.now) → IsInside n head.line → EventsInside n (map event pairs.entry.items) → IfErr result (IsHaltInside n) }
 {
     claim(
         alloc,
@@ -129,7 +157,8 @@ fn open_table<'de>(
     head: Head,
     pairs: Vec<Assignment<'de>>,
 ) -> Result<(), Halt>
-    ensures { (n : ℕ) → IsInside n part.now.span → IsInside n head.line → EventsInside n (map event pairs.entry.items) → IfErr result (IsHaltInside n) }
+    ensures gives { Opening (Opens sort) (claims.header_mark head sort part.now.span) node.old node.new result (opening head sort (part_of part.now) (event_claims (map event pairs.entry.items) [])) (counts node.old) }
+    ensures placed { (n : ℕ) → IsInside n part.now.span → IsInside n head.line → EventsInside n (map event pairs.entry.items) → IfErr result (IsHaltInside n) }
 {
     claim(alloc, &mut node.marks, header_mark(head, sort, part), part)?;
     place_all(alloc, pairs, node)
@@ -143,7 +172,8 @@ fn add_entry<'de>(
     head: Head,
     pairs: Vec<Assignment<'de>>,
 ) -> Result<(), Halt>
-    ensures { (n : ℕ) → IsInside n part.now.span → IsInside n head.line → EventsInside n (map event pairs.entry.items) → IfErr result (IsHaltInside n) }
+    ensures gives { Reaches IsOpen IsHeld node.old node.new result (adding head (part_of part.now) (event_claims (map event pairs.entry.items) []) (counts node.old [])) (one_more (counts node.old)) }
+    ensures placed { (n : ℕ) → IsInside n part.now.span → IsInside n head.line → EventsInside n (map event pairs.entry.items) → IfErr result (IsHaltInside n) }
 {
     let mut entry = Node::new(alloc);
     open_table(alloc, &mut entry, Sort::Entry, part, head, pairs)?;
@@ -159,7 +189,8 @@ fn end_header<'de>(
     head: Head,
     pairs: Vec<Assignment<'de>>,
 ) -> Result<(), Halt>
-    ensures { (n : ℕ) → IsInside n part.now.span → IsInside n head.line → EventsInside n (map event pairs.entry.items) → IfErr result (IsHaltInside n) }
+    ensures gives { Passes node.old node.new result (ending head (part_of part.now) (event_claims (map event pairs.entry.items) []) (counts node.old [])) (grown_here (counts node.old) head) }
+    ensures placed { (n : ℕ) → IsInside n part.now.span → IsInside n head.line → EventsInside n (map event pairs.entry.items) → IfErr result (IsHaltInside n) }
 {
     if !head.array {
         return open_table(alloc, node, Sort::Section, part, head, pairs);
@@ -177,6 +208,8 @@ pub(crate) fn assemble<'de>(
     sections: Vec<Section<'de>>,
     length: usize,
 ) -> Result<Value<'de>, Halt>
+    requires headers { AreSections (map block sections.items) }
+    ensures gives { Assembles (map block sections.entry.items) length result }
     ensures root { IfOk result (IsRoot length) }
     ensures placed { (n : ℕ) → SectionsInside n sections.entry.items → IfErr result (IsHaltInside n) }
 {

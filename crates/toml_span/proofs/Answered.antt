@@ -1,0 +1,95 @@
+-- Each document has a tree or a first clash, and one only.
+use Rattle.std.proofs.Common.{◌≡◌, ℕ, ◌<◌, arith, eq-eqb, slice_index, List, [], Option, Some, None, refl, sym, ap, ◌∙◌, subst, ◌⊎◌, inl, inr, length}
+use Rattle.std.proofs.lemmas.Bool.{cases_order, false≢true}
+use Rattle.std.proofs.lemmas.Option.{same_Some, none-some}
+use Rattle.toml_span_lex.specs.declared.stop.Stop.TheVariants as stops
+use Rattle.toml_span_tree.specs.Error.{fault_of}
+use Rattle.toml_span_tree.specs.Path.{Path, place_at}
+use Rattle.toml_span_tree.specs.Value.{view}
+use Rattle.toml_span_tree.specs.declared.error.Error.{Error}
+use Rattle.toml_span_tree.specs.declared.value.Value.{Value}
+use Rattle.toml_span_read.specs.declared.fault.Fault.{Fault}
+use Rattle.toml_span_read.specs.Faults.{IsLineInfo}
+use Rattle.toml_span_read.specs.Lines.{Block, SpellsDocument, StuckDocument}
+use Rattle.toml_span_read.proofs.LineLaws.{document_unique, document_excluded}
+use Rattle.toml_span_read.proofs.ValueLaws.{value_unique, value_excluded}
+use Rattle.toml_span.specs.Claims.{Claims, claims}
+use Rattle.toml_span.specs.Clashes.{fault_told, Told, Resolves, TellsFirst}
+use Rattle.toml_span.specs.Flat.{flat}
+use Rattle.toml_span.specs.Machine.{nothing, told}
+use Rattle.toml_span.specs.Parsing.{IsTree, IsFault, IsClashOf, IsClash, IsRefusal}
+use Rattle.toml_span.proofs.Judged.{told-none, told-some, resolves-told, first-told}
+
+judged : (cs : Claims) (o : Option Told) → told nothing cs ≡ o → Resolves [] cs ⊎ ((clash : Told) × TellsFirst [] cs clash)
+judged cs None is = inl (told-none cs is)
+judged cs (Some t) is = inr (t, told-some cs t is)
+
+pub resolves-or-told : (cs : Claims) → Resolves [] cs ⊎ ((clash : Told) × TellsFirst [] cs clash)
+resolves-or-told cs = judged cs (told nothing cs) refl
+
+pub one-first : (cs : Claims) (t u : Told) → TellsFirst [] cs t → TellsFirst [] cs u → t ≡ u
+one-first cs t u h g = same_Some t u (sym (first-told cs t h) ∙ first-told cs u g)
+
+pub none-first : (cs : Claims) (t : Told) → Resolves [] cs → TellsFirst [] cs t → ⊥
+none-first cs t h g = none-some t (sym (resolves-told cs h) ∙ first-told cs t g)
+
+-- ---- texts
+
+one-document : (text : List ℕ) (limit : ℕ) (bs cs : List Block) → SpellsDocument bs text limit → SpellsDocument cs text limit → bs ≡ cs
+one-document text limit bs cs h g = document_unique value_unique bs cs text limit h g
+
+never-stuck : (text : List ℕ) (limit : ℕ) (bs : List Block) (fault : Fault) → SpellsDocument bs text limit → StuckDocument text limit fault → ⊥
+never-stuck text limit bs fault h g =
+    document_excluded value_unique (λ v t l d i j e a s. value_excluded t l {d = d} {i = i} {e = e} s v j a) bs text limit fault h g
+
+pub tree-or-refusal : (text : List ℕ) (limit : ℕ) (root : Value) (error : Error) → IsTree text limit root → IsRefusal text limit (stops.Fault error) → ⊥
+tree-or-refusal text limit root error (bs, spelled, tree) (inl (fault, stuck, placed, tells)) = never-stuck text limit bs fault spelled stuck
+tree-or-refusal text limit root error (bs, spelled, tree) (inr (cs, others, clash)) =
+    none-first (claims bs) clash.clash tree.resolves (subst (λ l. TellsFirst [] (claims l) clash.clash) (one-document text limit cs bs others spelled) clash.first)
+
+pub one-tree : (text : List ℕ) (limit : ℕ) (root other : Value) (p : Path) → IsTree text limit root → IsTree text limit other → place_at p (view root) ≡ place_at p (view other)
+one-tree text limit root other p (bs, spelled, tree) (cs, others, same) =
+    tree.shows p ∙ ap (λ l. flat (length text) (claims l) p) (one-document text limit bs cs spelled others) ∙ sym (same.shows p)
+
+-- ---- one clash
+
+-- no line feed stands between the start of a line and a place in it, so no line starts there
+start-below : (text : List ℕ) (i l c m d : ℕ) (a : IsLineInfo text i l c) (b : IsLineInfo text i m d) → a.start < b.start → ⊥
+start-below text i l c m d a b below = elim b.begins [
+  | inl first ↦ omega (arith, first, below)
+  | inr feed ↦
+      let behind : feed.0 < i = omega (arith, feed.1, b.column_is) in
+      false≢true (sym (a.same_line feed.0 (omega (arith, feed.1, below)) behind) ∙ eq-eqb (slice_index text feed.0) 10 feed.2)
+]
+
+line_info-one : (text : List ℕ) (i l c m d : ℕ) → IsLineInfo text i l c → IsLineInfo text i m d → (l ≡ m) × (c ≡ d)
+line_info-one text i l c m d a b = (
+  a.line_is ∙ sym b.line_is,
+  elim (cases_order a.start b.start) [
+    | inl same ↦ omega (arith, same, a.column_is, b.column_is)
+    | inr (inl below) ↦ absurd (start-below text i l c m d a b below)
+    | inr (inr below) ↦ absurd (start-below text i m d l c b a below)
+  ],
+)
+
+same-clash : (text : List ℕ) (bs : List Block) (e f : Error) → IsClashOf bs text e → IsClashOf bs text f → fault_of e ≡ fault_of f
+same-clash text bs e f a b =
+    let same = one-first (claims bs) a.clash b.clash a.first b.first in
+    let here = subst (λ t. IsLineInfo text t.meeting.place.start b.line b.column) (sym same) b.place in
+    let info = line_info-one text a.clash.meeting.place.start a.line a.column b.line b.column a.place here in
+    a.tells ∙ ap (λ t. fault_told t.meeting t.name (a.line, a.column)) same
+    ∙ ap (λ l. fault_told b.clash.meeting b.clash.name (l, a.column)) info.0
+    ∙ ap (λ c. fault_told b.clash.meeting b.clash.name (b.line, c)) info.1 ∙ sym b.tells
+
+pub one-clash : (text : List ℕ) (limit : ℕ) (e f : Error) → IsClash text limit e → IsClash text limit f → fault_of e ≡ fault_of f
+one-clash text limit e f (bs, spelled, a) (cs, others, b) = same-clash text bs e f a (subst (λ l. IsClashOf l text f) (one-document text limit cs bs others spelled) b)
+
+pub stuck-or-clash : (text : List ℕ) (limit : ℕ) (e f : Error) → IsFault text limit e → IsClash text limit f → ⊥
+stuck-or-clash text limit e f (fault, stuck, placed, tells) (bs, spelled, clash) = never-stuck text limit bs fault spelled stuck
+
+-- ---- every text
+
+pub text-judged : (text : List ℕ) (limit : ℕ) → ((bs : List Block) × SpellsDocument bs text limit) ⊎ ((fault : Fault) × StuckDocument text limit fault)
+    → ((bs : List Block) × SpellsDocument bs text limit × (Resolves [] (claims bs) ⊎ ((clash : Told) × TellsFirst [] (claims bs) clash))) ⊎ ((fault : Fault) × StuckDocument text limit fault)
+text-judged text limit (inl (bs, spelled)) = inl (bs, spelled, resolves-or-told (claims bs))
+text-judged text limit (inr stuck) = inr stuck

@@ -1,0 +1,92 @@
+-- What is assigned in a document is read again from the text at its place.
+use Rattle.std.proofs.Common.{◌≡◌, ℕ, ◌≤◌, List, [], ◌∷◌, Some, None, length, sym, ◌∙◌, ap, subst, inl, inr}
+use Rattle.std.proofs.lemmas.Option.{same_Some}
+use Rattle.toml_span_lex.specs.declared.span.Span.{Span}
+use Rattle.toml_span_tree.specs.Node.{Scalar, text as text_scalar, integer, float, boolean, datetime}
+use Rattle.toml_span_tree.specs.Path.{Path, Place, is_scalar, is_table, place_at}
+use Rattle.toml_span_tree.specs.Value.{view}
+use Rattle.toml_span_tree.specs.declared.value.Value.{Value}
+use Rattle.toml_span_read.specs.Again.{SpellsAgain, ReadsAgain, ScalarReadsAgain}
+use Rattle.toml_span_read.specs.Data.{Node, node, scalar, array, inline}
+use Rattle.toml_span_read.specs.Earlier.{span_of}
+use Rattle.toml_span_read.specs.Grammar.{from_to, Spells}
+use Rattle.toml_span_read.specs.Lines.{Block, SpellsDocument}
+use Rattle.toml_span_read.proofs.AgainLines.{document_spelled}
+use Rattle.toml_span.specs.declared.claims.Sort.TheVariants.{Assigned}
+use Rattle.toml_span.specs.Claims.{Claim, inner_of, value_shape, claims}
+use Rattle.toml_span.specs.Flat.{all_claims, flat}
+use Rattle.toml_span.specs.Laws.{ShapeReadsAgain, AssignedReadAgain}
+use Rattle.toml_span.specs.Parsing.{IsTree}
+use Rattle.toml_span.proofs.EachClaim.{EachIn, each-all, flat-decides}
+use Rattle.toml_span.proofs.SpelledClaims.{Spelled, OfText, document-of_text}
+
+-- ---- values
+
+-- a value whose span is from where it begins to where it ends
+at-span : (v : Node) (text : List ℕ) (limit d i j : ℕ) → 1 ≤ d → Spells v text limit d i j → span_of v ≡ from_to i j → ReadsAgain text limit v
+at-span v text limit d i j deep h e = subst (λ (s : Span). SpellsAgain v text limit s.start s.end) (sym e) (document_spelled v text limit d i j deep h)
+
+scalar-again : (s : Scalar) (span : Span) (text : List ℕ) (limit d i j : ℕ) → 1 ≤ d → Spells (node (scalar s) span) text limit d i j → ScalarReadsAgain text limit s span
+scalar-again (text_scalar v) span text limit d i j deep h = tt
+scalar-again (integer n) span text limit d i j deep h = at-span (node (scalar (integer n)) span) text limit d i j deep h h.1.2
+scalar-again (float x) span text limit d i j deep h = at-span (node (scalar (float x)) span) text limit d i j deep h h.1.2
+scalar-again (boolean b) span text limit d i j deep h = at-span (node (scalar (boolean b)) span) text limit d i j deep h h.1.1
+scalar-again (datetime x) span text limit d i j deep h = at-span (node (scalar (datetime x)) span) text limit d i j deep h h.1.4
+
+-- ---- the flat document
+
+-- the text spells this scalar, with this span
+abbrev pub HasScalar : List ℕ → ℕ → Scalar → Span → Type 0
+HasScalar text limit s span = Spelled text limit (node (scalar s) span)
+
+scalar-value : (text : List ℕ) (limit : ℕ) (v : Node) (s : Scalar) → Spelled text limit v → is_scalar s ≡ value_shape (inner_of v) → HasScalar text limit s (span_of v)
+scalar-value text limit (node (scalar t) span) s h e = let same : s ≡ t = cc in rw same h
+scalar-value text limit (node (array vs) span) s h e = cc
+scalar-value text limit (node (inline ps) span) s h e = cc
+
+scalar-claimed : (text : List ℕ) (limit : ℕ) (c : Claim) (s : Scalar) → OfText text limit c → c.place.shape ≡ is_scalar s → HasScalar text limit s c.place.span
+scalar-claimed text limit c s (inl a) is = subst (HasScalar text limit s) (sym a.span) (scalar-value text limit a.value s a.spelled (sym is ∙ a.shape))
+scalar-claimed text limit c s (inr made) is = absurd (made.shape s is)
+
+pub flat-scalar : (text : List ℕ) (limit n : ℕ) (bs : List Block) (p : Path) (x : Place) (s : Scalar) → SpellsDocument bs text limit → flat n (claims bs) p ≡ Some x → x.shape ≡ is_scalar s
+    → HasScalar text limit s x.span
+unfolding flat
+flat-scalar text limit n bs [] x s h at is =
+    let table : is_table ≡ x.shape = ap (λ y. y.shape) (same_Some (record { shape = is_table; key_span = None; span = record { start = 0; end = n } }) x at) in
+    absurd (let no : is_table ≡ is_scalar s = table ∙ is in cc)
+flat-scalar text limit n bs (t ∷ p) x s h at is =
+    let d = flat-decides (OfText text limit) n (claims bs) t p x (document-of_text bs text limit h) at in
+    subst (λ (y : Place). HasScalar text limit s y.span) d.place (scalar-claimed text limit d.claim s d.holds (ap (λ y. y.shape) d.place ∙ is))
+
+pub flat-again : (text : List ℕ) (limit n : ℕ) (bs : List Block) (p : Path) (x : Place) (s : Scalar) → SpellsDocument bs text limit → flat n (claims bs) p ≡ Some x → x.shape ≡ is_scalar s
+    → ScalarReadsAgain text limit s x.span
+flat-again text limit n bs p x s h at is =
+    let v = flat-scalar text limit n bs p x s h at is in scalar-again s x.span text limit v.depth v.from v.to v.deep v.spells
+
+-- ---- the tree
+
+pub tree-scalar : (text : List ℕ) (limit : ℕ) (root : Value) (p : Path) (x : Place) (s : Scalar) → IsTree text limit root → place_at p (view root) ≡ Some x → x.shape ≡ is_scalar s
+    → HasScalar text limit s x.span
+tree-scalar text limit root p x s (bs, spelled, tree) at is = flat-scalar text limit (length text) bs p x s spelled (sym (tree.shows p) ∙ at) is
+
+pub tree-again : (text : List ℕ) (limit : ℕ) (root : Value) (p : Path) (x : Place) (s : Scalar) → IsTree text limit root → place_at p (view root) ≡ Some x → x.shape ≡ is_scalar s
+    → ScalarReadsAgain text limit s x.span
+tree-again text limit root p x s (bs, spelled, tree) at is = flat-again text limit (length text) bs p x s spelled (sym (tree.shows p) ∙ at) is
+
+-- ---- what is assigned
+
+value-again : (text : List ℕ) (limit : ℕ) (v : Node) → Spelled text limit v → ShapeReadsAgain text limit (value_shape (inner_of v)) (span_of v)
+value-again text limit (node (scalar s) span) h = scalar-again s span text limit h.depth h.from h.to h.deep h.spells
+value-again text limit (node (array vs) span) h = (vs, at-span (node (array vs) span) text limit h.depth h.from h.to h.deep h.spells h.spells.1.1)
+value-again text limit (node (inline ps) span) h = (ps, at-span (node (inline ps) span) text limit h.depth h.from h.to h.deep h.spells h.spells.1.1)
+
+claim-again : (text : List ℕ) (limit : ℕ) (c : Claim) → OfText text limit c → c.mark.sort ≡ Assigned → ShapeReadsAgain text limit c.place.shape c.place.span
+claim-again text limit c (inl a) is = rw (a.shape, a.span) (value-again text limit a.value a.spelled)
+claim-again text limit c (inr made) is = absurd (made.sort is)
+
+list-again : (text : List ℕ) (limit : ℕ) (cs : List Claim) → EachIn (OfText text limit) cs → AssignedReadAgain text limit cs
+list-again text limit [] h = tt
+list-again text limit (c ∷ cs) h = (claim-again text limit c h.0, list-again text limit cs h.1)
+
+pub claims-again : (text : List ℕ) (limit : ℕ) (bs : List Block) → SpellsDocument bs text limit → AssignedReadAgain text limit (all_claims (claims bs))
+claims-again text limit bs h = list-again text limit (all_claims (claims bs)) (each-all (OfText text limit) (claims bs) (document-of_text bs text limit h))

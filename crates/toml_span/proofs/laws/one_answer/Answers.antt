@@ -1,0 +1,5 @@
+use Rattle.toml_span.proofs.Answered.{tree-or-refusal, stuck-or-clash, one-tree, one-clash}
+use Rattle.toml_span.proofs.laws.one_answer.Goals as goal
+
+pub returns : goal.returns
+returns c = record { refused = tree-or-refusal; stuck = stuck-or-clash; tree = one-tree; clash = one-clash }

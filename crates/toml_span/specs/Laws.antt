@@ -1,0 +1,60 @@
+-- What the laws cite.
+use Rattle.std.specs.Prelude.{◌≡◌, ⊤, ℕ, suc, ◌+◌, Bool, List, [], ◌∷◌, None}
+use Rattle.toml_span_lex.specs.declared.span.Span.{Span}
+use Rattle.toml_span_lex.specs.Strings.{IsString, IsEmptyOnOneLine}
+use Rattle.toml_span_tree.specs.Node.{Node, node, Inner, taken, scalar, array, table, Items, no_items, item, Members, no_members, member, entry_at}
+use Rattle.toml_span_tree.specs.Path.{Path, key, position, Shape, is_taken, is_scalar, is_array, is_table}
+use Rattle.toml_span_read.specs.Again.{ReadsAgain, ScalarReadsAgain}
+use Rattle.toml_span_read.specs.Between.{CutsContent}
+use Rattle.toml_span_read.specs.Data as read
+use Rattle.toml_span.specs.declared.claims.Sort.TheVariants.{Assigned}
+use Rattle.toml_span.specs.Claims.{Claim}
+
+-- in no table of the tree a name stands twice
+abbrev mutual
+  pub HasOneEach : Node → Type 0
+  HasOneEach (node i span) = InnerHasOneEach i
+
+  pub InnerHasOneEach : Inner → Type 0
+  InnerHasOneEach taken = ⊤
+  InnerHasOneEach (scalar s) = ⊤
+  InnerHasOneEach (array ns) = ItemsHaveOneEach ns
+  InnerHasOneEach (table ms) = MembersHaveOneEach ms
+
+  pub ItemsHaveOneEach : Items → Type 0
+  ItemsHaveOneEach no_items = ⊤
+  ItemsHaveOneEach (item n ns) = HasOneEach n × ItemsHaveOneEach ns
+
+  pub MembersHaveOneEach : Members → Type 0
+  MembersHaveOneEach no_members = ⊤
+  MembersHaveOneEach (member name at n ms) = (entry_at name ms ≡ None) × HasOneEach n × MembersHaveOneEach ms
+
+-- how many keys a path has
+abbrev pub keys_in : Path → ℕ
+keys_in [] = 0
+keys_in (key name ∷ p) = suc (keys_in p)
+keys_in (position i ∷ p) = keys_in p
+
+-- The text from i to j is a string with this value. The span is all that stands between its quotes, or, of two quotes alone,
+-- the first of them.
+pub record ShowsString (text value : List ℕ) (span : Span) : Type 0 where
+  pub i : ℕ
+  pub j : ℕ
+  pub source : List ℕ
+  pub multi : Bool
+  pub spelled : IsString text i j span source value multi
+  pub content : (IsEmptyOnOneLine i j → ⊥) → CutsContent text i j span value multi
+  pub opening : IsEmptyOnOneLine i j → (value ≡ []) × (span ≡ record { start = i; end = i + 1 })
+
+-- The text at the span is read again as something of this shape: a number, a truth value or a date as itself. Of a string
+-- nothing is said.
+abbrev pub ShapeReadsAgain : List ℕ → ℕ → Shape → Span → Type 0
+ShapeReadsAgain text limit is_taken span = ⊥
+ShapeReadsAgain text limit (is_scalar s) span = ScalarReadsAgain text limit s span
+ShapeReadsAgain text limit is_array span = (items : read.Items) × ReadsAgain text limit (read.node (read.array items) span)
+ShapeReadsAgain text limit is_table span = (pairs : read.Pairs) × ReadsAgain text limit (read.node (read.inline pairs) span)
+
+-- so is what each of these claims assigns
+abbrev pub AssignedReadAgain : List ℕ → ℕ → List Claim → Type 0
+AssignedReadAgain text limit [] = ⊤
+AssignedReadAgain text limit (c ∷ cs) = (c.mark.sort ≡ Assigned → ShapeReadsAgain text limit c.place.shape c.place.span) × AssignedReadAgain text limit cs

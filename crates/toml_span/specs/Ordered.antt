@@ -1,0 +1,37 @@
+-- Trees whose tables have their entries in the order of the names, and no name twice.
+use Rattle.std.specs.Prelude.{◌≡◌, ◌<◌, ◌⊎◌, ⊤, ℕ, List, [], ◌∷◌}
+use Rattle.toml_span_tree.specs.Node.{Node, node, Inner, taken, scalar, array, table, Items, no_items, item, Members, no_members, member}
+
+-- a list is before each longer one that begins with it, and else the first two elements that differ decide
+abbrev pub IsBefore : {A : Type 0} → (A → A → Type 0) → List A → List A → Type 0
+IsBefore less xs [] = ⊥
+IsBefore less [] (y ∷ ys) = ⊤
+IsBefore less (x ∷ xs) (y ∷ ys) = less x y ⊎ ((x ≡ y) × IsBefore less xs ys)
+
+-- names by their bytes
+abbrev pub IsNameBefore : List ℕ → List ℕ → Type 0
+IsNameBefore name other = IsBefore (λ m n. m < n) name other
+
+-- P holds of each name
+abbrev pub EachName : (List ℕ → Type 0) → Members → Type 0
+EachName P no_members = ⊤
+EachName P (member name at n ms) = P name × EachName P ms
+
+-- in each table a name is before all later ones
+abbrev mutual
+  pub IsOrdered : Node → Type 0
+  IsOrdered (node i span) = HoldsOrdered i
+
+  pub HoldsOrdered : Inner → Type 0
+  HoldsOrdered taken = ⊤
+  HoldsOrdered (scalar s) = ⊤
+  HoldsOrdered (array ns) = AreOrdered ns
+  HoldsOrdered (table ms) = MembersOrdered ms
+
+  pub AreOrdered : Items → Type 0
+  AreOrdered no_items = ⊤
+  AreOrdered (item n ns) = IsOrdered n × AreOrdered ns
+
+  pub MembersOrdered : Members → Type 0
+  MembersOrdered no_members = ⊤
+  MembersOrdered (member name at n ms) = EachName (IsNameBefore name) ms × IsOrdered n × MembersOrdered ms

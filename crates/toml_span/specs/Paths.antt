@@ -1,0 +1,54 @@
+-- Paths, and the path that a header names.
+use Rattle.std.specs.Prelude.{ℕ, zero, suc, Bool, true, false, ◌&&◌, if◌then◌else◌, List, [], ◌∷◌, ◌++◌, length, filter, nat_eq}
+use Rattle.std.specs.Str.{bytes_eq}
+use Rattle.toml_span_tree.specs.Path.{Step, key, position, Path}
+use Rattle.toml_span_read.specs.Keys.{Part}
+use Rattle.toml_span_read.specs.Lines.{Block}
+
+abbrev pub same_step : Step → Step → Bool
+same_step (key name) (key other) = bytes_eq name other
+same_step (position i) (position j) = nat_eq i j
+same_step (key name) (position j) = false
+same_step (position i) (key other) = false
+
+unfoldable pub same_path : Path → Path → Bool
+same_path [] [] = true
+same_path [] (t ∷ q) = false
+same_path (s ∷ p) [] = false
+same_path (s ∷ p) (t ∷ q) = same_step s t && same_path p q
+
+-- the path with one more key
+abbrev pub below : Path → Part → Path
+below p k = p ++ (key k.name ∷ [])
+
+-- the path with one more position
+abbrev pub at : Path → ℕ → Path
+at p i = p ++ (position i ∷ [])
+
+-- how many of the entries opened so far are of the array at p
+abbrev pub entries_at : List Path → Path → ℕ
+entries_at opened p = length (filter (λ q. same_path q p) opened)
+
+-- into the latest of so many entries, where there are any
+unfoldable pub enter : ℕ → Path → Path
+enter zero p = p
+enter (suc latest) p = at p latest
+
+-- The path of a header from p on, without the position of its own entry. `entries` counts the entries of each array so far.
+unfoldable pub target : (Path → ℕ) → Path → List Part → Path
+target entries p [] = p
+target entries p (k ∷ []) = below p k
+target entries p (k ∷ l ∷ more) = target entries (enter (entries (below p k)) (below p k)) (l ∷ more)
+
+-- the arrays to which these sections, the nearest first, added an entry each
+unfoldable pub opened_by : List Block → List Path
+opened_by [] = []
+opened_by (b ∷ earlier) =
+    let before = opened_by earlier in
+    if b.array then target (entries_at before) [] b.header ∷ before else before
+
+-- The path below which a section assigns: that of its header and, in double brackets, the position of its own entry.
+abbrev pub section_path : (Path → ℕ) → Block → Path
+section_path entries b =
+    let p = target entries [] b.header in
+    if b.array then at p (entries p) else p

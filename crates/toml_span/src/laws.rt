@@ -1,0 +1,107 @@
+//! Laws of claims, and of what a text is answered.
+ghost use Rattle.std.specs.Prelude.{◌≡◌, ◌≢◌, ◌≤◌, ◌*◌, ◌⊎◌, ◌++◌, ◌∷◌, ℕ, false, true, List, [], length, slice_range, Some};
+ghost use Rattle.toml_span_lex.specs.Bytes.{quotation_mark};
+ghost use Rattle.toml_span_lex.specs.Strings.{HasChange};
+ghost use Rattle.toml_span_lex.specs.declared.span.Span.{Span};
+ghost use Rattle.toml_span_lex.specs.declared.stop.Stop.TheVariants.{Fault as refused};
+ghost use Rattle.toml_span_read.specs.Again.{ScalarReadsAgain};
+ghost use Rattle.toml_span_read.specs.Lines.{Block, SpellsDocument, StuckDocument};
+ghost use Rattle.toml_span_read.specs.declared.fault.Fault.{Fault};
+ghost use Rattle.toml_span_tree.specs.Error.{fault_of};
+ghost use Rattle.toml_span_tree.specs.Node.{Node, Scalar, text as string};
+ghost use Rattle.toml_span_tree.specs.Path.{Path, Place, is_scalar, key, node_at, place_at};
+ghost use Rattle.toml_span_tree.specs.Value.{is_taken, is_whole, view};
+ghost use Rattle.toml_span_tree.specs.declared.error.Error.{Error};
+ghost use Rattle.toml_span_tree.specs.declared.value.Value.{Value};
+ghost use Rattle.toml_span.specs.Claims.{Claims, claims};
+ghost use Rattle.toml_span.specs.Clashes.{Told, Resolves, TellsFirst};
+ghost use Rattle.toml_span.specs.Flat.{Shows, all_claims, flat};
+ghost use Rattle.toml_span.specs.Laws.{AssignedReadAgain, HasOneEach, keys_in, ShowsString};
+ghost use Rattle.toml_span.specs.Order.{Ascends, key_at, KeysApart};
+ghost use Rattle.toml_span.specs.Ordered.{IsOrdered};
+ghost use Rattle.toml_span.specs.Parsing.{IsClash, IsFault, IsRefusal, IsTree};
+
+use toml_span_read::laws::judged::document_or_stuck;
+
+/// Either no two claims of one scope clash, or there is a first clash.
+pub fn resolves_or_told()
+    ensures { (cs : Claims) → Resolves [] cs ⊎ ((clash : Told) × TellsFirst [] cs clash) }
+{}
+
+/// There is one first clash at most, and none where no two claims clash.
+pub fn one_first_clash()
+    ensures one { (cs : Claims) (clash other : Told) → TellsFirst [] cs clash → TellsFirst [] cs other → clash ≡ other }
+    ensures none { (cs : Claims) (clash : Told) → Resolves [] cs → TellsFirst [] cs clash → ⊥ }
+{}
+
+/// A text that has a tree is not refused, and one with a clash has no fault of reading. All trees of a text
+/// show the same at each path, and all errors that tell of its clash are alike.
+pub fn one_answer()
+    ensures refused { (text : List ℕ) (limit : ℕ) (root : Value) (error : Error) → IsTree text limit root → IsRefusal text limit (refused error) → ⊥ }
+    ensures stuck { (text : List ℕ) (limit : ℕ) (error other : Error) → IsFault text limit error → IsClash text limit other → ⊥ }
+    ensures tree { (text : List ℕ) (limit : ℕ) (root other : Value) (path : Path) → IsTree text limit root → IsTree text limit other → place_at path (view root) ≡ place_at path (view other) }
+    ensures clash { (text : List ℕ) (limit : ℕ) (error other : Error) → IsClash text limit error → IsClash text limit other → fault_of error ≡ fault_of other }
+{}
+
+/// Each text spells a document of which no two claims clash, or one of which there is a first clash, or it
+/// is stuck.
+pub fn each_text_is_judged(text: &str)
+    ensures { (limit : ℕ) → 1 ≤ limit → ((blocks : List Block) × SpellsDocument blocks text.now limit × (Resolves [] (claims blocks) ⊎ ((clash : Told) × TellsFirst [] (claims blocks) clash))) ⊎ ((fault : Fault) × StuckDocument text.now limit fault) }
+{
+    document_or_stuck(text);
+}
+
+/// Nothing is taken in a tree that shows the flat document of some sections: no path leads to what is taken,
+/// and the tree is whole if no name stands twice in a table.
+pub fn shown_is_whole()
+    ensures filled { (n : Node) (length : ℕ) (blocks : List Block) → Shows n (flat length (claims blocks)) → (path : Path) (m : Node) → node_at path n ≡ Some m → is_taken m ≡ false }
+    ensures whole { (n : Node) (length : ℕ) (blocks : List Block) → HasOneEach n → Shows n (flat length (claims blocks)) → is_whole n ≡ true }
+{}
+
+/// In no table of a tree that is in order a name stands twice.
+pub fn ordered_has_one_each()
+    ensures { (n : Node) → IsOrdered n → HasOneEach n }
+{}
+
+/// No path of a document that is spelled within a limit has more keys than a header and an assignment may
+/// have together, and none has more than three steps for each level; so it is with each value of its tree.
+pub fn paths_within()
+    ensures keys { (text : List ℕ) (limit n : ℕ) (blocks : List Block) (path : Path) (place : Place) → SpellsDocument blocks text limit → flat n (claims blocks) path ≡ Some place → keys_in path ≤ 2 * limit }
+    ensures steps { (text : List ℕ) (limit n : ℕ) (blocks : List Block) (path : Path) (place : Place) → SpellsDocument blocks text limit → flat n (claims blocks) path ≡ Some place → length path ≤ 3 * limit }
+    ensures tree { (text : List ℕ) (limit : ℕ) (root : Value) (path : Path) (m : Node) → IsTree text limit root → node_at path (view root) ≡ Some m → (keys_in path ≤ 2 * limit) × (length path ≤ 3 * limit) }
+{}
+
+/// The claims of a document, of every scope, stand in the order of the text: each starts behind the one
+/// before it, but for an array of tables and its entry, which one key claims.
+pub fn claims_ascend()
+    ensures { (text : List ℕ) (limit : ℕ) (blocks : List Block) → SpellsDocument blocks text limit → Ascends (all_claims (claims blocks)) }
+{}
+
+/// No two keys of the flat document, or of the tree, start at one place: so no two names of one table do.
+pub fn keys_stand_apart()
+    ensures flat { (text : List ℕ) (limit n : ℕ) (blocks : List Block) → SpellsDocument blocks text limit → KeysApart (flat n (claims blocks)) }
+    ensures names { (text : List ℕ) (limit n : ℕ) (blocks : List Block) (path : Path) (a b : List ℕ) (k l : Span) → SpellsDocument blocks text limit → key_at (flat n (claims blocks)) (path ++ (key a ∷ [])) ≡ Some k → key_at (flat n (claims blocks)) (path ++ (key b ∷ [])) ≡ Some l → a ≢ b → k.start ≢ l.start }
+    ensures tree { (text : List ℕ) (limit : ℕ) (root : Value) → IsTree text limit root → KeysApart (λ path. place_at path (view root)) }
+{}
+
+/// Each number, truth value and date of a document, and of a text's tree, is spelled again by the text at
+/// its span: behind `x = ` it is a document of one assignment of that value.
+pub fn scalars_read_again()
+    ensures flat { (text : List ℕ) (limit n : ℕ) (blocks : List Block) (path : Path) (place : Place) (s : Scalar) → SpellsDocument blocks text limit → flat n (claims blocks) path ≡ Some place → place.shape ≡ is_scalar s → ScalarReadsAgain text limit s place.span }
+    ensures tree { (text : List ℕ) (limit : ℕ) (root : Value) (path : Path) (place : Place) (s : Scalar) → IsTree text limit root → place_at path (view root) ≡ Some place → place.shape ≡ is_scalar s → ScalarReadsAgain text limit s place.span }
+{}
+
+/// The span of each string of a document, and of a text's tree, is what stands between its quotes, and its
+/// value is what that stands for; of two quotes alone the span is the first. Where neither a backslash nor a
+/// carriage return stands in the span, the value is the text at the span, or it is empty.
+pub fn strings_show_the_text()
+    ensures flat { (text : List ℕ) (limit n : ℕ) (blocks : List Block) (path : Path) (place : Place) (value : List ℕ) → SpellsDocument blocks text limit → flat n (claims blocks) path ≡ Some place → place.shape ≡ is_scalar (string value) → ShowsString text value place.span }
+    ensures tree { (text : List ℕ) (limit : ℕ) (root : Value) (path : Path) (place : Place) (value : List ℕ) → IsTree text limit root → place_at path (view root) ≡ Some place → place.shape ≡ is_scalar (string value) → ShowsString text value place.span }
+    ensures unchanged { (text : List ℕ) (limit : ℕ) (root : Value) (path : Path) (place : Place) (value : List ℕ) → IsTree text limit root → place_at path (view root) ≡ Some place → place.shape ≡ is_scalar (string value) → (HasChange quotation_mark text place.span.start place.span.end → ⊥) → (value ≡ []) ⊎ (value ≡ slice_range text place.span.start place.span.end) }
+{}
+
+/// Whatever a claim assigns, also an array or an inline table, is spelled again by the text at its span, but
+/// for strings.
+pub fn brackets_read_again()
+    ensures { (text : List ℕ) (limit : ℕ) (blocks : List Block) → SpellsDocument blocks text limit → AssignedReadAgain text limit (all_claims (claims blocks)) }
+{}
