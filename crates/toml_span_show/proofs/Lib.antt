@@ -1,3 +1,10 @@
 pub mod Known
 pub mod Sizes
 pub mod Walks
+pub mod Entries
+pub mod EntryLines
+pub mod EntryOrder
+pub mod EntryPlaces
+pub mod TreeShown
+pub mod OneText
+pub mod OneAnswer

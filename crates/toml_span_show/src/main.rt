@@ -1,6 +1,7 @@
 //! Shows the tree of a TOML document: one line for each node, with the bytes at which it stands.
 #![tactic(auto)]
 
+mod laws;
 mod lines;
 mod run;
 mod sink;

@@ -65,7 +65,7 @@ fn write_bytes<W: Sink>(writer: &mut W, text: &[u8]) -> bool
 fn answer_text(alloc: Global, text: &str, limit: usize) -> Result<(u8, Vec<u8>), AllocError>
     requires some { 1 ≤ limit }
     requires small { limit ≤ 128 }
-    ensures { IfOk result (λ a. IsShown a.0 a.1.items) }
+    ensures { IfOk result (λ a. IsShown text.now limit a.0 a.1.items) }
 {
     match parse_with_limit(alloc, text, limit) {
         Ok(root) => Ok((0, tree_lines(alloc, &root)?)),
@@ -78,7 +78,7 @@ fn answer_text(alloc: Global, text: &str, limit: usize) -> Result<(u8, Vec<u8>),
 fn answer(alloc: Global, bytes: &[u8], limit: usize) -> Result<(u8, Vec<u8>), AllocError>
     requires some { 1 ≤ limit }
     requires small { limit ≤ 128 }
-    ensures { IfOk result (λ a. IsAnswer bytes.now a.0 a.1.items) }
+    ensures { IfOk result (λ a. IsAnswer bytes.now limit a.0 a.1.items) }
 {
     if bytes.len() > BOUND {
         return Ok((2, Vec::from_slice(alloc, b"error too-long\n")?));
@@ -101,7 +101,7 @@ pub fn run_with_limit<R: Source, W: Sink>(
     requires small { limit ≤ 128 }
     requires reader { R.failed reader.old ≡ false }
     requires writer { W.failed writer.old ≡ false }
-    ensures { Runs (R.remaining reader.old) (R.remaining reader.new) (R.failed reader.new)
+    ensures { Runs limit (R.remaining reader.old) (R.remaining reader.new) (R.failed reader.new)
         (W.contents writer.old) (W.contents writer.new) (W.failed writer.new) result }
 {
     let bytes = match read_bytes(alloc, reader) {
@@ -123,7 +123,7 @@ pub fn run_with_limit<R: Source, W: Sink>(
 pub fn run<R: Source, W: Sink>(alloc: Global, reader: &mut R, writer: &mut W) -> u8
     requires reader { R.failed reader.old ≡ false }
     requires writer { W.failed writer.old ≡ false }
-    ensures { Runs (R.remaining reader.old) (R.remaining reader.new) (R.failed reader.new)
+    ensures { Runs LIMIT (R.remaining reader.old) (R.remaining reader.new) (R.failed reader.new)
         (W.contents writer.old) (W.contents writer.new) (W.failed writer.new) result }
 {
     run_with_limit(alloc, LIMIT, reader, writer)
