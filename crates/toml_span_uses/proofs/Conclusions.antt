@@ -1,0 +1,161 @@
+-- What callers conclude from the clauses of `parse` and of the tree.
+use Rattle.std.proofs.Common.{◌≡◌, ◌≤◌, ◌↔◌, ℕ, ℤ, pos, negsuc, Bool, true, false, nat_lt, if◌then◌else◌, List, [], ◌∷◌, Option, Some, None, option_map, Ok, length, refl, sym, ap, ◌∙◌, subst, inl, inr, true≢false}
+use Rattle.std.specs.Prelude.{option_and_then}
+use Rattle.std.proofs.lemmas.Option.{none-some, same_Some}
+use Rattle.toml_span_lex.specs.declared.span.Span.{Span}
+use Rattle.toml_span_lex.specs.declared.stop.Stop.{Stop}
+use Rattle.toml_span_lex.specs.declared.stop.Stop.TheVariants as stops
+use Rattle.toml_span_tree.specs.declared.error.Error.{Error}
+use Rattle.toml_span_tree.specs.declared.value.Value.{Value}
+use Rattle.toml_span_tree.specs.Node.{Node, node, Members, entry_at, Inner, taken, scalar, array, table, text, integer, float, boolean, datetime}
+use Rattle.toml_span_tree.specs.Path.{Path, key, Place, is_scalar, shape_of, place_of, place_at, reached}
+use Rattle.toml_span_tree.specs.Pointer.{pointed}
+use Rattle.toml_span_tree.specs.Value.{view, inner_of, span_of, integer_in, is_taken}
+use Rattle.toml_span_tree.proofs.PointerLaws.{pointed-is}
+use Rattle.toml_span_tree.proofs.Values.{view_is}
+use Rattle.toml_span_typed.specs.Reads.{Gives, integer_of, or_out_of, unsigned}
+use Rattle.toml_span_typed.specs.TableHelper.{State, Opens, Requires, fresh}
+use Rattle.toml_span_read.specs.Faults.{IsLineInfo}
+use Rattle.toml_span_read.specs.Lines.{Block}
+use Rattle.toml_span.specs.Claims.{claims}
+use Rattle.toml_span.specs.Flat.{flat, Shows}
+use Rattle.toml_span.specs.Parsing.{IsTree, IsRefusal}
+use Rattle.toml_span_uses.specs.Document.{IsDocument, StandsAt}
+use Rattle.toml_span.proofs.ShownWhole.{shown-filled}
+
+-- ---- what a pointer names in a tree, and what stands there
+
+abbrev At : Type 0
+At = Option Span × Node
+
+node-place : (o : Option At) (m : Node) → option_map (λ r. r.1) o ≡ Some m → (k : Option Span) × (option_map place_of o ≡ Some (place_of (k, m)))
+node-place None m h = absurd (none-some m h)
+node-place (Some r) m h = (r.0, ap (λ (n : Node). Some (place_of (r.0, n))) (same_Some r.1 m h))
+
+place-node : (o : Option At) (x : Place) → option_map place_of o ≡ Some x → (k : Option Span) × (m : Node) × (option_map (λ r. r.1) o ≡ Some m) × (place_of (k, m) ≡ x)
+place-node None x h = absurd (none-some x h)
+place-node (Some r) x h = (r.0, r.1, refl, same_Some (place_of r) x h)
+
+-- where the pointer names a value that value stands
+pub pointed-stands : (pointer : List ℕ) (n m : Node) (places : Path → Option Place) (P : Place → Type 0) → Shows n places → pointed pointer n ≡ Some m
+    → ((k : Option Span) → P (place_of (k, m))) → StandsAt pointer places P
+pointed-stands pointer n m places P shows is h =
+    let (names, path, cut, named, there, whole) = (pointed-is pointer n m).0 is in
+    let at = node-place (reached path (None, n)) m there in
+    (names, path, place_of (at.0, m), cut, named, sym (shows path) ∙ at.1, h at.0)
+
+-- what stands where the pointer leads in the tree of sections is what it names
+pub stands-pointed : (pointer : List ℕ) (n : Node) (length : ℕ) (bs : List Block) (P : Place → Type 0) → Shows n (flat length (claims bs)) → StandsAt pointer (flat length (claims bs)) P
+    → (k : Option Span) × (m : Node) × (pointed pointer n ≡ Some m) × P (place_of (k, m))
+stands-pointed pointer n length bs P shows (names, path, place, cut, named, is, h) =
+    let (k, m, there, same) = place-node (reached path (None, n)) place (shows path ∙ is) in
+    let held : is_taken m ≡ true → ⊥ = λ t. true≢false (sym t ∙ shown-filled n length bs shows path m there) in
+    (k, m, (pointed-is pointer n m).1 (names, path, cut, named, there, λ t. absurd (held t)), subst P (sym same) h)
+
+-- ---- answers of callers
+
+-- An answer that is read of the value that the pointer names is read of what stands there in the flat document.
+pub reads-value : {X : Type 0} (s pointer : List ℕ) (root : Value) (m : Node) (o : Option X) (P : X → Place → Type 0) → IsTree s 128 root → pointed pointer (view root) ≡ Some m
+    → ((k : Option Span) (x : X) → (o ≡ Some x) ↔ P x (place_of (k, m))) → IsDocument s (λ places. (x : X) → (o ≡ Some x) ↔ StandsAt pointer places (P x))
+reads-value s pointer root m o P (bs, spelled, tree) is reads = (bs, spelled, tree.resolves, λ x. (stands x, answers x))
+  where
+    stands : (x : _) → o ≡ Some x → StandsAt pointer (flat (length s) (claims bs)) (P x)
+    stands x h = pointed-stands pointer (view root) m (flat (length s) (claims bs)) (P x) tree.shows is (λ k. (reads k x).0 h)
+
+    answers : (x : _) → StandsAt pointer (flat (length s) (claims bs)) (P x) → o ≡ Some x
+    answers x h =
+        let (k, w, found, holds) = stands-pointed pointer (view root) (length s) bs (P x) tree.shows h in
+        (reads k x).1 (subst (λ (w : Node). P x (place_of (k, w))) (same_Some w m (sym found ∙ is)) holds)
+
+-- Where the pointer names nothing, nothing stands.
+pub reads-nothing : {X : Type 0} (s pointer : List ℕ) (root : Value) (P : X → Place → Type 0) → IsTree s 128 root → pointed pointer (view root) ≡ None
+    → IsDocument s (λ places. (x : X) → (None ≡ Some x) ↔ StandsAt pointer places (P x))
+reads-nothing s pointer root P (bs, spelled, tree) is = (bs, spelled, tree.resolves, λ x. (λ h. absurd (none-some x h), nowhere x))
+  where
+    nowhere : (x : _) → StandsAt pointer (flat (length s) (claims bs)) (P x) → None ≡ Some x
+    nowhere x h =
+        let (k, w, found, holds) = stands-pointed pointer (view root) (length s) bs (P x) tree.shows h in
+        absurd (none-some w (sym is ∙ found))
+
+pub span-place : (v : Value) (k : Option Span) (span : Span) → (Some v.span ≡ Some span) ↔ (span_of (view v) ≡ span)
+span-place v k span =
+    let same : span_of (view v) ≡ v.span = ap span_of (view_is v) in
+    (λ h. same ∙ same_Some v.span span h, λ h. ap Some (sym same ∙ h))
+
+integer-shape : (i : Inner) (z : ℤ) → (integer_in i ≡ Some z) ↔ (shape_of i ≡ is_scalar (integer z))
+integer-shape taken z = (λ h. cc, λ h. cc)
+integer-shape (scalar (text s)) z = (λ h. cc, λ h. cc)
+integer-shape (scalar (integer y)) z = (λ h. ap (λ y. is_scalar (integer y)) (same_Some y z h), λ h. cc)
+integer-shape (scalar (float x)) z = (λ h. cc, λ h. cc)
+integer-shape (scalar (boolean b)) z = (λ h. cc, λ h. cc)
+integer-shape (scalar (datetime d)) z = (λ h. cc, λ h. cc)
+integer-shape (array ns) z = (λ h. cc, λ h. cc)
+integer-shape (table ms) z = (λ h. cc, λ h. cc)
+
+-- what `as_integer` answers
+pub integer-place : (o : Option ℤ) (i : Inner) → o ≡ integer_in i → (z : ℤ) → (o ≡ Some z) ↔ (shape_of i ≡ is_scalar (integer z))
+integer-place o i is z =
+    let shape = integer-shape i z in
+    (λ h. shape.0 (sym is ∙ h), λ h. is ∙ shape.1 h)
+
+-- ---- a field that a helper reads
+
+opened : (m : Node) (state : State) → Opens m (Ok state) → (ms : Members) × (span : Span) × (m ≡ node (table ms) span) × (state.members ≡ ms)
+opened (node taken span) state h = cc
+opened (node (scalar x) span) state h = cc
+opened (node (array ns) span) state h = cc
+opened (node (table ms) span) state h =
+    let same : state ≡ fresh ms span = cc in
+    (ms, span, refl, ap (λ t. t.members) same)
+
+last-step : (o : Option At) → option_and_then (reached []) o ≡ o
+last-step None = refl
+last-step (Some r) = refl
+
+held-below : (b : Bool) (type : List ℕ) (span : Span) (m n : ℕ) → Ok n ≡ or_out_of type span (if b then Some m else None) → m ≡ n
+held-below true type span m n h = cc
+held-below false type span m n h = cc
+
+number-shape : (limit : ℕ) (type : List ℕ) (value : Node) (n : ℕ) → Ok n ≡ integer_of type (unsigned limit) value → shape_of (inner_of value) ≡ is_scalar (integer (pos n))
+number-shape limit type (node taken span) n h = cc
+number-shape limit type (node (scalar (text s)) span) n h = cc
+number-shape limit type (node (scalar (integer (pos m))) span) n h = ap (λ m. is_scalar (integer (pos m))) (held-below (nat_lt m limit) type span m n h)
+number-shape limit type (node (scalar (integer (negsuc m))) span) n h = cc
+number-shape limit type (node (scalar (float x)) span) n h = cc
+number-shape limit type (node (scalar (boolean b)) span) n h = cc
+number-shape limit type (node (scalar (datetime d)) span) n h = cc
+number-shape limit type (node (array ns) span) n h = cc
+number-shape limit type (node (table ms) span) n h = cc
+
+-- An unsigned number that a helper over the root reads under a name stands there in the flat document.
+pub required-number : (s name type : List ℕ) (limit n : ℕ) (root : Value) (before after : State) → IsTree s 128 root → Opens (view root) (Ok before)
+    → Requires (Gives (integer_of type (unsigned limit))) name before (Ok n) after
+    → IsDocument s (λ places. (place : Place) × (places (key name ∷ []) ≡ Some place) × (place.shape ≡ is_scalar (integer (pos n))))
+required-number s name type limit n root before after (bs, spelled, tree) opens (value, left, found, reads, noted) =
+    let (ms, span, is, members) = opened (view root) before opens in
+    let at = node-place (entry_at name ms) value (subst (λ ms. option_map (λ e. e.1) (entry_at name ms) ≡ Some value) members found) in
+    let there = sym (tree.shows (key name ∷ [])) ∙ ap (place_at (key name ∷ [])) is ∙ ap (option_map place_of) (last-step (entry_at name ms)) ∙ at.1 in
+    (bs, spelled, tree.resolves, (place_of (at.0, value), there, number-shape limit type value n reads.0))
+
+-- ---- refusals
+
+-- the span starts in the text and does not end before it starts, and the two numbers are the line and the column of its start
+abbrev pub IsPlaceIn : List ℕ → Span → ℕ × ℕ → Type 0
+IsPlaceIn s span info = (span.start ≤ length s) × (span.start ≤ span.end) × IsLineInfo s span.start info.0 info.1
+
+-- so it is with each error that tells of a refusal
+pub refusal-place : (s : List ℕ) (limit : ℕ) (error : Error) → IsRefusal s limit (stops.Fault error) → (info : ℕ × ℕ) × (error.line_info ≡ Some info) × IsPlaceIn s error.span info
+refusal-place s limit error (inl (fault, stuck, placed, (line, column, info, is))) =
+    ((line, column), ap (λ x. x.line_info) is, subst (λ span. IsPlaceIn s span (line, column)) (sym (ap (λ x. x.span) is)) (placed.within, placed.forward, info))
+refusal-place s limit error (inr (bs, spelled, clash)) = (
+  (clash.line, clash.column),
+  ap (λ x. x.line_info) clash.tells,
+  subst (λ span. IsPlaceIn s span (clash.line, clash.column)) (sym (ap (λ x. x.span) clash.tells)) (clash.within, clash.forward, clash.place),
+)
+
+-- and the line and the column are those that it tells
+pub refusal-told : (s : List ℕ) (limit : ℕ) (stop : Stop Error) (error : Error) (info : ℕ × ℕ) → IsRefusal s limit stop → stop ≡ stops.Fault error → error.line_info ≡ Some info
+    → IsPlaceIn s error.span info
+refusal-told s limit stop error info h fault is =
+    let (found, told, place) = refusal-place s limit error (subst (IsRefusal s limit) fault h) in
+    subst (IsPlaceIn s error.span) (same_Some found info (sym told ∙ is)) place
