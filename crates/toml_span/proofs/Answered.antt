@@ -11,8 +11,8 @@ use Rattle.toml_span_tree.specs.declared.value.Value.{Value}
 use Rattle.toml_span_read.specs.declared.fault.Fault.{Fault}
 use Rattle.toml_span_read.specs.Faults.{IsLineInfo}
 use Rattle.toml_span_read.specs.Lines.{Block, SpellsDocument, StuckDocument}
-use Rattle.toml_span_read.proofs.LineLaws.{document_unique, document_excluded}
-use Rattle.toml_span_read.proofs.ValueLaws.{value_unique, value_excluded}
+use Rattle.toml_span_read_laws.proofs.LineLaws.{document_unique, document_excluded}
+use Rattle.toml_span_read_laws.proofs.ValueLaws.{value_unique, value_excluded}
 use Rattle.toml_span.specs.Claims.{Claims, claims}
 use Rattle.toml_span.specs.Clashes.{fault_told, Told, Resolves, TellsFirst}
 use Rattle.toml_span.specs.Flat.{flat}

@@ -9,8 +9,8 @@ use Rattle.toml_span_read.specs.Earlier.{span_of}
 use Rattle.toml_span_read.specs.Grammar.{from_to, Spells, SpellsInner, SpellsItems, SpellsPairs}
 use Rattle.toml_span_read.specs.Keys.{Part, Ascend}
 use Rattle.toml_span_read.specs.Lines.{SpellsEvents, Block, first_block, last_end, SpellsSections, SpellsDocument}
-use Rattle.toml_span_read.specs.Order.{BlocksAscend}
-use Rattle.toml_span_read.proofs.AscendLaws.{document_ascends}
+use Rattle.toml_span_read_laws.specs.Order.{BlocksAscend}
+use Rattle.toml_span_read_laws.proofs.AscendLaws.{document_ascends}
 use Rattle.toml_span_read.proofs.InsideLemmas.{tail_inside}
 use Rattle.toml_span_read.proofs.KeyOrder.{dotted_ascend}
 use Rattle.toml_span_read.proofs.SpanLaws.{value_lies}

@@ -12,7 +12,7 @@ use Rattle.toml_span_read.specs.Data.{Node as Read, node, Inner, scalar, array, 
 use Rattle.toml_span_read.specs.Keys.{Part}
 use Rattle.toml_span_read.specs.Limits.{Within, WithinInner, WithinItems, WithinPairs, WithinEvents}
 use Rattle.toml_span_read.specs.Lines.{Block, SpellsDocument, SpellsSections, SpellsEvents, first_block}
-use Rattle.toml_span_read.proofs.DepthLaws.{value_within}
+use Rattle.toml_span_read_laws.proofs.DepthLaws.{value_within}
 use Rattle.toml_span.specs.declared.claims.Sort.TheVariants.{Entry}
 use Rattle.toml_span.specs.declared.sections.Head.{Head}
 use Rattle.toml_span.specs.Paths.{entries_at, opened_by, section_path, enter, target, below, at}

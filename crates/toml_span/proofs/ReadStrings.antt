@@ -12,7 +12,7 @@ use Rattle.toml_span_tree.specs.Path.{Path, Place, is_scalar, place_at}
 use Rattle.toml_span_tree.specs.Value.{view}
 use Rattle.toml_span_tree.specs.declared.value.Value.{Value}
 use Rattle.toml_span_read.specs.Lines.{Block, SpellsDocument}
-use Rattle.toml_span_read.proofs.StringLaws.{span_cuts, unchanged}
+use Rattle.toml_span_read_laws.proofs.StringLaws.{span_cuts, unchanged}
 use Rattle.toml_span.specs.Claims.{claims}
 use Rattle.toml_span.specs.Flat.{flat}
 use Rattle.toml_span.specs.Laws.{ShowsString}

@@ -4,8 +4,8 @@ use Rattle.toml_span_lex.specs.declared.span.Span.{Span}
 use Rattle.toml_span_lex.specs.Strings.{IsString, IsEmptyOnOneLine}
 use Rattle.toml_span_tree.specs.Node.{Node, node, Inner, taken, scalar, array, table, Items, no_items, item, Members, no_members, member, entry_at}
 use Rattle.toml_span_tree.specs.Path.{Path, key, position, Shape, is_taken, is_scalar, is_array, is_table}
-use Rattle.toml_span_read.specs.Again.{ReadsAgain, ScalarReadsAgain}
-use Rattle.toml_span_read.specs.Between.{CutsContent}
+use Rattle.toml_span_read_laws.specs.Again.{ReadsAgain, ScalarReadsAgain}
+use Rattle.toml_span_read_laws.specs.Between.{CutsContent}
 use Rattle.toml_span_read.specs.Data as read
 use Rattle.toml_span.specs.declared.claims.Sort.TheVariants.{Assigned}
 use Rattle.toml_span.specs.Claims.{Claim}

@@ -4,7 +4,7 @@ ghost use Rattle.toml_span_lex.specs.Bytes.{quotation_mark};
 ghost use Rattle.toml_span_lex.specs.Strings.{HasChange};
 ghost use Rattle.toml_span_lex.specs.declared.span.Span.{Span};
 ghost use Rattle.toml_span_lex.specs.declared.stop.Stop.TheVariants.{Fault as refused};
-ghost use Rattle.toml_span_read.specs.Again.{ScalarReadsAgain};
+ghost use Rattle.toml_span_read_laws.specs.Again.{ScalarReadsAgain};
 ghost use Rattle.toml_span_read.specs.Lines.{Block, SpellsDocument, StuckDocument};
 ghost use Rattle.toml_span_read.specs.declared.fault.Fault.{Fault};
 ghost use Rattle.toml_span_tree.specs.Error.{fault_of};
@@ -21,7 +21,7 @@ ghost use Rattle.toml_span.specs.Order.{Ascends, key_at, KeysApart};
 ghost use Rattle.toml_span.specs.Ordered.{IsOrdered};
 ghost use Rattle.toml_span.specs.Parsing.{IsClash, IsFault, IsRefusal, IsTree};
 
-use toml_span_read::laws::judged::document_or_stuck;
+use toml_span_read_laws::judged::document_or_stuck;
 
 /// Either no two claims of one scope clash, or there is a first clash.
 pub fn resolves_or_told()

@@ -10,12 +10,5 @@ pub mod Earlier
 pub mod Grammar
 pub mod Stuck
 pub mod Lines
-pub mod Undated
-pub mod Due
 pub mod Inside
 pub mod Spans
-pub mod Order
-pub mod Starts
-pub mod Between
-pub mod Again
-pub mod Judged

@@ -6,7 +6,6 @@ pub mod earlier;
 pub mod fault;
 pub mod gaps;
 pub mod keys;
-pub mod laws;
 pub mod numbers;
 pub mod section;
 pub mod sections;

@@ -3,8 +3,8 @@ use Rattle.std.proofs.Common.{◌≡◌, ℕ, List, [], ap, subst, ◌∙◌, in
 use Rattle.toml_span_tree.specs.Error.{fault_of}
 use Rattle.toml_span_tree.specs.declared.error.Error.{Error}
 use Rattle.toml_span_read.specs.Lines.{Block, SpellsDocument}
-use Rattle.toml_span_read.proofs.LineLaws.{document_unique, document_excluded}
-use Rattle.toml_span_read.proofs.ValueLaws.{value_unique, value_excluded}
+use Rattle.toml_span_read_laws.proofs.LineLaws.{document_unique, document_excluded}
+use Rattle.toml_span_read_laws.proofs.ValueLaws.{value_unique, value_excluded}
 use Rattle.toml_span.specs.Claims.{claims}
 use Rattle.toml_span.specs.Clashes.{TellsFirst}
 use Rattle.toml_span.specs.Flat.{flat}

@@ -1,5 +1,0 @@
-use Rattle.toml_span_read.proofs.AgainLaws.{blocks_again}
-use Rattle.toml_span_read.proofs.laws.again.values_read_again.Goals as goal
-
-pub returns : goal.returns
-returns c = λ text limit blocks h. blocks_again blocks text limit h

@@ -1,5 +1,0 @@
-use Rattle.toml_span_read.proofs.DueMade.{due_stuck}
-use Rattle.toml_span_read.proofs.laws.due.due_faults.Goals as goal
-
-pub returns : goal.returns
-returns c = λ text limit e o h. due_stuck text limit e o h

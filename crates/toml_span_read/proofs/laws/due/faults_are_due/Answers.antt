@@ -1,5 +1,0 @@
-use Rattle.toml_span_read.proofs.DueLaws.{document_due}
-use Rattle.toml_span_read.proofs.laws.due.faults_are_due.Goals as goal
-
-pub returns : goal.returns
-returns c = λ text limit e o h. document_due text limit o e h

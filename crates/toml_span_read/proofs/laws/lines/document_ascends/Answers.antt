@@ -1,5 +1,0 @@
-use Rattle.toml_span_read.proofs.AscendLaws as proofs
-use Rattle.toml_span_read.proofs.laws.lines.document_ascends.Goals as goal
-
-pub returns : goal.returns
-returns c = λ text limit blocks h. proofs.document_ascends blocks text limit h

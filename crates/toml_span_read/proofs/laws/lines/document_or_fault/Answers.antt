@@ -1,7 +1,0 @@
-use Rattle.toml_span_read.proofs.LineLaws.{document_excluded}
-use Rattle.toml_span_read.proofs.ValueLaws.{value_unique, value_excluded}
-use Rattle.toml_span_read.proofs.laws.lines.document_or_fault.Goals as goal
-
-pub returns : goal.returns
-returns c = λ text limit blocks fault a b.
-    document_excluded value_unique (λ v t l d i j e h s. value_excluded t l {d = d} {i = i} {e = e} s v j h) blocks text limit fault a b

@@ -1,0 +1,48 @@
+//! Laws of lines, headers, sections and the document.
+ghost use Rattle.std.specs.Prelude.{◌≡◌, ℕ, Bool, false, List, length, Result, Vec};
+ghost use Rattle.std.specs.Global.{Global};
+ghost use Rattle.toml_span_lex.specs.declared.stop.Stop.{Stop};
+ghost use Rattle.toml_span_tree.specs.declared.error.Error.{Error};
+ghost use Rattle.toml_span_read.specs.declared.section.Section.{Section};
+ghost use Rattle.toml_span_lex.specs.Bytes.{is_blank, MaximalRun};
+ghost use Rattle.toml_span_read.specs.declared.fault.Fault.{Fault};
+ghost use Rattle.toml_span_read.specs.Gaps.{MaximalGap, begins_gap};
+ghost use Rattle.toml_span_read.specs.Keys.{Part};
+ghost use Rattle.toml_span_read_laws.specs.Order.{BlocksAscend};
+ghost use Rattle.toml_span_read.specs.Lines.{Block, SpellsDocument, ReadsDocument, AreRead, StuckDocument, BlankLines, BehindLines, SpellsHeader, StuckHeader};
+
+/// A text spells at most one document.
+pub fn one_document()
+    ensures { (text : List ℕ) (limit : ℕ) (blocks others : List Block) → SpellsDocument blocks text limit → SpellsDocument others text limit → blocks ≡ others }
+{}
+
+/// Where a text spells a document, nothing is stuck in it.
+pub fn document_or_fault()
+    ensures { (text : List ℕ) (limit : ℕ) (blocks : List Block) (fault : Fault) → SpellsDocument blocks text limit → StuckDocument text limit fault → ⊥ }
+{}
+
+/// What spells a document is read as it, unless memory runs out.
+pub fn read_where_spelled()
+    ensures { (text : List ℕ) (limit : ℕ) (result : Result (Vec Section Global) (Stop Error)) (blocks : List Block) → ReadsDocument text limit result → SpellsDocument blocks text limit → AreRead blocks result }
+{}
+
+/// At most one header stands at a place.
+pub fn one_header()
+    ensures { (text : List ℕ) (limit i j k : ℕ) (ps qs : List Part) (array other : Bool) → SpellsHeader ps array text limit i j → SpellsHeader qs other text limit i k → (ps ≡ qs) × (array ≡ other) × (j ≡ k) }
+{}
+
+/// Where a header stands, none gets stuck.
+pub fn header_or_fault()
+    ensures { (text : List ℕ) (limit i j : ℕ) (ps : List Part) (array : Bool) (fault : Fault) → SpellsHeader ps array text limit i j → StuckHeader text limit i fault → ⊥ }
+{}
+
+/// What stands before a form is blank lines, and the spaces and tabs before it.
+pub fn blank_lines()
+    ensures before { (text : List ℕ) (i j : ℕ) → MaximalGap text i j → BehindLines text j → (ends : List ℕ) × (k : ℕ) × BlankLines text i ends k × MaximalRun is_blank text k j }
+    ensures behind { (text : List ℕ) (i j k : ℕ) (ends : List ℕ) → BlankLines text i ends k → MaximalRun is_blank text k j → begins_gap text j ≡ false → MaximalGap text i j }
+{}
+
+/// The headers, the keys and the values that a text spells stand one behind the other.
+pub fn document_ascends()
+    ensures { (text : List ℕ) (limit : ℕ) (blocks : List Block) → SpellsDocument blocks text limit → BlocksAscend blocks 0 (length text) }
+{}
