@@ -13,12 +13,12 @@ use Rattle.toml_span_read.specs.Faults.{IsLineInfo}
 use Rattle.toml_span_read.specs.Lines.{Block, SpellsDocument, StuckDocument}
 use Rattle.toml_span_read_laws.proofs.LineLaws.{document_unique, document_excluded}
 use Rattle.toml_span_read_laws.proofs.ValueLaws.{value_unique, value_excluded}
-use Rattle.toml_span.specs.Claims.{Claims, claims}
-use Rattle.toml_span.specs.Clashes.{fault_told, Told, Resolves, TellsFirst}
-use Rattle.toml_span.specs.Flat.{flat}
-use Rattle.toml_span.specs.Machine.{nothing, told}
-use Rattle.toml_span.specs.Parsing.{IsTree, IsFault, IsClashOf, IsClash, IsRefusal}
-use Rattle.toml_span.proofs.Judged.{told-none, told-some, resolves-told, first-told}
+use Rattle.toml_span_claims.specs.Claims.{Claims, claims}
+use Rattle.toml_span_claims.specs.Clashes.{fault_told, Told, Resolves, TellsFirst}
+use Rattle.toml_span_claims.specs.Flat.{flat}
+use Rattle.toml_span_claims.specs.Machine.{nothing, told}
+use Rattle.toml_span_assembly.specs.Parsing.{IsTree, IsFault, IsClashOf, IsClash, IsRefusal}
+use Rattle.toml_span_assembly.proofs.Judged.{told-none, told-some, resolves-told, first-told}
 
 judged : (cs : Claims) (o : Option Told) → told nothing cs ≡ o → Resolves [] cs ⊎ ((clash : Told) × TellsFirst [] cs clash)
 judged cs None is = inl (told-none cs is)

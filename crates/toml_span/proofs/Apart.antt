@@ -8,12 +8,12 @@ use Rattle.toml_span_tree.specs.Path.{Path, key, position, Place, place_at}
 use Rattle.toml_span_tree.specs.Value.{view}
 use Rattle.toml_span_tree.specs.declared.value.Value.{Value}
 use Rattle.toml_span_read.specs.Lines.{Block, SpellsDocument}
-use Rattle.toml_span.specs.declared.claims.Sort.TheVariants.{Entry}
-use Rattle.toml_span.specs.Claims.{Claim, Claims, no_claims, claimed, scope, claims}
-use Rattle.toml_span.specs.Flat.{all_claims, flat}
+use Rattle.toml_span_claims.specs.declared.claims.Sort.TheVariants.{Entry}
+use Rattle.toml_span_claims.specs.Claims.{Claim, Claims, no_claims, claimed, scope, claims}
+use Rattle.toml_span_claims.specs.Flat.{all_claims, flat}
 use Rattle.toml_span.specs.Order.{start_of, Follows, key_at, KeysApart}
-use Rattle.toml_span.specs.Parsing.{IsTree}
-use Rattle.toml_span.proofs.EachClaim.{Each, flat-decides}
+use Rattle.toml_span_assembly.specs.Parsing.{IsTree}
+use Rattle.toml_span_assembly.proofs.EachClaim.{Each, flat-decides}
 use Rattle.toml_span.proofs.Order.{IsKeyed, Onward, Rising, follows-start, document-rises}
 
 -- ---- claims of a list

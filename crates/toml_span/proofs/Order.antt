@@ -14,14 +14,14 @@ use Rattle.toml_span_read_laws.proofs.AscendLaws.{document_ascends}
 use Rattle.toml_span_read.proofs.InsideLemmas.{tail_inside}
 use Rattle.toml_span_read.proofs.KeyOrder.{dotted_ascend}
 use Rattle.toml_span_read.proofs.SpanLaws.{value_lies}
-use Rattle.toml_span.specs.declared.claims.Mark.{Mark}
-use Rattle.toml_span.specs.declared.claims.Sort.{Sort}
-use Rattle.toml_span.specs.declared.claims.Sort.TheVariants.{Passed, Section, ArrayOfTables, Entry, Dotted, Assigned}
-use Rattle.toml_span.specs.declared.sections.Head.{Head}
-use Rattle.toml_span.specs.Claims.{Claim, Claims, no_claims, claimed, scope, followed, key_span_of, table_claim, pair_mark, header_mark, key_claims, value_claims, inner_claims, item_claims, pair_claims, assignment_claims, event_claims, element, assigned, dotted, head_of, header_claim, array_claims, end_claims, header_claims, section_claims, claims_behind, claims}
-use Rattle.toml_span.specs.Flat.{all_claims}
+use Rattle.toml_span_claims.specs.declared.claims.Mark.{Mark}
+use Rattle.toml_span_claims.specs.declared.claims.Sort.{Sort}
+use Rattle.toml_span_claims.specs.declared.claims.Sort.TheVariants.{Passed, Section, ArrayOfTables, Entry, Dotted, Assigned}
+use Rattle.toml_span_claims.specs.declared.claims.Head.{Head}
+use Rattle.toml_span_claims.specs.Claims.{Claim, Claims, no_claims, claimed, scope, followed, key_span_of, table_claim, pair_mark, header_mark, key_claims, value_claims, inner_claims, item_claims, pair_claims, assignment_claims, event_claims, element, assigned, dotted, head_of, header_claim, array_claims, end_claims, header_claims, section_claims, claims_behind, claims}
+use Rattle.toml_span_claims.specs.Flat.{all_claims}
 use Rattle.toml_span.specs.Order.{start_of, Follows, Ascends}
-use Rattle.toml_span.specs.Paths.{below, at, enter, entries_at, opened_by, section_path}
+use Rattle.toml_span_claims.specs.Paths.{below, at, enter, entries_at, opened_by, section_path}
 
 -- ---- lists of claims
 

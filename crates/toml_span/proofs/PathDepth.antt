@@ -13,16 +13,16 @@ use Rattle.toml_span_read.specs.Keys.{Part}
 use Rattle.toml_span_read.specs.Limits.{Within, WithinInner, WithinItems, WithinPairs, WithinEvents}
 use Rattle.toml_span_read.specs.Lines.{Block, SpellsDocument, SpellsSections, SpellsEvents, first_block}
 use Rattle.toml_span_read_laws.proofs.DepthLaws.{value_within}
-use Rattle.toml_span.specs.declared.claims.Sort.TheVariants.{Entry}
-use Rattle.toml_span.specs.declared.sections.Head.{Head}
-use Rattle.toml_span.specs.Paths.{entries_at, opened_by, section_path, enter, target, below, at}
-use Rattle.toml_span.specs.Claims.{Claim, Claims, no_claims, claimed, key_claims, value_claims, inner_claims, item_claims, pair_claims, event_claims, array_claims, end_claims, header_claims, section_claims, claims_behind, claims, head_of, header_claim}
-use Rattle.toml_span.specs.Flat.{flat}
+use Rattle.toml_span_claims.specs.declared.claims.Sort.TheVariants.{Entry}
+use Rattle.toml_span_claims.specs.declared.claims.Head.{Head}
+use Rattle.toml_span_claims.specs.Paths.{entries_at, opened_by, section_path, enter, target, below, at}
+use Rattle.toml_span_claims.specs.Claims.{Claim, Claims, no_claims, claimed, key_claims, value_claims, inner_claims, item_claims, pair_claims, event_claims, array_claims, end_claims, header_claims, section_claims, claims_behind, claims, head_of, header_claim}
+use Rattle.toml_span_claims.specs.Flat.{flat}
 use Rattle.toml_span.specs.Laws.{keys_in}
-use Rattle.toml_span.specs.Parsing.{IsTree}
-use Rattle.toml_span.specs.Placing.{AreSections}
-use Rattle.toml_span.proofs.EachClaim.{Each, each-followed, flat-decides}
-use Rattle.toml_span.proofs.Refusals.{spelled-headed}
+use Rattle.toml_span_assembly.specs.Parsing.{IsTree}
+use Rattle.toml_span_claims.specs.Placing.{AreSections}
+use Rattle.toml_span_assembly.proofs.EachClaim.{Each, each-followed, flat-decides}
+use Rattle.toml_span_assembly.proofs.Refusals.{spelled-headed}
 
 -- ---- paths
 

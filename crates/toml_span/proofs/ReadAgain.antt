@@ -12,12 +12,12 @@ use Rattle.toml_span_read.specs.Earlier.{span_of}
 use Rattle.toml_span_read.specs.Grammar.{from_to, Spells}
 use Rattle.toml_span_read.specs.Lines.{Block, SpellsDocument}
 use Rattle.toml_span_read_laws.proofs.AgainLines.{document_spelled}
-use Rattle.toml_span.specs.declared.claims.Sort.TheVariants.{Assigned}
-use Rattle.toml_span.specs.Claims.{Claim, inner_of, value_shape, claims}
-use Rattle.toml_span.specs.Flat.{all_claims, flat}
+use Rattle.toml_span_claims.specs.declared.claims.Sort.TheVariants.{Assigned}
+use Rattle.toml_span_claims.specs.Claims.{Claim, inner_of, value_shape, claims}
+use Rattle.toml_span_claims.specs.Flat.{all_claims, flat}
 use Rattle.toml_span.specs.Laws.{ShapeReadsAgain, AssignedReadAgain}
-use Rattle.toml_span.specs.Parsing.{IsTree}
-use Rattle.toml_span.proofs.EachClaim.{EachIn, each-all, flat-decides}
+use Rattle.toml_span_assembly.specs.Parsing.{IsTree}
+use Rattle.toml_span_assembly.proofs.EachClaim.{EachIn, each-all, flat-decides}
 use Rattle.toml_span.proofs.SpelledClaims.{Spelled, OfText, document-of_text}
 
 -- ---- values

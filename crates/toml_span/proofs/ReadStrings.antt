@@ -13,10 +13,10 @@ use Rattle.toml_span_tree.specs.Value.{view}
 use Rattle.toml_span_tree.specs.declared.value.Value.{Value}
 use Rattle.toml_span_read.specs.Lines.{Block, SpellsDocument}
 use Rattle.toml_span_read_laws.proofs.StringLaws.{span_cuts, unchanged}
-use Rattle.toml_span.specs.Claims.{claims}
-use Rattle.toml_span.specs.Flat.{flat}
+use Rattle.toml_span_claims.specs.Claims.{claims}
+use Rattle.toml_span_claims.specs.Flat.{flat}
 use Rattle.toml_span.specs.Laws.{ShowsString}
-use Rattle.toml_span.specs.Parsing.{IsTree}
+use Rattle.toml_span_assembly.specs.Parsing.{IsTree}
 use Rattle.toml_span.proofs.ReadAgain.{HasScalar, flat-scalar, tree-scalar}
 
 -- ---- two quotes alone

@@ -10,13 +10,13 @@ use Rattle.toml_span_read.specs.Earlier.{span_of}
 use Rattle.toml_span_read.specs.Grammar.{Spells, SpellsInner, SpellsItems, SpellsPairs}
 use Rattle.toml_span_read.specs.Keys.{Part, Dotted}
 use Rattle.toml_span_read.specs.Lines.{Block, SpellsDocument, SpellsSections, SpellsEvents, first_block}
-use Rattle.toml_span.specs.declared.claims.Mark.{Mark}
-use Rattle.toml_span.specs.declared.claims.Sort.{Sort}
-use Rattle.toml_span.specs.declared.claims.Sort.TheVariants.{Passed, Section, ArrayOfTables, Entry, Dotted as DottedTable, Assigned}
-use Rattle.toml_span.specs.declared.sections.Head.{Head}
-use Rattle.toml_span.specs.Paths.{below, at, enter, entries_at, opened_by, section_path}
-use Rattle.toml_span.specs.Claims.{Claim, Claims, no_claims, claimed, followed, shape_of, table_claim, header_mark, header_claim, pair_mark, value_shape, inner_of, element, key_claims, value_claims, inner_claims, item_claims, pair_claims, event_claims, array_claims, end_claims, header_claims, section_claims, claims_behind, claims, head_of}
-use Rattle.toml_span.proofs.EachClaim.{Each, each-followed}
+use Rattle.toml_span_claims.specs.declared.claims.Mark.{Mark}
+use Rattle.toml_span_claims.specs.declared.claims.Sort.{Sort}
+use Rattle.toml_span_claims.specs.declared.claims.Sort.TheVariants.{Passed, Section, ArrayOfTables, Entry, Dotted as DottedTable, Assigned}
+use Rattle.toml_span_claims.specs.declared.claims.Head.{Head}
+use Rattle.toml_span_claims.specs.Paths.{below, at, enter, entries_at, opened_by, section_path}
+use Rattle.toml_span_claims.specs.Claims.{Claim, Claims, no_claims, claimed, followed, shape_of, table_claim, header_mark, header_claim, pair_mark, value_shape, inner_of, element, key_claims, value_claims, inner_claims, item_claims, pair_claims, event_claims, array_claims, end_claims, header_claims, section_claims, claims_behind, claims, head_of}
+use Rattle.toml_span_assembly.proofs.EachClaim.{Each, each-followed}
 
 -- ---- one claim
 

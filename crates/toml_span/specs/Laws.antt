@@ -2,32 +2,12 @@
 use Rattle.std.specs.Prelude.{◌≡◌, ⊤, ℕ, suc, ◌+◌, Bool, List, [], ◌∷◌, None}
 use Rattle.toml_span_lex.specs.declared.span.Span.{Span}
 use Rattle.toml_span_lex.specs.Strings.{IsString, IsEmptyOnOneLine}
-use Rattle.toml_span_tree.specs.Node.{Node, node, Inner, taken, scalar, array, table, Items, no_items, item, Members, no_members, member, entry_at}
 use Rattle.toml_span_tree.specs.Path.{Path, key, position, Shape, is_taken, is_scalar, is_array, is_table}
 use Rattle.toml_span_read_laws.specs.Again.{ReadsAgain, ScalarReadsAgain}
 use Rattle.toml_span_read_laws.specs.Between.{CutsContent}
 use Rattle.toml_span_read.specs.Data as read
-use Rattle.toml_span.specs.declared.claims.Sort.TheVariants.{Assigned}
-use Rattle.toml_span.specs.Claims.{Claim}
-
--- in no table of the tree a name stands twice
-abbrev mutual
-  pub HasOneEach : Node → Type 0
-  HasOneEach (node i span) = InnerHasOneEach i
-
-  pub InnerHasOneEach : Inner → Type 0
-  InnerHasOneEach taken = ⊤
-  InnerHasOneEach (scalar s) = ⊤
-  InnerHasOneEach (array ns) = ItemsHaveOneEach ns
-  InnerHasOneEach (table ms) = MembersHaveOneEach ms
-
-  pub ItemsHaveOneEach : Items → Type 0
-  ItemsHaveOneEach no_items = ⊤
-  ItemsHaveOneEach (item n ns) = HasOneEach n × ItemsHaveOneEach ns
-
-  pub MembersHaveOneEach : Members → Type 0
-  MembersHaveOneEach no_members = ⊤
-  MembersHaveOneEach (member name at n ms) = (entry_at name ms ≡ None) × HasOneEach n × MembersHaveOneEach ms
+use Rattle.toml_span_claims.specs.declared.claims.Sort.TheVariants.{Assigned}
+use Rattle.toml_span_claims.specs.Claims.{Claim}
 
 -- how many keys a path has
 abbrev pub keys_in : Path → ℕ

@@ -13,13 +13,14 @@ ghost use Rattle.toml_span_tree.specs.Path.{Path, Place, is_scalar, key, node_at
 ghost use Rattle.toml_span_tree.specs.Value.{is_taken, is_whole, view};
 ghost use Rattle.toml_span_tree.specs.declared.error.Error.{Error};
 ghost use Rattle.toml_span_tree.specs.declared.value.Value.{Value};
-ghost use Rattle.toml_span.specs.Claims.{Claims, claims};
-ghost use Rattle.toml_span.specs.Clashes.{Told, Resolves, TellsFirst};
-ghost use Rattle.toml_span.specs.Flat.{Shows, all_claims, flat};
-ghost use Rattle.toml_span.specs.Laws.{AssignedReadAgain, HasOneEach, keys_in, ShowsString};
+ghost use Rattle.toml_span_claims.specs.Claims.{Claims, claims};
+ghost use Rattle.toml_span_claims.specs.Clashes.{Told, Resolves, TellsFirst};
+ghost use Rattle.toml_span_claims.specs.Flat.{Shows, all_claims, flat};
+ghost use Rattle.toml_span_claims.specs.OneEach.{HasOneEach};
+ghost use Rattle.toml_span.specs.Laws.{AssignedReadAgain, keys_in, ShowsString};
 ghost use Rattle.toml_span.specs.Order.{Ascends, key_at, KeysApart};
-ghost use Rattle.toml_span.specs.Ordered.{IsOrdered};
-ghost use Rattle.toml_span.specs.Parsing.{IsClash, IsFault, IsRefusal, IsTree};
+ghost use Rattle.toml_span_claims.specs.Ordered.{IsOrdered};
+ghost use Rattle.toml_span_assembly.specs.Parsing.{IsClash, IsFault, IsRefusal, IsTree};
 
 use toml_span_read_laws::judged::document_or_stuck;
 

@@ -5,10 +5,10 @@ use Rattle.toml_span_tree.specs.declared.error.Error.{Error}
 use Rattle.toml_span_read.specs.Lines.{Block, SpellsDocument}
 use Rattle.toml_span_read_laws.proofs.LineLaws.{document_unique, document_excluded}
 use Rattle.toml_span_read_laws.proofs.ValueLaws.{value_unique, value_excluded}
-use Rattle.toml_span.specs.Claims.{claims}
-use Rattle.toml_span.specs.Clashes.{TellsFirst}
-use Rattle.toml_span.specs.Flat.{flat}
-use Rattle.toml_span.specs.Parsing.{IsClash}
+use Rattle.toml_span_claims.specs.Claims.{claims}
+use Rattle.toml_span_claims.specs.Clashes.{TellsFirst}
+use Rattle.toml_span_claims.specs.Flat.{flat}
+use Rattle.toml_span_assembly.specs.Parsing.{IsClash}
 use Rattle.toml_span.proofs.Answered.{none-first, one-clash, stuck-or-clash}
 use Rattle.toml_span_show.specs.Lines.{error_line}
 use Rattle.toml_span_show.specs.Shown.{IsDocument, IsRefused, ShowsPlaces}

@@ -4,10 +4,10 @@ use Rattle.toml_span_tree.specs.declared.value.Value.{Value}
 use Rattle.toml_span_tree.specs.Value.{view, is_whole}
 use Rattle.toml_span_tree.specs.Node.{Node}
 use Rattle.toml_span_read.specs.Lines.{Block}
-use Rattle.toml_span.specs.Claims.{claims}
-use Rattle.toml_span.specs.Flat.{flat, Shows}
-use Rattle.toml_span.specs.Ordered.{IsOrdered}
-use Rattle.toml_span.specs.Parsing.{IsTree}
+use Rattle.toml_span_claims.specs.Claims.{claims}
+use Rattle.toml_span_claims.specs.Flat.{flat, Shows}
+use Rattle.toml_span_claims.specs.Ordered.{IsOrdered}
+use Rattle.toml_span_assembly.specs.Parsing.{IsTree}
 use Rattle.toml_span_show.specs.Lines.{tree_lines}
 use Rattle.toml_span_show.specs.Shown.{IsDocument, ShowsPlaces}
 use Rattle.toml_span_show.proofs.Entries.{node_entries}

@@ -6,11 +6,11 @@ use Rattle.toml_span_tree.specs.Error.{fault_of}
 use Rattle.toml_span_tree.specs.Path.{Path, Step, key, position, Shape, is_taken, is_scalar, is_array, is_table, Place}
 use Rattle.toml_span_tree.specs.Value.{scalar_kind}
 use Rattle.toml_span_read.specs.Lines.{Block, SpellsDocument}
-use Rattle.toml_span.specs.Claims.{claims}
-use Rattle.toml_span.specs.Clashes.{Resolves}
-use Rattle.toml_span.specs.Flat.{flat}
-use Rattle.toml_span.specs.Ordered.{IsBefore, IsNameBefore}
-use Rattle.toml_span.specs.Parsing.{IsFault, IsClash}
+use Rattle.toml_span_claims.specs.Claims.{claims}
+use Rattle.toml_span_claims.specs.Clashes.{Resolves}
+use Rattle.toml_span_claims.specs.Flat.{flat}
+use Rattle.toml_span_claims.specs.Ordered.{IsBefore, IsNameBefore}
+use Rattle.toml_span_assembly.specs.Parsing.{IsFault, IsClash}
 use Rattle.toml_span_show.specs.Lines.{key_segment, position_segment, line, error_line}
 
 -- ---- the order of paths

@@ -3,7 +3,7 @@ ghost use Rattle.std.specs.Prelude.{◌≡◌, ℕ, List, Option};
 ghost use Rattle.toml_span_tree.specs.Error.{fault_of};
 ghost use Rattle.toml_span_tree.specs.Path.{Path, Place};
 ghost use Rattle.toml_span_tree.specs.declared.error.Error.{Error};
-ghost use Rattle.toml_span.specs.Parsing.{IsClash};
+ghost use Rattle.toml_span_assembly.specs.Parsing.{IsClash};
 ghost use Rattle.toml_span_show.specs.Lines.{error_line};
 ghost use Rattle.toml_span_show.specs.Shown.{IsDocument, IsRefused, ShowsPlaces};
 

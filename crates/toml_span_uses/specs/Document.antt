@@ -3,9 +3,9 @@ use Rattle.std.specs.Prelude.{◌≡◌, ℕ, List, [], length, Option, Some}
 use Rattle.toml_span_tree.specs.Path.{Path, Place}
 use Rattle.toml_span_tree.specs.Pointer.{pointer_segments, NamesPath}
 use Rattle.toml_span_read.specs.Lines.{Block, SpellsDocument}
-use Rattle.toml_span.specs.Claims.{claims}
-use Rattle.toml_span.specs.Clashes.{Resolves}
-use Rattle.toml_span.specs.Flat.{flat}
+use Rattle.toml_span_claims.specs.Claims.{claims}
+use Rattle.toml_span_claims.specs.Clashes.{Resolves}
+use Rattle.toml_span_claims.specs.Flat.{flat}
 
 -- The text spells sections of which no two claims clash, and P holds of their flat document.
 abbrev pub IsDocument : List ℕ → ((Path → Option Place) → Type 0) → Type 0

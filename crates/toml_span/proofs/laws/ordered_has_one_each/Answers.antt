@@ -1,4 +1,4 @@
-use Rattle.toml_span.proofs.Ordered.{one-each}
+use Rattle.toml_span_claims.proofs.Ordered.{one-each}
 use Rattle.toml_span.proofs.laws.ordered_has_one_each.Goals as goal
 
 pub returns : goal.returns

@@ -1,4 +1,4 @@
-use Rattle.toml_span.proofs.ShownWhole.{shown-filled, shown-whole}
+use Rattle.toml_span_assembly.proofs.ShownWhole.{shown-filled, shown-whole}
 use Rattle.toml_span.proofs.laws.shown_is_whole.Goals as goal
 
 pub returns : goal.returns

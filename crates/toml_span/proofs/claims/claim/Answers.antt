@@ -1,5 +1,0 @@
-use Rattle.std.proofs.Common.{rules}
-use Rattle.toml_span.proofs.claims.claim.Goals as goal
-
-pub returns-in_err-admit-clause-placed : goal.returns-in_err-admit-clause-placed
-returns-in_err-admit-clause-placed c = λ n inside. let h = c.in_err-admit.ensures.placed n inside in search (rules)

@@ -1,0 +1,16 @@
+pub mod Refusals
+pub mod InsideLemmas
+pub mod Shown
+pub mod Judged
+pub mod Absolute
+pub mod Assembly
+pub mod Values
+pub mod Assignments
+pub mod Closed
+pub mod Assigned
+pub mod DottedKeys
+pub mod Entries
+pub mod Headers
+pub mod EachClaim
+pub mod WholeTree
+pub mod ShownWhole

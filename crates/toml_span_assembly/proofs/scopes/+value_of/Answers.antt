@@ -1,0 +1,145 @@
+use Rattle.std.proofs.Common.{◌≡◌, rules, ap, ◌∙◌}
+use Rattle.std.proofs.lemmas.Int.{to_z-of_z}
+use mir.Syntax.{w64}
+use mir.Val.{SFits, of_z, to_z}
+use Rattle.toml_span_tree.specs.Value.{inner_view}
+use Rattle.toml_span_tree.specs.declared.value.ValueInner.TheVariants.{Array, Table}
+use Rattle.toml_span_tree.specs.declared.value.ValueInner.TheVariants as inners
+use Rattle.toml_span_read.specs.Data.{view}
+use Rattle.toml_span_read.specs.declared.value.ValKind.{the_lemmas}
+use Rattle.toml_span_claims.proofs.Placed.{err-of}
+use Rattle.toml_span_assembly.proofs.Assignments.{none-left, places-one, val_span, remains-first, placing-more, placing-err, placing-none, table-gives, table-err}
+use Rattle.toml_span_assembly.proofs.Values.{elements-first, elements-more, elements-err, elements-none, string-gives, integer-gives, float-gives, boolean-gives, datetime-gives, array-gives, array-err, inline-gives, inline-err}
+use Rattle.toml_span_assembly.proofs.InsideLemmas.{assignment_inside, events_rest, events_again, items_rest, items_again, inline_inside}
+use Rattle.toml_span_assembly.proofs.scopes.+value_of.Goals as goal
+use Rattle.toml_span_assembly.proofs.scopes.+value_of.Goals.{value_of-in-String, value_of-in-Integer, value_of-in-Float, value_of-in-Boolean, value_of-in-Datetime, value_of-in-Array+in_ok-array_of-in-Array, value_of-in-Inline+in_ok-table_of-in-Inline}
+
+-- ---- arrays
+
+pub array_of-loop-element-init : goal.array_of-loop-element-init
+array_of-loop-element-init t c = record {
+  can = tt;
+  ends = tt;
+  inside = λ n h. items_again n _ _ c.into_iter-element-iterator.ensures.into_iter_gives.0 h;
+  finished = elements-first _ _ _ c.into_iter-element-iterator.ensures.into_iter_gives.0 c.in_ok-array.ensures.items;
+}
+
+pub array_of-loop-element-preserved : goal.array_of-loop-element-preserved
+array_of-loop-element-preserved t c = record {
+  can = tt;
+  ends = tt;
+  inside = λ n h. (items_rest n _ _ c.in-Some.element c.in-Some.ensures.steps.0 (c.loop-element.invariant.inside n h)).1;
+  finished = elements-more _ _ _ c.in-Some.element c.loop-element.array.items c.push.new.self.items c.in_ok-value_of.field-0 c.in-Some.ensures.steps.0 c.loop-element.invariant.finished c.in_ok-value_of.ensures.gives c.in_ok-push.ensures.items;
+}
+
+pub array_of-returns-in_err-value_of-clause-gives : goal.array_of-returns-in_err-value_of-clause-gives
+array_of-returns-in_err-value_of-clause-gives t c =
+    let q = c.from_residual-in_err-value_of.result in
+    let e = c.in_err-value_of.field-0.0 in
+    elements-err _ _ _ c.in-Some.element c.loop-element.array.items (λ xs. inner_view (Array xs)) q e c.in-Some.ensures.steps.0 c.loop-element.invariant.finished
+    (err-of q e _ c.from_residual-in_err-value_of.ensures.1 (λ y p. p)) c.in_err-value_of.ensures.gives
+
+pub array_of-returns-clause-gives : goal.array_of-returns-clause-gives
+array_of-returns-clause-gives t c = elements-none _ _ c.loop-element.array (none-left _ _ c.loop-element.element-iterator.rest.ok.0 c.in-None.ensures.steps.0) c.loop-element.invariant.finished
+
+pub array_of-returns-in_err-value_of-clause-placed : goal.array_of-returns-in_err-value_of-clause-placed
+array_of-returns-in_err-value_of-clause-placed t c = λ n h.
+    let here = (items_rest n _ _ c.in-Some.element c.in-Some.ensures.steps.0 (c.loop-element.invariant.inside n h)).0 in
+    let placed = c.in_err-value_of.ensures.placed n here in
+    search (rules)
+
+-- ---- assignments
+
+pub place_one-returns-clause-gives : goal.place_one-returns-clause-gives
+place_one-returns-clause-gives t c =
+    places-one c.args.pair c.as_slice.result.now c.args.node.now c.place_pair.new.node c.place_pair.result c.as_slice.ensures.value
+    (c.place_pair.ensures.gives (view c.args.pair.value) c.value_of-value.ensures.gives (val_span c.args.pair.value))
+
+pub place_one-returns-clause-placed : goal.place_one-returns-clause-placed
+place_one-returns-clause-placed t c = λ n h.
+    let inside = assignment_inside n c.args.pair h in
+    c.place_pair.ensures.placed n (rw c.as_slice.ensures.value inside.0) inside.1 (c.value_of-value.ensures.placed n inside.2)
+
+pub place_pairs-loop-pair-init : goal.place_pairs-loop-pair-init
+place_pairs-loop-pair-init t c = record {
+  can = tt;
+  ends = tt;
+  inside = λ n h. events_again n _ _ c.into_iter-pair-iterator.ensures.into_iter_gives.0 h;
+  placing = remains-first _ _ _ c.into_iter-pair-iterator.ensures.into_iter_gives.0;
+}
+
+pub place_pairs-loop-pair-preserved : goal.place_pairs-loop-pair-preserved
+place_pairs-loop-pair-preserved t c = record {
+  can = tt;
+  ends = tt;
+  inside = λ n h. (events_rest n _ _ c.in-Some.pair c.in-Some.ensures.steps.0 (c.loop-pair.invariant.inside n h)).1;
+  placing = placing-more c.loop-pair.node c.place_one.new.node _ _ _ _ c.in-Some.pair c.in-Some.ensures.steps.0 c.loop-pair.invariant.placing c.in_ok-place_one.ensures.gives;
+}
+
+pub place_pairs-returns-in_err-place_one-clause-gives : goal.place_pairs-returns-in_err-place_one-clause-gives
+place_pairs-returns-in_err-place_one-clause-gives t c =
+    let q = c.from_residual.result in
+    let e = c.in_err-place_one.field-0.0 in
+    placing-err c.loop-pair.node c.place_one.new.node c.args.node.now c.place_one.new.node _ _ _ c.in-Some.pair q e c.in-Some.ensures.steps.0 c.loop-pair.invariant.placing
+    (err-of q e _ c.from_residual.ensures.1 (λ y p. p)) c.in_err-place_one.ensures.gives
+
+pub place_pairs-returns-clause-gives : goal.place_pairs-returns-clause-gives
+place_pairs-returns-clause-gives t c = placing-none c.loop-pair.node _ _ _ (none-left _ _ c.loop-pair.pair-iterator.rest.ok.0 c.in-None.ensures.steps.0) c.loop-pair.invariant.placing
+
+pub place_pairs-returns-in_err-place_one-clause-placed : goal.place_pairs-returns-in_err-place_one-clause-placed
+place_pairs-returns-in_err-place_one-clause-placed t c = λ n h.
+    let here = (events_rest n _ _ c.in-Some.pair c.in-Some.ensures.steps.0 (c.loop-pair.invariant.inside n h)).0 in
+    let placed = c.in_err-place_one.ensures.placed n here in
+    search (rules)
+
+-- ---- inline tables
+
+pub table_of-returns-in_err-place_pairs-clause-gives : goal.table_of-returns-in_err-place_pairs-clause-gives
+table_of-returns-in_err-place_pairs-clause-gives t c =
+    let q = c.from_residual.result in
+    let e = c.in_err-place_pairs.field-0.0 in
+    table-err c.new-scope.result c.place_pairs.new.node _ (λ t. inner_view (Table t)) q e c.new-scope.ensures (err-of q e _ c.from_residual.ensures.1 (λ y p. p)) c.in_err-place_pairs.ensures.gives
+
+pub table_of-returns-clause-gives : goal.table_of-returns-clause-gives
+table_of-returns-clause-gives t c =
+    table-gives c.new-scope.result c.place_pairs.new.node _ c.in_ok-into_table.field-0 c.new-scope.ensures c.in_ok-place_pairs.ensures.gives c.in_ok-into_table.ensures
+
+pub value_of-returns-in_err-array_of-in-Array-clause-gives : goal.value_of-returns-in_err-array_of-in-Array-clause-gives
+value_of-returns-in_err-array_of-in-Array-clause-gives t c =
+    let q = c.from_residual.result in
+    let e = c.in_err-array_of-in-Array.field-0.0 in
+    array-err c.args.val c.in-Array.elements q e c.in-Array.is (err-of q e _ c.from_residual.ensures.1 (λ y p. p)) c.in_err-array_of-in-Array.ensures.gives
+
+pub value_of-returns-in_err-table_of-in-Inline-clause-gives : goal.value_of-returns-in_err-table_of-in-Inline-clause-gives
+value_of-returns-in_err-table_of-in-Inline-clause-gives t c =
+    let q = c.from_residual-in_err-table_of-in-Inline.result in
+    let e = c.in_err-table_of-in-Inline.field-0.0 in
+    inline-err c.args.val c.in-Inline.pairs q e c.in-Inline.is (err-of q e _ c.from_residual-in_err-table_of-in-Inline.ensures.1 (λ y p. p)) c.in_err-table_of-in-Inline.ensures.gives
+
+pub value_of-returns-clause-gives : goal.value_of-returns-clause-gives
+value_of-returns-clause-gives t c =
+    let v = c.args.val in
+    let x = c.with_span.result in
+    let inner = c.match-kind.inner in
+    let seen = c.with_span.ensures in
+    elim c.match-kind.branch [
+      | value_of-in-String w ↦ string-gives v inner x w.in-String.text w.in-String.is w.inner-is seen
+      | value_of-in-Integer w ↦
+          let n = w.in-Integer.number in
+          let fits : SFits w64 n = search (rules, the_lemmas) in
+          let whole : to_z w64 (of_z w64 n) ≡ n = to_z-of_z w64 n fits in
+          integer-gives v inner x n w.in-Integer.is (w.inner-is ∙ ap inners.Integer whole) seen
+      | value_of-in-Float w ↦ float-gives v inner x _ w.in-Float.is w.inner-is seen
+      | value_of-in-Boolean w ↦ boolean-gives v inner x _ w.in-Boolean.is w.inner-is seen
+      | value_of-in-Datetime w ↦ datetime-gives v inner x _ w.in-Datetime.is w.inner-is seen
+      | value_of-in-Array+in_ok-array_of-in-Array w ↦ array-gives v w.in-Array.elements w.in_ok-array_of-in-Array.field-0 inner x w.in-Array.is w.inner-is seen w.in_ok-array_of-in-Array.ensures.gives
+      | value_of-in-Inline+in_ok-table_of-in-Inline w ↦ inline-gives v w.in-Inline.pairs w.in_ok-table_of-in-Inline.field-0 inner x w.in-Inline.is w.inner-is seen w.in_ok-table_of-in-Inline.ensures.gives
+    ]
+
+pub table_of-returns-in_err-place_pairs-clause-placed : goal.table_of-returns-in_err-place_pairs-clause-placed
+table_of-returns-in_err-place_pairs-clause-placed t c = λ n h. let placed = c.in_err-place_pairs.ensures.placed n h in search (rules)
+
+pub value_of-returns-in_err-table_of-in-Inline-clause-placed : goal.value_of-returns-in_err-table_of-in-Inline-clause-placed
+value_of-returns-in_err-table_of-in-Inline-clause-placed t c = λ n h.
+    let placed = c.in_err-table_of-in-Inline.ensures.placed n (inline_inside n c.args.val c.in-Inline.pairs c.in-Inline.is h) in
+    search (rules)

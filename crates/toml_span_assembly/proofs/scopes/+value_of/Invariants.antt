@@ -1,0 +1,23 @@
+use Rattle.std.proofs.Common.{ℕ, map}
+use Rattle.std.specs.Vec.Iter.{into_iter_items}
+use Rattle.toml_span_read.specs.Data.{event, view, onto, no_items}
+use Rattle.toml_span_read.specs.Inside.{EventsInside, ItemKeysInside}
+use Rattle.toml_span_assembly.proofs.Assignments.{Placing}
+use Rattle.toml_span_assembly.proofs.Values.{Elements}
+use Rattle.toml_span_assembly.proofs.scopes.+value_of.Given as goal
+
+abbrev pub invariant-array_of-loop-element : goal.invariant-array_of-loop-element
+invariant-array_of-loop-element l = record {
+  can : goal.iterator-array_of-loop-element.can_next l.element-iterator;
+  ends : goal.iterator-array_of-loop-element.is_finite l.element-iterator;
+  inside : (n : ℕ) → ItemKeysInside n (onto (map view l.fn.elements.items) no_items) → ItemKeysInside n (onto (map view (into_iter_items l.element-iterator)) no_items);
+  finished : Elements (into_iter_items l.element-iterator) l.fn.elements.items l.array.items;
+}
+
+abbrev pub invariant-place_pairs-loop-pair : goal.invariant-place_pairs-loop-pair
+invariant-place_pairs-loop-pair l = record {
+  can : goal.iterator-place_pairs-loop-pair.can_next l.pair-iterator;
+  ends : goal.iterator-place_pairs-loop-pair.is_finite l.pair-iterator;
+  inside : (n : ℕ) → EventsInside n (map event l.fn.pairs.items) → EventsInside n (map event (into_iter_items l.pair-iterator));
+  placing : Placing l.node (into_iter_items l.pair-iterator) l.fn.node l.fn.pairs.items;
+}

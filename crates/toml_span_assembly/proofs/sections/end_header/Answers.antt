@@ -1,0 +1,47 @@
+use Rattle.std.proofs.Common.{[], map, refl, rules, subst, sym, ◌∙◌}
+use Rattle.std.proofs.lemmas.Bool.{not-false, not-true}
+use Rattle.toml_span_read.specs.Data.{event}
+use Rattle.toml_span_read.specs.Keys.{part}
+use Rattle.toml_span_claims.specs.declared.claims.Sort.TheVariants.{ArrayOfTables}
+use Rattle.toml_span_claims.specs.Claims.{event_claims, header_mark}
+use Rattle.toml_span_claims.specs.Relative.{adding, one_more}
+use Rattle.toml_span_claims.specs.Placing.{Reaches}
+use Rattle.toml_span_claims.specs.Tree.{IsHeld, IsOpen, counts}
+use Rattle.toml_span_claims.proofs.Claimed.{Marked, marked-roll}
+use Rattle.toml_span_claims.proofs.Placed.{err-of}
+use Rattle.toml_span_assembly.proofs.Headers.{end-first, end-first-err, end-further, end-table, no-entries, some-entries}
+use Rattle.toml_span_claims.proofs.PlaceLemmas.{header_inside}
+use Rattle.toml_span_assembly.proofs.sections.end_header.Goals as goal
+use Rattle.toml_span_assembly.proofs.sections.end_header.Goals.{then-is_empty+in_ok-claim, else-is_empty}
+
+pub returns-then-not-head-clause-gives : goal.returns-then-not-head-clause-gives
+returns-then-not-head-clause-gives c =
+    end-table c.args.head (part c.args.part.now) (event_claims (map event c.args.pairs.items) []) c.args.node.now c.open_table.new.node c.open_table.result
+    (not-true c.args.head.array c.if-not-head.true) c.open_table.ensures.gives
+
+pub returns-in_err-claim-clause-gives : goal.returns-in_err-claim-clause-gives
+returns-in_err-claim-clause-gives c =
+    end-first-err c.args.head (part c.args.part.now) (event_claims (map event c.args.pairs.items) []) c.args.node.now _ c.from_residual.result c.in_err-claim.field-0.0 _ _
+    (not-false c.args.head.array c.if-not-head.false) (no-entries c.args.node.now (sym c.is_empty.ensures ∙ c.if-is_empty.true))
+    (err-of c.from_residual.result c.in_err-claim.field-0.0 _ c.from_residual.ensures.1 (λ y p. p)) (rw c.header_mark-mark.ensures at c.in_err-claim.ensures.gives)
+
+pub returns-in_err-claim-clause-placed : goal.returns-in_err-claim-clause-placed
+returns-in_err-claim-clause-placed c = λ n part line pairs. let placed = c.in_err-claim.ensures.placed n (header_inside n _ _ _ _ _ c.header_mark-mark.ensures part line) in search (rules)
+
+pub returns-clause-gives : goal.returns-clause-gives
+returns-clause-gives c =
+    let k = part c.args.part.now in
+    let m = header_mark c.args.head ArrayOfTables c.args.part.now.span in
+    let tail = event_claims (map event c.args.pairs.items) [] in
+    let array = not-false c.args.head.array c.if-not-head.false in
+    elim c.if-is_empty.branch [
+      | then-is_empty+in_ok-claim w ↦
+          let claimed = rw w.header_mark-mark.ensures at w.in_ok-claim.ensures.gives in
+          end-first c.args.head k tail c.args.node.now c.if-is_empty.node c.add_entry.new.node c.add_entry.result array
+          (no-entries c.args.node.now (sym c.is_empty.ensures ∙ w.if-is_empty.true)) claimed.0
+          (subst (Marked m c.args.node.now) (sym w.node-is) (marked-roll m c.args.node.now _ claimed.1 refl refl refl)) c.add_entry.ensures.gives
+      | else-is_empty w ↦
+          end-further c.args.head k tail c.args.node.now c.add_entry.new.node c.add_entry.result array
+          (some-entries c.args.node.now (sym c.is_empty.ensures ∙ w.if-is_empty.false))
+          (subst (λ n. Reaches IsOpen IsHeld n c.add_entry.new.node c.add_entry.result (adding c.args.head k tail (counts n [])) (one_more (counts n))) w.node-is c.add_entry.ensures.gives)
+    ]

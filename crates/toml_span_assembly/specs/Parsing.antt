@@ -1,0 +1,56 @@
+-- What `parse` gives, and what it refuses.
+use Rattle.std.specs.Prelude.{◌≡◌, ◌≤◌, ◌⊎◌, ⊤, ℕ, List, [], length}
+use Rattle.toml_span_lex.specs.declared.stop.Stop.{Stop}
+use Rattle.toml_span_lex.specs.declared.stop.Stop.TheVariants as stops
+use Rattle.toml_span_tree.specs.declared.error.Error.{Error}
+use Rattle.toml_span_tree.specs.declared.value.Value.{Value}
+use Rattle.toml_span_tree.specs.Error.{fault_of}
+use Rattle.toml_span_tree.specs.Value.{view}
+use Rattle.toml_span_read.specs.declared.fault.Fault.{Fault}
+use Rattle.toml_span_read.specs.Faults.{IsLineInfo, IsPlaced, Tells}
+use Rattle.toml_span_read.specs.Lines.{Block, SpellsDocument, StuckDocument}
+use Rattle.toml_span_claims.specs.Claims.{claims}
+use Rattle.toml_span_claims.specs.Clashes.{Told, Resolves, TellsFirst, fault_told}
+use Rattle.toml_span_claims.specs.Flat.{flat, Shows}
+
+-- ---- the tree
+
+-- No two claims of these sections clash, and the tree shows their flat document, which is so many bytes long.
+pub record IsTreeOf (blocks : List Block) (length : ℕ) (root : Value) : Type 0 where
+  pub resolves : Resolves [] (claims blocks)
+  pub shows : Shows (view root) (flat length (claims blocks))
+
+-- The text spells sections within the limit, and this is their tree.
+abbrev pub IsTree : List ℕ → ℕ → Value → Type 0
+IsTree text limit root = (blocks : List Block) × SpellsDocument blocks text limit × IsTreeOf blocks (length text) root
+
+-- ---- refusals
+
+-- the text is stuck where the error says, and that is a place of the text
+abbrev pub IsFault : List ℕ → ℕ → Error → Type 0
+IsFault text limit error = (fault : Fault) × StuckDocument text limit fault × IsPlaced text fault × Tells text fault (fault_of error)
+
+-- The error tells the first clash of the sections' claims, at a place in the text, with its line and its column.
+pub record IsClashOf (blocks : List Block) (text : List ℕ) (error : Error) : Type 0 where
+  pub clash : Told
+  pub line : ℕ
+  pub column : ℕ
+  pub first : TellsFirst [] (claims blocks) clash
+  pub tells : fault_of error ≡ fault_told clash.meeting clash.name (line, column)
+  pub within : clash.meeting.place.start ≤ length text
+  pub forward : clash.meeting.place.start ≤ clash.meeting.place.end
+  pub place : IsLineInfo text clash.meeting.place.start line column
+
+-- The text spells sections within the limit, and their first clash is told.
+abbrev pub IsClash : List ℕ → ℕ → Error → Type 0
+IsClash text limit error = (blocks : List Block) × SpellsDocument blocks text limit × IsClashOf blocks text error
+
+-- of sections that were read only a clash is told
+abbrev pub IsClashStop : List Block → List ℕ → Stop Error → Type 0
+IsClashStop blocks text (stops.Memory e) = ⊤
+IsClashStop blocks text (stops.Fault error) = IsClashOf blocks text error
+
+-- A text that is not read is stuck somewhere, and that fault is told. Of one that is read the first clash is told.
+abbrev pub IsRefusal : List ℕ → ℕ → Stop Error → Type 0
+IsRefusal text limit (stops.Memory e) = ⊤
+IsRefusal text limit (stops.Fault error) = IsFault text limit error ⊎ IsClash text limit error

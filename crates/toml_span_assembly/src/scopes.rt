@@ -1,0 +1,280 @@
+//! Assignments placed into a scope: a section's table, or an inline table.
+ghost use Rattle.std.specs.Prelude.{◌≡◌, ⊤, ℕ, map, [], IfErr};
+ghost use Rattle.std.specs.Cow.{cow_str_bytes};
+ghost use Rattle.toml_span_tree.specs.Value.{items_view, inner_view};
+ghost use Rattle.toml_span_tree.specs.Node as tree;
+ghost use Rattle.toml_span_tree.specs.declared.value.ValueInner.TheVariants as inners;
+ghost use Rattle.toml_span_read.specs.Data.{event, view, onto, no_items};
+ghost use Rattle.toml_span_read.specs.Inside.{IsInside, PartsInside, EventInside, EventsInside, KeysInside, ItemKeysInside};
+ghost use Rattle.toml_span_read.specs.Keys.{part as part_of};
+ghost use Rattle.toml_span_read.specs.Data.{Node as Read};
+ghost use Rattle.toml_span_read.specs.Earlier.{span_of};
+ghost use Rattle.toml_span_claims.specs.Claims.{assignment_claims, event_claims, item_claims};
+ghost use Rattle.toml_span_claims.specs.Machine.{Gives, met};
+ghost use Rattle.toml_span_claims.specs.Placing.{Places, Passes, ValueGives, ScopeGives};
+ghost use Rattle.toml_span_claims.specs.Places.{IsMarkInside, IsHaltInside};
+ghost use Rattle.toml_span_claims.specs.Relative.{pair_at, through_pair};
+ghost use Rattle.toml_span_claims.specs.Tree.{child_in, closed_in, closed_marks, counts, held_marks};
+
+use toml_span_claims::claims::{Halt, Mark, Sort, admit, claim};
+use toml_span_claims::node::{Node, Nodes, into_table};
+use toml_span_claims::rest::Rest;
+use std::alloc::Global;
+use std::collections::btree_map::Entry;
+use toml_span_lex::key::Key;
+use toml_span_lex::span::Span;
+use toml_span_read::{Assignment, DottedKey, Val, ValKind};
+use toml_span_tree::{Array, Table, Value, ValueInner};
+
+/// Up to so many assignments are taken apart without giving their memory back on the way, which takes
+/// time: the system clears memory that is asked for anew.
+const FEW: usize = 65_536;
+
+/// The claim of a part of an assignment's key.
+fn pair_mark(sort: Sort, key: &Key<'_>, span: Span) -> Mark
+    ensures { result ≡ record { sort = sort; key = key.now.span; line = span; extent = span } }
+{
+    Mark {
+        sort,
+        key: key.span,
+        line: span,
+        extent: span,
+    }
+}
+
+/// Halts where a claim on a name clashes with a value that is assigned there.
+pub(crate) fn admit_beside_value<'de>(
+    alloc: Global,
+    values: &Table<'de>,
+    mark: Mark,
+    key: &Key<'de>,
+) -> Result<(), Halt>
+    ensures gives { Gives result (met (closed_marks (closed_in (cow_str_bytes key.now.name) values.now)) mark (cow_str_bytes key.now.name)) (λ _. ⊤) }
+    ensures placed { (n : ℕ) → IsMarkInside n mark → IfErr result (IsHaltInside n) }
+{
+    match values.get_key_value(key) {
+        Some((earlier, value)) => admit(
+            alloc,
+            &[pair_mark(Sort::Assigned, earlier, value.span)],
+            mark,
+            key,
+        ),
+        None => Ok(()),
+    }
+}
+
+/// Halts where a claim on a name clashes with what headers and dotted keys made there.
+fn admit_beside_table<'de>(
+    alloc: Global,
+    tables: &Nodes<'de>,
+    mark: Mark,
+    key: &Key<'de>,
+) -> Result<(), Halt>
+    ensures gives { Gives result (met (held_marks (child_in (cow_str_bytes key.now.name) tables.now)) mark (cow_str_bytes key.now.name)) (λ _. ⊤) }
+    ensures placed { (n : ℕ) → IsMarkInside n mark → IfErr result (IsHaltInside n) }
+{
+    match tables.get(key) {
+        Some(child) => admit(alloc, child.marks.as_slice(), mark, key),
+        None => Ok(()),
+    }
+}
+
+/// Assigns a value to a name of a node.
+fn assign<'de>(
+    alloc: Global,
+    node: &mut Node<'de>,
+    key: Key<'de>,
+    value: Result<Value<'de>, Halt>,
+    span: Span,
+) -> Result<(), Halt>
+    ensures gives { (v : Read) → ValueGives value.entry v → span ≡ span_of v → Places node.old node.new result (pair_at [] (part_of key.entry) v) (counts node.old) }
+    ensures placed { (n : ℕ) → IsInside n key.entry.span → IfErr value.entry (IsHaltInside n) → IfErr result (IsHaltInside n) }
+{
+    let mark = pair_mark(Sort::Assigned, &key, span);
+    admit_beside_table(alloc, &node.tables, mark, &key)?;
+    match node.values.entry(key)? {
+        Entry::Occupied(entry) => {
+            let earlier = entry.key();
+            admit(
+                alloc,
+                &[pair_mark(Sort::Assigned, earlier, entry.get().span)],
+                mark,
+                earlier,
+            )
+        }
+        Entry::Vacant(entry) => {
+            entry.insert(value?);
+            Ok(())
+        }
+    }
+}
+
+/// Places an assignment below a node, inner part by inner part. `span` is the value's.
+#[cycle(place_pair)]
+fn place_pair<'de>(
+    alloc: Global,
+    node: &mut Node<'de>,
+    inner: &[Key<'de>],
+    last: Key<'de>,
+    value: Result<Value<'de>, Halt>,
+    span: Span,
+) -> Result<(), Halt>
+    ensures gives { (v : Read) → ValueGives value.entry v → span ≡ span_of v → Places node.old node.new result (pair_at (map part_of inner.now) (part_of last.entry) v) (counts node.old) }
+    ensures placed { (n : ℕ) → PartsInside n (map part_of inner.now) → IsInside n last.entry.span → IfErr value.entry (IsHaltInside n) → IfErr result (IsHaltInside n) }
+{
+    let [part, rest @ ..] = inner else {
+        return assign(alloc, node, last, value, span);
+    };
+    match node.tables.get_mut(part) {
+        Some(child) => pass_child(alloc, child, part, rest, last, value, span),
+        None => {
+            admit_beside_value(
+                alloc,
+                &node.values,
+                pair_mark(Sort::Dotted, part, span),
+                part,
+            )?;
+            let mut child = Node::new(alloc);
+            pass_pair(alloc, &mut child, part, rest, last, value, span)?;
+            node.tables
+                .insert(part.clone(alloc)?, Box::new(alloc, child)?)?;
+            Ok(())
+        }
+    }
+}
+
+/// From the node of an inner part on, which stands already.
+#[cycle(place_pair)]
+fn pass_child<'de>(
+    alloc: Global,
+    child: &mut Box<Node<'de>>,
+    part: &Key<'de>,
+    rest: &[Key<'de>],
+    last: Key<'de>,
+    value: Result<Value<'de>, Halt>,
+    span: Span,
+) -> Result<(), Halt>
+    ensures gives { (v : Read) → ValueGives value.entry v → span ≡ span_of v → Passes child.old.value child.new.value result (through_pair (part_of part.now) (map part_of rest.now) (part_of last.entry) v) (counts child.old.value) }
+    ensures placed { (n : ℕ) → IsInside n part.now.span → PartsInside n (map part_of rest.now) → IsInside n last.entry.span → IfErr value.entry (IsHaltInside n) → IfErr result (IsHaltInside n) }
+{
+    pass_pair(alloc, child.as_mut(), part, rest, last, value, span)
+}
+
+/// Claims the node of an inner part, and places the rest below it.
+#[cycle(place_pair)]
+fn pass_pair<'de>(
+    alloc: Global,
+    node: &mut Node<'de>,
+    part: &Key<'de>,
+    rest: &[Key<'de>],
+    last: Key<'de>,
+    value: Result<Value<'de>, Halt>,
+    span: Span,
+) -> Result<(), Halt>
+    ensures gives { (v : Read) → ValueGives value.entry v → span ≡ span_of v → Passes node.old node.new result (through_pair (part_of part.now) (map part_of rest.now) (part_of last.entry) v) (counts node.old) }
+    ensures placed { (n : ℕ) → IsInside n part.now.span → PartsInside n (map part_of rest.now) → IsInside n last.entry.span → IfErr value.entry (IsHaltInside n) → IfErr result (IsHaltInside n) }
+{
+    claim(
+        alloc,
+        &mut node.marks,
+        pair_mark(Sort::Dotted, part, span),
+        part,
+    )?;
+    place_pair(alloc, node, rest, last, value, span)
+}
+
+/// Places an assignment below a node.
+#[cycle(value_of)]
+fn place_one<'de>(alloc: Global, pair: Assignment<'de>, node: &mut Node<'de>) -> Result<(), Halt>
+    ensures gives { Places node.old node.new result (assignment_claims (event pair.entry) []) (counts node.old) }
+    ensures placed { (n : ℕ) → EventInside n (event pair.entry) → IfErr result (IsHaltInside n) }
+{
+    let Assignment {
+        parts: DottedKey { inner, last },
+        value,
+        extent: _,
+    } = pair;
+    let span = value.span;
+    let value = value_of(alloc, value);
+    place_pair(alloc, node, inner.as_slice(), last, value, span)
+}
+
+/// Places assignments below a node.
+///
+/// An inline table is a scope of its own. What clashes in it is told behind the clashes of the key to
+/// which it is assigned, since it stands behind that key.
+#[cycle(value_of)]
+fn place_pairs<'de>(
+    alloc: Global,
+    pairs: Vec<Assignment<'de>>,
+    node: &mut Node<'de>,
+) -> Result<(), Halt>
+    ensures gives { Places node.old node.new result (event_claims (map event pairs.entry.items) []) (counts node.old) }
+    ensures placed { (n : ℕ) → EventsInside n (map event pairs.entry.items) → IfErr result (IsHaltInside n) }
+{
+    for pair in pairs {
+        place_one(alloc, pair, node)?;
+    }
+    Ok(())
+}
+
+/// Places the assignments of a section below its node.
+pub(crate) fn place_all<'de>(
+    alloc: Global,
+    pairs: Vec<Assignment<'de>>,
+    node: &mut Node<'de>,
+) -> Result<(), Halt>
+    ensures gives { Places node.old node.new result (event_claims (map event pairs.entry.items) []) (counts node.old) }
+    ensures placed { (n : ℕ) → EventsInside n (map event pairs.entry.items) → IfErr result (IsHaltInside n) }
+{
+    if pairs.len() <= FEW {
+        return place_pairs(alloc, pairs, node);
+    }
+    for pair in Rest::new(pairs) {
+        place_one(alloc, pair, node)?;
+    }
+    Ok(())
+}
+
+/// The table of an inline table.
+#[cycle(value_of)]
+fn table_of<'de>(alloc: Global, pairs: Vec<Assignment<'de>>) -> Result<Table<'de>, Halt>
+    ensures gives { ScopeGives result (λ t. inner_view (inners.Table t)) (event_claims (map event pairs.entry.items) []) }
+    ensures placed { (n : ℕ) → EventsInside n (map event pairs.entry.items) → IfErr result (IsHaltInside n) }
+{
+    let mut scope = Node::new(alloc);
+    place_pairs(alloc, pairs, &mut scope)?;
+    Ok(into_table(scope.tables, scope.values)?)
+}
+
+/// The elements of an array.
+#[cycle(value_of)]
+fn array_of<'de>(alloc: Global, elements: Vec<Val<'de>>) -> Result<Array<'de>, Halt>
+    ensures gives { ScopeGives result (λ xs. inner_view (inners.Array xs)) (item_claims (onto (map view elements.entry.items) no_items) 0 []) }
+    ensures placed { (n : ℕ) → ItemKeysInside n (onto (map view elements.entry.items) no_items) → IfErr result (IsHaltInside n) }
+{
+    let mut array = Vec::with_capacity(alloc, elements.len())?;
+    for element in elements {
+        array.push(value_of(alloc, element)?)?;
+    }
+    Ok(array)
+}
+
+/// The value that was read.
+#[cycle(value_of)]
+fn value_of<'de>(alloc: Global, val: Val<'de>) -> Result<Value<'de>, Halt>
+    ensures gives { ValueGives result (view val.entry) }
+    ensures placed { (n : ℕ) → KeysInside n (view val.entry) → IfErr result (IsHaltInside n) }
+{
+    let Val { kind, span } = val;
+    let inner = match kind {
+        ValKind::String(text) => ValueInner::String(text),
+        ValKind::Integer(number) => ValueInner::Integer(number),
+        ValKind::Float(text) => ValueInner::Float(text),
+        ValKind::Boolean(truth) => ValueInner::Boolean(truth),
+        ValKind::Datetime(text) => ValueInner::Datetime(text),
+        ValKind::Array(elements) => ValueInner::Array(array_of(alloc, elements)?),
+        ValKind::Inline(pairs) => ValueInner::Table(table_of(alloc, pairs)?),
+    };
+    Ok(Value::with_span(inner, span))
+}

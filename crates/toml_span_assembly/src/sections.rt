@@ -1,0 +1,227 @@
+//! Sections placed one by one into a tree.
+ghost use Rattle.std.specs.Prelude.{◌≡◌, ℕ, map, [], IfOk, IfErr};
+ghost use Rattle.toml_span_read.specs.Data.{event};
+ghost use Rattle.toml_span_read.specs.Inside.{IsInside, PartsInside, EventsInside, SectionsInside};
+ghost use Rattle.toml_span_read.specs.Keys.{part as part_of};
+ghost use Rattle.toml_span_read.specs.Lines.{block};
+ghost use Rattle.toml_span_claims.specs.declared.claims.Sort.TheVariants.{Passed};
+ghost use Rattle.toml_span_claims.specs.Claims as claims;
+ghost use Rattle.toml_span_claims.specs.Claims.{event_claims};
+ghost use Rattle.toml_span_claims.specs.Places.{IsHaltInside};
+ghost use Rattle.toml_span_claims.specs.Placing.{AreSections, Assembles, Opening, Opens, Passes, Places, Reaches};
+ghost use Rattle.toml_span_claims.specs.Relative.{adding, ending, grown, grown_here, grown_through, one_more, opening, part_sort, passing, section_at, through};
+ghost use Rattle.toml_span_claims.specs.Tree.{counts, IsHeld, IsOpen, IsScope};
+ghost use Rattle.toml_span_assembly.specs.Roots.{IsRoot};
+
+use toml_span_claims::claims::{Halt, Head, Mark, Sort, claim};
+use toml_span_claims::node::{Node, into_table};
+use toml_span_claims::rest::Rest;
+use crate::scopes::{admit_beside_value, place_all};
+use std::alloc::Global;
+use toml_span_lex::key::Key;
+use toml_span_lex::span::Span;
+use toml_span_read::{Assignment, Section};
+use toml_span_tree::{Value, ValueInner};
+
+/// The claim of a part of a header.
+fn header_mark(head: Head, sort: Sort, key: &Key<'_>) -> Mark
+    ensures { result ≡ claims.header_mark head sort key.now.span }
+{
+    Mark {
+        sort,
+        key: key.span,
+        line: head.line,
+        extent: head.extent,
+    }
+}
+
+/// What the part of a header claims that is followed by these.
+fn sort_of(head: Head, rest: &[Key<'_>]) -> Sort
+    ensures { result ≡ part_sort head (map part_of rest.now) }
+{
+    if !rest.is_empty() {
+        Sort::Passed
+    } else if head.array {
+        Sort::ArrayOfTables
+    } else {
+        Sort::Section
+    }
+}
+
+/// Places a section below a node, part by part of its header.
+#[cycle(place_section)]
+fn place_section<'de>(
+    alloc: Global,
+    node: &mut Node<'de>,
+    parts: &[Key<'de>],
+    head: Head,
+    pairs: Vec<Assignment<'de>>,
+) -> Result<(), Halt>
+    ensures gives { Places node.old node.new result (section_at (counts node.old) head (map part_of parts.now) (event_claims (map event pairs.entry.items) [])) (grown (counts node.old) head (map part_of parts.now)) }
+    ensures placed { (n : ℕ) → PartsInside n (map part_of parts.now) → IsInside n head.line → EventsInside n (map event pairs.entry.items) → IfErr result (IsHaltInside n) }
+{
+    let [part, rest @ ..] = parts else {
+        return place_all(alloc, pairs, node);
+    };
+    match node.tables.get_mut(part) {
+        Some(child) => pass_child(alloc, child, part, rest, head, pairs),
+        None => {
+            let mark = header_mark(head, sort_of(head, rest), part);
+            admit_beside_value(alloc, &node.values, mark, part)?;
+            let mut child = Node::new(alloc);
+            pass_header(alloc, &mut child, part, rest, head, pairs)?;
+            node.tables
+                .insert(part.clone(alloc)?, Box::new(alloc, child)?)?;
+            Ok(())
+        }
+    }
+}
+
+/// From the node of a part on, in its block.
+#[cycle(place_section)]
+fn pass_child<'de>(
+    alloc: Global,
+    child: &mut Box<Node<'de>>,
+    part: &Key<'de>,
+    rest: &[Key<'de>],
+    head: Head,
+    pairs: Vec<Assignment<'de>>,
+) -> Result<(), Halt>
+    ensures gives { Passes child.old.value child.new.value result (through (counts child.old.value) head (part_of part.now) (map part_of rest.now) (event_claims (map event pairs.entry.items) [])) (grown_through (counts child.old.value) head (map part_of rest.now)) }
+    ensures placed { (n : ℕ) → IsInside n part.now.span → PartsInside n (map part_of rest.now) → IsInside n head.line → EventsInside n (map event pairs.entry.items) → IfErr result (IsHaltInside n) }
+{
+    pass_header(alloc, child.as_mut(), part, rest, head, pairs)
+}
+
+/// From the node of a part on: into the latest entry where it is an array.
+#[cycle(place_section)]
+fn pass_header<'de>(
+    alloc: Global,
+    node: &mut Node<'de>,
+    part: &Key<'de>,
+    rest: &[Key<'de>],
+    head: Head,
+    pairs: Vec<Assignment<'de>>,
+) -> Result<(), Halt>
+    ensures gives { Passes node.old node.new result (through (counts node.old) head (part_of part.now) (map part_of rest.now) (event_claims (map event pairs.entry.items) [])) (grown_through (counts node.old) head (map part_of rest.now)) }
+    ensures placed { (n : ℕ) → IsInside n part.now.span → PartsInside n (map part_of rest.now) → IsInside n head.line → EventsInside n (map event pairs.entry.items) → IfErr result (IsHaltInside n) }
+{
+    if rest.is_empty() {
+        return end_header(alloc, node, part, head, pairs);
+    }
+    match node.entries.last_mut() {
+        Some(latest) => descend(alloc, latest, part, rest, head, pairs),
+        None => descend(alloc, node, part, rest, head, pairs),
+    }
+}
+
+/// Passes through a node.
+#[cycle(place_section)]
+fn descend<'de>(
+    alloc: Global,
+    node: &mut Node<'de>,
+    part: &Key<'de>,
+    rest: &[Key<'de>],
+    head: Head,
+    pairs: Vec<Assignment<'de>>,
+) -> Result<(), Halt>
+    ensures gives { Opening IsScope (claims.header_mark head Passed part.now.span) node.old node.new result (passing head (part_of part.now) (map part_of rest.now) (event_claims (map event pairs.entry.items) []) (counts node.old)) (grown (counts node.old) head (map part_of rest.now)) }
+    ensures placed { (n : ℕ) → IsInside n part.now.span → PartsInside n (map part_of rest.now) → IsInside n head.line → EventsInside n (map event pairs.entry.items) → IfErr result (IsHaltInside n) }
+{
+    claim(
+        alloc,
+        &mut node.marks,
+        header_mark(head, Sort::Passed, part),
+        part,
+    )?;
+    place_section(alloc, node, rest, head, pairs)
+}
+
+/// Claims a node for a section or an entry, and places the assignments below it.
+fn open_table<'de>(
+    alloc: Global,
+    node: &mut Node<'de>,
+    sort: Sort,
+    part: &Key<'de>,
+    head: Head,
+    pairs: Vec<Assignment<'de>>,
+) -> Result<(), Halt>
+    ensures gives { Opening (Opens sort) (claims.header_mark head sort part.now.span) node.old node.new result (opening head sort (part_of part.now) (event_claims (map event pairs.entry.items) [])) (counts node.old) }
+    ensures placed { (n : ℕ) → IsInside n part.now.span → IsInside n head.line → EventsInside n (map event pairs.entry.items) → IfErr result (IsHaltInside n) }
+{
+    claim(alloc, &mut node.marks, header_mark(head, sort, part), part)?;
+    place_all(alloc, pairs, node)
+}
+
+/// Adds an entry to an array of tables.
+fn add_entry<'de>(
+    alloc: Global,
+    node: &mut Node<'de>,
+    part: &Key<'de>,
+    head: Head,
+    pairs: Vec<Assignment<'de>>,
+) -> Result<(), Halt>
+    ensures gives { Reaches IsOpen IsHeld node.old node.new result (adding head (part_of part.now) (event_claims (map event pairs.entry.items) []) (counts node.old [])) (one_more (counts node.old)) }
+    ensures placed { (n : ℕ) → IsInside n part.now.span → IsInside n head.line → EventsInside n (map event pairs.entry.items) → IfErr result (IsHaltInside n) }
+{
+    let mut entry = Node::new(alloc);
+    open_table(alloc, &mut entry, Sort::Entry, part, head, pairs)?;
+    node.entries.push(entry)?;
+    Ok(())
+}
+
+/// Claims the node at the end of a header, and places the assignments there.
+fn end_header<'de>(
+    alloc: Global,
+    node: &mut Node<'de>,
+    part: &Key<'de>,
+    head: Head,
+    pairs: Vec<Assignment<'de>>,
+) -> Result<(), Halt>
+    ensures gives { Passes node.old node.new result (ending head (part_of part.now) (event_claims (map event pairs.entry.items) []) (counts node.old [])) (grown_here (counts node.old) head) }
+    ensures placed { (n : ℕ) → IsInside n part.now.span → IsInside n head.line → EventsInside n (map event pairs.entry.items) → IfErr result (IsHaltInside n) }
+{
+    if !head.array {
+        return open_table(alloc, node, Sort::Section, part, head, pairs);
+    }
+    if node.entries.is_empty() {
+        let mark = header_mark(head, Sort::ArrayOfTables, part);
+        claim(alloc, &mut node.marks, mark, part)?;
+    }
+    add_entry(alloc, node, part, head, pairs)
+}
+
+/// The tree of a document's sections, which is `length` bytes long.
+pub(crate) fn assemble<'de>(
+    alloc: Global,
+    sections: Vec<Section<'de>>,
+    length: usize,
+) -> Result<Value<'de>, Halt>
+    requires headers { AreSections (map block sections.items) }
+    ensures gives { Assembles (map block sections.entry.items) length result }
+    ensures root { IfOk result (IsRoot length) }
+    ensures placed { (n : ℕ) → SectionsInside n sections.entry.items → IfErr result (IsHaltInside n) }
+{
+    let mut root = Node::new(alloc);
+    for section in Rest::new(sections) {
+        let Section {
+            header,
+            array,
+            header_span: line,
+            extent,
+            assignments,
+        } = section;
+        let head = Head {
+            array,
+            line,
+            extent,
+        };
+        place_section(alloc, &mut root, header.as_slice(), head, assignments)?;
+    }
+    let table = into_table(root.tables, root.values)?;
+    let span = Span {
+        start: 0,
+        end: length,
+    };
+    Ok(Value::with_span(ValueInner::Table(table), span))
+}

@@ -1,0 +1,9 @@
+pub mod PlaceLemmas
+pub mod Grafts
+pub mod Nodes
+pub mod Ordered
+pub mod Placed
+pub mod Examples
+pub mod Finishing
+pub mod KeyMaps
+pub mod Claimed

@@ -1,0 +1,164 @@
+-- What headers and assignments claim.
+use Rattle.std.specs.Prelude.{ℕ, zero, suc, List, [], ◌∷◌, if◌then◌else◌, Option, Some, None}
+use Rattle.toml_span_lex.specs.declared.span.Span.{Span}
+use Rattle.toml_span_tree.specs.Path.{Path, Shape, is_scalar, is_array, is_table, Place}
+use Rattle.toml_span_read.specs.Data.{Node, node, Inner, scalar, array, inline, Items, no_items, item, Pairs, no_pairs, pair, Event}
+use Rattle.toml_span_read.specs.Earlier.{span_of}
+use Rattle.toml_span_read.specs.Keys.{Part}
+use Rattle.toml_span_read.specs.Lines.{Block}
+use Rattle.toml_span_claims.specs.declared.claims.Sort.{Sort}
+use Rattle.toml_span_claims.specs.declared.claims.Sort.TheVariants.{Passed, Section, ArrayOfTables, Entry, Dotted, Assigned}
+use Rattle.toml_span_claims.specs.declared.claims.Mark.{Mark}
+use Rattle.toml_span_claims.specs.declared.claims.Head.{Head}
+use Rattle.toml_span_claims.specs.Paths.{below, at, enter, entries_at, opened_by, section_path}
+
+-- A path is claimed by a key of this name. The mark says in which way, and the place is what stands there if this claim decides.
+pub record Claim : Type 0 where
+  pub path : Path
+  pub name : List ℕ
+  pub mark : Mark
+  pub place : Place
+
+-- The claims of a scope, in the order of the text, and among them the scopes that stand in it: an inline table is one of its
+-- own, and so are the elements of an array, of which no two claim one path.
+pub data Claims : Type 0 where
+  no_claims : Claims
+  claimed : Claim → Claims → Claims
+  scope : Claims → Claims → Claims
+
+-- these claims, and then those
+unfoldable pub followed : Claims → Claims → Claims
+followed no_claims rest = rest
+followed (claimed c cs) rest = claimed c (followed cs rest)
+followed (scope inner cs) rest = scope inner (followed cs rest)
+
+-- ---- tables
+
+-- what headers and dotted keys make
+abbrev pub shape_of : Sort → Shape
+shape_of ArrayOfTables = is_array
+shape_of _ = is_table
+
+-- an entry of an array stands at no key
+abbrev pub key_span_of : Sort → Span → Option Span
+key_span_of Entry key = None
+key_span_of _ key = Some key
+
+-- What stands where a claim of a table, or of an array of tables, decides. That of a header which passes through an entry
+-- never does: the entry's own claim is earlier.
+abbrev pub place_of : Mark → Place
+place_of m = record { shape = shape_of m.sort; key_span = key_span_of m.sort m.key; span = m.extent }
+
+abbrev pub table_claim : Path → Part → Mark → Claim
+table_claim p k m = record { path = p; name = k.name; mark = m; place = place_of m }
+
+-- ---- assignments
+
+abbrev pub value_shape : Inner → Shape
+value_shape (scalar s) = is_scalar s
+value_shape (array vs) = is_array
+value_shape (inline ps) = is_table
+
+abbrev pub inner_of : Node → Inner
+inner_of (node k span) = k
+
+abbrev pub pair_mark : Sort → Span → Span → Mark
+pair_mark sort key span = record { sort = sort; key = key; line = span; extent = span }
+
+-- an inner part of a dotted key claims a table that stands where the value stands
+abbrev pub dotted : Path → Part → Node → Claim
+dotted p k v = table_claim p k (pair_mark Dotted k.span (span_of v))
+
+-- its last part claims the value
+abbrev pub assigned : Path → Part → Node → Claim
+assigned p k v = record {
+  path = p;
+  name = k.name;
+  mark = pair_mark Assigned k.span (span_of v);
+  place = record { shape = value_shape (inner_of v); key_span = Some k.span; span = span_of v };
+}
+
+-- an element of an array is assigned to its position
+abbrev pub element : Path → Node → Claim
+element p v = record {
+  path = p;
+  name = [];
+  mark = pair_mark Assigned (span_of v) (span_of v);
+  place = record { shape = value_shape (inner_of v); key_span = None; span = span_of v };
+}
+
+-- the claims of a key below p, which has at least one part, and those inside the value
+unfoldable pub key_claims : Path → List Part → Node → (Path → Claims) → Claims
+key_claims p [] v inside = no_claims
+key_claims p (k ∷ []) v inside = claimed (assigned (below p k) k v) (inside (below p k))
+key_claims p (k ∷ l ∷ more) v inside = claimed (dotted (below p k) k v) (key_claims (below p k) (l ∷ more) v inside)
+
+unfoldable mutual
+  -- what a value at p claims below p
+  pub value_claims : Node → Path → Claims
+  value_claims (node k span) p = inner_claims k p
+
+  pub inner_claims : Inner → Path → Claims
+  inner_claims (scalar s) p = no_claims
+  inner_claims (array vs) p = scope (item_claims vs 0 p) no_claims
+  inner_claims (inline ps) p = scope (pair_claims ps p) no_claims
+
+  pub item_claims : Items → ℕ → Path → Claims
+  item_claims no_items i p = no_claims
+  item_claims (item v vs) i p = claimed (element (at p i) v) (followed (value_claims v (at p i)) (item_claims vs (suc i) p))
+
+  pub pair_claims : Pairs → Path → Claims
+  pair_claims no_pairs p = no_claims
+  pair_claims (pair parts v extent rest) p = followed (key_claims p parts v (value_claims v)) (pair_claims rest p)
+
+-- what an assignment claims below p, and what several do
+abbrev pub assignment_claims : Event → Path → Claims
+assignment_claims e p = key_claims p e.parts e.value (value_claims e.value)
+
+unfoldable pub event_claims : List Event → Path → Claims
+event_claims [] p = no_claims
+event_claims (e ∷ es) p = followed (assignment_claims e p) (event_claims es p)
+
+-- ---- sections
+
+abbrev pub head_of : Block → Head
+head_of b = record { array = b.array; line = b.header_span; extent = b.extent }
+
+abbrev pub header_mark : Head → Sort → Span → Mark
+header_mark h sort key = record { sort = sort; key = key; line = h.line; extent = h.extent }
+
+abbrev pub header_claim : Head → Sort → Path → Part → Claim
+header_claim h sort p k = table_claim p k (header_mark h sort k.span)
+
+-- the array itself is claimed with its first entry
+abbrev pub array_claims : Head → Path → Part → ℕ → Claims → Claims
+array_claims h p k zero rest = claimed (header_claim h ArrayOfTables p k) rest
+array_claims h p k (suc n) rest = rest
+
+-- at the end of a header, where n entries were added at p: a table, or the next entry of an array of tables
+unfoldable pub end_claims : Head → Path → Part → ℕ → Claims
+end_claims h p k n =
+    if h.array
+    then array_claims h p k n (claimed (header_claim h Entry (at p n) k) no_claims)
+    else claimed (header_claim h Section p k) no_claims
+
+-- Each part but the last passes through a table: the latest entry, where an array of tables stands there.
+unfoldable pub header_claims : (Path → ℕ) → Head → Path → List Part → Claims
+header_claims entries h p [] = no_claims
+header_claims entries h p (k ∷ []) = end_claims h (below p k) k (entries (below p k))
+header_claims entries h p (k ∷ l ∷ more) =
+    let q = enter (entries (below p k)) (below p k) in
+    claimed (header_claim h Passed q k) (header_claims entries h q (l ∷ more))
+
+-- what a section claims, where `entries` counts the entries of each array before it
+unfoldable pub section_claims : (Path → ℕ) → Block → Claims
+section_claims entries b = followed (header_claims entries (head_of b) [] b.header) (event_claims b.events (section_path entries b))
+
+-- what sections claim behind these earlier ones, the nearest first
+unfoldable pub claims_behind : List Block → List Block → Claims
+claims_behind earlier [] = no_claims
+claims_behind earlier (b ∷ bs) = followed (section_claims (entries_at (opened_by earlier)) b) (claims_behind (b ∷ earlier) bs)
+
+-- what a document claims
+abbrev pub claims : List Block → Claims
+claims bs = claims_behind [] bs

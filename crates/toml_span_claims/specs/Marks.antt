@@ -1,0 +1,51 @@
+-- What a node of the tree under construction keeps of the claims on it.
+use Rattle.std.specs.Prelude.{◌≡◌, ⊤, ℕ, List, [], ◌∷◌, ◌++◌, Bool, true, false, if◌then◌else◌, Option, Some, None, nat_eq, string_bytes}
+use Rattle.std.specs.List.{list_any}
+use Rattle.toml_span_claims.specs.declared.claims.Sort.{Sort}
+use Rattle.toml_span_claims.specs.declared.claims.Sort.TheVariants.{Passed, Section, ArrayOfTables, Entry, Dotted, Assigned}
+use Rattle.toml_span_claims.specs.declared.claims.Mark.{Mark}
+use Rattle.toml_span_claims.specs.declared.claims.Meeting.{Meeting}
+use Rattle.toml_span_claims.specs.declared.claims.Halt.{Halt}
+use Rattle.toml_span_claims.specs.declared.claims.Halt.TheVariants.{Memory, Clash}
+use Rattle.toml_span_claims.specs.Clashes.{or_else}
+
+abbrev pub sort_number : Sort → ℕ
+sort_number Passed = 0
+sort_number Section = 1
+sort_number ArrayOfTables = 2
+sort_number Entry = 3
+sort_number Dotted = 4
+sort_number Assigned = 5
+
+abbrev pub same_sort : Sort → Sort → Bool
+same_sort a b = nat_eq (sort_number a) (sort_number b)
+
+-- the first claim of each sort is kept, in the order of the text
+abbrev pub remember : List Mark → Mark → List Mark
+remember marks mark = if list_any (λ seen. same_sort seen.sort mark.sort) marks then marks else marks ++ mark ∷ []
+
+-- the halt at a clash over a name; or want of memory
+abbrev pub Halts : Halt → Meeting → List ℕ → Type 0
+Halts (Clash c) m name = (c.meeting ≡ m) × (string_bytes c.name ≡ name)
+Halts (Memory e) m name = ⊤
+
+abbrev pub IsMemory : Halt → Type 0
+IsMemory (Memory e) = ⊤
+IsMemory (Clash c) = ⊥
+
+abbrev pub by_header : Sort → Bool
+by_header Dotted = false
+by_header Assigned = false
+by_header _ = true
+
+abbrev pub first_by_header : List Mark → Option Mark
+first_by_header [] = None
+first_by_header (mark ∷ marks) = if by_header mark.sort then Some mark else first_by_header marks
+
+abbrev pub first : List Mark → Option Mark
+first [] = None
+first (mark ∷ marks) = Some mark
+
+-- the claim that says where a node stands: that of the first header, or else the first one
+abbrev pub deciding : List Mark → Option Mark
+deciding marks = or_else (first_by_header marks) (first marks)

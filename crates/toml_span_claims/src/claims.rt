@@ -1,0 +1,236 @@
+//! What headers and assignments claim of a path, and which claims clash.
+ghost use Rattle.std.specs.Prelude.{◌≡◌, ⊤, ℕ, string_bytes, IfErr};
+ghost use Rattle.std.specs.List.{list_any};
+ghost use Rattle.std.specs.Cow.{cow_str_bytes};
+ghost use Rattle.toml_span_tree.specs.Error.{fault_of};
+ghost use Rattle.toml_span_claims.specs.Clashes as clashes;
+ghost use Rattle.toml_span_claims.specs.Machine.{Gives, met, told_by};
+ghost use Rattle.toml_span_claims.specs.Marks as kept;
+ghost use Rattle.toml_span_claims.specs.Places.{IsMarkInside, IsHaltInside};
+
+use smallvec::SmallVec;
+use std::alloc::{AllocError, AllocFailed, Global};
+use toml_span_lex::key::Key;
+use toml_span_lex::span::Span;
+use toml_span_tree::{Error, ErrorKind};
+
+/// How a path is claimed.
+#[derive(Clone, Copy, Default)]
+pub enum Sort {
+    /// As a table that a header passes through: `a` in `[a.b]`.
+    #[default]
+    Passed,
+    /// As the table that a header in single brackets opens.
+    Section,
+    /// As the array to which a header in double brackets adds an entry.
+    ArrayOfTables,
+    /// As an entry of an array of tables.
+    Entry,
+    /// As a table that a dotted key passes through: `a` in `a.b = 1`.
+    Dotted,
+    /// As a value that is assigned.
+    Assigned,
+}
+
+/// What a node keeps of a claim on it.
+#[derive(Clone, Copy, Default)]
+pub struct Mark {
+    pub sort: Sort,
+    /// The part of the header or of the dotted key that names the path.
+    pub key: Span,
+    /// The header's line. Of an assignment its value.
+    pub line: Span,
+    /// Where the node stands if this claim decides: the header's section, or the assigned value.
+    pub extent: Span,
+}
+
+/// What a header says beside its parts.
+#[derive(Clone, Copy)]
+pub struct Head {
+    /// Whether the header stands in double brackets.
+    pub array: bool,
+    /// The header's line.
+    pub line: Span,
+    /// The header's section.
+    pub extent: Span,
+}
+
+/// What is told of two claims that clash.
+#[derive(Clone, Copy)]
+pub enum Blame {
+    /// `DuplicateTable`
+    Table,
+    /// `DuplicateKey`
+    Key,
+    /// `RedefineAsArray`
+    Array,
+}
+
+/// What is told where an earlier claim and a later one on the same path clash.
+fn blame_of(earlier: Sort, later: Sort) -> Option<Blame>
+    ensures { result ≡ clashes.blame earlier later }
+{
+    match (earlier, later) {
+        (Sort::Passed, Sort::ArrayOfTables) => Some(Blame::Array),
+        (Sort::Section, Sort::Section | Sort::ArrayOfTables) => Some(Blame::Table),
+        (Sort::ArrayOfTables, Sort::Section) => Some(Blame::Table),
+        (Sort::Dotted, Sort::Section | Sort::ArrayOfTables) => Some(Blame::Key),
+        (Sort::Section | Sort::ArrayOfTables, Sort::Dotted) => Some(Blame::Key),
+        (Sort::Assigned, Sort::Entry) | (Sort::Entry, Sort::Assigned) => None,
+        (Sort::Assigned, _) | (_, Sort::Assigned) => Some(Blame::Key),
+        _ => None,
+    }
+}
+
+/// What is told of a clash, but for the name.
+#[derive(Clone, Copy)]
+pub struct Meeting {
+    pub blame: Blame,
+    /// The earlier claim's header, or its key.
+    pub first: Span,
+    /// The later claim's header, or its key.
+    pub place: Span,
+}
+
+fn meeting_of(earlier: Mark, later: Mark, blame: Blame) -> Meeting
+    ensures { result ≡ clashes.meeting earlier later blame }
+{
+    match blame {
+        Blame::Key => Meeting {
+            blame,
+            first: earlier.key,
+            place: later.key,
+        },
+        Blame::Table | Blame::Array => Meeting {
+            blame,
+            first: earlier.line,
+            place: later.line,
+        },
+    }
+}
+
+fn meets(earlier: Mark, later: Mark) -> Option<Meeting>
+    ensures { result ≡ clashes.meets earlier later }
+{
+    match blame_of(earlier.sort, later.sort) {
+        Some(blame) => Some(meeting_of(earlier, later, blame)),
+        None => None,
+    }
+}
+
+/// A clash of two claims on one path.
+#[derive(Drop)]
+pub struct Clash {
+    pub meeting: Meeting,
+    /// The key that both claim.
+    pub name: String,
+}
+
+impl Clash {
+    /// The error that tells of the clash, in a text where its place has this line and column.
+    pub fn into_error<'s>(self, line_info: (usize, usize)) -> Error<'s>
+        ensures { fault_of result ≡ clashes.fault_told self.meeting (string_bytes self.name) line_info }
+    {
+        let Clash { meeting, name } = self;
+        let kind = match meeting.blame {
+            Blame::Table => ErrorKind::DuplicateTable {
+                name,
+                first: meeting.first,
+            },
+            Blame::Key => ErrorKind::DuplicateKey {
+                key: name,
+                first: meeting.first,
+            },
+            Blame::Array => ErrorKind::RedefineAsArray,
+        };
+        Error {
+            kind,
+            span: meeting.place,
+            line_info: Some(line_info),
+        }
+    }
+}
+
+/// Why the assembly gives no tree.
+#[derive(Drop)]
+pub enum Halt {
+    Memory(AllocError),
+    Clash(Clash),
+}
+
+impl From<AllocError> for Halt {
+    ghost from_gives = { λ _ halt. kept.IsMemory halt };
+
+    fn from(error: AllocError) -> Halt {
+        Halt::Memory(error)
+    }
+}
+
+impl<T: Drop> From<AllocFailed<T>> for Halt {
+    ghost from_gives = { λ _ halt. kept.IsMemory halt };
+
+    fn from(failed: AllocFailed<T>) -> Halt {
+        Halt::Memory(AllocError::from(failed))
+    }
+}
+
+/// The first claim of each sort on a node, in the order of the text: whether two claims clash depends
+/// on their sorts alone.
+pub type Marks = SmallVec<Mark, 1>;
+
+/// The clash of a claim with the earliest of those on its path.
+fn first_meeting(marks: &[Mark], mark: Mark) -> Option<Meeting>
+    ensures { result ≡ clashes.partner marks.now mark }
+{
+    for seen in marks {
+        if let Some(meeting) = meets(*seen, mark) {
+            return Some(meeting);
+        }
+    }
+    None
+}
+
+fn same_sort(a: Sort, b: Sort) -> bool
+    ensures { result ≡ kept.same_sort a b }
+{
+    a as u8 == b as u8
+}
+
+fn knows(marks: &[Mark], sort: Sort) -> bool
+    ensures { result ≡ list_any (λ seen. kept.same_sort seen.sort sort) marks.now }
+{
+    marks.iter().any(|seen| same_sort(seen.sort, sort))
+}
+
+/// Halts at a clash over a key.
+fn halted(alloc: Global, meeting: Meeting, key: &Key<'_>) -> Halt
+    ensures { kept.Halts result meeting (cow_str_bytes key.now.name) }
+{
+    match String::from_str(alloc, key.name.as_ref()) {
+        Ok(name) => Halt::Clash(Clash { meeting, name }),
+        Err(error) => Halt::Memory(error),
+    }
+}
+
+/// Halts where a claim clashes with one of the earlier ones.
+pub fn admit(alloc: Global, marks: &[Mark], mark: Mark, key: &Key<'_>) -> Result<(), Halt>
+    ensures gives { Gives result (met marks.now mark (cow_str_bytes key.now.name)) (λ _. ⊤) }
+    ensures placed { (n : ℕ) → IsMarkInside n mark → IfErr result (IsHaltInside n) }
+{
+    match first_meeting(marks, mark) {
+        Some(meeting) => Err(halted(alloc, meeting, key)),
+        None => Ok(()),
+    }
+}
+
+/// Keeps a claim on a node, unless it clashes with an earlier one.
+pub fn claim(alloc: Global, marks: &mut Marks, mark: Mark, key: &Key<'_>) -> Result<(), Halt>
+    ensures gives { Gives result (met marks.old.items mark (cow_str_bytes key.now.name)) (λ _. marks.new.items ≡ kept.remember marks.old.items mark) }
+    ensures placed { (n : ℕ) → IsMarkInside n mark → IfErr result (IsHaltInside n) }
+{
+    admit(alloc, marks.as_slice(), mark, key)?;
+    if !knows(marks.as_slice(), mark.sort) {
+        marks.push(mark)?;
+    }
+    Ok(())
+}

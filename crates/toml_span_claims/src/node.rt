@@ -1,0 +1,138 @@
+//! The tree under construction.
+ghost use Rattle.std.specs.Prelude.{◌≡◌, IfSome};
+ghost use Rattle.toml_span_claims.specs.Marks as kept;
+ghost use Rattle.toml_span_claims.specs.Tree.{IsFresh};
+ghost use Rattle.toml_span_claims.specs.Placing.{Becomes, EachBecomes, Finishes, NamesAscend};
+
+use crate::claims::{Mark, Marks, Sort};
+use smallvec::SmallVec;
+use std::alloc::{AllocError, Global};
+use std::collections::BTreeMap;
+use toml_span_lex::key::Key;
+use toml_span_lex::span::Span;
+use toml_span_tree::{Array, Table, Value, ValueInner};
+
+/// Nodes by name. Each is in a block of its own, since a leaf of the map has room for fifteen entries.
+pub type Nodes<'de> = BTreeMap<Key<'de>, Box<Node<'de>>>;
+
+/// A table or an array of tables, while the sections are placed.
+///
+/// An assigned value is closed: it stands in `values` as it will in the tree, and its key's span is all
+/// that is kept of its claim. No name stands both in `values` and in `tables`.
+#[derive(Drop)]
+pub struct Node<'de> {
+    /// The claims on the node.
+    pub marks: Marks,
+    /// The assigned values.
+    pub values: Table<'de>,
+    /// What headers and dotted keys made: tables, and arrays of tables.
+    pub tables: Nodes<'de>,
+    /// The entries, if this is an array of tables. An array has one at least.
+    pub entries: Vec<Node<'de>>,
+}
+
+impl<'de> Node<'de> {
+    pub fn new(alloc: Global) -> Self
+        ensures { IsFresh result }
+    {
+        Self {
+            marks: SmallVec::new(alloc),
+            values: BTreeMap::new(alloc),
+            tables: BTreeMap::new(alloc),
+            entries: Vec::new(alloc),
+        }
+    }
+}
+
+/// Whether a header made the claim.
+fn by_header(sort: Sort) -> bool
+    ensures { result ≡ kept.by_header sort }
+{
+    !matches!(sort, Sort::Dotted | Sort::Assigned)
+}
+
+/// The claim that says where a node stands: that of the first header, or else the first one.
+fn deciding(marks: &[Mark]) -> Option<Mark>
+    ensures { result ≡ kept.deciding marks.now }
+{
+    for mark in marks {
+        if by_header(mark.sort) {
+            return Some(*mark);
+        }
+    }
+    marks.first().copied()
+}
+
+/// The key's span and the span of the node with these claims.
+fn spans(marks: &[Mark]) -> (Span, Span)
+    ensures { IfSome (kept.deciding marks.now) (λ m. result ≡ (m.key, m.extent)) }
+{
+    match deciding(marks) {
+        Some(mark) => (mark.key, mark.extent),
+        None => (Span::default(), Span::default()),
+    }
+}
+
+/// The names of a table are in order, and none stands there twice.
+fn in_order(table: &Table<'_>)
+    ensures { NamesAscend table.now }
+{
+    // A map keeps its keys in order, and says so when it is asked for its length.
+    let _ = table.len();
+}
+
+/// The table of what these nodes have become, and of these values.
+#[cycle(finish)]
+pub fn into_table<'de>(
+    tables: Nodes<'de>,
+    mut values: Table<'de>,
+) -> Result<Table<'de>, AllocError>
+    ensures { Finishes tables.entry values.entry result }
+{
+    for (key, child) in tables {
+        let (span, value) = into_value(Box::into_inner(child))?;
+        let key = Key {
+            name: key.name,
+            span,
+        };
+        drop(values.insert(key, value)?);
+    }
+    in_order(&values);
+    Ok(values)
+}
+
+/// The value that a node has become, and the span of its key.
+#[cycle(finish)]
+fn into_value<'de>(node: Node<'de>) -> Result<(Span, Value<'de>), AllocError>
+    ensures { Becomes node.entry result }
+{
+    let Node {
+        marks,
+        values,
+        tables,
+        entries,
+    } = node;
+    let (key_span, span) = spans(marks.as_slice());
+    if entries.is_empty() {
+        drop(entries);
+        let table = into_table(tables, values)?;
+        return Ok((key_span, Value::with_span(ValueInner::Table(table), span)));
+    }
+    drop(values);
+    drop(tables);
+    let array = into_array(entries)?;
+    Ok((key_span, Value::with_span(ValueInner::Array(array), span)))
+}
+
+/// The elements that the entries of an array of tables have become.
+#[cycle(finish)]
+fn into_array<'de>(entries: Vec<Node<'de>>) -> Result<Array<'de>, AllocError>
+    ensures { EachBecomes entries.entry.items result }
+{
+    let mut array = Vec::with_capacity(*entries.allocator(), entries.len())?;
+    for entry in entries {
+        let (_, value) = into_value(entry)?;
+        array.push(value)?;
+    }
+    Ok(array)
+}
