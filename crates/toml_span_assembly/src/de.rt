@@ -8,9 +8,9 @@ ghost use Rattle.toml_span_assembly.specs.Parsing.{IsClashStop, IsRefusal, IsTre
 ghost use Rattle.toml_span_claims.specs.Placing.{AreSections};
 ghost use Rattle.toml_span_assembly.specs.Roots.{IsRoot};
 
-use toml_span_claims::claims::Halt;
 use crate::sections::assemble;
 use std::alloc::Global;
+use toml_span_claims::claims::Halt;
 use toml_span_lex::stop::Stop;
 use toml_span_read::fault::line_info;
 use toml_span_read::{Section, read_sections};

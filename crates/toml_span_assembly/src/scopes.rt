@@ -16,11 +16,11 @@ ghost use Rattle.toml_span_claims.specs.Places.{IsMarkInside, IsHaltInside};
 ghost use Rattle.toml_span_claims.specs.Relative.{pair_at, through_pair};
 ghost use Rattle.toml_span_claims.specs.Tree.{child_in, closed_in, closed_marks, counts, held_marks};
 
+use std::alloc::Global;
+use std::collections::btree_map::Entry;
 use toml_span_claims::claims::{Halt, Mark, Sort, admit, claim};
 use toml_span_claims::node::{Node, Nodes, into_table};
 use toml_span_claims::rest::Rest;
-use std::alloc::Global;
-use std::collections::btree_map::Entry;
 use toml_span_lex::key::Key;
 use toml_span_lex::span::Span;
 use toml_span_read::{Assignment, DottedKey, Val, ValKind};

@@ -13,11 +13,11 @@ ghost use Rattle.toml_span_claims.specs.Relative.{adding, ending, grown, grown_h
 ghost use Rattle.toml_span_claims.specs.Tree.{counts, IsHeld, IsOpen, IsScope};
 ghost use Rattle.toml_span_assembly.specs.Roots.{IsRoot};
 
+use crate::scopes::{admit_beside_value, place_all};
+use std::alloc::Global;
 use toml_span_claims::claims::{Halt, Head, Mark, Sort, claim};
 use toml_span_claims::node::{Node, into_table};
 use toml_span_claims::rest::Rest;
-use crate::scopes::{admit_beside_value, place_all};
-use std::alloc::Global;
 use toml_span_lex::key::Key;
 use toml_span_lex::span::Span;
 use toml_span_read::{Assignment, Section};

@@ -83,10 +83,7 @@ fn in_order(table: &Table<'_>)
 
 /// The table of what these nodes have become, and of these values.
 #[cycle(finish)]
-pub fn into_table<'de>(
-    tables: Nodes<'de>,
-    mut values: Table<'de>,
-) -> Result<Table<'de>, AllocError>
+pub fn into_table<'de>(tables: Nodes<'de>, mut values: Table<'de>) -> Result<Table<'de>, AllocError>
     ensures { Finishes tables.entry values.entry result }
 {
     for (key, child) in tables {

@@ -18,6 +18,10 @@ ghost use Rattle.toml_span_read.specs.Lines.{Block, SpellsDocument, StuckDocumen
 ghost use Rattle.toml_span_read.specs.Keys.{Part, Dotted, StuckDotted};
 ghost use Rattle.toml_span_read.specs.Numbers.{IsRun};
 
+use toml_span_lex::bytes::{blanks_end, keylike_end};
+use toml_span_lex::laws::something_stands;
+use toml_span_lex::span::Span;
+use toml_span_lex::tokenizer::first_place;
 use toml_span_read::dates::{begins_date, date};
 use toml_span_read::fault::{Fault, invalid_number};
 use toml_span_read::gaps::{
@@ -26,10 +30,6 @@ use toml_span_read::gaps::{
 use toml_span_read::numbers::{
     Decimal, decimal_number, radix_integer, radix_of, special_dot, special_float,
 };
-use toml_span_lex::bytes::{blanks_end, keylike_end};
-use toml_span_lex::laws::something_stands;
-use toml_span_lex::span::Span;
-use toml_span_lex::tokenizer::first_place;
 
 /// Where the number ends whose first run is `first`, or the fault.
 fn unsigned_end(text: &str, start: usize, first: Span) -> Result<usize, Fault>
