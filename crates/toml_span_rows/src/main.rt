@@ -5,9 +5,11 @@
 //! are titles. A row that can't be read answers `no such row`, and the status is then 1.
 #![tactic(auto)]
 
+mod callers;
 mod escapes;
 mod sections;
 mod tokens;
+mod typed;
 
 use escapes::{Unread, text_of};
 use std::alloc::{AllocError, Global};
@@ -44,7 +46,9 @@ fn answer_of(
 ) -> Result<bool, AllocError> {
     let Row { call, words, .. } = row;
     let known = tokens::answer(alloc, call, words, text, out)?
-        || sections::answer(alloc, call, words, text, out)?;
+        || sections::answer(alloc, call, words, text, out)?
+        || typed::answer(alloc, call, words, text, out)?
+        || callers::answer(alloc, call, words, text, out)?;
     Ok(known)
 }
 
