@@ -5,11 +5,13 @@
 //! are titles. A row that can't be read answers `no such row`, and the status is then 1.
 #![tactic(auto)]
 
+mod callers;
 mod diagnostics;
 mod escapes;
 mod sections;
 mod tokens;
 mod trees;
+mod typed;
 
 use escapes::{Unread, text_of};
 use std::alloc::{AllocError, Global};
@@ -48,7 +50,9 @@ fn answer_of(
     let known = tokens::answer(alloc, call, words, text, out)?
         || sections::answer(alloc, call, words, text, out)?
         || trees::answer(alloc, call, words, text, out)?
-        || diagnostics::answer(alloc, call, words, text, out)?;
+        || diagnostics::answer(alloc, call, words, text, out)?
+        || typed::answer(alloc, call, words, text, out)?
+        || callers::answer(alloc, call, words, text, out)?;
     Ok(known)
 }
 
