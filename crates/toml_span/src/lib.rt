@@ -2,8 +2,6 @@
 #![tactic(auto)]
 
 pub mod laws;
-#[cfg(test)]
-mod tests;
 
 pub use toml_span_assembly::de::parse;
 pub use toml_span_lex::span::Span;

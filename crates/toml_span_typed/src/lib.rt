@@ -7,6 +7,3 @@ mod deserialize;
 
 pub use deser_error::{DeserError, ErrorIter, Unmerged};
 pub use deserialize::Deserialize;
-
-#[cfg(test)]
-mod tests;

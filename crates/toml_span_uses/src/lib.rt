@@ -9,8 +9,8 @@ ghost use Rattle.toml_span_tree.specs.Path.{Place, key, is_scalar};
 ghost use Rattle.toml_span_assembly.specs.Parsing.{IsRefusal};
 ghost use Rattle.toml_span_uses.specs.Document.{IsDocument, StandsAt};
 
-#[cfg(test)]
-mod tests;
+pub mod callers;
+pub mod example;
 
 use std::alloc::Global;
 use toml_span::de_helpers::TableHelper;

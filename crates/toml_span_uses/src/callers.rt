@@ -1,11 +1,13 @@
-//! Types of a caller, whose reads leave their value as they like.
-use super::*;
-use crate::de_helpers::{TableHelper, Unfinished};
-use crate::deserialize::Deserialize;
-use std::test::Fail;
-use toml_span_lex::stop::Stop;
-use toml_span_tree::ErrorKind;
+//! Types of a caller that say nothing of what they read, and leave their value as they like.
+use std::alloc::{AllocError, Global};
+use std::borrow::CowStr;
+use std::fmt;
+use std::fmt::{Display, Formatter, Write};
+use std::str::FromStr;
+use toml_span::de_helpers::{TableHelper, Unfinished};
+use toml_span::{DeserError, Deserialize, Error, ErrorKind, Span, Stop, Value};
 
+/// One error with a message of the caller.
 fn custom<'de>(message: &'de str, span: Span) -> DeserError<'de> {
     let kind = ErrorKind::Custom(CowStr::Borrowed(message));
     Error::from((kind, span)).into()
@@ -13,7 +15,7 @@ fn custom<'de>(message: &'de str, span: Span) -> DeserError<'de> {
 
 /// What takes its value and fails with two errors.
 #[derive(Drop)]
-struct Odd;
+pub struct Odd;
 
 impl<'de> Deserialize<'de> for Odd {
     ghost reads = { λ _ _ _. Unit {0} };
@@ -32,7 +34,7 @@ impl<'de> Deserialize<'de> for Odd {
 
 /// What succeeds and leaves its value untouched.
 #[derive(Drop)]
-struct Untouched;
+pub struct Untouched;
 
 impl<'de> Deserialize<'de> for Untouched {
     ghost reads = { λ _ _ _. Unit {0} };
@@ -49,7 +51,7 @@ impl<'de> Deserialize<'de> for Untouched {
 
 /// What reads one entry of a table, puts the others back and fails.
 #[derive(Drop)]
-struct Half;
+pub struct Half;
 
 impl<'de> Deserialize<'de> for Half {
     ghost reads = { λ _ _ _. Unit {0} };
@@ -73,47 +75,24 @@ impl<'de> Deserialize<'de> for Half {
     }
 }
 
-#[test]
-fn keeps_the_errors_of_any_type(rt: HostRuntime) -> Result<(), Fail> {
-    let alloc = rt.alloc();
-    let items = vec![in alloc; integer(1, 5, 6), integer(2, 8, 9), integer(3, 11, 12)]?;
-    let mut value = array(items, 4, 13);
-    assert!(rt; value.is_whole());
-    let Err(Stop::Fault(faults)) = <Vec<Odd>>::deserialize(alloc, &mut value) else {
-        return Err(Fail::from("no faults"));
-    };
-    let wanted = [
-        "one at 5..6",
-        "two at 5..6",
-        "one at 8..9",
-        "two at 8..9",
-        "one at 11..12",
-        "two at 11..12",
-    ];
-    assert_faults(&rt, alloc, &faults, wanted.as_slice())?;
-    Ok(())
+/// What refuses every string.
+#[derive(Debug, Drop)]
+pub struct Never;
+
+/// Why it does.
+#[derive(Debug, Drop)]
+pub struct Refusal;
+
+impl Display for Refusal {
+    fn fmt<W: Write>(&self, f: &mut Formatter<W>) -> fmt::Result {
+        f.write_str("no")
+    }
 }
 
-#[test]
-fn needs_nothing_of_what_a_type_leaves(rt: HostRuntime) -> Result<(), Fail> {
-    let alloc = rt.alloc();
-    let items = vec![in alloc; integer(1, 5, 6), integer(2, 8, 9)]?;
-    let mut value = array(items, 4, 10);
-    assert!(rt; value.is_whole());
-    let Ok(read) = <Vec<Untouched>>::deserialize(alloc, &mut value) else {
-        return Err(Fail::from("no elements"));
-    };
-    assert_eq!(rt; read.len(), 2);
-    assert!(rt; value.is_taken());
+impl FromStr for Never {
+    type Err = Refusal;
 
-    let entries = one(alloc, "a", 0, integer(1, 4, 5))?;
-    let mut value = table(with(entries, "b", 6, integer(2, 10, 11))?, 0, 12);
-    assert!(rt; value.is_whole());
-    let Err(Stop::Fault(faults)) = Half::deserialize(alloc, &mut value) else {
-        return Err(Fail::from("no fault"));
-    };
-    assert_faults(&rt, alloc, &faults, ["half at 0..12"].as_slice())?;
-    assert!(rt; value.has_key("b"));
-    assert!(rt; !value.has_key("a"));
-    Ok(())
+    fn from_str(_s: &str) -> Result<Never, Refusal> {
+        Err(Refusal)
+    }
 }

@@ -1,0 +1,73 @@
+//! Rows of the callers of `parse` that state what they conclude.
+//!
+//! - `span_at POINTER` and `integer_at POINTER`: what stands there, if anything does.
+//! - `refused_at`: the place of a refusal, with its line and its column.
+//! - `port_of`: the port of the document, if it has one.
+use crate::typed::push_span;
+use std::alloc::{AllocError, Global};
+use std::fmt::Write;
+use toml_span::Stop;
+use toml_span_uses::{integer_at, port_of, refused_at, span_at};
+
+/// Writes the answer of a row, one line each, or says that there is no such call.
+pub fn answer(
+    alloc: Global,
+    call: &str,
+    words: &str,
+    text: &str,
+    out: &mut String,
+) -> Result<bool, AllocError> {
+    match call {
+        "span_at" => span_row(alloc, words, text, out)?,
+        "integer_at" => integer_row(alloc, words, text, out)?,
+        "refused_at" => refusal_row(alloc, text, out)?,
+        "port_of" => port_row(alloc, text, out)?,
+        _ => return Ok(false),
+    }
+    Ok(true)
+}
+
+/// Answers `span_at`.
+fn span_row(alloc: Global, pointer: &str, text: &str, out: &mut String) -> Result<(), AllocError> {
+    match span_at(alloc, text, pointer) {
+        Ok(Some(span)) => push_span(span, out)?,
+        Ok(None) => out.push_str("none")?,
+        Err(Stop::Fault(_error)) => out.push_str("refused")?,
+        Err(Stop::Memory(error)) => return Err(error),
+    }
+    out.push('\n')
+}
+
+/// Answers `integer_at`.
+fn integer_row(
+    alloc: Global,
+    pointer: &str,
+    text: &str,
+    out: &mut String,
+) -> Result<(), AllocError> {
+    match integer_at(alloc, text, pointer) {
+        Ok(Some(number)) => writeln!(out, "{number}"),
+        Ok(None) => out.push_str("none\n"),
+        Err(Stop::Fault(_error)) => out.push_str("refused\n"),
+        Err(Stop::Memory(error)) => Err(error),
+    }
+}
+
+/// Answers `refused_at`.
+fn refusal_row(alloc: Global, text: &str, out: &mut String) -> Result<(), AllocError> {
+    match refused_at(alloc, text) {
+        Some((span, line, column)) => {
+            push_span(span, out)?;
+            writeln!(out, " {line}:{column}")
+        }
+        None => out.push_str("none\n"),
+    }
+}
+
+/// Answers `port_of`.
+fn port_row(alloc: Global, text: &str, out: &mut String) -> Result<(), AllocError> {
+    match port_of(alloc, text) {
+        Some(port) => writeln!(out, "{port}"),
+        None => out.push_str("none\n"),
+    }
+}

@@ -1,0 +1,161 @@
+//! The texts of rows, in which a backslash begins an escape.
+//!
+//! `\n` `\r` `\t` `\\`, `\u{HEX}` for a character by its number, and `\{N PART}` for PART so many times.
+//! In PART any of the others may stand, and `\}` for a brace that doesn't end it.
+use std::alloc::{AllocError, Global};
+
+/// Why there is no text.
+#[derive(Drop)]
+pub enum Unread {
+    /// An escape that isn't one.
+    Escape,
+    Memory(AllocError),
+}
+
+impl From<AllocError> for Unread {
+    fn from(refused: AllocError) -> Self {
+        Unread::Memory(refused)
+    }
+}
+
+/// A part that is repeated, as far as it has been read.
+#[derive(Drop)]
+struct Part {
+    times: usize,
+    text: String,
+}
+
+/// A text, as far as it has been read.
+#[derive(Drop)]
+struct Reading {
+    text: String,
+    /// The part that is still open.
+    open: Option<Part>,
+}
+
+impl Reading {
+    /// Adds a text as it stands.
+    fn push(&mut self, text: &str) -> Result<(), AllocError> {
+        match &mut self.open {
+            Some(part) => part.text.push_str(text),
+            None => self.text.push_str(text),
+        }
+    }
+
+    /// Adds a character.
+    fn push_char(&mut self, c: char) -> Result<(), AllocError> {
+        match &mut self.open {
+            Some(part) => part.text.push(c),
+            None => self.text.push(c),
+        }
+    }
+
+    /// Begins a part.
+    fn begin(&mut self, alloc: Global, times: usize) -> Result<(), Unread> {
+        if self.open.is_some() {
+            return Err(Unread::Escape);
+        }
+        let text = String::new(alloc);
+        self.open = Some(Part { times, text });
+        Ok(())
+    }
+
+    /// Ends the part, if one is open. Whether one was.
+    fn end(&mut self) -> Result<bool, AllocError> {
+        let Some(part) = self.open.take() else {
+            return Ok(false);
+        };
+        for _ in 0..part.times {
+            self.text.push_str(part.text.as_str())?;
+        }
+        Ok(true)
+    }
+
+    /// Adds what stands between two escapes, in which a brace ends the part that is open.
+    fn push_plain(&mut self, plain: &str) -> Result<(), AllocError> {
+        match plain.split_once('}') {
+            Some((inside, behind)) if self.open.is_some() => {
+                self.push(inside)?;
+                self.end()?;
+                self.push(behind)
+            }
+            _ => self.push(plain),
+        }
+    }
+
+    /// Adds an escape, by its first character, and gives what stands behind it.
+    fn push_escape<'t>(
+        &mut self,
+        alloc: Global,
+        first: char,
+        rest: &'t str,
+    ) -> Result<&'t str, Unread> {
+        let c = match first {
+            'n' => '\n',
+            'r' => '\r',
+            't' => '\t',
+            '}' => '}',
+            'u' => return self.push_number(rest),
+            '{' => return self.begin_part(alloc, rest),
+            _ => return Err(Unread::Escape),
+        };
+        self.push_char(c)?;
+        Ok(rest)
+    }
+
+    /// Adds the character of a number in braces, and gives what stands behind it.
+    fn push_number<'t>(&mut self, rest: &'t str) -> Result<&'t str, Unread> {
+        let Some((c, behind)) = character(rest) else {
+            return Err(Unread::Escape);
+        };
+        self.push_char(c)?;
+        Ok(behind)
+    }
+
+    /// Begins a part behind the brace that opens it, and gives what stands behind its number.
+    fn begin_part<'t>(&mut self, alloc: Global, rest: &'t str) -> Result<&'t str, Unread> {
+        let Some((digits, behind)) = rest.split_once(' ') else {
+            return Err(Unread::Escape);
+        };
+        let Ok(times) = digits.parse::<usize>() else {
+            return Err(Unread::Escape);
+        };
+        self.begin(alloc, times)?;
+        Ok(behind)
+    }
+}
+
+/// The character of a number in braces, and what stands behind them.
+fn character(rest: &str) -> Option<(char, &str)> {
+    let (digits, behind) = rest.strip_prefix('{')?.split_once('}')?;
+    let number = u32::from_str_radix(digits, 16).ok()?;
+    Some((char::from_u32(number)?, behind))
+}
+
+/// The text that stands with escapes in a row.
+///
+/// It is cut at its backslashes. A piece with nothing in it, behind the first, stands between two of them,
+/// which are one backslash; the piece behind it then begins with no escape.
+pub fn text_of(alloc: Global, source: &str) -> Result<String, Unread> {
+    let mut reading = Reading {
+        text: String::new(alloc),
+        open: None,
+    };
+    let mut escaped = false;
+    for piece in source.split('\\') {
+        if !escaped {
+            reading.push_plain(piece)?;
+            escaped = true;
+        } else if piece.is_empty() {
+            reading.push_char('\\')?;
+            escaped = false;
+        } else if let Some(first) = piece.chars().next() {
+            let rest = reading.push_escape(alloc, first, &piece[first.len_utf8()..])?;
+            reading.push_plain(rest)?;
+        }
+    }
+    if reading.open.is_some() {
+        return Err(Unread::Escape);
+    }
+    Ok(reading.text)
+}
