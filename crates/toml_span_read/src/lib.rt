@@ -9,8 +9,6 @@ pub mod keys;
 pub mod numbers;
 pub mod section;
 pub mod sections;
-#[cfg(test)]
-mod tests;
 pub mod value;
 pub mod values;
 pub mod wanted;
