@@ -48,11 +48,24 @@ plus_and_space = plus_alone refl refl
 first_differs : (x y : ℕ) (xs ys : List ℕ) → x < y → x ∷ xs ≡ y ∷ ys → ⊥
 first_differs x y xs ys l e = let p = (cons_parts x y xs ys e).0 in omega arith
 
+zero_and_one : Digits 10 (codes "a = 0_1") 4 7
+zero_and_one = record {
+  begins = refl;
+  run = maximal_at (is_figure 10) (codes "a = 0_1") 4 3 refl (omega arith) refl;
+  between = λ k a b u. elim (cases_lt k 5) [
+    | inl l ↦ let e : k ≡ 4 = omega arith in let x : get_or (codes "a = 0_1") 4 0 ≡ 95 = rw e at u in absurd (omega arith)
+    | inr g ↦ elim (cases_lt k 6) [
+      | inl l ↦ let e : k ≡ 5 = omega arith in rw e refl
+      | inr h ↦ let e : k ≡ 6 = omega arith in let x : get_or (codes "a = 0_1") 6 0 ≡ 95 = rw e at u in absurd (omega arith)
+    ]
+  ];
+}
+
 -- `a = 0_1` gives 6..7
 zero_leads : NoNumber (codes "a = 0_1") 4 (invalid_number 6 7)
 zero_leads =
     no_decimal 7 _ refl (run_at (codes "a = 0_1") 4 3 (omega arith) refl (omega arith) refl) refl
-    (no_integer_part _ (λ s. elim s [ inl e ↦ first_differs 48 105 _ _ (omega arith) e | inr e ↦ first_differs 48 110 _ _ (omega arith) e ]) (zero_underscore_before refl refl refl))
+    (no_integer_part _ (λ s. elim s [ inl e ↦ first_differs 48 105 _ _ (omega arith) e | inr e ↦ first_differs 48 110 _ _ (omega arith) e ]) (zero_underscore_before 7 zero_and_one refl refl refl))
 
 -- `a = 1__0` gives 4..8
 two_underscores : NoNumber (codes "a = 1__0") 4 (invalid_number 4 8)
@@ -60,6 +73,13 @@ two_underscores =
     no_decimal 8 _ refl (run_at (codes "a = 1__0") 4 4 (omega arith) refl (omega arith) refl) refl
     (no_integer_part _ (λ s. elim s [ inl e ↦ first_differs 49 105 _ _ (omega arith) e | inr e ↦ first_differs 49 110 _ _ (omega arith) e ])
     (no_integer_digits _ (loose_underscore 5 refl (omega arith) (λ l a b. passes (is_figure 10) (codes "a = 1__0") 4 2 refl l a (omega arith)) refl refl)))
+
+-- `a = 01__2` gives 4..9, and not 5..9: the digits are judged before the leading 0
+digits_before_zero : NoNumber (codes "a = 01__2") 4 (invalid_number 4 9)
+digits_before_zero =
+    no_decimal 9 _ refl (run_at (codes "a = 01__2") 4 5 (omega arith) refl (omega arith) refl) refl
+    (no_integer_part _ (λ s. elim s [ inl e ↦ first_differs 48 105 _ _ (omega arith) e | inr e ↦ first_differs 48 110 _ _ (omega arith) e ])
+    (no_integer_digits _ (loose_underscore 6 refl (omega arith) (λ l a b. passes (is_figure 10) (codes "a = 01__2") 4 3 refl l a (omega arith)) refl refl)))
 
 -- the digits of a text, where no underscore stands among them
 plain_digits : (radix : ℕ) (text : List ℕ) (i n : ℕ) → is_digit radix (get_or text i 0) ≡ true → pass_all (is_digit radix) text i n ≡ true → pass_all (is_figure radix) text i n ≡ true

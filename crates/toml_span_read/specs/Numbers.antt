@@ -159,10 +159,12 @@ pub data NoDigits (radix : ℕ) (text : List ℕ) (start from end : ℕ) : Fault
 -- no integer part is read in the run that begins at `start`, behind its minus, if it has one, at `from`
 pub data NoIntegerPart (text : List ℕ) (start from end : ℕ) : Fault → Type 0 where
   no_integer_digits : (fault : Fault) → NoDigits 10 text start from end fault → NoIntegerPart text start from end fault
-  -- a digit behind a leading 0, with an underscore between them or not
-  zero_before : slice_index text from ≡ 48 → is_digit 10 (slice_index text (from + 1)) ≡ true → NoIntegerPart text start from end (invalid_number (from + 1) end)
-  zero_underscore_before : slice_index text from ≡ 48 → slice_index text (from + 1) ≡ underscore → is_digit 10 (slice_index text (from + 2)) ≡ true
-      → NoIntegerPart text start from end (invalid_number (from + 2) end)
+  -- The digits stand as those of a literal do, and behind a leading 0 stands a digit, with an underscore between them or not: an
+  -- underscore that is out of place among the digits is told before a 0 that leads them.
+  zero_before : (m : ℕ) → Digits 10 text from m → slice_index text from ≡ 48 → is_digit 10 (slice_index text (from + 1)) ≡ true
+      → NoIntegerPart text start from end (invalid_number (from + 1) end)
+  zero_underscore_before : (m : ℕ) → Digits 10 text from m → slice_index text from ≡ 48 → slice_index text (from + 1) ≡ underscore
+      → is_digit 10 (slice_index text (from + 2)) ≡ true → NoIntegerPart text start from end (invalid_number (from + 2) end)
 
 -- a piece of an exponent is not digits throughout; the integer part is the run from a to b
 pub data NoExponentDigits (text : List ℕ) (a b start from end : ℕ) : Fault → Type 0 where

@@ -139,7 +139,7 @@ key_unique p q text i j k a b =
     let u = token_unique text i j k p.span q.span x.lexeme y.lexeme x.stands y.stands in
     (part_same p q (x.name ∙ (ap name_of u.2 ∙ sym y.name)) u.1, u.0)
 
-quote_opens : (b : ℕ) → (b ≡ 34) ⊎ (b ≡ 39) → (is_keylike b || opens_string b) ≡ true
+pub quote_opens : (b : ℕ) → (b ≡ 34) ⊎ (b ≡ 39) → (is_keylike b || opens_string b) ≡ true
 quote_opens b (inl e) = rw e refl
 quote_opens b (inr e) = rw e refl
 

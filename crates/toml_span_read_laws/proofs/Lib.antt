@@ -1,10 +1,14 @@
 pub mod EarlierLaws
 pub mod KeyLaws
 pub mod NumberLaws
+pub mod NumberFaults
 pub mod ScalarLaws
 pub mod ValueLaws
+pub mod KeyFaults
+pub mod ValueFaults
 pub mod WiderLimit
 pub mod LineLaws
+pub mod LineFaults
 pub mod BlankLaws
 pub mod DepthLaws
 pub mod UndatedLaws

@@ -3,7 +3,6 @@ use Rattle.std.proofs.Common.{◌≡◌, ℕ, ◌+◌, ◌<◌, ◌≤◌, ◌�
 use Rattle.std.specs.Prelude.{◌==◌, ◌||◌}
 use Rattle.std.proofs.lemmas.Bool.{false≢true}
 use Rattle.std.proofs.lemmas.List.{get_or_past}
-use Rattle.toml_span_lex.specs.declared.span.Span.{Span}
 use Rattle.toml_span_lex.specs.Bytes.{is_blank, is_keylike, is_printed, MaximalRun}
 use Rattle.toml_span_lex.specs.Text.{LineEnd, NoLineEnd, CharAt}
 use Rattle.toml_span_lex.specs.Tokenizer.{FirstPlace}
@@ -16,11 +15,10 @@ use Rattle.toml_span_tree.specs.declared.error.Error.{Error}
 use Rattle.toml_span_read.specs.declared.section.Section.{Section}
 use Rattle.toml_span_read.specs.declared.fault.Fault.{Fault}
 use Rattle.toml_span_read.specs.Data.{Node, Event}
-use Rattle.toml_span_read.specs.Earlier.{Clear, Crossing}
-use Rattle.toml_span_read.specs.Gaps.{MaximalGap, Skipped, Tail, NoTail, Equals, Dot, NoDot}
+use Rattle.toml_span_read.specs.Gaps.{Skipped, Tail, NoTail, Equals}
 use Rattle.toml_span_read.specs.Grammar.{Spells, from_to}
-use Rattle.toml_span_read.specs.Keys.{Part, opens_string, IsKey, NoKey, Onward, Dotted, StuckHeaderKey, no_header_part, header_too_many, header_on}
-use Rattle.toml_span_read.specs.Lines.{SpellsEvent, SpellsEvents, SpellsLines, Opens, Shuts, HeaderFront, SpellsHeader, Block, last_end, SpellsSection, first_block, SpellsSections, SpellsDocument, StuckEvent, line_key, line_equals, line_value, StuckTail, StuckEvents, in_line, no_newline, crossing, line_on, StuckLines, NoShuts, StuckHeader, header_key, header_close, header_rest, StuckSections, in_header, in_section, section_on, StuckDocument, before_headers, behind_header, block, ReadsDocument, AreRead}
+use Rattle.toml_span_read.specs.Keys.{Part, opens_string, Dotted, StuckHeaderKey, no_header_part, header_too_many, header_on}
+use Rattle.toml_span_read.specs.Lines.{SpellsEvent, SpellsEvents, SpellsLines, Opens, Shuts, HeaderFront, SpellsHeader, Block, last_end, SpellsSection, SpellsSections, SpellsDocument, StuckEvent, line_key, line_equals, line_value, StuckTail, StuckEvents, in_line, no_newline, crossing, line_on, StuckLines, NoShuts, StuckHeader, header_key, header_close, header_rest, StuckSections, in_header, in_section, section_on, StuckDocument, before_headers, behind_header, block, ReadsDocument, AreRead}
 use Rattle.toml_span_read.specs.Stuck.{StuckValue}
 use Rattle.toml_span_read_laws.proofs.EarlierLaws.{clear_crossing}
 use Rattle.toml_span_read_laws.proofs.KeyLaws.{clash, not_here, gap_unique, key_unique, key_or_none, dot_unique, dot_or_none, dotted_unique, dotted_byte, dotted_excluded}
@@ -42,7 +40,7 @@ comment_unique text m j k (inl a) (inr b) = absurd (not_here (get_or text m 0) 3
 comment_unique text m j k (inr a) (inl b) = absurd (not_here (get_or text m 0) 35 b.0 a.0)
 comment_unique text m j k (inr a) (inr b) = a.1 ∙ sym b.1
 
-skipped_unique : (text : List ℕ) (i j k : ℕ) → Skipped text i j → Skipped text i k → j ≡ k
+pub skipped_unique : (text : List ℕ) (i j k : ℕ) → Skipped text i j → Skipped text i k → j ≡ k
 skipped_unique text i j k a b =
     let e : a.at ≡ b.at = run_unique is_blank text i a.at b.at a.blank b.blank in comment_unique text a.at j k a.comment (rw (sym e) at b.comment)
 
@@ -60,7 +58,7 @@ end_unique text m j k (inl a) (inr b) = absurd (omega (arith, line_within text m
 end_unique text m j k (inr a) (inl b) = absurd (omega (arith, line_within text m k b, a.0))
 end_unique text m j k (inr a) (inr b) = a.1 ∙ sym b.1
 
-tail_unique : (text : List ℕ) (i j k : ℕ) → Tail text i j → Tail text i k → j ≡ k
+pub tail_unique : (text : List ℕ) (i j k : ℕ) → Tail text i j → Tail text i k → j ≡ k
 tail_unique text i j k (m, a, c) (n, b, d) = let e : m ≡ n = skipped_unique text i m n a b in end_unique text m j k c (rw (sym e) at d)
 
 end_or_none : (text : List ℕ) (m j : ℕ) → LineEnd text m j ⊎ ((m ≡ length text) × (j ≡ m)) → m < length text → NoLineEnd text m → ⊥
@@ -70,16 +68,16 @@ end_or_none text m j (inr a) l n = omega (arith, a.0, l)
 tail_or_none : (text : List ℕ) (i j k : ℕ) → Tail text i j → NoTail text i k → ⊥
 tail_or_none text i j k (m, a, c) (b, l, n) = let e : m ≡ k = skipped_unique text i m k a b in end_or_none text k j (rw e at c) l n
 
-tail_or_stuck : (text : List ℕ) (i j : ℕ) (e : Fault) → Tail text i j → StuckTail text i e → ⊥
+pub tail_or_stuck : (text : List ℕ) (i j : ℕ) (e : Fault) → Tail text i j → StuckTail text i e → ⊥
 tail_or_stuck text i j e t (n, none, w) = tail_or_none text i j n t none
 
 -- ---- assignments
 
-equals_unique : (text : List ℕ) (i j k : ℕ) → Equals text i j → Equals text i k → j ≡ k
+pub equals_unique : (text : List ℕ) (i j k : ℕ) → Equals text i j → Equals text i k → j ≡ k
 equals_unique text i j k a b =
     let e : a.at ≡ b.at = run_unique is_blank text i a.at b.at a.before b.before in run_unique is_blank text (a.at + 1) j k a.behind (rw (sym e) at b.behind)
 
-equals_or_none : (text : List ℕ) (i j n : ℕ) → Equals text i j → MaximalRun is_blank text i n → (get_or text n 0 == 61) ≡ false → ⊥
+pub equals_or_none : (text : List ℕ) (i j n : ℕ) → Equals text i j → MaximalRun is_blank text i n → (get_or text n 0 == 61) ≡ false → ⊥
 equals_or_none text i j n a run none =
     let e : a.at ≡ n = run_unique is_blank text i a.at n a.before run in not_here (get_or text a.at 0) 61 a.here (rw (sym e) at none)
 
@@ -90,14 +88,14 @@ event_same x y a b c =
 span_to : (i j k : ℕ) → j ≡ k → from_to i j ≡ from_to i k
 span_to i j k e = ap (from_to i) e
 
-event_unique : OneValue → (x y : Event) (text : List ℕ) (limit i j k : ℕ) → SpellsEvent x text limit i j → SpellsEvent y text limit i k → (x ≡ y) × (j ≡ k)
+pub event_unique : OneValue → (x y : Event) (text : List ℕ) (limit i j k : ℕ) → SpellsEvent x text limit i j → SpellsEvent y text limit i k → (x ≡ y) × (j ≡ k)
 event_unique one x y text limit i j k a b =
     let p = dotted_unique x.parts y.parts text i a.key_end b.key_end a.key b.key in
     let f : a.from ≡ b.from = equals_unique text a.key_end a.from b.from a.sign (rw (sym p.1) at b.sign) in
     let v = one x.value y.value text limit (length x.parts) a.from j k a.spelled (rw (sym p.0, sym f) at b.spelled) in
     (event_same x y p.0 v.0 (a.extent ∙ (span_to i j k v.1 ∙ sym b.extent)), v.1)
 
-event_excluded : ValueOrFault → (text : List ℕ) (limit i : ℕ) (e : Fault) → StuckEvent text limit i e → (x : Event) (j : ℕ) → SpellsEvent x text limit i j → ⊥
+pub event_excluded : ValueOrFault → (text : List ℕ) (limit i : ℕ) (e : Fault) → StuckEvent text limit i e → (x : Event) (j : ℕ) → SpellsEvent x text limit i j → ⊥
 event_excluded none text limit i e (line_key i' e' r) x j a = dotted_excluded text limit {i = i} {e = e} r x.parts a.key_end a.key a.few
 event_excluded none text limit i e (line_equals i' m n ps e' key few run other w) x j a =
     let p = dotted_unique x.parts ps text i a.key_end m a.key key in equals_or_none text m a.from n (rw p.1 at a.sign) run other
@@ -109,7 +107,7 @@ event_excluded none text limit i e (line_value i' m b ps e' key few sign r) x j 
 -- ---- lines
 
 -- the text ends here, or a header begins
-abbrev Stops : List ℕ → ℕ → Type 0
+abbrev pub Stops : List ℕ → ℕ → Type 0
 Stops text i = (i ≡ length text) ⊎ (get_or text i 0 ≡ 91)
 
 no_key_at : (ps : List Part) (text : List ℕ) (i j : ℕ) → Stops text i → Dotted ps text i j → ⊥
@@ -131,7 +129,7 @@ events_unique one (x ∷ xs) (y ∷ ys) before text limit i j k (m, n, p, h, t, 
     let v = events_unique one xs ys (before ++ (x ∷ [])) text limit p j k r (rw (f, u.0) at r') s s' in
     (rw (u.0, v.0) refl, v.1)
 
-lines_unique : OneValue → (es fs : List Event) (text : List ℕ) (limit i j k : ℕ) → SpellsLines es text limit i j → SpellsLines fs text limit i k → Stops text j → Stops text k → (es ≡ fs) × (j ≡ k)
+pub lines_unique : OneValue → (es fs : List Event) (text : List ℕ) (limit i j k : ℕ) → SpellsLines es text limit i j → SpellsLines fs text limit i k → Stops text j → Stops text k → (es ≡ fs) × (j ≡ k)
 lines_unique one es fs text limit i j k (m, g, a) (n, h, b) s t =
     let e : n ≡ m = gap_unique text i n m h g in events_unique one es fs [] text limit m j k a (rw e at b) s t
 
@@ -153,7 +151,7 @@ events_excluded one none text limit (line_on before i m n k y e h t c g r) (x �
     let w : k' ≡ k = gap_unique text n k' k (rw f at g') g in
     events_excluded one none text limit {before = before ++ (y ∷ [])} {i = k} {e = e} r xs j (rw (w, u.0) at rest) s
 
-lines_excluded : OneValue → ValueOrFault → (text : List ℕ) (limit i : ℕ) (e : Fault) → StuckLines text limit i e → (es : List Event) (j : ℕ) → SpellsLines es text limit i j → Stops text j → ⊥
+pub lines_excluded : OneValue → ValueOrFault → (text : List ℕ) (limit i : ℕ) (e : Fault) → StuckLines text limit i e → (es : List Event) (j : ℕ) → SpellsLines es text limit i j → Stops text j → ⊥
 lines_excluded one none text limit i e (k, g, r) es j (m, h, a) s =
     let f : m ≡ k = gap_unique text i m k h g in events_excluded one none text limit {before = []} {i = k} {e = e} r es j (rw f at a) s
 
@@ -163,22 +161,22 @@ opens_byte : (b : Bool) (text : List ℕ) (i j : ℕ) → Opens b text i j → g
 opens_byte false text i j h = h.0
 opens_byte true text i j h = h.0
 
-opens_unique : (b c : Bool) (text : List ℕ) (i j k : ℕ) → Opens b text i j → Opens c text i k → (b ≡ c) × (j ≡ k)
+pub opens_unique : (b c : Bool) (text : List ℕ) (i j k : ℕ) → Opens b text i j → Opens c text i k → (b ≡ c) × (j ≡ k)
 opens_unique false false text i j k a b = (refl, a.2 ∙ sym b.2)
 opens_unique false true text i j k a b = absurd (not_here (get_or text (i + 1) 0) 91 b.1 a.1)
 opens_unique true false text i j k a b = absurd (not_here (get_or text (i + 1) 0) 91 a.1 b.1)
 opens_unique true true text i j k a b = (refl, a.2 ∙ sym b.2)
 
-shuts_unique : (b : Bool) (text : List ℕ) (i j k : ℕ) → Shuts b text i j → Shuts b text i k → j ≡ k
+pub shuts_unique : (b : Bool) (text : List ℕ) (i j k : ℕ) → Shuts b text i j → Shuts b text i k → j ≡ k
 shuts_unique false text i j k a b = a.1 ∙ sym b.1
 shuts_unique true text i j k a b = a.2 ∙ sym b.2
 
-shuts_or_none : (b : Bool) (text : List ℕ) (i j : ℕ) (e : Fault) → Shuts b text i j → NoShuts b text i e → ⊥
+pub shuts_or_none : (b : Bool) (text : List ℕ) (i j : ℕ) (e : Fault) → Shuts b text i j → NoShuts b text i e → ⊥
 shuts_or_none false text i j e a n = not_here (get_or text i 0) 93 a.0 n.0
 shuts_or_none true text i j e a (inl n) = not_here (get_or text i 0) 93 a.0 n.0
 shuts_or_none true text i j e a (inr n) = not_here (get_or text (i + 1) 0) 93 a.1 n.1
 
-front_unique : (ps qs : List Part) (b c : Bool) (text : List ℕ) (limit i j k : ℕ) → HeaderFront ps b text limit i j → HeaderFront qs c text limit i k → (ps ≡ qs) × (b ≡ c) × (j ≡ k)
+pub front_unique : (ps qs : List Part) (b c : Bool) (text : List ℕ) (limit i j k : ℕ) → HeaderFront ps b text limit i j → HeaderFront qs c text limit i k → (ps ≡ qs) × (b ≡ c) × (j ≡ k)
 front_unique ps qs b c text limit i j k x y =
     let o = opens_unique b c text i x.inside y.inside x.opens y.opens in
     let s : x.start ≡ y.start = run_unique is_blank text x.inside x.start y.start x.before (rw (sym o.1) at y.before) in
@@ -194,7 +192,7 @@ header_unique ps qs b c text limit i j k x y =
 header_byte : (ps : List Part) (b : Bool) (text : List ℕ) (limit i j : ℕ) → SpellsHeader ps b text limit i j → get_or text i 0 ≡ 91
 header_byte ps b text limit i j h = opens_byte b text i h.front.inside h.front.opens
 
-header_key_excluded : (text : List ℕ) (limit : ℕ) {n i : ℕ} {e : Fault} → StuckHeaderKey text limit n i e → (ss : List Part) (j : ℕ) → Dotted ss text i j → n + length ss ≤ limit → ⊥
+pub header_key_excluded : (text : List ℕ) (limit : ℕ) {n i : ℕ} {e : Fault} → StuckHeaderKey text limit n i e → (ss : List Part) (j : ℕ) → Dotted ss text i j → n + length ss ≤ limit → ⊥
 header_key_excluded text limit h [] j a l = a
 header_key_excluded text limit (no_header_part n i e h) (s ∷ ss) j (m, key, rest) l = key_or_none s text i m e key h
 header_key_excluded text limit (header_too_many n i m s k o) (t ∷ ts) j a l = omega (arith, o, l)
@@ -229,7 +227,7 @@ sections_stop : (bs : List Block) (text : List ℕ) (limit i : ℕ) → SpellsSe
 sections_stop [] text limit i h = inl h
 sections_stop (b ∷ bs) text limit i (j, s, r) = inr (header_byte b.header b.array text limit i s.end s.header)
 
-stuck_byte : (text : List ℕ) (limit i : ℕ) (e : Fault) → StuckSections text limit i e → get_or text i 0 ≡ 91
+pub stuck_byte : (text : List ℕ) (limit i : ℕ) (e : Fault) → StuckSections text limit i e → get_or text i 0 ≡ 91
 stuck_byte text limit i e (in_header i' e' r) = stuck_header_byte text limit i e r
 stuck_byte text limit i e (in_section i' m array ps e' h r) = header_byte ps array text limit i m h
 stuck_byte text limit i e (section_on i' j b e' s r) = header_byte b.header b.array text limit i s.end s.header
@@ -245,7 +243,7 @@ block_same b c h a s e v =
 last_same : (m n : ℕ) (es fs : List Event) → m ≡ n → es ≡ fs → last_end m es ≡ last_end n fs
 last_same m n es fs e f = rw (e, f) refl
 
-section_unique : OneValue → (b c : Block) (text : List ℕ) (limit i j k : ℕ) → SpellsSection b text limit i j → SpellsSection c text limit i k → Stops text j → Stops text k → (b ≡ c) × (j ≡ k)
+pub section_unique : OneValue → (b c : Block) (text : List ℕ) (limit i j k : ℕ) → SpellsSection b text limit i j → SpellsSection c text limit i k → Stops text j → Stops text k → (b ≡ c) × (j ≡ k)
 section_unique one b c text limit i j k x y s t =
     let h = header_unique b.header c.header b.array c.array text limit i x.end y.end x.header y.header in
     let l = lines_unique one b.events c.events text limit x.end j k x.lines (rw (sym h.2) at y.lines) s t in (
@@ -279,7 +277,7 @@ first_or : (text : List ℕ) (i j : ℕ) → CharAt text 0 65279 i → (j ≡ 0)
 first_or text i j a (z, inl e) = let l = char_within text 0 65279 i a in omega (arith, l, e)
 first_or text i j a (z, inr (c, k, b, n)) = let u = char_unique text 0 c 65279 k i b a in n u.1
 
-first_unique : (text : List ℕ) (i j : ℕ) → FirstPlace text i → FirstPlace text j → i ≡ j
+pub first_unique : (text : List ℕ) (i j : ℕ) → FirstPlace text i → FirstPlace text j → i ≡ j
 first_unique text i j (inl a) (inl b) = (char_unique text 0 65279 65279 i j a b).0
 first_unique text i j (inl a) (inr b) = absurd (first_or text i j a b)
 first_unique text i j (inr a) (inl b) = absurd (first_or text j i b a)

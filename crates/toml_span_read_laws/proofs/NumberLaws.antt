@@ -1,33 +1,33 @@
 -- One number stands at a place, or a fault.
-use Rattle.std.proofs.Common.{◌≡◌, ℕ, ◌+◌, ◌-◌, ◌<◌, ◌≤◌, ◌⊎◌, Bool, true, false, take, drop, Option, Some, None, Result, Ok, Err, List, [], ◌∷◌, length, get_or, arith, inl, inr, refl, sym, ap, subst, ◌∙◌}
-use Rattle.std.specs.Prelude.{ℤ, ◌^◌, slice_range, codes, ◌==◌, ◌||◌, ◌&&◌}
+use Rattle.std.proofs.Common.{◌≡◌, ℕ, ◌+◌, ◌-◌, ◌<◌, ◌≤◌, ◌⊎◌, Bool, true, false, drop, Option, Some, None, Result, Ok, Err, List, [], ◌∷◌, length, get_or, arith, inl, inr, refl, sym, ap, subst, ◌∙◌}
+use Rattle.std.specs.Prelude.{ℤ, slice_range, codes, ◌==◌, ◌||◌, ◌&&◌}
 use Rattle.std.proofs.lemmas.Bool.{cases_lt, false≢true}
 use Rattle.std.proofs.lemmas.List.{get_or_past, length-drop, length-take-le}
 use Rattle.toml_span_lex.specs.Bytes.{is_keylike, MaximalRun}
-use Rattle.toml_span_tree.specs.Node.{Decimal, finite, infinite, not_a_number, Scalar, text as text_scalar, integer, float, boolean, datetime}
+use Rattle.toml_span_tree.specs.Node.{finite, infinite, not_a_number, Scalar, text as text_scalar, integer, float, boolean, datetime}
 use Rattle.toml_span_read.specs.declared.fault.Fault.{Fault}
-use Rattle.toml_span_read.specs.Numbers.{is_digit, is_figure, Digits, magnitude, behind_sign, is_negative, IsSigned, UnsignedDecimal, goes_on, DecimalInteger, radix_at, RadixInteger, is_exponent, Exponent, Fraction, FloatLiteral, cleaned, SpecialFloat, IsNumber, NumberGives, IsReadAs, Run, NoDigits, underscore_first, no_digit, loose_underscore, NoIntegerPart, no_integer_digits, zero_before, zero_underscore_before, NoExponentDigits, no_exponent_digits, left_in_exponent, NoExponent, letter_last, in_run, behind_plus, NoFraction, dot_alone, no_fraction_digits, left_in_fraction, no_fraction_exponent, IsSpecial, IsOutside, NoDecimal, no_integer_part, left_in_integer, no_integer_exponent, no_fraction, outside, special_dot_alone, special_dot, NoRadixInteger, no_radix_digits, left_in_radix, outside_radix, NoNumber, plus_alone, plus_before_minus, plus_before_prefix, no_radix_integer, no_decimal, no_decimal_behind_plus}
+use Rattle.toml_span_read.specs.Numbers.{is_digit, is_figure, Digits, magnitude, behind_sign, is_negative, IsSigned, UnsignedDecimal, goes_on, radix_at, RadixInteger, is_exponent, Exponent, Fraction, FloatLiteral, SpecialFloat, IsNumber, NumberGives, IsReadAs, NoDigits, underscore_first, no_digit, loose_underscore, NoIntegerPart, no_integer_digits, zero_before, zero_underscore_before, NoExponentDigits, no_exponent_digits, left_in_exponent, NoExponent, letter_last, in_run, behind_plus, NoFraction, dot_alone, no_fraction_digits, left_in_fraction, no_fraction_exponent, IsOutside, NoDecimal, no_integer_part, left_in_integer, no_integer_exponent, no_fraction, outside, special_dot_alone, special_dot, NoRadixInteger, no_radix_digits, left_in_radix, outside_radix, NoNumber, plus_alone, plus_before_minus, plus_before_prefix, no_radix_integer, no_decimal, no_decimal_behind_plus}
 use Rattle.toml_span_lex.specs.declared.stop.Stop.{Stop}
 use Rattle.toml_span_lex.specs.declared.stop.Stop.TheVariants as stops
 use Rattle.toml_span_lex.specs.Tokens.{RunAt}
 use Rattle.toml_span_read.specs.declared.value.ValKind.{ValKind}
 use Rattle.toml_span_read.specs.Data.{scalar}
 use Rattle.toml_span_read.specs.Dates.{is_decimal}
-use Rattle.toml_span_read.proofs.NumberLemmas.{is_false, clash, byte_is, same_byte, bool_cases, digit_keylike, digit_figure, underscore_figure, figure_keylike, digit_no_underscore, run_stops, run_part, no_sign, behind_either, plus_negative, behind_plus_sign, sign_on, digits_on, exponent_on, slice_first, slice_some, none_some, or_true}
+use Rattle.toml_span_read.proofs.NumberLemmas.{is_false, clash, byte_is, same_byte, bool_cases, digit_keylike, digit_figure, underscore_figure, figure_keylike, digit_no_underscore, run_stops, run_part, no_sign, behind_either, plus_negative, behind_plus_sign, sign_on, slice_first, slice_some, none_some, or_true}
 
 -- ---- runs
 
 no_shorter : (p : ℕ → Bool) (text : List ℕ) (i j k : ℕ) → MaximalRun p text i j → MaximalRun p text i k → j < k → ⊥
 no_shorter p text i j k a b l = let w = b.within in false≢true (sym (a.stops (omega arith)) ∙ b.passes j a.forward l)
 
-run_unique : (p : ℕ → Bool) (text : List ℕ) (i j k : ℕ) → MaximalRun p text i j → MaximalRun p text i k → j ≡ k
+pub run_unique : (p : ℕ → Bool) (text : List ℕ) (i j k : ℕ) → MaximalRun p text i j → MaximalRun p text i k → j ≡ k
 run_unique p text i j k a b =
     elim (cases_lt j k) [ inl l ↦ absurd (no_shorter p text i j k a b l) | inr g ↦ elim (cases_lt k j) [ inl l ↦ absurd (no_shorter p text i k j b a l) | inr h ↦ omega arith ] ]
 
-digits_unique : (radix : ℕ) (text : List ℕ) (i j k : ℕ) → Digits radix text i j → Digits radix text i k → j ≡ k
+pub digits_unique : (radix : ℕ) (text : List ℕ) (i j k : ℕ) → Digits radix text i j → Digits radix text i k → j ≡ k
 digits_unique radix text i j k a b = run_unique (is_figure radix) text i j k a.run b.run
 
-unsigned_unique : (text : List ℕ) (i j k : ℕ) → UnsignedDecimal text i j → UnsignedDecimal text i k → j ≡ k
+pub unsigned_unique : (text : List ℕ) (i j k : ℕ) → UnsignedDecimal text i j → UnsignedDecimal text i k → j ≡ k
 unsigned_unique text i j k a b = digits_unique 10 text i j k a.digits b.digits
 
 -- no digit and no underscore stands where digits end
@@ -57,7 +57,7 @@ stands_no_keylike text j h = is_false _ (λ k. false≢true (sym h ∙ goes_on_k
 
 -- ---- digits, or none
 
-digits_or_none : (radix : ℕ) (text : List ℕ) (start from end j : ℕ) {fault : Fault} → Digits radix text from j → NoDigits radix text start from end fault → ⊥
+pub digits_or_none : (radix : ℕ) (text : List ℕ) (start from end j : ℕ) {fault : Fault} → Digits radix text from j → NoDigits radix text start from end fault → ⊥
 digits_or_none radix text start from end j d (underscore_first h) = digit_no_underscore radix (get_or text from 0) d.begins h
 digits_or_none radix text start from end j d (no_digit h) = false≢true (sym h ∙ digit_figure radix (get_or text from 0) d.begins)
 digits_or_none radix text start from end j d (loose_underscore k b l fs u n) = elim (cases_lt k j) [
@@ -65,14 +65,14 @@ digits_or_none radix text start from end j d (loose_underscore k b l fs u n) = e
   | inr x ↦ false≢true (sym (digits_stop radix text from j d) ∙ fs j d.run.forward x)
 ]
 
-integer_part_or_none : (text : List ℕ) (start from end j : ℕ) {fault : Fault} → UnsignedDecimal text from j → NoIntegerPart text start from end fault → ⊥
+pub integer_part_or_none : (text : List ℕ) (start from end j : ℕ) {fault : Fault} → UnsignedDecimal text from j → NoIntegerPart text start from end fault → ⊥
 integer_part_or_none text start from end j d (no_integer_digits fault n) = digits_or_none 10 text start from end j d.digits n
-integer_part_or_none text start from end j d (zero_before z h) =
+integer_part_or_none text start from end j d (zero_before m f z h) =
     let e : j ≡ from + 1 = d.leading z in
     let s : is_figure 10 (get_or text j 0) ≡ false = digits_stop 10 text from j d.digits in
     let t : is_figure 10 (get_or text (from + 1) 0) ≡ false = rw e at s in
     false≢true (sym t ∙ digit_figure 10 (get_or text (from + 1) 0) h)
-integer_part_or_none text start from end j d (zero_underscore_before z u h) =
+integer_part_or_none text start from end j d (zero_underscore_before m f z u h) =
     let e : j ≡ from + 1 = d.leading z in
     let s : is_figure 10 (get_or text j 0) ≡ false = digits_stop 10 text from j d.digits in
     let t : is_figure 10 (get_or text (from + 1) 0) ≡ false = rw e at s in
@@ -131,10 +131,10 @@ fraction_or_none text i a b m j f (inr y) n (no_fraction_exponent p end fault u 
 
 -- ---- radix prefixes
 
-none_not_some : (o : Option ℕ) (n : ℕ) → o ≡ Some n → o ≡ None → ⊥
+pub none_not_some : (o : Option ℕ) (n : ℕ) → o ≡ Some n → o ≡ None → ⊥
 none_not_some o n a b = none_some n (sym b ∙ a)
 
-zero_first : (text : List ℕ) (i radix : ℕ) → radix_at text i ≡ Some radix → get_or text i 0 ≡ 48
+pub zero_first : (text : List ℕ) (i radix : ℕ) → radix_at text i ≡ Some radix → get_or text i 0 ≡ 48
 zero_first text i radix h = elim (bool_cases (get_or text i 0 == 48)) [
   | inl e ↦ byte_is (get_or text i 0) 48 e
   | inr n ↦ let x : None ≡ Some radix = rw n at h in absurd (none_some radix x)
@@ -202,7 +202,7 @@ letters_keylike text k j l (inl e) o w a b =
 letters_keylike text k j l (inr e) o w a b =
     let t = three_letters text k j 110 97 110 e o w in third text k l (t.1, t.2, t.3) a (omega (arith, t.0)) refl refl refl
 
-special_digit : (text : List ℕ) (k b : ℕ) → (slice_range text k b ≡ codes "inf") ⊎ (slice_range text k b ≡ codes "nan") → MaximalRun is_keylike text k b → is_digit 10 (get_or text k 0) ≡ true → ⊥
+pub special_digit : (text : List ℕ) (k b : ℕ) → (slice_range text k b ≡ codes "inf") ⊎ (slice_range text k b ≡ codes "nan") → MaximalRun is_keylike text k b → is_digit 10 (get_or text k 0) ≡ true → ⊥
 special_digit text k b (inl e) u d = letters_digit text k b b (inl e) (slice_some text k b _ _ e) u.within d
 special_digit text k b (inr e) u d = letters_digit text k b b (inr e) (slice_some text k b _ _ e) u.within d
 
@@ -282,10 +282,10 @@ decimal_excluded text i a b u (letters j e l w g) (special_dot s p h) =
 digit_first : (c : ℕ) → is_digit 10 c ≡ true → (is_keylike c ≡ true) × ((c == 45) ≡ false)
 digit_first c d = (digit_keylike 10 c d, is_false _ (λ e. clash (is_digit 10) c 45 d (byte_is c 45 e) refl))
 
-some_same : (a b : ℕ) → Some a ≡ Some b → a ≡ b
+pub some_same : (a b : ℕ) → Some a ≡ Some b → a ≡ b
 some_same a b e = cc
 
-sign_near : (text : List ℕ) (i b : ℕ) → i < b → behind_sign text i ≤ b
+pub sign_near : (text : List ℕ) (i b : ℕ) → i < b → behind_sign text i ≤ b
 sign_near text i b l = elim (bool_cases (get_or text i 0 == 43 || get_or text i 0 == 45)) [ inl h ↦ rw h (omega arith) | inr h ↦ rw h (omega arith) ]
 
 first_byte : (text : List ℕ) (k : ℕ) (negative : Bool) → Body text k negative → (is_keylike (get_or text k 0) ≡ true) × ((get_or text k 0 == 45) ≡ false)

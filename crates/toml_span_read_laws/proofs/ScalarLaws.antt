@@ -8,7 +8,7 @@ use Rattle.std.proofs.lemmas.List.{get_or-drop, get_or-take}
 use Rattle.toml_span_lex.specs.declared.span.Span.{Span}
 use Rattle.toml_span_lex.specs.Bytes.{is_keylike, MaximalRun}
 use Rattle.toml_span_lex.specs.Strings.{IsString}
-use Rattle.toml_span_lex.specs.Tokens.{sign, string, RunAt}
+use Rattle.toml_span_lex.specs.Tokens.{string, RunAt}
 use Rattle.toml_span_lex.proofs.Unique.{run_unique, same_true}
 use Rattle.toml_span_lex.proofs.OneToken.{token_unique}
 use Rattle.toml_span_tree.specs.Date.{IsDateText}
@@ -29,10 +29,10 @@ and_first : (a b : Bool) → (a && b) ≡ true → a ≡ true
 and_first true b h = refl
 and_first false b h = absurd (false≢true h)
 
-date_byte : (text : List ℕ) (i : ℕ) → begins_date text i ≡ true → is_decimal (get_or text i 0) ≡ true
+pub date_byte : (text : List ℕ) (i : ℕ) → begins_date text i ≡ true → is_decimal (get_or text i 0) ≡ true
 date_byte text i h = and_first (is_decimal (get_or text i 0)) (is_decimal (get_or text (i + 1) 0)) (and_first _ _ h)
 
-decimal_number : (c : ℕ) → is_decimal c ≡ true → begins_number c ≡ true
+pub decimal_number : (c : ℕ) → is_decimal c ≡ true → begins_number c ≡ true
 decimal_number c h = rw h refl
 
 number_bare : (c : ℕ) → begins_number c ≡ true → begins_bare c ≡ true
@@ -191,10 +191,10 @@ scalar_case (datetime d) span t i j (b, c, is, same, e) = a_date d refl b c is s
 scalar_case (integer n) span t i j (b, h, e) = a_number b h e
 scalar_case (float x) span t i j (b, h, e) = a_number b h e
 
-string_byte : (text v src : List ℕ) (i j : ℕ) (s : Span) (m : Bool) → IsString text i j s src v m → opens_string (get_or text i 0) ≡ true
+pub string_byte : (text v src : List ℕ) (i j : ℕ) (s : Span) (m : Bool) → IsString text i j s src v m → opens_string (get_or text i 0) ≡ true
 string_byte text v src i j s m h = quote_byte (get_or text i 0) h.quote
 
-string_clash : (p : ℕ → Bool) (text : List ℕ) (i : ℕ) → p 34 ≡ false → p 39 ≡ false → opens_string (get_or text i 0) ≡ true → p (get_or text i 0) ≡ true → ⊥
+pub string_clash : (p : ℕ → Bool) (text : List ℕ) (i : ℕ) → p 34 ≡ false → p 39 ≡ false → opens_string (get_or text i 0) ≡ true → p (get_or text i 0) ≡ true → ⊥
 string_clash p text i a b o h = quote_clash p (get_or text i 0) a b (opens_cases (get_or text i 0) o) h
 
 letters_byte : (text : List ℕ) (i j : ℕ) → Letters text i j → (get_or text i 0 ≡ 105) ⊎ (get_or text i 0 ≡ 110)
@@ -229,7 +229,7 @@ any_not_truth : (s : Scalar) (b : Bool) (text : List ℕ) (i j k : ℕ) → RunA
 unfolding begins_any
 any_not_truth s b text i j k r h = truth_clash begins_any b text i k refl refl r (number_any s text i j h)
 
-contents_same : (source other value content : List ℕ) (m n : Bool) → string source value m ≡ string other content n → value ≡ content
+pub contents_same : (source other value content : List ℕ) (m n : Bool) → string source value m ≡ string other content n → value ≡ content
 contents_same source other value content m n e = cc
 
 case_unique : (s r : Scalar) (span other : Span) (t : List ℕ) (i j k : ℕ) → ScalarCase s span t i j → ScalarCase r other t i k → (s ≡ r) × (span ≡ other) × (j ≡ k)
@@ -308,7 +308,7 @@ bare_byte t i e (inl h) = decimal_bare (get_or t i 0) (date_byte t i h.0)
 bare_byte t i e (inr (inl h)) = number_here_bare t i h.0
 bare_byte t i e (inr (inr h)) = word_bare t h.word i h.end h.run
 
-same_words : (t v w : List ℕ) (i j k : ℕ) → RunAt is_keylike t i j v → RunAt is_keylike t i k w → v ≡ w
+pub same_words : (t v w : List ℕ) (i j k : ℕ) → RunAt is_keylike t i j v → RunAt is_keylike t i k w → v ≡ w
 same_words t v w i j k a b = let u : j ≡ k = run_unique is_keylike t i j k a.1 b.1 in a.2 ∙ (rw u (sym b.2))
 
 truth_letters : (b : Bool) → (truth_text b ≡ codes "inf") ⊎ (truth_text b ≡ codes "nan") → ⊥

@@ -54,7 +54,7 @@ no_dotted_at ss text i j c n e h = clash (λ b. is_keylike b || opens_string b) 
 
 -- ---- one value
 
-front_unique : (ss ts : List Part) (text : List ℕ) (i a x b y : ℕ) → Dotted ss text i a → Dotted ts text i x → Sign 61 text a b → Sign 61 text x y → (ss ≡ ts) × (b ≡ y)
+pub front_unique : (ss ts : List Part) (text : List ℕ) (i a x b y : ℕ) → Dotted ss text i a → Dotted ts text i x → Sign 61 text a b → Sign 61 text x y → (ss ≡ ts) × (b ≡ y)
 front_unique ss ts text i a x b y k l p q =
     let h = dotted_unique ss ts text i a x k l in (h.0, sign_unique 61 text a b y p (rw (sym h.1) at q))
 
@@ -209,7 +209,7 @@ mutual
       let f : y ≡ n = sign_unique 44 text m y n (rw (sym u.1) at c) g in
       pairs_excluded text limit {es = es ++ (p ∷ [])} {d = d} {i = n} {e = e} r ps j (subst (λ (q : Event). SpellsPairs ps (es ++ (q ∷ [])) text limit d n j) (sym u.0) (rw f at z))
 
-  pair_excluded : (text : List ℕ) (limit : ℕ) {d i : ℕ} {e : Fault} → StuckPair text limit d i e → (p : Event) (j : ℕ) → SpellsPair p text limit d i j → ⊥
+  pub pair_excluded : (text : List ℕ) (limit : ℕ) {d i : ℕ} {e : Fault} → StuckPair text limit d i e → (p : Event) (j : ℕ) → SpellsPair p text limit d i j → ⊥
   pair_excluded text limit (in_key d i e r) p j (a, b, key, few, eq, val, ext) = dotted_excluded text limit r p.parts a key few
   pair_excluded text limit (no_equals d i a n ts e key few g ne w) p j (a', b, key', few', eq, val, ext) =
       let u = dotted_unique p.parts ts text i a' a key' key in sign_or_none 61 text a b n (rw u.1 at eq) g ne

@@ -1,7 +1,7 @@
 //! Laws of keys.
 ghost use Rattle.std.specs.Prelude.{◌≡◌, ◌≤◌, ℕ, List, length};
 ghost use Rattle.toml_span_read.specs.declared.fault.Fault.{Fault};
-ghost use Rattle.toml_span_read.specs.Keys.{Part, IsKey, Dotted, StuckDotted};
+ghost use Rattle.toml_span_read.specs.Keys.{Part, IsKey, NoKey, Dotted, StuckDotted, StuckHeaderKey};
 
 /// At most one key stands at a place.
 pub fn one_key()
@@ -16,4 +16,12 @@ pub fn one_dotted_key()
 /// Where a dotted key within the limit stands, none gets stuck.
 pub fn dotted_key_or_fault()
     ensures { (text : List ℕ) (limit i j : ℕ) (ps : List Part) (fault : Fault) → Dotted ps text i j → length ps ≤ limit → StuckDotted text limit i fault → ⊥ }
+{}
+
+/// Where a key is due and none stands, one fault does: of a single key, of a dotted one, and of the parts of a
+/// header behind some of them.
+pub fn one_key_fault()
+    ensures single { (text : List ℕ) (i : ℕ) (fault other : Fault) → NoKey text i fault → NoKey text i other → fault ≡ other }
+    ensures dotted { (text : List ℕ) (limit i : ℕ) (fault other : Fault) → StuckDotted text limit i fault → StuckDotted text limit i other → fault ≡ other }
+    ensures header { (text : List ℕ) (limit n i : ℕ) (fault other : Fault) → StuckHeaderKey text limit n i fault → StuckHeaderKey text limit n i other → fault ≡ other }
 {}

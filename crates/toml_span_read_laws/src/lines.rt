@@ -9,7 +9,7 @@ ghost use Rattle.toml_span_read.specs.declared.fault.Fault.{Fault};
 ghost use Rattle.toml_span_read.specs.Gaps.{MaximalGap, begins_gap};
 ghost use Rattle.toml_span_read.specs.Keys.{Part};
 ghost use Rattle.toml_span_read_laws.specs.Order.{BlocksAscend};
-ghost use Rattle.toml_span_read.specs.Lines.{Block, SpellsDocument, ReadsDocument, AreRead, StuckDocument, BlankLines, BehindLines, SpellsHeader, StuckHeader};
+ghost use Rattle.toml_span_read.specs.Lines.{Block, SpellsDocument, ReadsDocument, AreRead, StuckDocument, BlankLines, BehindLines, SpellsHeader, StuckHeader, StuckEvent, StuckTail};
 
 /// A text spells at most one document.
 pub fn one_document()
@@ -45,4 +45,17 @@ pub fn blank_lines()
 /// The headers, the keys and the values that a text spells stand one behind the other.
 pub fn document_ascends()
     ensures { (text : List ℕ) (limit : ℕ) (blocks : List Block) → SpellsDocument blocks text limit → BlocksAscend blocks 0 (length text) }
+{}
+
+/// Where a line or a header is due and none stands, one fault does: of an assignment, of the rest of its line,
+/// and of a header.
+pub fn one_line_fault()
+    ensures assignment { (text : List ℕ) (limit i : ℕ) (fault other : Fault) → StuckEvent text limit i fault → StuckEvent text limit i other → fault ≡ other }
+    ensures rest { (text : List ℕ) (i : ℕ) (fault other : Fault) → StuckTail text i fault → StuckTail text i other → fault ≡ other }
+    ensures header { (text : List ℕ) (limit i : ℕ) (fault other : Fault) → StuckHeader text limit i fault → StuckHeader text limit i other → fault ≡ other }
+{}
+
+/// A text that is stuck is stuck at one fault.
+pub fn one_fault()
+    ensures { (text : List ℕ) (limit : ℕ) (fault other : Fault) → StuckDocument text limit fault → StuckDocument text limit other → fault ≡ other }
 {}

@@ -20,3 +20,8 @@ pub fn one_number()
 pub fn number_is_read()
     ensures { (text : List ℕ) (i j : ℕ) (s : Scalar) (read : Result (ValKind × ℕ) (Stop Fault)) → NumberGives text i read → IsNumber s text i j → IsReadAs s j read }
 {}
+
+/// Where a number is due and none is read, one fault stands.
+pub fn one_number_fault()
+    ensures { (text : List ℕ) (i : ℕ) (fault other : Fault) → NoNumber text i fault → NoNumber text i other → fault ≡ other }
+{}

@@ -20,9 +20,9 @@ returns-then-from-end-clause-gives c =
           let e : (from + 1) + 1 ≡ from + 2 = omega arith in
           let m : is_digit 10 (get_or text ((from + 1) + 1) 0) ≡ true = d.between (from + 1) (omega arith) (search rules) u in
           let n : is_digit 10 (get_or text (from + 2) 0) ≡ true = rw e at m in
-          rw (c.invalid_number.ensures, w.second-is) (zero_underscore_before z u n)
+          rw (c.invalid_number.ensures, w.second-is) (zero_underscore_before _ d z u n)
       | else-as_bytes-from-eq95 w ↦
           let u : (get_or text (from + 1) 0 == 95) ≡ false = search rules in
           let n : is_digit 10 (get_or text (from + 1) 0) ≡ true = figure_digit 10 _ (d.run.passes (from + 1) (omega arith) (search rules)) u in
-          rw (c.invalid_number.ensures, w.second-is) (zero_before z n)
+          rw (c.invalid_number.ensures, w.second-is) (zero_before _ d z n)
     ]
