@@ -101,11 +101,11 @@ fn push_outcome(outcome: &Outcome, out: &mut String) -> Result<(), AllocError> {
 }
 
 /// Answers `typed` and `typed_root`.
-fn read_row(
+fn read_row<'de>(
     alloc: Global,
     name: &str,
-    pointer: &'static str,
-    text: &str,
+    pointer: &'de str,
+    text: &'de str,
     out: &mut String,
 ) -> Result<bool, AllocError> {
     let Some(mut root) = tree(alloc, text)? else {
@@ -126,7 +126,7 @@ fn read_row(
 fn errors_of<'de>(
     alloc: Global,
     root: &mut Value<'de>,
-    pointer: &'static str,
+    pointer: &'de str,
     name: &str,
 ) -> Result<Option<DeserError<'de>>, AllocError> {
     let Some(value) = root.pointer_mut(pointer) else {
