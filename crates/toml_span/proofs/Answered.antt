@@ -1,16 +1,19 @@
 -- Each document has a tree or a first clash, and one only.
-use Rattle.std.proofs.Common.{◌≡◌, ℕ, ◌<◌, arith, eq-eqb, slice_index, List, [], Option, Some, None, refl, sym, ap, ◌∙◌, subst, ◌⊎◌, inl, inr, length}
+use Rattle.std.proofs.Common.{◌≡◌, ℕ, ◌<◌, arith, eq-eqb, slice_index, List, [], Option, Some, None, Result, Ok, Err, refl, sym, ap, ◌∙◌, subst, ◌⊎◌, inl, inr, length}
 use Rattle.std.proofs.lemmas.Bool.{cases_order, false≢true}
 use Rattle.std.proofs.lemmas.Option.{same_Some, none-some}
+use Rattle.toml_span_lex.specs.declared.stop.Stop.{Stop}
 use Rattle.toml_span_lex.specs.declared.stop.Stop.TheVariants as stops
+use Rattle.toml_span_tree.specs.Error as tree
 use Rattle.toml_span_tree.specs.Error.{fault_of}
 use Rattle.toml_span_tree.specs.Path.{Path, place_at}
 use Rattle.toml_span_tree.specs.Value.{view}
 use Rattle.toml_span_tree.specs.declared.error.Error.{Error}
 use Rattle.toml_span_tree.specs.declared.value.Value.{Value}
 use Rattle.toml_span_read.specs.declared.fault.Fault.{Fault}
-use Rattle.toml_span_read.specs.Faults.{IsLineInfo}
+use Rattle.toml_span_read.specs.Faults.{IsLineInfo, Tells}
 use Rattle.toml_span_read.specs.Lines.{Block, SpellsDocument, StuckDocument}
+use Rattle.toml_span_read_laws.proofs.LineFaults.{document_one}
 use Rattle.toml_span_read_laws.proofs.LineLaws.{document_unique, document_excluded}
 use Rattle.toml_span_read_laws.proofs.ValueLaws.{value_unique, value_excluded}
 use Rattle.toml_span_claims.specs.Claims.{Claims, claims}
@@ -18,6 +21,7 @@ use Rattle.toml_span_claims.specs.Clashes.{fault_told, Told, Resolves, TellsFirs
 use Rattle.toml_span_claims.specs.Flat.{flat}
 use Rattle.toml_span_claims.specs.Machine.{nothing, told}
 use Rattle.toml_span_assembly.specs.Parsing.{IsTree, IsFault, IsClashOf, IsClash, IsRefusal}
+use Rattle.toml_span.specs.Outcomes.{Outcome, resolved, clashed, stuck_at, HasOutcome, IsAnswered, IsAlike}
 use Rattle.toml_span_assembly.proofs.Judged.{told-none, told-some, resolves-told, first-told}
 
 judged : (cs : Claims) (o : Option Told) → told nothing cs ≡ o → Resolves [] cs ⊎ ((clash : Told) × TellsFirst [] cs clash)
@@ -35,10 +39,10 @@ none-first cs t h g = none-some t (sym (resolves-told cs h) ∙ first-told cs t 
 
 -- ---- texts
 
-one-document : (text : List ℕ) (limit : ℕ) (bs cs : List Block) → SpellsDocument bs text limit → SpellsDocument cs text limit → bs ≡ cs
+pub one-document : (text : List ℕ) (limit : ℕ) (bs cs : List Block) → SpellsDocument bs text limit → SpellsDocument cs text limit → bs ≡ cs
 one-document text limit bs cs h g = document_unique value_unique bs cs text limit h g
 
-never-stuck : (text : List ℕ) (limit : ℕ) (bs : List Block) (fault : Fault) → SpellsDocument bs text limit → StuckDocument text limit fault → ⊥
+pub never-stuck : (text : List ℕ) (limit : ℕ) (bs : List Block) (fault : Fault) → SpellsDocument bs text limit → StuckDocument text limit fault → ⊥
 never-stuck text limit bs fault h g =
     document_excluded value_unique (λ v t l d i j e a s. value_excluded t l {d = d} {i = i} {e = e} s v j a) bs text limit fault h g
 
@@ -87,9 +91,71 @@ one-clash text limit e f (bs, spelled, a) (cs, others, b) = same-clash text bs e
 pub stuck-or-clash : (text : List ℕ) (limit : ℕ) (e f : Error) → IsFault text limit e → IsClash text limit f → ⊥
 stuck-or-clash text limit e f (fault, stuck, placed, tells) (bs, spelled, clash) = never-stuck text limit bs fault spelled stuck
 
+-- ---- one fault
+
+tells-one : (text : List ℕ) (fault : Fault) (a b : tree.Fault) → Tells text fault a → Tells text fault b → a ≡ b
+tells-one text fault a b (l, c, at, is) (m, d, here, same) =
+    let info = line_info-one text fault.span.start l c m d at here in is ∙ (rw (info.0, info.1) (sym same))
+
+pub one-fault : (text : List ℕ) (limit : ℕ) (e f : Error) → IsFault text limit e → IsFault text limit f → fault_of e ≡ fault_of f
+one-fault text limit e f (fault, stuck, placed, tells) (other, also, there, told) =
+    let same : other ≡ fault = document_one text limit other fault also stuck in
+    tells-one text fault (fault_of e) (fault_of f) tells (subst (λ x. Tells text x (fault_of f)) same told)
+
+pub one-refusal : (text : List ℕ) (limit : ℕ) (e f : Error) → IsRefusal text limit (stops.Fault e) → IsRefusal text limit (stops.Fault f) → fault_of e ≡ fault_of f
+one-refusal text limit e f (inl a) (inl b) = one-fault text limit e f a b
+one-refusal text limit e f (inl a) (inr b) = absurd (stuck-or-clash text limit e f a b)
+one-refusal text limit e f (inr a) (inl b) = absurd (stuck-or-clash text limit f e b a)
+one-refusal text limit e f (inr a) (inr b) = one-clash text limit e f a b
+
+-- ---- one answer
+
+pub alike : (text : List ℕ) (limit : ℕ) (r s : Result Value (Stop Error)) → IsAnswered text limit r → IsAnswered text limit s → IsAlike r s
+alike text limit (Ok root) (Ok other) a b = λ p. one-tree text limit root other p a b
+alike text limit (Ok root) (Err (stops.Memory f)) a b = tt
+alike text limit (Ok root) (Err (stops.Fault f)) a b = tree-or-refusal text limit root f a b
+alike text limit (Err (stops.Memory e)) (Ok other) a b = tt
+alike text limit (Err (stops.Memory e)) (Err (stops.Memory f)) a b = tt
+alike text limit (Err (stops.Memory e)) (Err (stops.Fault f)) a b = tt
+alike text limit (Err (stops.Fault e)) (Ok other) a b = tree-or-refusal text limit other e b a
+alike text limit (Err (stops.Fault e)) (Err (stops.Memory f)) a b = tt
+alike text limit (Err (stops.Fault e)) (Err (stops.Fault f)) a b = one-refusal text limit e f a b
+
+-- ---- one outcome
+
+resolved-or-clashed : (text : List ℕ) (limit : ℕ) (bs cs : List Block) (t : Told) → HasOutcome text limit (resolved bs) → HasOutcome text limit (clashed cs t) → ⊥
+resolved-or-clashed text limit bs cs t a b = none-first (claims bs) t a.1 (subst (λ l. TellsFirst [] (claims l) t) (one-document text limit cs bs b.0 a.0) b.1)
+
+same-clashed : (text : List ℕ) (limit : ℕ) (bs cs : List Block) (t u : Told) → HasOutcome text limit (clashed bs t) → HasOutcome text limit (clashed cs u) → clashed bs t ≡ clashed cs u
+same-clashed text limit bs cs t u a b =
+    let same : cs ≡ bs = one-document text limit cs bs b.0 a.0 in
+    let first : t ≡ u = one-first (claims bs) t u a.1 (subst (λ l. TellsFirst [] (claims l) u) same b.1) in
+    ap (λ l. clashed l t) (sym same) ∙ ap (λ x. clashed cs x) first
+
+pub one-outcome : (text : List ℕ) (limit : ℕ) (x y : Outcome) → HasOutcome text limit x → HasOutcome text limit y → x ≡ y
+one-outcome text limit (resolved bs) (resolved cs) a b = ap (λ l. resolved l) (one-document text limit bs cs a.0 b.0)
+one-outcome text limit (resolved bs) (clashed cs t) a b = absurd (resolved-or-clashed text limit bs cs t a b)
+one-outcome text limit (resolved bs) (stuck_at f) a b = absurd (never-stuck text limit bs f a.0 b)
+one-outcome text limit (clashed bs t) (resolved cs) a b = absurd (resolved-or-clashed text limit cs bs t b a)
+one-outcome text limit (clashed bs t) (clashed cs u) a b = same-clashed text limit bs cs t u a b
+one-outcome text limit (clashed bs t) (stuck_at f) a b = absurd (never-stuck text limit bs f a.0 b)
+one-outcome text limit (stuck_at e) (resolved cs) a b = absurd (never-stuck text limit cs e b.0 a)
+one-outcome text limit (stuck_at e) (clashed cs t) a b = absurd (never-stuck text limit cs e b.0 a)
+one-outcome text limit (stuck_at e) (stuck_at f) a b = ap (λ x. stuck_at x) (document_one text limit e f a b)
+
 -- ---- every text
 
 pub text-judged : (text : List ℕ) (limit : ℕ) → ((bs : List Block) × SpellsDocument bs text limit) ⊎ ((fault : Fault) × StuckDocument text limit fault)
     → ((bs : List Block) × SpellsDocument bs text limit × (Resolves [] (claims bs) ⊎ ((clash : Told) × TellsFirst [] (claims bs) clash))) ⊎ ((fault : Fault) × StuckDocument text limit fault)
 text-judged text limit (inl (bs, spelled)) = inl (bs, spelled, resolves-or-told (claims bs))
 text-judged text limit (inr stuck) = inr stuck
+
+read-outcome : (text : List ℕ) (limit : ℕ) (bs : List Block) → SpellsDocument bs text limit → Resolves [] (claims bs) ⊎ ((clash : Told) × TellsFirst [] (claims bs) clash)
+    → (x : Outcome) × HasOutcome text limit x
+read-outcome text limit bs spelled (inl resolves) = (resolved bs, (spelled, resolves))
+read-outcome text limit bs spelled (inr (clash, first)) = (clashed bs clash, (spelled, first))
+
+pub some-outcome : (text : List ℕ) (limit : ℕ) → ((bs : List Block) × SpellsDocument bs text limit) ⊎ ((fault : Fault) × StuckDocument text limit fault)
+    → (x : Outcome) × HasOutcome text limit x
+some-outcome text limit (inl (bs, spelled)) = read-outcome text limit bs spelled (resolves-or-told (claims bs))
+some-outcome text limit (inr (fault, stuck)) = (stuck_at fault, stuck)

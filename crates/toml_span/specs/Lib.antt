@@ -6,3 +6,4 @@ pub use Rattle.toml_span_tree.specs.Pointer
 pub use Rattle.toml_span_tree.specs.Value
 pub mod Laws
 pub mod Order
+pub mod Outcomes

@@ -1,8 +1,9 @@
 //! Laws of claims, and of what a text is answered.
-ghost use Rattle.std.specs.Prelude.{◌≡◌, ◌≢◌, ◌≤◌, ◌*◌, ◌⊎◌, ◌++◌, ◌∷◌, ℕ, false, true, List, [], length, slice_range, Some};
+ghost use Rattle.std.specs.Prelude.{◌≡◌, ◌≢◌, ◌≤◌, ◌*◌, ◌⊎◌, ◌++◌, ◌∷◌, ℕ, false, true, List, [], length, slice_range, Some, Result};
 ghost use Rattle.toml_span_lex.specs.Bytes.{quotation_mark};
 ghost use Rattle.toml_span_lex.specs.Strings.{HasChange};
 ghost use Rattle.toml_span_lex.specs.declared.span.Span.{Span};
+ghost use Rattle.toml_span_lex.specs.declared.stop.Stop.{Stop};
 ghost use Rattle.toml_span_lex.specs.declared.stop.Stop.TheVariants.{Fault as refused};
 ghost use Rattle.toml_span_read_laws.specs.Again.{ScalarReadsAgain};
 ghost use Rattle.toml_span_read.specs.Lines.{Block, SpellsDocument, StuckDocument};
@@ -19,6 +20,7 @@ ghost use Rattle.toml_span_claims.specs.Flat.{Shows, all_claims, flat};
 ghost use Rattle.toml_span_claims.specs.OneEach.{HasOneEach};
 ghost use Rattle.toml_span.specs.Laws.{AssignedReadAgain, keys_in, ShowsString};
 ghost use Rattle.toml_span.specs.Order.{Ascends, key_at, KeysApart};
+ghost use Rattle.toml_span.specs.Outcomes.{HasOutcome, IsAlike, IsAnswered, Outcome};
 ghost use Rattle.toml_span_claims.specs.Ordered.{IsOrdered};
 ghost use Rattle.toml_span_assembly.specs.Parsing.{IsClash, IsFault, IsRefusal, IsTree};
 
@@ -36,13 +38,26 @@ pub fn one_first_clash()
 {}
 
 /// A text that has a tree is not refused, and one with a clash has no fault of reading. All trees of a text
-/// show the same at each path, and all errors that tell of its clash are alike.
+/// show the same at each path, all errors that tell of its clash are alike, and so are all that tell of its
+/// fault: whatever refuses it tells the same. So all answers to a text are alike, want of memory aside.
 pub fn one_answer()
     ensures refused { (text : List ℕ) (limit : ℕ) (root : Value) (error : Error) → IsTree text limit root → IsRefusal text limit (refused error) → ⊥ }
     ensures stuck { (text : List ℕ) (limit : ℕ) (error other : Error) → IsFault text limit error → IsClash text limit other → ⊥ }
     ensures tree { (text : List ℕ) (limit : ℕ) (root other : Value) (path : Path) → IsTree text limit root → IsTree text limit other → place_at path (view root) ≡ place_at path (view other) }
     ensures clash { (text : List ℕ) (limit : ℕ) (error other : Error) → IsClash text limit error → IsClash text limit other → fault_of error ≡ fault_of other }
+    ensures fault { (text : List ℕ) (limit : ℕ) (error other : Error) → IsFault text limit error → IsFault text limit other → fault_of error ≡ fault_of other }
+    ensures told { (text : List ℕ) (limit : ℕ) (error other : Error) → IsRefusal text limit (refused error) → IsRefusal text limit (refused other) → fault_of error ≡ fault_of other }
+    ensures alike { (text : List ℕ) (limit : ℕ) (result other : Result Value (Stop Error)) → IsAnswered text limit result → IsAnswered text limit other → IsAlike result other }
 {}
+
+/// Each text has one outcome within a limit: sections of which no two claims clash, sections and their first
+/// clash, or the fault at which it is stuck.
+pub fn one_outcome(text: &str)
+    ensures some { (limit : ℕ) → 1 ≤ limit → (outcome : Outcome) × HasOutcome text.now limit outcome }
+    ensures one { (limit : ℕ) (outcome other : Outcome) → HasOutcome text.now limit outcome → HasOutcome text.now limit other → outcome ≡ other }
+{
+    document_or_stuck(text);
+}
 
 /// Each text spells a document of which no two claims clash, or one of which there is a first clash, or it
 /// is stuck.

@@ -1,5 +1,5 @@
 //! Laws of the places where something is due.
-ghost use Rattle.std.specs.Prelude.{ℕ, ◌≤◌, List, Result, Vec};
+ghost use Rattle.std.specs.Prelude.{◌≡◌, ℕ, ◌≤◌, List, Result, Vec};
 ghost use Rattle.std.specs.Global.{Global};
 ghost use Rattle.toml_span_lex.specs.declared.stop.Stop.{Stop};
 ghost use Rattle.toml_span_tree.specs.declared.error.Error.{Error};
@@ -16,6 +16,11 @@ pub fn faults_are_due()
 /// What is told where something is due is a fault of the document.
 pub fn due_faults()
     ensures { (text : List ℕ) (limit : ℕ) (fault : Fault) → 1 ≤ limit → IsDue text limit fault → StuckDocument text limit fault }
+{}
+
+/// One fault is told of a text, wherever something is due in it.
+pub fn one_due_fault()
+    ensures { (text : List ℕ) (limit : ℕ) (fault other : Fault) → 1 ≤ limit → IsDue text limit fault → IsDue text limit other → fault ≡ other }
 {}
 
 /// Where a text spells a document, nothing is told.

@@ -1,0 +1,44 @@
+-- What becomes of a text within a limit.
+use Rattle.std.specs.Prelude.{◌≡◌, ⊤, ℕ, List, [], Result, Ok, Err}
+use Rattle.toml_span_lex.specs.declared.stop.Stop.{Stop}
+use Rattle.toml_span_lex.specs.declared.stop.Stop.TheVariants as stops
+use Rattle.toml_span_tree.specs.Error.{fault_of}
+use Rattle.toml_span_tree.specs.Path.{Path, place_at}
+use Rattle.toml_span_tree.specs.Value.{view}
+use Rattle.toml_span_tree.specs.declared.error.Error.{Error}
+use Rattle.toml_span_tree.specs.declared.value.Value.{Value}
+use Rattle.toml_span_read.specs.Lines.{Block, SpellsDocument, StuckDocument}
+use Rattle.toml_span_read.specs.declared.fault.Fault.{Fault}
+use Rattle.toml_span_claims.specs.Claims.{claims}
+use Rattle.toml_span_claims.specs.Clashes.{Told, Resolves, TellsFirst}
+use Rattle.toml_span_assembly.specs.Parsing.{IsTree, IsRefusal}
+
+-- the sections that it spells; those and their first clash; or the fault at which it is stuck
+pub data Outcome : Type 0 where
+  resolved : List Block → Outcome
+  clashed : List Block → Told → Outcome
+  stuck_at : Fault → Outcome
+
+-- The text spells these sections, and no two of their claims clash; or it spells them, and this clash is their first; or it is
+-- stuck at this fault.
+abbrev pub HasOutcome : List ℕ → ℕ → Outcome → Type 0
+HasOutcome text limit (resolved blocks) = SpellsDocument blocks text limit × Resolves [] (claims blocks)
+HasOutcome text limit (clashed blocks clash) = SpellsDocument blocks text limit × TellsFirst [] (claims blocks) clash
+HasOutcome text limit (stuck_at fault) = StuckDocument text limit fault
+
+-- the text's tree, or its refusal
+abbrev pub IsAnswered : List ℕ → ℕ → Result Value (Stop Error) → Type 0
+IsAnswered text limit (Ok root) = IsTree text limit root
+IsAnswered text limit (Err stop) = IsRefusal text limit stop
+
+-- Both are trees, which show the same at each path, or both are errors, which tell the same. Want of memory is like each answer.
+abbrev pub IsAlike : Result Value (Stop Error) → Result Value (Stop Error) → Type 0
+IsAlike (Ok root) (Ok other) = (path : Path) → place_at path (view root) ≡ place_at path (view other)
+IsAlike (Ok root) (Err (stops.Memory f)) = ⊤
+IsAlike (Ok root) (Err (stops.Fault f)) = ⊥
+IsAlike (Err (stops.Memory e)) (Ok other) = ⊤
+IsAlike (Err (stops.Memory e)) (Err (stops.Memory f)) = ⊤
+IsAlike (Err (stops.Memory e)) (Err (stops.Fault f)) = ⊤
+IsAlike (Err (stops.Fault e)) (Ok other) = ⊥
+IsAlike (Err (stops.Fault e)) (Err (stops.Memory f)) = ⊤
+IsAlike (Err (stops.Fault e)) (Err (stops.Fault f)) = fault_of e ≡ fault_of f
