@@ -1,6 +1,7 @@
 #!/usr/bin/env bash
-# Everything that has to hold of the repository: the gate over all crates from nothing, each request for
-# memory refused in turn, and rules that no prover looks at. The last line counts.
+# Everything that has to hold of the repository: the gate over all crates from nothing, stored runs of the program
+# that the gate built, each request for memory refused in turn, and rules that no prover looks at. Lines `time:` say
+# what each part took. The last line counts.
 set -uo pipefail
 cd "$(dirname "$0")/.."
 passed=0
@@ -11,7 +12,8 @@ run() {
     local name=$1
     shift
     echo "== $name"
-    if "$@"; then passed=$((passed + 1)); else
+    local TIMEFORMAT="time: $name: %R s, %U + %S s of processors"
+    if time "$@"; then passed=$((passed + 1)); else
         failed=$((failed + 1))
         echo "failed: $name"
     fi
@@ -21,7 +23,7 @@ run() {
 echo "== rt ci"
 log=$(mktemp)
 trap 'rm -f "$log"' EXIT
-rt ci 2>&1 | tee "$log"
+python3 scripts/timed.py rt ci 2>&1 | tee "$log"
 status=${PIPESTATUS[0]}
 counts=$(grep -oE '^[0-9]+ passed, [0-9]+ failed' "$log" | tail -n 1)
 if [[ "$counts" =~ ^([0-9]+)\ passed,\ ([0-9]+)\ failed$ ]]; then
@@ -33,8 +35,12 @@ fi
 if [ "$status" -ne 0 ] && [ "$failed" -eq 0 ]; then failed=1; fi
 
 run "no handles" grep -qx 'Handles allowed: none.' HANDLES
+run "stored runs of the program" bash scripts/runs.sh
 run "refusals of memory" bash scripts/refusals.sh
 run "the repository stands alone" bash scripts/stands_alone.sh
 
+times >"$log"
+read -r user system < <(tail -n 1 "$log")
+echo "time: in all $SECONDS s, $user + $system of processors"
 echo "$passed passed, $failed failed"
 [ "$failed" -eq 0 ]

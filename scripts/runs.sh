@@ -1,0 +1,48 @@
+#!/usr/bin/env bash
+# The program on each stored input: bash scripts/runs.sh [PROGRAM]
+#
+# A run is a file crates/toml_span_show/runs/NAME, its standard input; beside it stand NAME.stdout, what it has to
+# write, and NAME.status, how it has to end where that is not 0. PROGRAM is the proved build unless another is named.
+set -uo pipefail
+cd "$(dirname "$0")/../crates/toml_span_show"
+program=${1-out/toml_span_show}
+if [ ! -x "$program" ]; then
+    echo "runs: there is no program $program"
+    exit 1
+fi
+work=$(mktemp -d)
+trap 'rm -rf "$work"' EXIT
+count=0
+wrong=0
+
+# check NAME INPUT STDOUT STATUS: runs the program on a file, and compares what it writes and how it ends
+check() {
+    count=$((count + 1))
+    timeout 60 "$program" <"$2" >"$work/written"
+    local status=$?
+    if [ "$status" -ne "$4" ] || ! cmp -s "$work/written" "$3"; then
+        wrong=$((wrong + 1))
+        echo "runs: $1 ended with status $status (wanted: $4) and wrote"
+        diff "$3" "$work/written" | head -n 10
+    fi
+}
+
+for input in runs/*; do
+    case $input in *.stdout | *.status) continue ;; esac
+    status=0
+    if [ -f "$input.status" ]; then status=$(<"$input.status"); fi
+    check "$input" "$input" "$input.stdout" "$status"
+done
+
+# as many bytes as are read, and one more; too many are told of before their encoding
+head -c 16777216 /dev/zero | tr '\0' ' ' >"$work/longest"
+printf 'root table 0..16777216\n' >"$work/longest.stdout"
+check "a document of 16 MiB" "$work/longest" "$work/longest.stdout" 0
+printf 'error too-long\n' >"$work/longer.stdout"
+printf ' ' >>"$work/longest"
+check "a document of one byte more" "$work/longest" "$work/longer.stdout" 2
+tr ' ' '\377' <"$work/longest" >"$work/bytes"
+check "too many bytes that are no text" "$work/bytes" "$work/longer.stdout" 2
+
+echo "runs: $((count - wrong)) of $count right"
+[ "$wrong" -eq 0 ]
