@@ -9,6 +9,7 @@ mod callers;
 mod diagnostics;
 mod escapes;
 mod sections;
+mod spans;
 mod tokens;
 mod trees;
 mod typed;
@@ -49,6 +50,7 @@ fn answer_of(
     let Row { call, words, .. } = row;
     let known = tokens::answer(alloc, call, words, text, out)?
         || sections::answer(alloc, call, words, text, out)?
+        || spans::answer(alloc, call, words, text, out)?
         || trees::answer(alloc, call, words, text, out)?
         || diagnostics::answer(alloc, call, words, text, out)?
         || typed::answer(alloc, call, words, text, out)?
