@@ -10,8 +10,6 @@ pub mod span;
 pub mod spanned;
 pub mod stop;
 pub mod strings;
-#[cfg(test)]
-mod tests;
 pub mod text;
 pub mod tokenizer;
 pub mod tokens;
