@@ -8,6 +8,7 @@
 mod callers;
 mod diagnostics;
 mod escapes;
+mod scalars;
 mod sections;
 mod spans;
 mod tokens;
@@ -51,6 +52,7 @@ fn answer_of(
     let known = tokens::answer(alloc, call, words, text, out)?
         || sections::answer(alloc, call, words, text, out)?
         || spans::answer(alloc, call, words, text, out)?
+        || scalars::answer(alloc, call, words, text, out)?
         || trees::answer(alloc, call, words, text, out)?
         || diagnostics::answer(alloc, call, words, text, out)?
         || typed::answer(alloc, call, words, text, out)?

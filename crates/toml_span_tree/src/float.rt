@@ -29,31 +29,3 @@ impl FloatText {
         }
     }
 }
-
-#[cfg(test)]
-mod tests {
-    use super::*;
-    use std::test::Fail;
-
-    #[test]
-    fn texts(rt: HostRuntime) -> Result<(), Fail> {
-        let alloc = rt.alloc();
-        let rows = [
-            (
-                FloatText::Finite(String::from_str(alloc, "-6.02E-23")?),
-                "-6.02E-23",
-            ),
-            (FloatText::Infinite { negative: false }, "inf"),
-            (FloatText::Infinite { negative: true }, "-inf"),
-            (FloatText::NotANumber { negative: false }, "nan"),
-            (FloatText::NotANumber { negative: true }, "-nan"),
-        ];
-        for (place, (float, text)) in rows.iter().enumerate() {
-            assert_eq!(rt; float.text(), *text);
-            for (other_place, (other, _)) in rows.iter().enumerate() {
-                assert_eq!(rt; float == other, place == other_place);
-            }
-        }
-        Ok(())
-    }
-}

@@ -10,8 +10,6 @@ pub mod laws;
 mod listed;
 mod message;
 mod pointer;
-#[cfg(test)]
-mod tests;
 mod value;
 
 pub use date::DateText;

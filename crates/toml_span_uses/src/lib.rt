@@ -11,6 +11,7 @@ ghost use Rattle.toml_span_uses.specs.Document.{IsDocument, StandsAt};
 
 pub mod callers;
 pub mod example;
+pub mod writes;
 
 use std::alloc::Global;
 use toml_span::de_helpers::TableHelper;

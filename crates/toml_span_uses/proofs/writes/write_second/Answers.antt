@@ -3,7 +3,7 @@ use Rattle.toml_span_tree.specs.Value.{view}
 use Rattle.toml_span_tree.specs.Pointer.{pointed, pointers_part, pointer_segments, segments, position_of}
 use Rattle.toml_span_tree.proofs.PointerLaws.{pointed-put, pointed-apart}
 use Rattle.toml_span_tree.proofs.Puts.{ok_map}
-use Rattle.toml_span_tree.proofs.tests.write_second.Goals as goal
+use Rattle.toml_span_uses.proofs.writes.write_second.Goals as goal
 
 parts : pointers_part (codes "/b/x") (codes "/a/x") ≡ true
 unfolding pointer_segments segments position_of
