@@ -4,6 +4,8 @@
 //! `ends` tells of a tree that is long to read: how many values it has, how many of them have the root's
 //! kind and span, and its first and its last line. `pieces` tells of `again` only how many pieces there
 //! are, and how many are read the same.
+ghost use Rattle.std.specs.Prelude.{◌≤◌, IfSome};
+
 use crate::escapes::Unread;
 use shown::{push_fault, push_line, push_lines};
 use std::alloc::{AllocError, Global};
@@ -40,7 +42,10 @@ fn known(read: Result<(), Unread>) -> Result<bool, AllocError> {
 }
 
 /// A limit that `parse_with_limit` takes.
-fn limit_of(words: &str) -> Option<usize> {
+fn limit_of(words: &str) -> Option<usize>
+    ensures some { IfSome result (λ limit. 1 ≤ limit) }
+    ensures small { IfSome result (λ limit. limit ≤ 128) }
+{
     let limit = words.parse::<usize>().ok()?;
     if 1 <= limit && limit <= 128 {
         Some(limit)
