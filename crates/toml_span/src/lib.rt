@@ -8,8 +8,6 @@ mod node;
 mod rest;
 mod scopes;
 mod sections;
-#[cfg(test)]
-mod tests;
 
 pub use de::parse;
 pub use toml_span_lex::span::Span;

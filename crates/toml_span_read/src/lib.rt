@@ -10,8 +10,6 @@ pub mod laws;
 pub mod numbers;
 pub mod section;
 pub mod sections;
-#[cfg(test)]
-mod tests;
 pub mod value;
 pub mod values;
 pub mod wanted;

@@ -83,13 +83,8 @@ impl Reading {
         }
     }
 
-    /// Adds an escape, by its first character, and gives what stands behind it.
-    fn push_escape<'t>(
-        &mut self,
-        alloc: Global,
-        first: char,
-        rest: &'t str,
-    ) -> Result<&'t str, Unread> {
+    /// Adds an escape, by its first character, and what stands behind that.
+    fn push_escape(&mut self, alloc: Global, first: char, rest: &str) -> Result<(), Unread> {
         let c = match first {
             'n' => '\n',
             'r' => '\r',
@@ -100,20 +95,22 @@ impl Reading {
             _ => return Err(Unread::Escape),
         };
         self.push_char(c)?;
-        Ok(rest)
+        self.push_plain(rest)?;
+        Ok(())
     }
 
-    /// Adds the character of a number in braces, and gives what stands behind it.
-    fn push_number<'t>(&mut self, rest: &'t str) -> Result<&'t str, Unread> {
+    /// Adds the character of a number in braces, and what stands behind it.
+    fn push_number(&mut self, rest: &str) -> Result<(), Unread> {
         let Some((c, behind)) = character(rest) else {
             return Err(Unread::Escape);
         };
         self.push_char(c)?;
-        Ok(behind)
+        self.push_plain(behind)?;
+        Ok(())
     }
 
-    /// Begins a part behind the brace that opens it, and gives what stands behind its number.
-    fn begin_part<'t>(&mut self, alloc: Global, rest: &'t str) -> Result<&'t str, Unread> {
+    /// Begins a part behind the brace that opens it, and adds what stands behind its number.
+    fn begin_part(&mut self, alloc: Global, rest: &str) -> Result<(), Unread> {
         let Some((digits, behind)) = rest.split_once(' ') else {
             return Err(Unread::Escape);
         };
@@ -121,7 +118,8 @@ impl Reading {
             return Err(Unread::Escape);
         };
         self.begin(alloc, times)?;
-        Ok(behind)
+        self.push_plain(behind)?;
+        Ok(())
     }
 }
 
@@ -132,29 +130,33 @@ fn character(rest: &str) -> Option<(char, &str)> {
     Some((char::from_u32(number)?, behind))
 }
 
+/// The first character of a text, and what stands behind it.
+fn split_first(text: &str) -> Option<(char, &str)> {
+    let mut chars = text.chars();
+    let first = chars.next()?;
+    Some((first, chars.as_str()))
+}
+
 /// The text that stands with escapes in a row.
 ///
-/// It is cut at its backslashes. A piece with nothing in it, behind the first, stands between two of them,
-/// which are one backslash; the piece behind it then begins with no escape.
+/// It is cut at its backslashes. An empty piece, but the first, stands between two of them, which are one
+/// backslash, and the piece behind it begins with no escape.
 pub fn text_of(alloc: Global, source: &str) -> Result<String, Unread> {
     let mut reading = Reading {
         text: String::new(alloc),
         open: None,
     };
+    // Whether an escape begins the next piece. Behind the last one it would.
     let mut escaped = false;
     for piece in source.split('\\') {
-        if !escaped {
-            reading.push_plain(piece)?;
-            escaped = true;
-        } else if piece.is_empty() {
-            reading.push_char('\\')?;
-            escaped = false;
-        } else if let Some(first) = piece.chars().next() {
-            let rest = reading.push_escape(alloc, first, &piece[first.len_utf8()..])?;
-            reading.push_plain(rest)?;
+        match split_first(piece) {
+            Some((first, rest)) if escaped => reading.push_escape(alloc, first, rest)?,
+            None if escaped => reading.push_char('\\')?,
+            _ => reading.push_plain(piece)?,
         }
+        escaped = !escaped || !piece.is_empty();
     }
-    if reading.open.is_some() {
+    if !escaped || reading.open.is_some() {
         return Err(Unread::Escape);
     }
     Ok(reading.text)

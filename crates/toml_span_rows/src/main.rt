@@ -6,9 +6,11 @@
 #![tactic(auto)]
 
 mod callers;
+mod diagnostics;
 mod escapes;
 mod sections;
 mod tokens;
+mod trees;
 mod typed;
 
 use escapes::{Unread, text_of};
@@ -47,6 +49,8 @@ fn answer_of(
     let Row { call, words, .. } = row;
     let known = tokens::answer(alloc, call, words, text, out)?
         || sections::answer(alloc, call, words, text, out)?
+        || trees::answer(alloc, call, words, text, out)?
+        || diagnostics::answer(alloc, call, words, text, out)?
         || typed::answer(alloc, call, words, text, out)?
         || callers::answer(alloc, call, words, text, out)?;
     Ok(known)

@@ -10,9 +10,6 @@ use crate::message::Shown;
 use std::alloc::{AllocError, Global};
 use toml_span_lex::span::Span;
 
-#[cfg(test)]
-mod tests;
-
 /// An error with the places that it is about.
 #[derive(Debug, Drop)]
 pub struct Diagnostic<F> {

@@ -1,0 +1,42 @@
+//! `cuts`: a text cut at each boundary of characters gives a tree, or a fault within it.
+use std::alloc::{AllocError, Global};
+use toml_span::{Error, Stop, parse};
+
+/// Whether a fault's bounds are right: its span starts in the text and does not end before it starts,
+/// and the line and the column are those of the start.
+fn is_within(text: &str, fault: &Error<'_>) -> bool {
+    let Some(before) = text.as_bytes().get(..fault.span.start) else {
+        return false;
+    };
+    let lines = before.iter().filter(|byte| **byte == b'\n').count();
+    let column = before
+        .iter()
+        .rev()
+        .take_while(|byte| **byte != b'\n')
+        .count();
+    fault.span.start <= fault.span.end && fault.line_info == Some((lines, column))
+}
+
+/// Whether a text gives a tree of which nothing is taken, or a fault within it.
+fn is_right(alloc: Global, text: &str) -> Result<bool, AllocError> {
+    match parse(alloc, text) {
+        Ok(root) => Ok(root.is_whole()),
+        Err(Stop::Fault(fault)) => Ok(is_within(text, &fault)),
+        Err(Stop::Memory(refused)) => Err(refused),
+    }
+}
+
+/// Adds how many cuts there are, all of them right, or the first that is not.
+pub fn push_cuts(alloc: Global, text: &str, out: &mut String) -> Result<(), AllocError> {
+    let mut count: usize = 0;
+    for end in 0..text.len() {
+        let Some(front) = text.get(..end) else {
+            continue;
+        };
+        if !is_right(alloc, front)? {
+            return writeln!(out, "wrong: {front:?}");
+        }
+        count = count.saturating_add(1);
+    }
+    writeln!(out, "{count} right")
+}
