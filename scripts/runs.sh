@@ -44,5 +44,34 @@ check "a document of one byte more" "$work/longest" "$work/longer.stdout" 2
 tr ' ' '\377' <"$work/longest" >"$work/bytes"
 check "too many bytes that are no text" "$work/bytes" "$work/longer.stdout" 2
 
+# fails NAME INPUT OUTPUT: the program ends with status 3 where an end fails, and has written nothing
+fails() {
+    count=$((count + 1))
+    timeout 60 "$program" <"$2" >"$3" 2>"$work/complaint"
+    local status=$?
+    if [ "$status" -ne 3 ] || { [ -f "$3" ] && [ -s "$3" ]; }; then
+        wrong=$((wrong + 1))
+        echo "runs: $1 ended with status $status (wanted: 3)"
+    fi
+}
+
+: >"$work/nothing"
+printf 'a = 1\n' >"$work/short"
+fails "a read that fails" "$work" "$work/nothing"
+fails "a write that fails" "$work/short" /dev/full
+
+# a text that comes in pieces
+mkfifo "$work/pieces"
+{
+    for piece in 'a = ' '[1,' $'2]\nb' $'.c = "x"\n'; do
+        printf '%s' "$piece"
+        sleep 0.1
+    done
+} >"$work/pieces" &
+printf 'root table 0..20\n/a array 4..9\n/a/0 integer 5..6\n/a/1 integer 7..8\n/b table 17..18\n/b/c string 17..18\n' \
+    >"$work/pieces.stdout"
+check "a text that comes in pieces" "$work/pieces" "$work/pieces.stdout" 0
+wait
+
 echo "runs: $((count - wrong)) of $count right"
 [ "$wrong" -eq 0 ]

@@ -6,8 +6,6 @@ mod lines;
 mod run;
 mod sink;
 mod source;
-#[cfg(test)]
-mod tests;
 mod told;
 
 use crate::run::run;
