@@ -20,8 +20,8 @@ use Rattle.toml_span_claims.specs.Claims.{Claims, claims}
 use Rattle.toml_span_claims.specs.Clashes.{fault_told, Told, Resolves, TellsFirst}
 use Rattle.toml_span_claims.specs.Flat.{flat}
 use Rattle.toml_span_claims.specs.Machine.{nothing, told}
-use Rattle.toml_span_assembly.specs.Parsing.{IsTree, IsFault, IsClashOf, IsClash, IsRefusal}
-use Rattle.toml_span.specs.Outcomes.{Outcome, resolved, clashed, stuck_at, HasOutcome, IsAnswered, IsAlike}
+use Rattle.toml_span_assembly.specs.Parsing.{IsTreeOf, IsTree, IsFault, IsClashOf, IsClash, IsRefusal}
+use Rattle.toml_span.specs.Outcomes.{Outcome, resolved, clashed, stuck_at, HasOutcome, IsAnswered, TellsClash, IsAnswerOf, IsAlike}
 use Rattle.toml_span_assembly.proofs.Judged.{told-none, told-some, resolves-told, first-told}
 
 judged : (cs : Claims) (o : Option Told) → told nothing cs ≡ o → Resolves [] cs ⊎ ((clash : Told) × TellsFirst [] cs clash)
@@ -142,6 +142,26 @@ one-outcome text limit (clashed bs t) (stuck_at f) a b = absurd (never-stuck tex
 one-outcome text limit (stuck_at e) (resolved cs) a b = absurd (never-stuck text limit cs e b.0 a)
 one-outcome text limit (stuck_at e) (clashed cs t) a b = absurd (never-stuck text limit cs e b.0 a)
 one-outcome text limit (stuck_at e) (stuck_at f) a b = ap (λ x. stuck_at x) (document_one text limit e f a b)
+
+same-first : (text : List ℕ) (limit : ℕ) (bs : List Block) (t : Told) (e : Error) → HasOutcome text limit (clashed bs t) → IsClash text limit e → TellsClash text t e
+same-first text limit bs t e h (cs, spelled, c) =
+    let first = subst (λ l. TellsFirst [] (claims l) c.clash) (one-document text limit cs bs spelled h.0) c.first in
+    let same : c.clash ≡ t = one-first (claims bs) c.clash t first h.1 in
+    subst (λ x. TellsClash text x e) same (c.line, c.column, c.place, c.tells)
+
+pub decides : (text : List ℕ) (limit : ℕ) (x : Outcome) (r : Result Value (Stop Error)) → HasOutcome text limit x → IsAnswered text limit r → IsAnswerOf text x r
+decides text limit (resolved bs) (Ok root) h (cs, spelled, tree) = subst (λ l. IsTreeOf l (length text) root) (one-document text limit cs bs spelled h.0) tree
+decides text limit (resolved bs) (Err (stops.Memory e)) h a = tt
+decides text limit (resolved bs) (Err (stops.Fault e)) h (inl (fault, stuck, placed, tells)) = never-stuck text limit bs fault h.0 stuck
+decides text limit (resolved bs) (Err (stops.Fault e)) h (inr (cs, spelled, c)) = resolved-or-clashed text limit bs cs c.clash h (spelled, c.first)
+decides text limit (clashed bs t) (Ok root) h (cs, spelled, tree) = resolved-or-clashed text limit cs bs t (spelled, tree.resolves) h
+decides text limit (clashed bs t) (Err (stops.Memory e)) h a = tt
+decides text limit (clashed bs t) (Err (stops.Fault e)) h (inl (fault, stuck, placed, tells)) = absurd (never-stuck text limit bs fault h.0 stuck)
+decides text limit (clashed bs t) (Err (stops.Fault e)) h (inr c) = same-first text limit bs t e h c
+decides text limit (stuck_at f) (Ok root) h (bs, spelled, tree) = never-stuck text limit bs f spelled h
+decides text limit (stuck_at f) (Err (stops.Memory e)) h a = tt
+decides text limit (stuck_at f) (Err (stops.Fault e)) h (inl (fault, stuck, placed, tells)) = subst (λ x. Tells text x (fault_of e)) (document_one text limit fault f stuck h) tells
+decides text limit (stuck_at f) (Err (stops.Fault e)) h (inr (bs, spelled, c)) = absurd (never-stuck text limit bs f spelled h)
 
 -- ---- every text
 

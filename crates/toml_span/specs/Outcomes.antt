@@ -1,5 +1,5 @@
 -- What becomes of a text within a limit.
-use Rattle.std.specs.Prelude.{◌≡◌, ⊤, ℕ, List, [], Result, Ok, Err}
+use Rattle.std.specs.Prelude.{◌≡◌, ⊤, ℕ, List, [], length, Result, Ok, Err}
 use Rattle.toml_span_lex.specs.declared.stop.Stop.{Stop}
 use Rattle.toml_span_lex.specs.declared.stop.Stop.TheVariants as stops
 use Rattle.toml_span_tree.specs.Error.{fault_of}
@@ -7,11 +7,12 @@ use Rattle.toml_span_tree.specs.Path.{Path, place_at}
 use Rattle.toml_span_tree.specs.Value.{view}
 use Rattle.toml_span_tree.specs.declared.error.Error.{Error}
 use Rattle.toml_span_tree.specs.declared.value.Value.{Value}
+use Rattle.toml_span_read.specs.Faults.{IsLineInfo, Tells}
 use Rattle.toml_span_read.specs.Lines.{Block, SpellsDocument, StuckDocument}
 use Rattle.toml_span_read.specs.declared.fault.Fault.{Fault}
 use Rattle.toml_span_claims.specs.Claims.{claims}
-use Rattle.toml_span_claims.specs.Clashes.{Told, Resolves, TellsFirst}
-use Rattle.toml_span_assembly.specs.Parsing.{IsTree, IsRefusal}
+use Rattle.toml_span_claims.specs.Clashes.{Told, Resolves, TellsFirst, fault_told}
+use Rattle.toml_span_assembly.specs.Parsing.{IsTreeOf, IsTree, IsRefusal}
 
 -- the sections that it spells; those and their first clash; or the fault at which it is stuck
 pub data Outcome : Type 0 where
@@ -30,6 +31,23 @@ HasOutcome text limit (stuck_at fault) = StuckDocument text limit fault
 abbrev pub IsAnswered : List ℕ → ℕ → Result Value (Stop Error) → Type 0
 IsAnswered text limit (Ok root) = IsTree text limit root
 IsAnswered text limit (Err stop) = IsRefusal text limit stop
+
+-- the error tells this clash, with its line and its column
+abbrev pub TellsClash : List ℕ → Told → Error → Type 0
+TellsClash text clash error =
+    (line column : ℕ) × IsLineInfo text clash.meeting.place.start line column × (fault_of error ≡ fault_told clash.meeting clash.name (line, column))
+
+-- The tree of these sections, an error that tells this clash, or one that tells this fault; or want of memory.
+abbrev pub IsAnswerOf : List ℕ → Outcome → Result Value (Stop Error) → Type 0
+IsAnswerOf text (resolved blocks) (Ok root) = IsTreeOf blocks (length text) root
+IsAnswerOf text (resolved blocks) (Err (stops.Memory e)) = ⊤
+IsAnswerOf text (resolved blocks) (Err (stops.Fault error)) = ⊥
+IsAnswerOf text (clashed blocks clash) (Ok root) = ⊥
+IsAnswerOf text (clashed blocks clash) (Err (stops.Memory e)) = ⊤
+IsAnswerOf text (clashed blocks clash) (Err (stops.Fault error)) = TellsClash text clash error
+IsAnswerOf text (stuck_at fault) (Ok root) = ⊥
+IsAnswerOf text (stuck_at fault) (Err (stops.Memory e)) = ⊤
+IsAnswerOf text (stuck_at fault) (Err (stops.Fault error)) = Tells text fault (fault_of error)
 
 -- Both are trees, which show the same at each path, or both are errors, which tell the same. Want of memory is like each answer.
 abbrev pub IsAlike : Result Value (Stop Error) → Result Value (Stop Error) → Type 0

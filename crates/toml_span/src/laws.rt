@@ -20,7 +20,7 @@ ghost use Rattle.toml_span_claims.specs.Flat.{Shows, all_claims, flat};
 ghost use Rattle.toml_span_claims.specs.OneEach.{HasOneEach};
 ghost use Rattle.toml_span.specs.Laws.{AssignedReadAgain, keys_in, ShowsString};
 ghost use Rattle.toml_span.specs.Order.{Ascends, key_at, KeysApart};
-ghost use Rattle.toml_span.specs.Outcomes.{HasOutcome, IsAlike, IsAnswered, Outcome};
+ghost use Rattle.toml_span.specs.Outcomes.{HasOutcome, IsAlike, IsAnswered, IsAnswerOf, Outcome};
 ghost use Rattle.toml_span_claims.specs.Ordered.{IsOrdered};
 ghost use Rattle.toml_span_assembly.specs.Parsing.{IsClash, IsFault, IsRefusal, IsTree};
 
@@ -58,6 +58,12 @@ pub fn one_outcome(text: &str)
 {
     document_or_stuck(text);
 }
+
+/// The outcome of a text decides its answer, want of memory aside: the tree of the sections, or an error that
+/// tells the clash or the fault.
+pub fn outcome_decides()
+    ensures { (text : List ℕ) (limit : ℕ) (outcome : Outcome) (result : Result Value (Stop Error)) → HasOutcome text limit outcome → IsAnswered text limit result → IsAnswerOf text outcome result }
+{}
 
 /// Each text spells a document of which no two claims clash, or one of which there is a first clash, or it
 /// is stuck.
