@@ -170,7 +170,9 @@ def items_of(crate):
                     item = Item(f"{of_type}::{named[2]}" if of_type else named[2], seen, is_law, False)
                     found.append(item)
             elif impl and (ghost := re.match(r"    ghost (\w+) = \{", line)):
-                impl.clauses.append(ghost[1])
+                # (a relation that always holds says nothing)
+                if not line.endswith(". Unit {0} };"):
+                    impl.clauses.append(ghost[1])
             elif item and (clause := re.match(r"\s+ensures (?:(\w+) )?\{", line)):
                 item.clauses.append(clause[1] or "ensures")
     return [it for it in found if it.clauses]
