@@ -3,7 +3,7 @@
 //! - `span_at POINTER` and `integer_at POINTER`: what stands there, if anything does.
 //! - `refused_at`: the place of a refusal, with its line and its column.
 //! - `port_of`: the port of the document, if it has one.
-use crate::typed::push_span;
+use crate::tokens::push_span;
 use std::alloc::{AllocError, Global};
 use std::fmt::Write;
 use toml_span::Stop;
@@ -30,7 +30,7 @@ pub fn answer(
 /// Answers `span_at`.
 fn span_row(alloc: Global, pointer: &str, text: &str, out: &mut String) -> Result<(), AllocError> {
     match span_at(alloc, text, pointer) {
-        Ok(Some(span)) => push_span(span, out)?,
+        Ok(Some(span)) => push_span(out, span)?,
         Ok(None) => out.push_str("none")?,
         Err(Stop::Fault(_error)) => out.push_str("refused")?,
         Err(Stop::Memory(error)) => return Err(error),
@@ -57,7 +57,7 @@ fn integer_row(
 fn refusal_row(alloc: Global, text: &str, out: &mut String) -> Result<(), AllocError> {
     match refused_at(alloc, text) {
         Some((span, line, column)) => {
-            push_span(span, out)?;
+            push_span(out, span)?;
             writeln!(out, " {line}:{column}")
         }
         None => out.push_str("none\n"),

@@ -5,6 +5,7 @@
 //! or a string that is not a part of the text is `owned`. A line end in one is shown as `\n`.
 ghost use Rattle.std.specs.Prelude.{◌≤◌};
 
+use crate::tokens::push_span;
 use std::alloc::{AllocError, Global};
 use std::borrow::CowStr;
 use std::fmt::Write;
@@ -14,10 +15,10 @@ use toml_span_lex::stop::Stop;
 use toml_span_read::{Assignment, DottedKey, Section, Val, ValKind, read_sections};
 use toml_span_tree::Error;
 
-fn push_span(out: &mut String, span: Span) -> Result<(), AllocError> {
-    let start = span.start;
-    let end = span.end;
-    write!(out, "@{start}..{end}")
+/// Adds the place of what stands before it.
+fn push_place(out: &mut String, span: Span) -> Result<(), AllocError> {
+    out.push_str("@")?;
+    push_span(out, span)
 }
 
 fn push_key(out: &mut String, key: &Key<'_>) -> Result<(), AllocError> {
@@ -25,7 +26,7 @@ fn push_key(out: &mut String, key: &Key<'_>) -> Result<(), AllocError> {
         out.push_str("owned ")?;
     }
     write!(out, "{key}")?;
-    push_span(out, key.span)
+    push_place(out, key.span)
 }
 
 fn push_parts(out: &mut String, parts: &DottedKey<'_>) -> Result<(), AllocError> {
@@ -66,7 +67,7 @@ fn push_kind(out: &mut String, kind: &ValKind<'_>) -> Result<(), AllocError> {
 #[cycle(shown)]
 fn push_value(out: &mut String, value: &Val<'_>) -> Result<(), AllocError> {
     push_kind(out, &value.kind)?;
-    push_span(out, value.span)
+    push_place(out, value.span)
 }
 
 #[cycle(shown)]
@@ -94,7 +95,7 @@ fn push_assignment(out: &mut String, assignment: &Assignment<'_>) -> Result<(), 
     push_parts(out, &assignment.parts)?;
     out.push_str("=")?;
     push_value(out, &assignment.value)?;
-    push_span(out, assignment.extent)
+    push_place(out, assignment.extent)
 }
 
 /// Adds a section's header, its span and the section's.
@@ -105,8 +106,8 @@ fn push_header(out: &mut String, section: &Section<'_>) -> Result<(), AllocError
         out.push_str(".")?;
     }
     out.push_str("]")?;
-    push_span(out, section.header_span)?;
-    push_span(out, section.extent)
+    push_place(out, section.header_span)?;
+    push_place(out, section.extent)
 }
 
 fn push_section(out: &mut String, section: &Section<'_>) -> Result<(), AllocError> {
@@ -138,9 +139,8 @@ fn push_sections(
 /// Adds a fault: its kind, its bytes, its line and its column.
 fn push_fault(out: &mut String, error: &Error<'_>) -> Result<(), AllocError> {
     let kind = &error.kind;
-    let start = error.span.start;
-    let end = error.span.end;
-    write!(out, "error {kind:?} {start}..{end}")?;
+    write!(out, "error {kind:?} ")?;
+    push_span(out, error.span)?;
     match error.line_info {
         Some((line, column)) => write!(out, " {line}:{column}"),
         None => Ok(()),

@@ -142,7 +142,8 @@ fn push_holder(out: &mut String, text: &CowStr<'_>) -> Result<(), AllocError> {
     }
 }
 
-fn push_span(out: &mut String, span: Span) -> Result<(), AllocError> {
+/// Adds a span, as `start..end`.
+pub fn push_span(out: &mut String, span: Span) -> Result<(), AllocError> {
     let start = span.start;
     let end = span.end;
     write!(out, "{start}..{end}")

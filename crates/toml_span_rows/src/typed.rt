@@ -13,6 +13,7 @@ mod faults;
 mod fields;
 mod reads;
 
+use crate::tokens::push_span;
 use crate::typed::faults::{push_error, push_faults, push_lists};
 use crate::typed::reads::{Outcome, parsed_as, read_as};
 use std::alloc::{AllocError, Global};
@@ -51,19 +52,13 @@ fn tree<'de>(alloc: Global, text: &'de str) -> Result<Option<Value<'de>>, AllocE
     }
 }
 
-/// Adds a place.
-pub fn push_span(span: Span, out: &mut String) -> Result<(), AllocError> {
-    let Span { start, end } = span;
-    write!(out, "{start}..{end}")
-}
-
 /// Adds a line on what a value is now: its kind and its place, whether all of it is there, and the keys of
 /// a table.
 fn push_value(label: &str, value: &Value, out: &mut String) -> Result<(), AllocError> {
     write!(out, "{label} ")?;
     if value.is_taken() {
         out.push_str("taken ")?;
-        push_span(value.span, out)?;
+        push_span(out, value.span)?;
         return out.push('\n');
     }
     push_kind(value.as_ref(), value.span, out)?;
@@ -77,7 +72,7 @@ fn push_value(label: &str, value: &Value, out: &mut String) -> Result<(), AllocE
 fn push_kind(inner: &ValueInner, span: Span, out: &mut String) -> Result<(), AllocError> {
     let kind = inner.type_str();
     write!(out, "{kind} ")?;
-    push_span(span, out)
+    push_span(out, span)
 }
 
 /// Adds the keys of a table, if the value is one.
@@ -101,11 +96,11 @@ fn push_outcome(outcome: &Outcome, out: &mut String) -> Result<(), AllocError> {
 }
 
 /// Answers `typed` and `typed_root`.
-fn read_row(
+fn read_row<'de>(
     alloc: Global,
     name: &str,
-    pointer: &'static str,
-    text: &str,
+    pointer: &'de str,
+    text: &'de str,
     out: &mut String,
 ) -> Result<bool, AllocError> {
     let Some(mut root) = tree(alloc, text)? else {
@@ -126,7 +121,7 @@ fn read_row(
 fn errors_of<'de>(
     alloc: Global,
     root: &mut Value<'de>,
-    pointer: &'static str,
+    pointer: &'de str,
     name: &str,
 ) -> Result<Option<DeserError<'de>>, AllocError> {
     let Some(value) = root.pointer_mut(pointer) else {

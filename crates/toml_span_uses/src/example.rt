@@ -1,4 +1,6 @@
 //! Structs that are read from a nested document, as a user of the crate writes them.
+#![tactic(auto, using(toml_span_typed::proofs::Whole::found_whole))]
+
 use std::alloc::{AllocError, Global};
 use std::borrow::CowStr;
 use toml_span::de_helpers::{TableHelper, Unfinished};

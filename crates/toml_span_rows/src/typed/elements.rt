@@ -1,5 +1,5 @@
 //! What a row shows of an element that was read.
-use crate::typed::push_span;
+use crate::tokens::push_span;
 use std::alloc::AllocError;
 use std::borrow::CowStr;
 use std::fmt::Write;
@@ -72,7 +72,7 @@ impl<T: Shown> Shown for Spanned<T> {
     fn show(&self, out: &mut String) -> Result<(), AllocError> {
         self.value.show(out)?;
         out.push_str(" at ")?;
-        push_span(self.span, out)
+        push_span(out, self.span)
     }
 }
 

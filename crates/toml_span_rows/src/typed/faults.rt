@@ -1,5 +1,5 @@
 //! The lines of errors.
-use crate::typed::push_span;
+use crate::tokens::push_span;
 use std::alloc::AllocError;
 use std::fmt::Write;
 use toml_span::{DeserError, Error};
@@ -7,7 +7,7 @@ use toml_span::{DeserError, Error};
 /// Adds the line of an error: its message and its place, and the line and the column where it has them.
 pub fn push_error(label: &str, error: &Error, out: &mut String) -> Result<(), AllocError> {
     write!(out, "{label} {error} at ")?;
-    push_span(error.span, out)?;
+    push_span(out, error.span)?;
     if let Some((line, column)) = error.line_info {
         write!(out, " {line}:{column}")?;
     }

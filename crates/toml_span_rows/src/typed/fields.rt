@@ -7,9 +7,10 @@
 ghost use Rattle.std.specs.Prelude.{IfSome};
 ghost use Rattle.toml_span_typed.specs.TableHelper.{AllWhole, state_of};
 
+use crate::tokens::push_span;
 use crate::typed::elements::Shown;
 use crate::typed::faults::{push_error, push_faults, push_lists};
-use crate::typed::{push_span, push_value, tree};
+use crate::typed::{push_value, tree};
 use std::alloc::{AllocError, Global};
 use std::fmt::Write;
 use toml_span::de_helpers::{TableHelper, Unfinished};
@@ -204,7 +205,7 @@ fn push_taken(entry: Option<(Key, Value)>, out: &mut String) -> Result<(), Alloc
 /// Adds a key and its value, with the text of a string.
 fn push_entry(key: &Key, value: &Value, out: &mut String) -> Result<(), AllocError> {
     write!(out, "{key} ")?;
-    push_span(key.span, out)?;
+    push_span(out, key.span)?;
     if let Some(text) = value.as_str() {
         write!(out, " {text:?}")?;
     }
