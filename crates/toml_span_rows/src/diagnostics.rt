@@ -1,7 +1,7 @@
 //! `diagnostics`: the fault of a text with what it prints, its diagnostic and its labels; and
 //! `diagnostic KIND`: the same of an error of a kind that only typed reads make, at 4..6 in line 2, whose
 //! names the text gives.
-use crate::trees::shown::{push_span, push_stand};
+use crate::trees::shown::{push_moved, push_stand};
 use std::alloc::{AllocError, Global};
 use toml_span::{Error, Label, Span, Stop, parse};
 
@@ -17,7 +17,7 @@ fn push_label(label: &Label<u8>, out: &mut String) -> Result<(), AllocError> {
     } else {
         "secondary"
     })?;
-    push_span(label.span, 0, out)?;
+    push_moved(label.span, 0, out)?;
     let file = label.file;
     let message = label.message.as_str();
     writeln!(out, " in {file} {message:?}")

@@ -1,4 +1,5 @@
 //! The lines of trees and of faults.
+use crate::tokens::push_span;
 use crate::trees::kinds::{push_names, value_kinds};
 use crate::trees::places::{Place, below};
 use std::alloc::{AllocError, Global};
@@ -6,11 +7,12 @@ use std::borrow::CowStr;
 use toml_span::value::{Key, Value, ValueInner};
 use toml_span::{Error, Span};
 
-/// Adds a span whose offsets are counted from a start.
-pub fn push_span(span: Span, from: usize, out: &mut String) -> Result<(), AllocError> {
+/// Adds a space, and a span whose offsets are counted from a start.
+pub fn push_moved(span: Span, from: usize, out: &mut String) -> Result<(), AllocError> {
     let start = span.start.wrapping_sub(from);
     let end = span.end.wrapping_sub(from);
-    write!(out, " {start}..{end}")
+    out.push(' ')?;
+    push_span(out, Span::new(start, end))
 }
 
 /// The name of a value's kind.
@@ -30,13 +32,13 @@ pub fn are_alike(one: &Value<'_>, other: &Value<'_>) -> bool {
 pub fn push_kind(value: &Value<'_>, from: usize, out: &mut String) -> Result<(), AllocError> {
     let kind = kind_of(value);
     write!(out, " {kind}")?;
-    push_span(value.span, from, out)
+    push_moved(value.span, from, out)
 }
 
 /// Adds a key's span, and whether it has a text of its own.
 fn push_key(key: &Key<'_>, from: usize, out: &mut String) -> Result<(), AllocError> {
     out.push_str(" key")?;
-    push_span(key.span, from, out)?;
+    push_moved(key.span, from, out)?;
     match key.name {
         CowStr::Borrowed(_) => Ok(()),
         CowStr::Owned(_) => out.push_str(" owned"),
@@ -104,7 +106,7 @@ pub fn push_lines(
 pub fn push_stand(fault: &Error<'_>, out: &mut String) -> Result<(), AllocError> {
     let kind = &fault.kind;
     write!(out, "{kind}")?;
-    push_span(fault.span, 0, out)?;
+    push_moved(fault.span, 0, out)?;
     match fault.line_info {
         Some((line, column)) => write!(out, " {line}:{column}"),
         None => out.push_str(" no line"),
