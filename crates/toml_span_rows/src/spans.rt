@@ -1,6 +1,6 @@
 //! Calls of spans, spanned values and keys.
 //!
-//! - `span START END` tells what a span is and becomes.
+//! - `span START END: TEXT` tells what a span is and becomes, and where it starts in a text that has it.
 //! - `spanned START END NUMBER OTHER` tells what a number at a span becomes, and how it compares with another.
 //! - `key START END OTHER: NAME` tells how a key with an owned name compares with a borrowed one of another name.
 
@@ -22,7 +22,7 @@ pub fn answer(
     out: &mut String,
 ) -> Result<bool, AllocError> {
     match call {
-        "span" => answer_span(words, out),
+        "span" => answer_span(words, text, out),
         "spanned" => answer_spanned(alloc, words, out),
         "key" => answer_key(alloc, words, text, out),
         _ => Ok(false),
@@ -43,13 +43,12 @@ fn push_span(span: Span, out: &mut String) -> Result<(), AllocError> {
     write!(out, " {start}..{end}")
 }
 
-fn answer_span(words: &str, out: &mut String) -> Result<bool, AllocError> {
+fn answer_span(words: &str, text: &str, out: &mut String) -> Result<bool, AllocError> {
     let Some((span, _rest)) = span_of(words) else {
         return Ok(false);
     };
     let (start, end): (usize, usize) = span.into();
     let range: Range<usize> = span.into();
-    let offset = Tokenizer::new("").substr_offset(span);
     out.push_str(if span.is_empty() {
         "empty"
     } else {
@@ -57,7 +56,11 @@ fn answer_span(words: &str, out: &mut String) -> Result<bool, AllocError> {
     })?;
     write!(out, ", {start} {end}")?;
     let (start, end) = (range.start, range.end);
-    write!(out, ", {start}..{end}, at {offset}")?;
+    write!(out, ", {start}..{end}")?;
+    if span.start <= span.end && span.end <= text.len() {
+        let offset = Tokenizer::new(text).substr_offset(span);
+        write!(out, ", at {offset}")?;
+    }
     Ok(true)
 }
 
