@@ -20,7 +20,7 @@ use Rattle.toml_span_read.specs.Lines.{Block}
 use Rattle.toml_span_claims.specs.Claims.{claims}
 use Rattle.toml_span_claims.specs.Flat.{flat, Shows}
 use Rattle.toml_span_assembly.specs.Parsing.{IsTree, IsRefusal}
-use Rattle.toml_span_uses.specs.Document.{IsDocument, StandsAt}
+use Rattle.toml_span.specs.Document.{IsDocument, StandsAt}
 use Rattle.toml_span_assembly.proofs.ShownWhole.{shown-filled}
 
 -- ---- what a pointer names in a tree, and what stands there

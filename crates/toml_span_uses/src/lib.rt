@@ -7,7 +7,7 @@ ghost use Rattle.toml_span_read.specs.Faults.{IsLineInfo};
 ghost use Rattle.toml_span_tree.specs.Node.{integer};
 ghost use Rattle.toml_span_tree.specs.Path.{Place, key, is_scalar};
 ghost use Rattle.toml_span_assembly.specs.Parsing.{IsRefusal};
-ghost use Rattle.toml_span_uses.specs.Document.{IsDocument, StandsAt};
+ghost use Rattle.toml_span.specs.Document.{IsDocument, StandsAt};
 
 pub mod callers;
 pub mod example;
