@@ -2,6 +2,7 @@
 use Rattle.std.specs.Prelude.{◌≡◌, ℕ, List, [], ◌∷◌, ◌++◌, if◌then◌else◌, Option, Some, None, MatchOption, Result, Ok, Err}
 use Rattle.std.specs.Str.{bytes_eq}
 use Rattle.std.specs.declared.alloc.AllocError.{AllocError}
+use Rattle.toml_span_lex.specs.declared.span.Span.{Span}
 use Rattle.toml_span_lex.specs.declared.stop.Stop.{Stop}
 use Rattle.toml_span_lex.specs.declared.stop.Stop.TheVariants as stop
 use Rattle.toml_span_tree.specs.declared.error.Error.{Error}
@@ -62,10 +63,10 @@ TriesAt reads name places before (Ok None) after = MatchOption (places (key name
 TriesAt reads name places before (Err error) after = Starved name before after
 
 -- the error of the keys that are left, if any are
-abbrev pub left_over : State → Members → List Fault
-left_over s rest = where_filled rest (record { kind = unexpected_keys (names_in rest) s.asked; span = s.span; line_info = None } ∷ [])
+abbrev pub left_over : List (List ℕ) → Span → Members → List Fault
+left_over asked span rest = where_filled rest (record { kind = unexpected_keys (names_in rest) asked; span = span; line_info = None } ∷ [])
 
 -- `finalize(None)` with errors: those that were kept, and behind them that of the keys that are left of the table
 abbrev pub EndsWith : (Path → Option Place) → State → Faults → Type 0
 EndsWith places s faults =
-    (rest : Members) × IsValueOf (except s.asked places) (node (table rest) s.span) × (all faults ≡ s.errors ++ left_over s rest)
+    (rest : Members) × IsValueOf (except s.asked places) (node (table rest) s.span) × (all faults ≡ s.errors ++ left_over s.asked s.span rest)
