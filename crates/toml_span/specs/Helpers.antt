@@ -32,18 +32,20 @@ HasNoKeyBut names places = (name : List ℕ) → except names places (key name �
 abbrev pub table_of : State → Node
 table_of s = node (table s.members) s.span
 
--- The helper was opened on the table of these places: its entries are what stands there, but for the names that it was asked
--- for.
+-- The helper was opened on the table of these places: its entries are what stands there, but for the names that it was
+-- asked for.
 abbrev pub IsOver : (Path → Option Place) → State → Type 0
 IsOver places s = IsValueOf (except s.asked places) (table_of s)
 
 -- this is an answer to the value of these places
-abbrev pub ReadsPart : {T : Type 0} → (Node → Result T Faults → Node → Type 0) → (Path → Option Place) → Result T Faults → Type 0
+abbrev pub ReadsPart : {T : Type 0} → (Node → Result T Faults → Node → Type 0) → (Path → Option Place) → Result T Faults
+    → Type 0
 ReadsPart reads places answer = (value : Node) × (left : Node) × IsValueOf places value × reads value answer left
 
--- `required`, where `places` are those of the table without the names that were asked for: what is read of the value below the
--- key; `MissingField` where nothing stands there; or the last of the errors of the read, which are kept
-abbrev pub RequiresAt : {T : Type 0} → (Node → Result T Faults → Node → Type 0) → List ℕ → (Path → Option Place) → State → Result T (Stop Error) → State → Type 0
+-- `required`, where `places` are those of the table without the names that were asked for: what is read of the value
+-- below the key; `MissingField` where nothing stands there; or the last of the errors of the read, which are kept
+abbrev pub RequiresAt : {T : Type 0} → (Node → Result T Faults → Node → Type 0) → List ℕ → (Path → Option Place) → State
+    → Result T (Stop Error) → State → Type 0
 RequiresAt reads name places before (Ok x) after =
     ReadsPart reads (part places (key name ∷ [])) (Ok x) × (after ≡ noted name before)
 RequiresAt reads name places before (Err (stop.Fault error)) after = MatchOption (places (key name ∷ []))
@@ -53,7 +55,8 @@ RequiresAt reads name places before (Err (stop.Fault error)) after = MatchOption
 RequiresAt reads name places before (Err (stop.Memory error)) after = Starved name before after
 
 -- `optional`: None where nothing stands below the key, and no error is kept then; else as `required`
-abbrev pub TriesAt : {T : Type 0} → (Node → Result T Faults → Node → Type 0) → List ℕ → (Path → Option Place) → State → Result (Option T) AllocError → State → Type 0
+abbrev pub TriesAt : {T : Type 0} → (Node → Result T Faults → Node → Type 0) → List ℕ → (Path → Option Place) → State
+    → Result (Option T) AllocError → State → Type 0
 TriesAt reads name places before (Ok (Some x)) after =
     ReadsPart reads (part places (key name ∷ [])) (Ok x) × (after ≡ noted name before)
 TriesAt reads name places before (Ok None) after = MatchOption (places (key name ∷ []))
@@ -64,9 +67,11 @@ TriesAt reads name places before (Err error) after = Starved name before after
 
 -- the error of the keys that are left, if any are
 abbrev pub left_over : List (List ℕ) → Span → Members → List Fault
-left_over asked span rest = where_filled rest (record { kind = unexpected_keys (names_in rest) asked; span = span; line_info = None } ∷ [])
+left_over asked span rest =
+    where_filled rest (record { kind = unexpected_keys (names_in rest) asked; span = span; line_info = None } ∷ [])
 
 -- `finalize(None)` with errors: those that were kept, and behind them that of the keys that are left of the table
 abbrev pub EndsWith : (Path → Option Place) → State → Faults → Type 0
 EndsWith places s faults =
-    (rest : Members) × IsValueOf (except s.asked places) (node (table rest) s.span) × (all faults ≡ s.errors ++ left_over s.asked s.span rest)
+    (rest : Members) × IsValueOf (except s.asked places) (node (table rest) s.span)
+    × (all faults ≡ s.errors ++ left_over s.asked s.span rest)

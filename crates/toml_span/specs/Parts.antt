@@ -22,4 +22,5 @@ IsValueOf places n = IsOrdered n × Shows n places
 -- the pointer's segments name the steps of a path, and this is the value of what stands there
 abbrev pub PointsAt : List ℕ → (Path → Option Place) → Node → Type 0
 PointsAt pointer places n =
-    (names : List (List ℕ)) × (path : Path) × (pointer_segments pointer ≡ Some names) × NamesPath names path × IsValueOf (part places path) n
+    (names : List (List ℕ)) × (path : Path) × (pointer_segments pointer ≡ Some names) × NamesPath names path
+    × IsValueOf (part places path) n

@@ -30,12 +30,15 @@ read_or otherwise read None = otherwise
 read_or otherwise read (Some x) = read (face x)
 
 -- what is read at a key of the root, whose span this is; `MissingField` where nothing stands there
-abbrev pub required_field : {T : Type 0} → (Node → Result T Faults) → List ℕ → Span → (Path → Option Place) → Result T Faults
+abbrev pub required_field : {T : Type 0} → (Node → Result T Faults) → List ℕ → Span → (Path → Option Place)
+    → Result T Faults
 required_field read name span places =
-    read_or (Err (one (record { kind = missing_field name; span = span; line_info = None }))) read (places (key name ∷ []))
+    read_or (Err (one (record { kind = missing_field name; span = span; line_info = None }))) read
+    (places (key name ∷ []))
 
 -- the same; None where nothing stands there
-abbrev pub optional_field : {T : Type 0} → (Node → Result T Faults) → List ℕ → (Path → Option Place) → Result (Option T) Faults
+abbrev pub optional_field : {T : Type 0} → (Node → Result T Faults) → List ℕ → (Path → Option Place)
+    → Result (Option T) Faults
 optional_field read name places = read_or (Ok None) (λ n. result_map Some (read n)) (places (key name ∷ []))
 
 -- the errors of a read
@@ -50,7 +53,7 @@ whole text = record { start = 0; end = length text }
 abbrev pub number : Node → Result ℕ Faults
 number = integer_of (codes "u16") (unsigned (2 ^ 16))
 
--- The text is refused with this span, line and column, which are a place of the text, and the line and the column of its start.
+-- The text is refused with this span, line and column: the span is in the text, and they are those of its start.
 abbrev pub IsRefusedAt : List ℕ → Span → ℕ × ℕ → Type 0
 IsRefusedAt text span info =
     (error : Error) × IsRefusal text 128 (stops.Fault error) × (error.span ≡ span) × (error.line_info ≡ Some info)
@@ -60,7 +63,9 @@ IsRefusedAt text span info =
 abbrev pub NoPort : List ℕ → Stop Error → Type 0
 NoPort text (stops.Memory e) = ⊤
 NoPort text (stops.Fault error) =
-    IsRefusal text 128 (stops.Fault error) ⊎ IsDocument text (λ places. (faults : Faults) × (required_field number (codes "port") (whole text) places ≡ Err faults) × (fault_of error ≡ faults.last))
+    IsRefusal text 128 (stops.Fault error)
+    ⊎ IsDocument text (λ places. (faults : Faults)
+    × (required_field number (codes "port") (whole text) places ≡ Err faults) × (fault_of error ≡ faults.last))
 
 -- the field that was read, if it was; want of memory ends all reads
 abbrev pub IsField : {T : Type 0} → Result T (Stop Error) → Result (Option T) (Stop Faults) → Type 0

@@ -31,7 +31,8 @@ AreSettings span places settings =
 -- the errors of the fields in their order, and behind them that of the other keys
 abbrev pub errors_of : Span → (Path → Option Place) → Members → List Fault
 errors_of span places rest =
-    errors_in (required_field string_of (codes "host") span places) ++ errors_in (required_field number (codes "port") span places)
+    errors_in (required_field string_of (codes "host") span places)
+    ++ errors_in (required_field number (codes "port") span places)
     ++ errors_in (optional_field boolean_of (codes "secure") places) ++ left_over names span rest
 
 -- The text is refused, and the one error tells why; or it is read, and these are all the errors of its settings.
@@ -39,4 +40,5 @@ abbrev pub NoSettings : List ℕ → Stop Faults → Type 0
 NoSettings text (stops.Memory e) = ⊤
 NoSettings text (stops.Fault faults) =
     ((error : Error) × IsRefusal text 128 (stops.Fault error) × (faults ≡ one (fault_of error)))
-    ⊎ IsDocument text (λ places. (rest : Members) × IsValueOf (except names places) (node (table rest) (whole text)) × (all faults ≡ errors_of (whole text) places rest))
+    ⊎ IsDocument text (λ places. (rest : Members) × IsValueOf (except names places) (node (table rest) (whole text))
+    × (all faults ≡ errors_of (whole text) places rest))
