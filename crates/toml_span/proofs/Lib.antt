@@ -5,3 +5,6 @@ pub mod Apart
 pub mod SpelledClaims
 pub mod ReadAgain
 pub mod ReadStrings
+pub mod OneTree
+pub mod Pointed
+pub mod Fields

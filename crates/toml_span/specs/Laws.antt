@@ -1,5 +1,5 @@
 -- What the laws cite.
-use Rattle.std.specs.Prelude.{◌≡◌, ⊤, ℕ, suc, ◌+◌, Bool, List, [], ◌∷◌, None}
+use Rattle.std.specs.Prelude.{◌≡◌, ⊤, ℕ, suc, ◌+◌, Bool, List, [], ◌∷◌}
 use Rattle.toml_span_lex.specs.declared.span.Span.{Span}
 use Rattle.toml_span_lex.specs.Strings.{IsString, IsEmptyOnOneLine}
 use Rattle.toml_span_tree.specs.Path.{Path, key, position, Shape, is_taken, is_scalar, is_array, is_table}

@@ -7,3 +7,6 @@ pub use Rattle.toml_span_tree.specs.Value
 pub mod Laws
 pub mod Order
 pub mod Outcomes
+pub mod Document
+pub mod Parts
+pub mod Helpers

@@ -1,16 +1,23 @@
 //! Laws of claims, and of what a text is answered.
-ghost use Rattle.std.specs.Prelude.{◌≡◌, ◌≢◌, ◌≤◌, ◌*◌, ◌⊎◌, ◌++◌, ◌∷◌, ℕ, false, true, List, [], length, slice_range, Some, Result};
+ghost use Rattle.std.specs.Prelude.{◌≡◌, ◌≢◌, ◌≤◌, ◌↔◌, ⊤, ◌*◌, ◌⊎◌, ◌++◌, ◌∷◌, ℕ, false, true, List, [], length, slice_range, Option, Some, option_map, Result, Ok, Err, IsOk};
 ghost use Rattle.toml_span_lex.specs.Bytes.{quotation_mark};
 ghost use Rattle.toml_span_lex.specs.Strings.{HasChange};
 ghost use Rattle.toml_span_lex.specs.declared.span.Span.{Span};
 ghost use Rattle.toml_span_lex.specs.declared.stop.Stop.{Stop};
 ghost use Rattle.toml_span_lex.specs.declared.stop.Stop.TheVariants.{Fault as refused};
+ghost use Rattle.toml_span_typed.specs.Faults.{Faults};
+ghost use Rattle.toml_span_typed.specs.TableHelper.{Opens, Refuses, Requires, State, Tries};
+ghost use Rattle.toml_span_typed.specs.declared.de_helpers.table_helper.TableHelper.{TableHelper};
+ghost use Rattle.toml_span_typed.specs.declared.de_helpers.table_helper.Unfinished.{Unfinished};
+ghost use Rattle.toml_span_typed.specs.declared.de_helpers.table_helper.Unfinished.TheVariants.{Faults as unfinished, Memory as starved};
+ghost use Rattle.std.specs.declared.alloc.AllocError.{AllocError};
 ghost use Rattle.toml_span_read_laws.specs.Again.{ScalarReadsAgain};
 ghost use Rattle.toml_span_read.specs.Lines.{Block, SpellsDocument, StuckDocument};
 ghost use Rattle.toml_span_read.specs.declared.fault.Fault.{Fault};
 ghost use Rattle.toml_span_tree.specs.Error.{fault_of};
 ghost use Rattle.toml_span_tree.specs.Node.{Node, Scalar, text as string};
-ghost use Rattle.toml_span_tree.specs.Path.{Path, Place, is_scalar, key, node_at, place_at};
+ghost use Rattle.toml_span_tree.specs.Path.{Path, Place, is_scalar, is_table, key, node_at, place_at};
+ghost use Rattle.toml_span_tree.specs.Pointer.{pointed};
 ghost use Rattle.toml_span_tree.specs.Value.{is_taken, is_whole, view};
 ghost use Rattle.toml_span_tree.specs.declared.error.Error.{Error};
 ghost use Rattle.toml_span_tree.specs.declared.value.Value.{Value};
@@ -18,13 +25,17 @@ ghost use Rattle.toml_span_claims.specs.Claims.{Claims, claims};
 ghost use Rattle.toml_span_claims.specs.Clashes.{Told, Resolves, TellsFirst};
 ghost use Rattle.toml_span_claims.specs.Flat.{Shows, all_claims, flat};
 ghost use Rattle.toml_span_claims.specs.OneEach.{HasOneEach};
+ghost use Rattle.toml_span.specs.Document.{StandsAt};
+ghost use Rattle.toml_span.specs.Helpers.{EndsWith, HasNoKeyBut, IsOver, RequiresAt, TriesAt, except};
 ghost use Rattle.toml_span.specs.Laws.{AssignedReadAgain, keys_in, ShowsString};
+ghost use Rattle.toml_span.specs.Parts.{IsValueOf, PointsAt};
 ghost use Rattle.toml_span.specs.Order.{Ascends, key_at, KeysApart};
 ghost use Rattle.toml_span.specs.Outcomes.{HasOutcome, IsAlike, IsAnswered, IsAnswerOf, Outcome};
 ghost use Rattle.toml_span_claims.specs.Ordered.{IsOrdered};
 ghost use Rattle.toml_span_assembly.specs.Parsing.{IsClash, IsFault, IsRefusal, IsTree};
 
 use toml_span_read_laws::judged::document_or_stuck;
+use toml_span_typed::Deserialize;
 
 /// Either no two claims of one scope clash, or there is a first clash.
 pub fn resolves_or_told()
@@ -126,4 +137,49 @@ pub fn strings_show_the_text()
 /// for strings.
 pub fn brackets_read_again()
     ensures { (text : List ℕ) (limit : ℕ) (blocks : List Block) → SpellsDocument blocks text limit → AssignedReadAgain text limit (all_claims (claims blocks)) }
+{}
+
+/// One value at most, whose tables are in order, shows given places: so all trees of a text are equal as
+/// data, and whatever is a function of a tree, as its JSON value or what a type reads, is one of the flat
+/// document.
+pub fn one_tree()
+    ensures value { (places : Path → Option Place) (n m : Node) → IsValueOf places n → IsValueOf places m → n ≡ m }
+    ensures tree { (text : List ℕ) (limit : ℕ) (root other : Value) → IsTree text limit root → IsTree text limit other → IsOrdered (view root) → IsOrdered (view other) → view root ≡ view other }
+    ensures document { (text : List ℕ) (limit : ℕ) (root : Value) (blocks : List Block) → IsTree text limit root → IsOrdered (view root) → SpellsDocument blocks text limit → IsValueOf (flat (length text) (claims blocks)) (view root) }
+{}
+
+/// In the tree that `parse` gives of a text a pointer names a value exactly where its segments name the path
+/// of something in the flat document, and the value is the one that shows what stands there and below.
+pub fn pointers_name_places()
+    ensures some { (text : List ℕ) (limit : ℕ) (root : Value) (blocks : List Block) (pointer : List ℕ) → IsTree text limit root → IsOrdered (view root) → SpellsDocument blocks text limit → ((m : Node) × (pointed pointer (view root) ≡ Some m)) ↔ StandsAt pointer (flat (length text) (claims blocks)) (λ _. ⊤) }
+    ensures value { (text : List ℕ) (limit : ℕ) (root : Value) (blocks : List Block) (pointer : List ℕ) (m : Node) → IsTree text limit root → IsOrdered (view root) → SpellsDocument blocks text limit → (pointed pointer (view root) ≡ Some m) ↔ PointsAt pointer (flat (length text) (claims blocks)) m }
+{}
+
+/// A helper opens on a value exactly where the flat document has a table there, and holds the entries of that
+/// table.
+pub fn helper_opens_on_a_table()
+    ensures some { (places : Path → Option Place) (m : Node) → IsValueOf places m → ((s : State) × Opens m (Ok s)) ↔ (option_map (λ x. x.shape) (places []) ≡ Some is_table) }
+    ensures over { (places : Path → Option Place) (m : Node) (s : State) → IsValueOf places m → Opens m (Ok s) → IsOver places s × (s.asked ≡ []) × (s.errors ≡ []) }
+{}
+
+/// `required` reads the value that shows what the flat document has below the key, and `MissingField` comes
+/// exactly where it has nothing there. The helper stays over its table.
+pub fn required_reads_the_document<'de, T: Deserialize<'de>>()
+    ensures reads { (places : Path → Option Place) (name : List ℕ) (before after : State) (answer : Result T (Stop Error)) → IsOver places before → Requires T.reads name before answer after → RequiresAt T.reads name (except before.asked places) before answer after }
+    ensures over { (places : Path → Option Place) (name : List ℕ) (before after : State) (answer : Result T (Stop Error)) → IsOver places before → Requires T.reads name before answer after → IsOver places after }
+{}
+
+/// `optional` does so too: it gives None and keeps nothing exactly where the flat document has nothing there.
+pub fn optional_reads_the_document<'de, T: Deserialize<'de>>()
+    ensures reads { (places : Path → Option Place) (name : List ℕ) (before after : State) (answer : Result (Option T) AllocError) → IsOver places before → Tries T.reads name before answer after → TriesAt T.reads name (except before.asked places) before answer after }
+    ensures over { (places : Path → Option Place) (name : List ℕ) (before after : State) (answer : Result (Option T) AllocError) → IsOver places before → Tries T.reads name before answer after → IsOver places after }
+{}
+
+/// `finalize(None)` is Ok exactly where no error was kept and the flat document has no key in the table but
+/// those that were asked for. Else its errors are those that were kept and, behind them, that of the other
+/// keys; memory runs out only where there are other keys.
+pub fn finalize_ends_the_table()
+    ensures ok { (places : Path → Option Place) (s : State) (answer : Result (Unit {0}) Unfinished) → IsOver places s → Refuses s answer → IsOk answer ↔ ((s.errors ≡ []) × HasNoKeyBut s.asked places) }
+    ensures faults { (places : Path → Option Place) (s : State) (faults : Faults) → IsOver places s → Refuses s (Err (unfinished faults)) → EndsWith places s faults }
+    ensures memory { (places : Path → Option Place) (s : State) (helper : TableHelper) → IsOver places s → Refuses s (Err (starved helper)) → HasNoKeyBut s.asked places → ⊥ }
 {}

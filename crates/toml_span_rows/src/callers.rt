@@ -3,10 +3,12 @@
 //! - `span_at POINTER` and `integer_at POINTER`: what stands there, if anything does.
 //! - `refused_at`: the place of a refusal, with its line and its column.
 //! - `port_of`: the port of the document, if it has one.
+//! - `settings_of`: the settings of the document, or all their errors.
 use crate::tokens::push_span;
 use std::alloc::{AllocError, Global};
 use std::fmt::Write;
 use toml_span::Stop;
+use toml_span_uses::settings::settings_of;
 use toml_span_uses::{integer_at, port_of, refused_at, span_at};
 
 /// Writes the answer of a row, one line each, or says that there is no such call.
@@ -22,6 +24,7 @@ pub fn answer(
         "integer_at" => integer_row(alloc, words, text, out)?,
         "refused_at" => refusal_row(alloc, text, out)?,
         "port_of" => port_row(alloc, text, out)?,
+        "settings_of" => settings_row(alloc, text, out)?,
         _ => return Ok(false),
     }
     Ok(true)
@@ -55,7 +58,7 @@ fn integer_row(
 
 /// Answers `refused_at`.
 fn refusal_row(alloc: Global, text: &str, out: &mut String) -> Result<(), AllocError> {
-    match refused_at(alloc, text) {
+    match refused_at(alloc, text)? {
         Some((span, line, column)) => {
             push_span(out, span)?;
             writeln!(out, " {line}:{column}")
@@ -67,7 +70,24 @@ fn refusal_row(alloc: Global, text: &str, out: &mut String) -> Result<(), AllocE
 /// Answers `port_of`.
 fn port_row(alloc: Global, text: &str, out: &mut String) -> Result<(), AllocError> {
     match port_of(alloc, text) {
-        Some(port) => writeln!(out, "{port}"),
-        None => out.push_str("none\n"),
+        Ok(port) => writeln!(out, "{port}"),
+        Err(Stop::Fault(_error)) => out.push_str("none\n"),
+        Err(Stop::Memory(error)) => Err(error),
+    }
+}
+
+/// Answers `settings_of`: the settings, or the errors, a line each.
+fn settings_row(alloc: Global, text: &str, out: &mut String) -> Result<(), AllocError> {
+    match settings_of(alloc, text) {
+        Ok(settings) => {
+            out.push_str(settings.host.as_ref())?;
+            write!(out, " {}", settings.port)?;
+            match settings.secure {
+                Some(secure) => writeln!(out, " {secure}"),
+                None => out.push('\n'),
+            }
+        }
+        Err(Stop::Fault(faults)) => write!(out, "{faults}"),
+        Err(Stop::Memory(error)) => Err(error),
     }
 }

@@ -1,26 +1,24 @@
 -- What callers conclude from the clauses of `parse` and of the tree.
-use Rattle.std.proofs.Common.{◌≡◌, ◌≤◌, ◌↔◌, ℕ, ℤ, pos, negsuc, Bool, true, false, nat_lt, if◌then◌else◌, List, [], ◌∷◌, Option, Some, None, option_map, Ok, length, refl, sym, ap, ◌∙◌, subst, inl, inr, true≢false}
-use Rattle.std.specs.Prelude.{option_and_then}
+use Rattle.std.proofs.Common.{◌≡◌, ◌≤◌, ◌↔◌, ℕ, ℤ, pos, negsuc, Bool, true, false, nat_lt, if◌then◌else◌, List, Option, Some, None, option_map, Ok, length, refl, sym, ap, ◌∙◌, subst, inl, inr, true≢false}
 use Rattle.std.proofs.lemmas.Option.{none-some, same_Some}
 use Rattle.toml_span_lex.specs.declared.span.Span.{Span}
 use Rattle.toml_span_lex.specs.declared.stop.Stop.{Stop}
 use Rattle.toml_span_lex.specs.declared.stop.Stop.TheVariants as stops
 use Rattle.toml_span_tree.specs.declared.error.Error.{Error}
 use Rattle.toml_span_tree.specs.declared.value.Value.{Value}
-use Rattle.toml_span_tree.specs.Node.{Node, node, Members, entry_at, Inner, taken, scalar, array, table, text, integer, float, boolean, datetime}
-use Rattle.toml_span_tree.specs.Path.{Path, key, Place, is_scalar, shape_of, place_of, place_at, reached}
+use Rattle.toml_span_tree.specs.Node.{Node, node, Inner, taken, scalar, array, table, text, integer, float, boolean, datetime}
+use Rattle.toml_span_tree.specs.Path.{Path, Place, is_scalar, shape_of, place_of, reached}
 use Rattle.toml_span_tree.specs.Pointer.{pointed}
 use Rattle.toml_span_tree.specs.Value.{view, inner_of, span_of, integer_in, is_taken}
 use Rattle.toml_span_tree.proofs.PointerLaws.{pointed-is}
 use Rattle.toml_span_tree.proofs.Values.{view_is}
-use Rattle.toml_span_typed.specs.Reads.{Gives, integer_of, or_out_of, unsigned}
-use Rattle.toml_span_typed.specs.TableHelper.{State, Opens, Requires, fresh}
+use Rattle.toml_span_typed.specs.Reads.{integer_of, or_out_of, unsigned}
 use Rattle.toml_span_read.specs.Faults.{IsLineInfo}
 use Rattle.toml_span_read.specs.Lines.{Block}
 use Rattle.toml_span_claims.specs.Claims.{claims}
 use Rattle.toml_span_claims.specs.Flat.{flat, Shows}
 use Rattle.toml_span_assembly.specs.Parsing.{IsTree, IsRefusal}
-use Rattle.toml_span_uses.specs.Document.{IsDocument, StandsAt}
+use Rattle.toml_span.specs.Document.{IsDocument, StandsAt}
 use Rattle.toml_span_assembly.proofs.ShownWhole.{shown-filled}
 
 -- ---- what a pointer names in a tree, and what stands there
@@ -98,25 +96,13 @@ integer-place o i is z =
     let shape = integer-shape i z in
     (λ h. shape.0 (sym is ∙ h), λ h. is ∙ shape.1 h)
 
--- ---- a field that a helper reads
-
-opened : (m : Node) (state : State) → Opens m (Ok state) → (ms : Members) × (span : Span) × (m ≡ node (table ms) span) × (state.members ≡ ms)
-opened (node taken span) state h = cc
-opened (node (scalar x) span) state h = cc
-opened (node (array ns) span) state h = cc
-opened (node (table ms) span) state h =
-    let same : state ≡ fresh ms span = cc in
-    (ms, span, refl, ap (λ t. t.members) same)
-
-last-step : (o : Option At) → option_and_then (reached []) o ≡ o
-last-step None = refl
-last-step (Some r) = refl
+-- ---- a number that is read
 
 held-below : (b : Bool) (type : List ℕ) (span : Span) (m n : ℕ) → Ok n ≡ or_out_of type span (if b then Some m else None) → m ≡ n
 held-below true type span m n h = cc
 held-below false type span m n h = cc
 
-number-shape : (limit : ℕ) (type : List ℕ) (value : Node) (n : ℕ) → Ok n ≡ integer_of type (unsigned limit) value → shape_of (inner_of value) ≡ is_scalar (integer (pos n))
+pub number-shape : (limit : ℕ) (type : List ℕ) (value : Node) (n : ℕ) → Ok n ≡ integer_of type (unsigned limit) value → shape_of (inner_of value) ≡ is_scalar (integer (pos n))
 number-shape limit type (node taken span) n h = cc
 number-shape limit type (node (scalar (text s)) span) n h = cc
 number-shape limit type (node (scalar (integer (pos m))) span) n h = ap (λ m. is_scalar (integer (pos m))) (held-below (nat_lt m limit) type span m n h)
@@ -126,16 +112,6 @@ number-shape limit type (node (scalar (boolean b)) span) n h = cc
 number-shape limit type (node (scalar (datetime d)) span) n h = cc
 number-shape limit type (node (array ns) span) n h = cc
 number-shape limit type (node (table ms) span) n h = cc
-
--- An unsigned number that a helper over the root reads under a name stands there in the flat document.
-pub required-number : (s name type : List ℕ) (limit n : ℕ) (root : Value) (before after : State) → IsTree s 128 root → Opens (view root) (Ok before)
-    → Requires (Gives (integer_of type (unsigned limit))) name before (Ok n) after
-    → IsDocument s (λ places. (place : Place) × (places (key name ∷ []) ≡ Some place) × (place.shape ≡ is_scalar (integer (pos n))))
-required-number s name type limit n root before after (bs, spelled, tree) opens (value, left, found, reads, noted) =
-    let (ms, span, is, members) = opened (view root) before opens in
-    let at = node-place (entry_at name ms) value (subst (λ ms. option_map (λ e. e.1) (entry_at name ms) ≡ Some value) members found) in
-    let there = sym (tree.shows (key name ∷ [])) ∙ ap (place_at (key name ∷ [])) is ∙ ap (option_map place_of) (last-step (entry_at name ms)) ∙ at.1 in
-    (bs, spelled, tree.resolves, (place_of (at.0, value), there, number-shape limit type value n reads.0))
 
 -- ---- refusals
 

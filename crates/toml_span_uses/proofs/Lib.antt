@@ -1,1 +1,3 @@
 pub mod Conclusions
+pub mod Reading
+pub mod Configured

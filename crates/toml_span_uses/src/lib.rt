@@ -1,19 +1,20 @@
 //! Callers of `toml_span` that state what they conclude.
 #![tactic(auto)]
 
-ghost use Rattle.std.specs.Prelude.{◌≡◌, ◌≤◌, ◌↔◌, ◌∷◌, [], ℤ, pos, length, codes, Some, IfOk, IfErr, IfSome};
+ghost use Rattle.std.specs.Prelude.{◌≡◌, ◌↔◌, ⊤, ◌∷◌, [], ℤ, pos, codes, Some, IfOk, IfErr, IfSome, IfNone};
 ghost use Rattle.toml_span_lex.specs.declared.span.Span.{Span as Bytes};
-ghost use Rattle.toml_span_read.specs.Faults.{IsLineInfo};
 ghost use Rattle.toml_span_tree.specs.Node.{integer};
 ghost use Rattle.toml_span_tree.specs.Path.{Place, key, is_scalar};
 ghost use Rattle.toml_span_assembly.specs.Parsing.{IsRefusal};
-ghost use Rattle.toml_span_uses.specs.Document.{IsDocument, StandsAt};
+ghost use Rattle.toml_span.specs.Document.{IsDocument, StandsAt};
+ghost use Rattle.toml_span_uses.specs.Fields.{IsRefusedAt, NoPort};
 
 pub mod callers;
 pub mod example;
+pub mod settings;
 pub mod writes;
 
-use std::alloc::Global;
+use std::alloc::{AllocError, Global};
 use toml_span::de_helpers::TableHelper;
 use toml_span::{Error, Span, Stop, parse};
 
@@ -50,31 +51,29 @@ pub fn integer_at<'de>(
 
 /// Where the text is refused, if it is: the bytes, and the line and the column of the first of them, both
 /// counted from 0.
-pub fn refused_at(alloc: Global, text: &str) -> Option<(Span, usize, usize)>
-    ensures { IfSome result (λ at. (at.0.start ≤ length text.now) × (at.0.start ≤ at.0.end) × IsLineInfo text.now at.0.start at.1 at.2) }
+pub fn refused_at(alloc: Global, text: &str) -> Result<Option<(Span, usize, usize)>, AllocError>
+    ensures read { IfOk result (λ o. IfNone o (IsDocument text.now (λ _. ⊤))) }
+    ensures refused { IfOk result (λ o. IfSome o (λ at. IsRefusedAt text.now at.0 (at.1, at.2))) }
 {
     match parse(alloc, text) {
-        Ok(_) | Err(Stop::Memory(_)) => None,
+        Ok(_) => Ok(None),
+        Err(Stop::Memory(error)) => Err(error),
         Err(Stop::Fault(error)) => match error.line_info {
-            Some((line, column)) => Some((error.span, line, column)),
+            Some((line, column)) => Ok(Some((error.span, line, column))),
             None => unreachable!(),
         },
     }
 }
 
-/// The port that the document has, if it has one.
+/// The port that the document has, or why it has none.
 #[tactic(auto, using(toml_span_typed::proofs::Whole::found_whole))]
-pub fn port_of(alloc: Global, text: &str) -> Option<u16>
-    ensures { IfSome result (λ port. IsDocument text.now (λ places. (place : Place) × (places (key (codes "port") ∷ []) ≡ Some place) × (place.shape ≡ is_scalar (integer (pos port))))) }
+pub fn port_of<'de>(alloc: Global, text: &'de str) -> Result<u16, Stop<Error<'de>>>
+    ensures port { IfOk result (λ port. IsDocument text.now (λ places. (place : Place) × (places (key (codes "port") ∷ []) ≡ Some place) × (place.shape ≡ is_scalar (integer (pos port))))) }
+    ensures refused { IfErr result (NoPort text.now) }
 {
-    let Ok(mut root) = parse(alloc, text) else {
-        return None;
-    };
+    let mut root = parse(alloc, text)?;
     let Ok(mut helper) = TableHelper::new(alloc, &mut root) else {
-        return None;
+        unreachable!()
     };
-    match helper.required::<u16>("port") {
-        Ok(port) => Some(port),
-        Err(_) => None,
-    }
+    helper.required::<u16>("port")
 }
