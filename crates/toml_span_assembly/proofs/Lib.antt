@@ -14,3 +14,4 @@ pub mod Headers
 pub mod EachClaim
 pub mod WholeTree
 pub mod ShownWhole
+pub mod Borrowing

@@ -1,5 +1,5 @@
 -- What `parse` gives, and what it refuses.
-use Rattle.std.specs.Prelude.{◌≡◌, ◌≤◌, ◌⊎◌, ⊤, ℕ, List, [], length}
+use Rattle.std.specs.Prelude.{◌≡◌, ◌≤◌, ◌⊎◌, ⊤, ℕ, List, [], map, length}
 use Rattle.toml_span_lex.specs.declared.stop.Stop.{Stop}
 use Rattle.toml_span_lex.specs.declared.stop.Stop.TheVariants as stops
 use Rattle.toml_span_tree.specs.declared.error.Error.{Error}
@@ -8,7 +8,10 @@ use Rattle.toml_span_tree.specs.Error.{fault_of}
 use Rattle.toml_span_tree.specs.Value.{view}
 use Rattle.toml_span_read.specs.declared.fault.Fault.{Fault}
 use Rattle.toml_span_read.specs.Faults.{IsLineInfo, IsPlaced, Tells}
-use Rattle.toml_span_read.specs.Lines.{Block, SpellsDocument, StuckDocument}
+use Rattle.toml_span_read.specs.declared.section.Section.{Section}
+use Rattle.toml_span_read.specs.Borrowed.{sections_written}
+use Rattle.toml_span_read.specs.Lines.{Block, block, SpellsDocument, StuckDocument}
+use Rattle.toml_span_claims.specs.Borrowed.{AreRight, keys_of, value_standing}
 use Rattle.toml_span_claims.specs.Claims.{claims}
 use Rattle.toml_span_claims.specs.Clashes.{Told, Resolves, TellsFirst, fault_told}
 use Rattle.toml_span_claims.specs.Flat.{flat, Shows}
@@ -23,6 +26,12 @@ pub record IsTreeOf (blocks : List Block) (length : ℕ) (root : Value) : Type 0
 -- The text spells sections within the limit, and this is their tree.
 abbrev pub IsTree : List ℕ → ℕ → Value → Type 0
 IsTree text limit root = (blocks : List Block) × SpellsDocument blocks text limit × IsTreeOf blocks (length text) root
+
+-- Each string value is borrowed exactly where it equals the text at its span, and so is the key of each scalar. The name of a table
+-- or of an array is borrowed exactly where it equals the text at some key of that name. An empty string on one line is borrowed.
+abbrev pub IsBorrowedTree : List ℕ → ℕ → Value → Type 0
+IsBorrowedTree text limit root =
+    (sections : List Section) × SpellsDocument (map block sections) text limit × AreRight text (keys_of (sections_written sections)) (value_standing root)
 
 -- ---- refusals
 

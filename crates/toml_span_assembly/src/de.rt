@@ -1,10 +1,13 @@
 //! Reads a document into a tree.
-ghost use Rattle.std.specs.Prelude.{◌≡◌, ◌≤◌, true, IfOk, IfErr, length, map};
+ghost use Rattle.std.specs.Prelude.{◌≡◌, ◌≤◌, List, true, IfOk, IfErr, length, map};
+ghost use Rattle.toml_span_read.specs.Borrowed.{sections_written};
 ghost use Rattle.toml_span_read.specs.Inside.{SectionsInside};
+ghost use Rattle.toml_span_read.specs.Keys.{Part};
 ghost use Rattle.toml_span_read.specs.Lines.{block};
 ghost use Rattle.toml_span_tree.specs.Value.{is_whole, view};
+ghost use Rattle.toml_span_claims.specs.Borrowed.{AreFrom, AreRight, value_standing};
 ghost use Rattle.toml_span_claims.specs.Ordered.{IsOrdered};
-ghost use Rattle.toml_span_assembly.specs.Parsing.{IsClashStop, IsRefusal, IsTree, IsTreeOf};
+ghost use Rattle.toml_span_assembly.specs.Parsing.{IsBorrowedTree, IsClashStop, IsRefusal, IsTree, IsTreeOf};
 ghost use Rattle.toml_span_claims.specs.Placing.{AreSections};
 ghost use Rattle.toml_span_assembly.specs.Roots.{IsRoot};
 
@@ -31,6 +34,7 @@ fn tree_of<'de>(
     ensures root { IfOk result (IsRoot (length text.now)) }
     ensures ordered { IfOk result (λ root. IsOrdered (view root)) }
     ensures whole { IfOk result (λ root. is_whole (view root) ≡ true) }
+    ensures borrows { (ps : List Part) → AreFrom text.now ps (sections_written sections.entry.items) → IfOk result (λ root. AreRight text.now ps (value_standing root)) }
     ensures refused { IfErr result (IsClashStop (map block sections.entry.items) text.now) }
 {
     match assemble(alloc, sections, text.len()) {
@@ -52,6 +56,7 @@ pub fn parse<'de>(alloc: Global, s: &'de str) -> Result<Value<'de>, Stop<Error<'
     ensures root { IfOk result (IsRoot (length s.now)) }
     ensures ordered { IfOk result (λ root. IsOrdered (view root)) }
     ensures whole { IfOk result (λ root. is_whole (view root) ≡ true) }
+    ensures borrows { IfOk result (IsBorrowedTree s.now LIMIT) }
     ensures refused { IfErr result (IsRefusal s.now LIMIT) }
 {
     parse_with_limit(alloc, s, LIMIT)
@@ -70,6 +75,7 @@ pub fn parse_with_limit<'de>(
     ensures root { IfOk result (IsRoot (length s.now)) }
     ensures ordered { IfOk result (λ root. IsOrdered (view root)) }
     ensures whole { IfOk result (λ root. is_whole (view root) ≡ true) }
+    ensures borrows { IfOk result (IsBorrowedTree s.now limit) }
     ensures refused { IfErr result (IsRefusal s.now limit) }
 {
     match read_sections(alloc, s, limit) {

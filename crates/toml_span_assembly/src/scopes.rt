@@ -1,14 +1,16 @@
 //! Assignments placed into a scope: a section's table, or an inline table.
-ghost use Rattle.std.specs.Prelude.{◌≡◌, ⊤, ℕ, map, [], IfErr};
+ghost use Rattle.std.specs.Prelude.{◌≡◌, ⊤, ℕ, List, map, [], IfOk, IfErr};
 ghost use Rattle.std.specs.Cow.{cow_str_bytes};
 ghost use Rattle.toml_span_tree.specs.Value.{items_view, inner_view};
 ghost use Rattle.toml_span_tree.specs.Node as tree;
 ghost use Rattle.toml_span_tree.specs.declared.value.ValueInner.TheVariants as inners;
+ghost use Rattle.toml_span_read.specs.Borrowed.{assignment_written, assignments_written, joined, key_written, keys_written, written};
 ghost use Rattle.toml_span_read.specs.Data.{event, view, onto, no_items};
 ghost use Rattle.toml_span_read.specs.Inside.{IsInside, PartsInside, EventInside, EventsInside, KeysInside, ItemKeysInside};
-ghost use Rattle.toml_span_read.specs.Keys.{part as part_of};
+ghost use Rattle.toml_span_read.specs.Keys.{Part, part as part_of};
 ghost use Rattle.toml_span_read.specs.Data.{Node as Read};
 ghost use Rattle.toml_span_read.specs.Earlier.{span_of};
+ghost use Rattle.toml_span_claims.specs.Borrowed.{AreFrom, AreRight, IsFrom, Keeps, ValueRight, array_standing, table_standing};
 ghost use Rattle.toml_span_claims.specs.Claims.{assignment_claims, event_claims, item_claims};
 ghost use Rattle.toml_span_claims.specs.Machine.{Gives, met};
 ghost use Rattle.toml_span_claims.specs.Placing.{Places, Passes, ValueGives, ScopeGives};
@@ -89,6 +91,7 @@ fn assign<'de>(
 ) -> Result<(), Halt>
     ensures gives { (v : Read) → ValueGives value.entry v → span ≡ span_of v → Places node.old node.new result (pair_at [] (part_of key.entry) v) (counts node.old) }
     ensures placed { (n : ℕ) → IsInside n key.entry.span → IfErr value.entry (IsHaltInside n) → IfErr result (IsHaltInside n) }
+    ensures borrows { (text : List ℕ) → (ps : List Part) → IsFrom text ps (key_written key.entry) → ValueRight text ps value.entry → Keeps text ps node.old node.new result }
 {
     let mark = pair_mark(Sort::Assigned, &key, span);
     admit_beside_table(alloc, &node.tables, mark, &key)?;
@@ -121,6 +124,8 @@ fn place_pair<'de>(
 ) -> Result<(), Halt>
     ensures gives { (v : Read) → ValueGives value.entry v → span ≡ span_of v → Places node.old node.new result (pair_at (map part_of inner.now) (part_of last.entry) v) (counts node.old) }
     ensures placed { (n : ℕ) → PartsInside n (map part_of inner.now) → IsInside n last.entry.span → IfErr value.entry (IsHaltInside n) → IfErr result (IsHaltInside n) }
+    ensures borrows { (text : List ℕ) → (ps : List Part) → AreFrom text ps (keys_written inner.now) → IsFrom text ps (key_written last.entry)
+        → ValueRight text ps value.entry → Keeps text ps node.old node.new result }
 {
     let [part, rest @ ..] = inner else {
         return assign(alloc, node, last, value, span);
@@ -156,6 +161,8 @@ fn pass_child<'de>(
 ) -> Result<(), Halt>
     ensures gives { (v : Read) → ValueGives value.entry v → span ≡ span_of v → Passes child.old.value child.new.value result (through_pair (part_of part.now) (map part_of rest.now) (part_of last.entry) v) (counts child.old.value) }
     ensures placed { (n : ℕ) → IsInside n part.now.span → PartsInside n (map part_of rest.now) → IsInside n last.entry.span → IfErr value.entry (IsHaltInside n) → IfErr result (IsHaltInside n) }
+    ensures borrows { (text : List ℕ) → (ps : List Part) → IsFrom text ps (key_written part.now) → AreFrom text ps (keys_written rest.now) → IsFrom text ps (key_written last.entry)
+        → ValueRight text ps value.entry → Keeps text ps child.old.value child.new.value result }
 {
     pass_pair(alloc, child.as_mut(), part, rest, last, value, span)
 }
@@ -173,6 +180,8 @@ fn pass_pair<'de>(
 ) -> Result<(), Halt>
     ensures gives { (v : Read) → ValueGives value.entry v → span ≡ span_of v → Passes node.old node.new result (through_pair (part_of part.now) (map part_of rest.now) (part_of last.entry) v) (counts node.old) }
     ensures placed { (n : ℕ) → IsInside n part.now.span → PartsInside n (map part_of rest.now) → IsInside n last.entry.span → IfErr value.entry (IsHaltInside n) → IfErr result (IsHaltInside n) }
+    ensures borrows { (text : List ℕ) → (ps : List Part) → IsFrom text ps (key_written part.now) → AreFrom text ps (keys_written rest.now) → IsFrom text ps (key_written last.entry)
+        → ValueRight text ps value.entry → Keeps text ps node.old node.new result }
 {
     claim(
         alloc,
@@ -188,6 +197,7 @@ fn pass_pair<'de>(
 fn place_one<'de>(alloc: Global, pair: Assignment<'de>, node: &mut Node<'de>) -> Result<(), Halt>
     ensures gives { Places node.old node.new result (assignment_claims (event pair.entry) []) (counts node.old) }
     ensures placed { (n : ℕ) → EventInside n (event pair.entry) → IfErr result (IsHaltInside n) }
+    ensures borrows { (text : List ℕ) → (ps : List Part) → AreFrom text ps (assignment_written pair.entry) → Keeps text ps node.old node.new result }
 {
     let Assignment {
         parts: DottedKey { inner, last },
@@ -211,6 +221,7 @@ fn place_pairs<'de>(
 ) -> Result<(), Halt>
     ensures gives { Places node.old node.new result (event_claims (map event pairs.entry.items) []) (counts node.old) }
     ensures placed { (n : ℕ) → EventsInside n (map event pairs.entry.items) → IfErr result (IsHaltInside n) }
+    ensures borrows { (text : List ℕ) → (ps : List Part) → AreFrom text ps (assignments_written pairs.entry.items) → Keeps text ps node.old node.new result }
 {
     for pair in pairs {
         place_one(alloc, pair, node)?;
@@ -226,6 +237,7 @@ pub(crate) fn place_all<'de>(
 ) -> Result<(), Halt>
     ensures gives { Places node.old node.new result (event_claims (map event pairs.entry.items) []) (counts node.old) }
     ensures placed { (n : ℕ) → EventsInside n (map event pairs.entry.items) → IfErr result (IsHaltInside n) }
+    ensures borrows { (text : List ℕ) → (ps : List Part) → AreFrom text ps (assignments_written pairs.entry.items) → Keeps text ps node.old node.new result }
 {
     if pairs.len() <= FEW {
         return place_pairs(alloc, pairs, node);
@@ -241,6 +253,7 @@ pub(crate) fn place_all<'de>(
 fn table_of<'de>(alloc: Global, pairs: Vec<Assignment<'de>>) -> Result<Table<'de>, Halt>
     ensures gives { ScopeGives result (λ t. inner_view (inners.Table t)) (event_claims (map event pairs.entry.items) []) }
     ensures placed { (n : ℕ) → EventsInside n (map event pairs.entry.items) → IfErr result (IsHaltInside n) }
+    ensures borrows { (text : List ℕ) → (ps : List Part) → AreFrom text ps (assignments_written pairs.entry.items) → IfOk result (λ table. AreRight text ps (table_standing table.entries)) }
 {
     let mut scope = Node::new(alloc);
     place_pairs(alloc, pairs, &mut scope)?;
@@ -252,6 +265,7 @@ fn table_of<'de>(alloc: Global, pairs: Vec<Assignment<'de>>) -> Result<Table<'de
 fn array_of<'de>(alloc: Global, elements: Vec<Val<'de>>) -> Result<Array<'de>, Halt>
     ensures gives { ScopeGives result (λ xs. inner_view (inners.Array xs)) (item_claims (onto (map view elements.entry.items) no_items) 0 []) }
     ensures placed { (n : ℕ) → ItemKeysInside n (onto (map view elements.entry.items) no_items) → IfErr result (IsHaltInside n) }
+    ensures borrows { (text : List ℕ) → (ps : List Part) → AreFrom text ps (joined (map written elements.entry.items)) → IfOk result (λ array. AreRight text ps (array_standing array.items)) }
 {
     let mut array = Vec::with_capacity(alloc, elements.len())?;
     for element in elements {
@@ -265,6 +279,7 @@ fn array_of<'de>(alloc: Global, elements: Vec<Val<'de>>) -> Result<Array<'de>, H
 fn value_of<'de>(alloc: Global, val: Val<'de>) -> Result<Value<'de>, Halt>
     ensures gives { ValueGives result (view val.entry) }
     ensures placed { (n : ℕ) → KeysInside n (view val.entry) → IfErr result (IsHaltInside n) }
+    ensures borrows { (text : List ℕ) → (ps : List Part) → AreFrom text ps (written val.entry) → ValueRight text ps result }
 {
     let Val { kind, span } = val;
     let inner = match kind {

@@ -1,10 +1,12 @@
 //! Sections placed one by one into a tree.
-ghost use Rattle.std.specs.Prelude.{◌≡◌, ℕ, map, [], IfOk, IfErr};
+ghost use Rattle.std.specs.Prelude.{◌≡◌, ℕ, List, map, [], IfOk, IfErr};
+ghost use Rattle.toml_span_read.specs.Borrowed.{assignments_written, key_written, keys_written, sections_written};
 ghost use Rattle.toml_span_read.specs.Data.{event};
 ghost use Rattle.toml_span_read.specs.Inside.{IsInside, PartsInside, EventsInside, SectionsInside};
-ghost use Rattle.toml_span_read.specs.Keys.{part as part_of};
+ghost use Rattle.toml_span_read.specs.Keys.{Part, part as part_of};
 ghost use Rattle.toml_span_read.specs.Lines.{block};
 ghost use Rattle.toml_span_claims.specs.declared.claims.Sort.TheVariants.{Passed};
+ghost use Rattle.toml_span_claims.specs.Borrowed.{AreFrom, IsFrom, Keeps, ValueRight};
 ghost use Rattle.toml_span_claims.specs.Claims as claims;
 ghost use Rattle.toml_span_claims.specs.Claims.{event_claims};
 ghost use Rattle.toml_span_claims.specs.Places.{IsHaltInside};
@@ -59,6 +61,8 @@ fn place_section<'de>(
 ) -> Result<(), Halt>
     ensures gives { Places node.old node.new result (section_at (counts node.old) head (map part_of parts.now) (event_claims (map event pairs.entry.items) [])) (grown (counts node.old) head (map part_of parts.now)) }
     ensures placed { (n : ℕ) → PartsInside n (map part_of parts.now) → IsInside n head.line → EventsInside n (map event pairs.entry.items) → IfErr result (IsHaltInside n) }
+    ensures borrows { (text : List ℕ) → (ps : List Part) → AreFrom text ps (keys_written parts.now) → AreFrom text ps (assignments_written pairs.entry.items)
+        → Keeps text ps node.old node.new result }
 {
     let [part, rest @ ..] = parts else {
         return place_all(alloc, pairs, node);
@@ -89,6 +93,8 @@ fn pass_child<'de>(
 ) -> Result<(), Halt>
     ensures gives { Passes child.old.value child.new.value result (through (counts child.old.value) head (part_of part.now) (map part_of rest.now) (event_claims (map event pairs.entry.items) [])) (grown_through (counts child.old.value) head (map part_of rest.now)) }
     ensures placed { (n : ℕ) → IsInside n part.now.span → PartsInside n (map part_of rest.now) → IsInside n head.line → EventsInside n (map event pairs.entry.items) → IfErr result (IsHaltInside n) }
+    ensures borrows { (text : List ℕ) → (ps : List Part) → IsFrom text ps (key_written part.now) → AreFrom text ps (keys_written rest.now) → AreFrom text ps (assignments_written pairs.entry.items)
+        → Keeps text ps child.old.value child.new.value result }
 {
     pass_header(alloc, child.as_mut(), part, rest, head, pairs)
 }
@@ -105,6 +111,8 @@ fn pass_header<'de>(
 ) -> Result<(), Halt>
     ensures gives { Passes node.old node.new result (through (counts node.old) head (part_of part.now) (map part_of rest.now) (event_claims (map event pairs.entry.items) [])) (grown_through (counts node.old) head (map part_of rest.now)) }
     ensures placed { (n : ℕ) → IsInside n part.now.span → PartsInside n (map part_of rest.now) → IsInside n head.line → EventsInside n (map event pairs.entry.items) → IfErr result (IsHaltInside n) }
+    ensures borrows { (text : List ℕ) → (ps : List Part) → IsFrom text ps (key_written part.now) → AreFrom text ps (keys_written rest.now) → AreFrom text ps (assignments_written pairs.entry.items)
+        → Keeps text ps node.old node.new result }
 {
     if rest.is_empty() {
         return end_header(alloc, node, part, head, pairs);
@@ -127,6 +135,8 @@ fn descend<'de>(
 ) -> Result<(), Halt>
     ensures gives { Opening IsScope (claims.header_mark head Passed part.now.span) node.old node.new result (passing head (part_of part.now) (map part_of rest.now) (event_claims (map event pairs.entry.items) []) (counts node.old)) (grown (counts node.old) head (map part_of rest.now)) }
     ensures placed { (n : ℕ) → IsInside n part.now.span → PartsInside n (map part_of rest.now) → IsInside n head.line → EventsInside n (map event pairs.entry.items) → IfErr result (IsHaltInside n) }
+    ensures borrows { (text : List ℕ) → (ps : List Part) → IsFrom text ps (key_written part.now) → AreFrom text ps (keys_written rest.now) → AreFrom text ps (assignments_written pairs.entry.items)
+        → Keeps text ps node.old node.new result }
 {
     claim(
         alloc,
@@ -148,6 +158,7 @@ fn open_table<'de>(
 ) -> Result<(), Halt>
     ensures gives { Opening (Opens sort) (claims.header_mark head sort part.now.span) node.old node.new result (opening head sort (part_of part.now) (event_claims (map event pairs.entry.items) [])) (counts node.old) }
     ensures placed { (n : ℕ) → IsInside n part.now.span → IsInside n head.line → EventsInside n (map event pairs.entry.items) → IfErr result (IsHaltInside n) }
+    ensures borrows { (text : List ℕ) → (ps : List Part) → AreFrom text ps (assignments_written pairs.entry.items) → Keeps text ps node.old node.new result }
 {
     claim(alloc, &mut node.marks, header_mark(head, sort, part), part)?;
     place_all(alloc, pairs, node)
@@ -163,6 +174,7 @@ fn add_entry<'de>(
 ) -> Result<(), Halt>
     ensures gives { Reaches IsOpen IsHeld node.old node.new result (adding head (part_of part.now) (event_claims (map event pairs.entry.items) []) (counts node.old [])) (one_more (counts node.old)) }
     ensures placed { (n : ℕ) → IsInside n part.now.span → IsInside n head.line → EventsInside n (map event pairs.entry.items) → IfErr result (IsHaltInside n) }
+    ensures borrows { (text : List ℕ) → (ps : List Part) → AreFrom text ps (assignments_written pairs.entry.items) → Keeps text ps node.old node.new result }
 {
     let mut entry = Node::new(alloc);
     open_table(alloc, &mut entry, Sort::Entry, part, head, pairs)?;
@@ -180,6 +192,7 @@ fn end_header<'de>(
 ) -> Result<(), Halt>
     ensures gives { Passes node.old node.new result (ending head (part_of part.now) (event_claims (map event pairs.entry.items) []) (counts node.old [])) (grown_here (counts node.old) head) }
     ensures placed { (n : ℕ) → IsInside n part.now.span → IsInside n head.line → EventsInside n (map event pairs.entry.items) → IfErr result (IsHaltInside n) }
+    ensures borrows { (text : List ℕ) → (ps : List Part) → AreFrom text ps (assignments_written pairs.entry.items) → Keeps text ps node.old node.new result }
 {
     if !head.array {
         return open_table(alloc, node, Sort::Section, part, head, pairs);
@@ -201,6 +214,7 @@ pub(crate) fn assemble<'de>(
     ensures gives { Assembles (map block sections.entry.items) length result }
     ensures root { IfOk result (IsRoot length) }
     ensures placed { (n : ℕ) → SectionsInside n sections.entry.items → IfErr result (IsHaltInside n) }
+    ensures borrows { (text : List ℕ) → (ps : List Part) → AreFrom text ps (sections_written sections.entry.items) → ValueRight text ps result }
 {
     let mut root = Node::new(alloc);
     for section in Rest::new(sections) {

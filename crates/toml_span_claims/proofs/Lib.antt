@@ -7,3 +7,4 @@ pub mod Examples
 pub mod Finishing
 pub mod KeyMaps
 pub mod Claimed
+pub mod BorrowLemmas

@@ -10,3 +10,4 @@ pub mod Relative
 pub mod Placing
 pub mod Places
 pub mod OneEach
+pub mod Borrowed

@@ -1,6 +1,8 @@
 //! The tree under construction.
-ghost use Rattle.std.specs.Prelude.{◌≡◌, IfSome};
+ghost use Rattle.std.specs.Prelude.{◌≡◌, ℕ, List, [], false, IfOk, IfSome};
+ghost use Rattle.toml_span_read.specs.Keys.{Part};
 ghost use Rattle.toml_span_claims.specs.Marks as kept;
+ghost use Rattle.toml_span_claims.specs.Borrowed.{AreRight, array_standing, boxes_standing, entries_of, held, standing, table_standing, value_standing};
 ghost use Rattle.toml_span_claims.specs.Tree.{IsFresh};
 ghost use Rattle.toml_span_claims.specs.Placing.{Becomes, EachBecomes, Finishes, NamesAscend};
 
@@ -33,7 +35,8 @@ pub struct Node<'de> {
 
 impl<'de> Node<'de> {
     pub fn new(alloc: Global) -> Self
-        ensures { IsFresh result }
+        ensures fresh { IsFresh result }
+        ensures bare { standing result ≡ [] }
     {
         Self {
             marks: SmallVec::new(alloc),
@@ -84,7 +87,9 @@ fn in_order(table: &Table<'_>)
 /// The table of what these nodes have become, and of these values.
 #[cycle(finish)]
 pub fn into_table<'de>(tables: Nodes<'de>, mut values: Table<'de>) -> Result<Table<'de>, AllocError>
-    ensures { Finishes tables.entry values.entry result }
+    ensures finishes { Finishes tables.entry values.entry result }
+    ensures borrows { (text : List ℕ) → (ps : List Part) → AreRight text ps (boxes_standing tables.entry.entries) → AreRight text ps (table_standing values.entry.entries)
+        → IfOk result (λ table. AreRight text ps (table_standing table.entries)) }
 {
     for (key, child) in tables {
         let (span, value) = into_value(Box::into_inner(child))?;
@@ -101,7 +106,8 @@ pub fn into_table<'de>(tables: Nodes<'de>, mut values: Table<'de>) -> Result<Tab
 /// The value that a node has become, and the span of its key.
 #[cycle(finish)]
 fn into_value<'de>(node: Node<'de>) -> Result<(Span, Value<'de>), AllocError>
-    ensures { Becomes node.entry result }
+    ensures becomes { Becomes node.entry result }
+    ensures borrows { (text : List ℕ) → (ps : List Part) → AreRight text ps (standing node.entry) → IfOk result (λ found. ((held found.1).0 ≡ false) × AreRight text ps (value_standing found.1)) }
 {
     let Node {
         marks,
@@ -124,7 +130,8 @@ fn into_value<'de>(node: Node<'de>) -> Result<(Span, Value<'de>), AllocError>
 /// The elements that the entries of an array of tables have become.
 #[cycle(finish)]
 fn into_array<'de>(entries: Vec<Node<'de>>) -> Result<Array<'de>, AllocError>
-    ensures { EachBecomes entries.entry.items result }
+    ensures becomes { EachBecomes entries.entry.items result }
+    ensures borrows { (text : List ℕ) → (ps : List Part) → AreRight text ps (entries_of entries.entry.items) → IfOk result (λ array. AreRight text ps (array_standing array.items)) }
 {
     let mut array = Vec::with_capacity(*entries.allocator(), entries.len())?;
     for entry in entries {

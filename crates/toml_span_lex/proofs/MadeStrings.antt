@@ -12,7 +12,7 @@ use Rattle.toml_span_lex.specs.declared.stop.Stop.TheVariants as stops
 use Rattle.toml_span_lex.specs.declared.tokens.Error.{Error}
 use Rattle.toml_span_lex.specs.declared.span.Span.{Span}
 use Rattle.toml_span_lex.specs.declared.pieces.Piece.{Piece}
-use Rattle.toml_span_lex.specs.Strings.{opens_multi, ContentFrom, ContentGives, IsContent, Cut, content, content_end, content_span, IsString, Borrows, EndsWell}
+use Rattle.toml_span_lex.specs.Strings.{opens_multi, ContentFrom, ContentGives, IsContent, Cut, content, content_end, content_span, IsString, Borrows, BorrowsWhereSame, HasChange, EndsWell}
 use Rattle.toml_span_lex.specs.Pieces.{IsClose}
 use Rattle.toml_span_lex.specs.Strings.{StringGives, StringEnds}
 
@@ -74,6 +74,43 @@ borrows_own text i from to j m v val begins on b e l w = (
     | inr h ↦ absurd (omega (arith, h.1))
   ],
 )
+
+-- ---- the same by the span alone
+
+by_test_both : (t : Bool) (a b : Span) → ((t ≡ true) × (cond t a b ≡ a)) ⊎ (cond t a b ≡ b)
+by_test_both true a b = inl (refl, refl)
+by_test_both false a b = inr refl
+
+span_kind : (m : Bool) (i from to : ℕ) → (content_span m i from to ≡ record { start = from; end = to }) ⊎ ((from ≡ to) × (content_span m i from to ≡ record { start = i; end = i + 1 }))
+span_kind true i from to = inl refl
+span_kind false i from to = elim (by_test_both (from == to) (record { start = i; end = i + 1 }) (record { start = from; end = to })) [ inl e ↦ inr (equal from to e.0, e.1) | inr e ↦ inl e ]
+
+pub where_same : {Z : Type 0} (text : List ℕ) (i from to : ℕ) (m : Bool) (val : CowStr Z) → (get_or text i 0 ≡ 34) ⊎ (get_or text i 0 ≡ 39)
+    → IsBorrowedStr val → cow_str_bytes val ≡ slice_range text from to → BorrowsWhereSame text (content_span m i from to) val
+where_same text i from to m val quote b e = elim (span_kind m i from to) [
+  | inl s ↦ rw s (λ x. inl e, λ x. b)
+  | inr h ↦ rw (h.1) (λ x. inr (e ∙ empty_range text from to (omega (arith, h.0)), (quote, refl)), λ x. b)
+]
+
+-- a byte that stands for another one is no quote
+no_quote : (text : List ℕ) (q from k : ℕ) → k ≡ from → ((q ≡ 34) × (get_or text k 0 ≡ 92)) ⊎ (get_or text k 0 ≡ 13) → (get_or text from 0 ≡ 34) ⊎ (get_or text from 0 ≡ 39) → ⊥
+no_quote text q from k e (inl c) (inl h) = let d = rw e at c.1 in omega arith
+no_quote text q from k e (inl c) (inr h) = let d = rw e at c.1 in omega arith
+no_quote text q from k e (inr c) (inl h) = let d = rw e at c in omega arith
+no_quote text q from k e (inr c) (inr h) = let d = rw e at c in omega arith
+
+pub where_changed : {Z : Type 0} (text : List ℕ) (q i from to : ℕ) (m : Bool) (v : List ℕ) (val : CowStr Z) → IsOwnedStr val → cow_str_bytes val ≡ v → length v + from < to → to ≤ length text
+    → HasChange q text from to → BorrowsWhereSame text (content_span m i from to) val
+where_changed text q i from to m v val own b l w change = elim (span_kind m i from to) [
+  | inl s ↦ rw s (
+    λ borrowed. absurd (owned_not val own borrowed),
+    λ same. absurd (elim same [
+      | inl e ↦ too_short text from to v (sym b ∙ e) l w
+      | inr one ↦ no_quote text q from change.0 (omega (arith, change.1, change.2, one.1.1)) change.3 one.1.0
+    ]),
+  )
+  | inr h ↦ absurd (omega (arith, h.0))
+]
 
 pub is_string : (text : List ℕ) (q i from to j : ℕ) (m : Bool) (span : Span) (src v w : List ℕ) → q ≡ get_or text i 0 → m ≡ opens_multi text i → (get_or text i 0 ≡ 34) ⊎ (get_or text i 0 ≡ 39) → ContentFrom m text i from
     → IsContent q m text from v to j → w ≡ v → src ≡ slice_range text i j → span ≡ content_span m i from to → IsString text i j span src w m

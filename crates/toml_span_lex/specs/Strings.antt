@@ -125,6 +125,18 @@ Borrows text i j span val =
     (IsEmptyOnOneLine i j → IsBorrowedStr val)
     × ((IsEmptyOnOneLine i j → ⊥) → (IsBorrowedStr val ↔ (cow_str_bytes val ≡ slice_range text span.start span.end)))
 
+-- the span is one quote, as that of an empty string on one line
+abbrev pub IsOneQuote : List ℕ → Span → Type 0
+IsOneQuote text span = IsQuote (slice_index text span.start) × (span.end ≡ span.start + 1)
+
+-- The same by the span alone: a string is borrowed exactly where it equals the text at its span, or is empty with one quote for a span.
+abbrev pub BorrowsWhereSame : {Z : Type 0} → List ℕ → Span → CowStr Z → Type 0
+BorrowsWhereSame text span val = IsBorrowedStr val ↔ ((cow_str_bytes val ≡ slice_range text span.start span.end) ⊎ ((cow_str_bytes val ≡ []) × IsOneQuote text span))
+
+abbrev pub StringBorrows : List ℕ → Result (Span × Token × ℕ) (Stop (Error × ℕ)) → Type 0
+StringBorrows text (Ok (span, tokens.String src val multi, j)) = BorrowsWhereSame text span val
+StringBorrows text _ = Unit {0}
+
 -- what reading a string at i gives
 abbrev pub StringGives : List ℕ → ℕ → Result (Span × Token × ℕ) (Stop (Error × ℕ)) → Type 0
 StringGives text i (Ok (span, tokens.String src val multi, j)) = IsString text i j span src.now (cow_str_bytes val) multi × Borrows text i j span val

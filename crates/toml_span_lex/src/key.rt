@@ -20,12 +20,13 @@ pub struct Key<'de> {
 }
 
 impl Key<'_> {
-    /// A second key of the same name and span, which borrows the name if this one does. On want of
+    /// A second key of the same name and span, which borrows the name exactly if this one does. On want of
     /// memory there is none, and this one is as before.
     pub fn clone(&self, alloc: Global) -> Result<Self, AllocError>
         ensures name { IfOk result (λ key. cow_str_bytes key.name ≡ cow_str_bytes self.now.name) }
         ensures span { IfOk result (λ key. key.span ≡ self.now.span) }
         ensures borrowed { IsBorrowedStr self.now.name → IsOkAnd result (λ key. IsBorrowedStr key.name) }
+        ensures owned { IfOk result (λ key. IsBorrowedStr key.name → IsBorrowedStr self.now.name) }
     {
         let name = match &self.name {
             CowStr::Borrowed(name) => CowStr::Borrowed(*name),

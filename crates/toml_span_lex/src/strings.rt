@@ -3,7 +3,7 @@ ghost use Rattle.std.specs.Prelude.{◌≡◌, ℕ, ◌+◌, ◌≤◌, ◌<◌,
 ghost use Rattle.std.specs.Str.{IsCharBoundary};
 ghost use Rattle.toml_span_lex.specs.Pieces.{IsPiece, piece_value};
 ghost use Rattle.toml_span_lex.specs.Strings as spec;
-ghost use Rattle.toml_span_lex.specs.Strings.{IsQuote, StringGives, StringEnds};
+ghost use Rattle.toml_span_lex.specs.Strings.{IsQuote, StringGives, StringBorrows, StringEnds};
 
 use crate::pieces::{Piece, piece_at};
 use crate::span::Span;
@@ -168,6 +168,7 @@ pub fn string_at(
     requires within { at < length text.now }
     requires quote { IsQuote (slice_index text.now at) }
     ensures gives { StringGives text.now at result }
+    ensures borrows { StringBorrows text.now result }
     ensures ends { StringEnds text.now result }
 {
     let quote = text.as_bytes()[at];

@@ -17,3 +17,4 @@ pub mod InsideLemmas
 pub mod NumberRows
 pub mod SpanLaws
 pub mod MemoryLemmas
+pub mod BorrowLemmas

@@ -12,3 +12,4 @@ pub mod Stuck
 pub mod Lines
 pub mod Inside
 pub mod Spans
+pub mod Borrowed

@@ -1,6 +1,8 @@
 //! Keys and dotted keys.
-ghost use Rattle.std.specs.Prelude.{◌≡◌, ◌<◌, ◌≤◌, ◌⊎◌, length, slice_index, [], ◌∷◌, ◌++◌, OnOk};
+ghost use Rattle.std.specs.Prelude.{◌≡◌, ◌<◌, ◌≤◌, ◌⊎◌, length, slice_index, [], ◌∷◌, ◌++◌, IfOk, OnOk};
 ghost use Rattle.std.specs.Str.{IsCharBoundary};
+ghost use Rattle.toml_span_lex.specs.Strings.{BorrowsWhereSame};
+ghost use Rattle.toml_span_read.specs.Borrowed.{AreRight, dotted_written, keys_written};
 ghost use Rattle.toml_span_read.specs.Keys as spec;
 ghost use Rattle.toml_span_read.specs.Keys.{KeyGives, DottedGives, HeaderKeyGives};
 ghost use Rattle.toml_span_read.specs.Faults.{Advances};
@@ -35,6 +37,7 @@ fn quoted_key<'de>(
     requires within { at < length text.now }
     requires quote { (slice_index text.now at ≡ 34) ⊎ (slice_index text.now at ≡ 39) }
     ensures gives { KeyGives text.now at result }
+    ensures borrows { IfOk result (λ found. BorrowsWhereSame text.now found.0.span found.0.name) }
     ensures advances { Advances text.now at result }
 {
     let token = string(alloc, text, at)?;
@@ -65,6 +68,7 @@ pub fn simple_key<'de>(
 ) -> Result<(Key<'de>, usize), Stop<Fault>>
     requires { IsCharBoundary text.now at }
     ensures gives { KeyGives text.now at result }
+    ensures borrows { IfOk result (λ found. BorrowsWhereSame text.now found.0.span found.0.name) }
     ensures advances { Advances text.now at result }
 {
     let byte = byte_at(text, at);
@@ -92,6 +96,7 @@ pub fn dotted_key<'de>(
     requires boundary { IsCharBoundary text.now at }
     requires some { 1 ≤ limit }
     ensures gives { DottedGives text.now limit at result }
+    ensures borrows { IfOk result (λ found. AreRight text.now (dotted_written found.0)) }
     ensures advances { Advances text.now at result }
 {
     let mut inner = Vec::new(alloc);
@@ -119,6 +124,7 @@ pub fn header_key<'de>(
     requires boundary { IsCharBoundary text.now at }
     requires some { 1 ≤ limit }
     ensures gives { HeaderKeyGives text.now limit at result }
+    ensures borrows { IfOk result (λ found. AreRight text.now (keys_written found.0.items)) }
     ensures advances { Advances text.now at result }
 {
     let mut parts = SmallVec::new(alloc);

@@ -1,6 +1,7 @@
 //! Lines, headers and sections.
-ghost use Rattle.std.specs.Prelude.{◌≡◌, ℕ, ◌<◌, ◌≤◌, ◌+◌, ◌⊎◌, map, length, slice_index, IfSome, IfOk};
+ghost use Rattle.std.specs.Prelude.{◌≡◌, ℕ, ◌<◌, ◌≤◌, ◌+◌, ◌++◌, ◌⊎◌, map, length, slice_index, IfSome, IfOk};
 ghost use Rattle.std.specs.Str.{IsCharBoundary};
+ghost use Rattle.toml_span_read.specs.Borrowed.{AreRight, keys_written, assignment_written, assignments_written, section_written, sections_written};
 ghost use Rattle.toml_span_read.specs.Data.{event};
 ghost use Rattle.toml_span_read.specs.Lines as spec;
 ghost use Rattle.toml_span_read.specs.Lines.{Opens, EventGives, LineGives, LinesGive, CloseGives, HeaderGives, SectionsGive, KeepsForm, ReadsDocument, block, block_of, first_block, first_blocks};
@@ -40,6 +41,7 @@ fn assignment<'de>(
     requires small { limit ≤ 128 }
     ensures reads { AssignmentReads text.now limit 0 at result }
     ensures gives { EventGives text.now limit at result }
+    ensures borrows { IfOk result (λ found. AreRight text.now (assignment_written found.0)) }
 {
     let (parts, key_end) = dotted_key(alloc, text, at, limit)?;
     let from = match line_equals(text, key_end) {
@@ -78,6 +80,7 @@ fn assignments<'de>(
     ensures read { AssignmentsRead text.now limit from result }
     ensures header { EndsAtHeader text.now result }
     ensures gives { LinesGive text.now limit from result }
+    ensures borrows { IfOk result (λ found. AreRight text.now (assignments_written found.0.items)) }
     ensures memory { KeepsForm text.now from result }
 {
     let mut found = Vec::new(alloc);
@@ -155,6 +158,7 @@ fn read_header<'de>(
     requires some { 1 ≤ limit }
     ensures reads { HeaderReads text.now limit at result }
     ensures gives { HeaderGives text.now limit at result }
+    ensures borrows { IfOk result (λ header. AreRight text.now (keys_written header.parts.items)) }
 {
     let (array, open) = header_open(text, at);
     let (parts, key_end) = header_key(alloc, text, blanks_end(text, open), limit)?;
@@ -189,6 +193,7 @@ fn last_end(assignments: &[Assignment<'_>], without: usize) -> usize
 fn section_of<'de>(header: Header<'de>, assignments: Vec<Assignment<'de>>) -> Section<'de>
     ensures within { (limit : ℕ) → length header.entry.parts.items ≤ limit → WithinEvents limit (map event assignments.entry.items) → WithinSection limit result }
     ensures gives { block result ≡ block_of header.entry (map event assignments.entry.items) }
+    ensures written { section_written result ≡ keys_written header.entry.parts.items ++ assignments_written assignments.entry.items }
 {
     let Header {
         parts,
@@ -212,6 +217,7 @@ fn section_of<'de>(header: Header<'de>, assignments: Vec<Assignment<'de>>) -> Se
 fn first_section<'de>(alloc: Global, assignments: Vec<Assignment<'de>>) -> Option<Section<'de>>
     ensures within { (limit : ℕ) → WithinEvents limit (map event assignments.entry.items) → IfSome result (λ section. WithinSection limit section) }
     ensures gives { first_blocks result ≡ first_block (map event assignments.entry.items) }
+    ensures written { IfSome result (λ section. section_written section ≡ assignments_written assignments.entry.items) }
 {
     let start = extent_of(assignments.first()?).start;
     let end = last_end(&assignments, start);
@@ -234,6 +240,7 @@ fn sections<'de>(
     requires small { limit ≤ 128 }
     ensures reads { SectionsRead text.now limit result }
     ensures gives { SectionsGive text.now limit result }
+    ensures borrows { IfOk result (λ found. AreRight text.now (sections_written found.items)) }
     ensures memory { (start : ℕ) × FirstPlace text.now start × KeepsForm text.now start result }
 {
     let mut found = Vec::new(alloc);
@@ -271,6 +278,8 @@ pub fn read_sections<'de>(
     ensures memory { (start : ℕ) × FirstPlace text.now start × KeepsForm text.now start result }
     // Keys and headers stand inside the text.
     ensures inside { IfOk result (λ found. SectionsInside (length text.now) found.items) }
+    // Strings and keys are borrowed exactly where they equal the text at their span. Empty ones on one line are borrowed.
+    ensures borrows { IfOk result (λ found. AreRight text.now (sections_written found.items)) }
 {
     match sections(alloc, text, limit) {
         Ok(found) => Ok(found),

@@ -1,11 +1,12 @@
 //! Values.
-ghost use Rattle.std.specs.Prelude.{◌≡◌, ◌+◌, ◌<◌, ◌≤◌, ◌||◌, ◌==◌, ◌⊎◌, ◌++◌, ◌∷◌, [], true, false, length, slice_index, map};
+ghost use Rattle.std.specs.Prelude.{◌≡◌, ◌+◌, ◌<◌, ◌≤◌, ◌||◌, ◌==◌, ◌⊎◌, ◌++◌, ◌∷◌, [], true, false, length, slice_index, map, IfOk};
 ghost use Rattle.std.specs.Str.{IsCharBoundary};
 ghost use Rattle.toml_span_lex.specs.Bytes.{is_keylike};
 ghost use Rattle.toml_span_read.specs.Faults.{Advances, IsPlaced, IsPlacedStop};
 ghost use Rattle.std.specs.Cow.{cow_str_bytes};
 ghost use Rattle.toml_span_tree.specs.Node.{text as text_node, boolean, datetime};
 ghost use Rattle.toml_span_tree.specs.Value.{date_bytes};
+ghost use Rattle.toml_span_read.specs.Borrowed.{AreRight, string as string_written, written, kind_written, joined, assignment_written, assignments_written, dotted_written};
 ghost use Rattle.toml_span_read.specs.Keys as spec;
 ghost use Rattle.toml_span_read.specs.Limits.{ValueReads, AssignmentReads};
 ghost use Rattle.toml_span_read.specs.Stuck.{opens_nested, begins_bare, begins_number, IsRunOf, IsTooDeep, ValueGives, BareGives, PairGives};
@@ -44,6 +45,7 @@ pub fn value<'de>(
     requires small { limit ≤ 128 }
     ensures reads { ValueReads text.now limit depth at result }
     ensures gives { ValueGives text.now limit depth at result }
+    ensures borrows { IfOk result (λ found. AreRight text.now (written found.0)) }
 {
     match byte_at(text, at) {
         b'[' | b'{' if depth > limit => Err(too_deep(text, at)),
@@ -76,6 +78,7 @@ fn string_value<'de>(
     requires quote { (slice_index text.now at ≡ 34) ⊎ (slice_index text.now at ≡ 39) }
     ensures reads { ValueReads text.now limit depth at result }
     ensures gives { ValueGives text.now limit depth at result }
+    ensures borrows { IfOk result (λ found. AreRight text.now (written found.0)) }
 {
     let token = string(alloc, text, at)?;
     if depth > limit {
@@ -96,6 +99,7 @@ fn scalar<'de>(
     requires plain { (opens_nested (slice_index text.now at) || opens_string (slice_index text.now at)) ≡ false }
     ensures reads { ValueReads text.now limit depth at result }
     ensures gives { ValueGives text.now limit depth at result }
+    ensures borrows { IfOk result (λ found. AreRight text.now (written found.0)) }
 {
     let byte = byte_at(text, at);
     if !is_keylike(byte) && byte != b'+' {
@@ -191,6 +195,7 @@ fn array<'de>(
     requires depth { depth ≤ limit }
     ensures reads { ValueReads text.now limit depth at result }
     ensures gives { ValueGives text.now limit depth at result }
+    ensures borrows { IfOk result (λ found. AreRight text.now (written found.0)) }
 {
     let mut items = Vec::new(alloc);
     let mut next = opened(text, at);
@@ -233,6 +238,7 @@ fn inline_table<'de>(
     requires depth { depth ≤ limit }
     ensures reads { ValueReads text.now limit depth at result }
     ensures gives { ValueGives text.now limit depth at result }
+    ensures borrows { IfOk result (λ found. AreRight text.now (written found.0)) }
 {
     let mut pairs = Vec::new(alloc);
     let mut earlier = Earlier::new(alloc);
@@ -274,6 +280,7 @@ fn pair<'de>(
     requires depth { depth ≤ limit + 1 }
     ensures reads { AssignmentReads text.now limit depth at result }
     ensures gives { PairGives text.now limit depth at result }
+    ensures borrows { IfOk result (λ found. AreRight text.now (assignment_written found.0)) }
 {
     let (parts, key_end) = dotted_key(alloc, text, at, limit)?;
     let from = match pair_equals(text, key_end) {
@@ -289,7 +296,8 @@ fn pair<'de>(
 
 /// The string of this content.
 fn string_of<'de>(content: CowStr<'de>, span: Span) -> Val<'de>
-    ensures { view result ≡ node (scalar_node (text_node (cow_str_bytes content.entry))) span }
+    ensures view { view result ≡ node (scalar_node (text_node (cow_str_bytes content.entry))) span }
+    ensures written { written result ≡ string_written content.entry span ∷ [] }
 {
     let kind = ValKind::String(content);
     Val { kind, span }
@@ -311,7 +319,8 @@ fn dated<'de>(date: DateText<'de>) -> ValKind<'de>
 
 /// The value of this kind that is no string.
 fn scalar_of<'de>(kind: ValKind<'de>, start: usize, end: usize) -> Val<'de>
-    ensures { view result ≡ node (kind_view kind.entry) (record { start = start; end = end }) }
+    ensures view { view result ≡ node (kind_view kind.entry) (record { start = start; end = end }) }
+    ensures written { written result ≡ kind_written kind.entry (record { start = start; end = end }) }
 {
     let span = Span { start, end };
     Val { kind, span }
@@ -319,7 +328,8 @@ fn scalar_of<'de>(kind: ValKind<'de>, start: usize, end: usize) -> Val<'de>
 
 /// The array of these elements.
 fn array_of<'de>(items: Vec<Val<'de>>, start: usize, end: usize) -> Val<'de>
-    ensures { view result ≡ node (array_node (onto (map view items.entry.items) no_items)) (record { start = start; end = end }) }
+    ensures view { view result ≡ node (array_node (onto (map view items.entry.items) no_items)) (record { start = start; end = end }) }
+    ensures written { written result ≡ joined (map written items.entry.items) }
 {
     let kind = ValKind::Array(items);
     Val {
@@ -330,7 +340,8 @@ fn array_of<'de>(items: Vec<Val<'de>>, start: usize, end: usize) -> Val<'de>
 
 /// The inline table of these pairs.
 fn inline_of<'de>(pairs: Vec<Assignment<'de>>, start: usize, end: usize) -> Val<'de>
-    ensures { view result ≡ node (inline_node (pairs_onto (map event pairs.entry.items) no_pairs)) (record { start = start; end = end }) }
+    ensures view { view result ≡ node (inline_node (pairs_onto (map event pairs.entry.items) no_pairs)) (record { start = start; end = end }) }
+    ensures written { written result ≡ assignments_written pairs.entry.items }
 {
     let kind = ValKind::Inline(pairs);
     Val {
@@ -346,7 +357,8 @@ pub fn assigned<'de>(
     start: usize,
     end: usize,
 ) -> Assignment<'de>
-    ensures { event result ≡ record { parts = spec.parts parts.entry; value = view value.entry; extent = record { start = start; end = end } } }
+    ensures event { event result ≡ record { parts = spec.parts parts.entry; value = view value.entry; extent = record { start = start; end = end } } }
+    ensures written { assignment_written result ≡ dotted_written parts.entry ++ written value.entry }
 {
     let extent = Span { start, end };
     Assignment {

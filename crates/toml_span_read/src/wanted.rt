@@ -1,6 +1,7 @@
 //! What stands where another token is due.
-ghost use Rattle.std.specs.Prelude.{◌≡◌, ◌<◌, ◌≤◌, ◌||◌, ◌==◌, ◌⊎◌, if◌then◌else◌, length, slice_index, false};
+ghost use Rattle.std.specs.Prelude.{◌≡◌, ◌<◌, ◌≤◌, ◌||◌, ◌==◌, ◌⊎◌, if◌then◌else◌, length, slice_index, false, IfOk};
 ghost use Rattle.std.specs.Str.{IsCharBoundary};
+ghost use Rattle.toml_span_lex.specs.Strings.{BorrowsWhereSame};
 ghost use Rattle.toml_span_lex.specs.Tokens.{lexeme};
 ghost use Rattle.toml_span_read.specs.Faults as faults;
 ghost use Rattle.toml_span_read.specs.Wanted as spec;
@@ -60,6 +61,7 @@ pub fn string<'de>(
     requires within { at < length text.now }
     requires quote { (slice_index text.now at ≡ 34) ⊎ (slice_index text.now at ≡ 39) }
     ensures gives { StringReads text.now at result }
+    ensures borrows { IfOk result (λ token. BorrowsWhereSame text.now token.span token.content) }
     ensures placed { faults.IsPlacedEnd text.now result }
 {
     match string_at(alloc, text, at) {

@@ -75,7 +75,8 @@ impl<'de> Value<'de> {
 
     /// A value that stands at these bytes.
     pub fn with_span(value: ValueInner<'de>, span: Span) -> Self
-        ensures { view result ≡ node (inner_view value.entry) span }
+        ensures view { view result ≡ node (inner_view value.entry) span }
+        ensures kept { (result.value ≡ Some value.entry) × (result.span ≡ span) }
     {
         Value {
             value: Some(value),

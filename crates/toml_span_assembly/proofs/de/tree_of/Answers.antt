@@ -38,3 +38,6 @@ returns-in-Err-Clash-clause-refused c =
       forward = inside.0;
       place = c.line_info-place.ensures;
     }
+
+pub returns-in-Ok-clause-borrows : goal.returns-in-Ok-clause-borrows
+returns-in-Ok-clause-borrows c = λ ps h. c.in-Ok.ensures.borrows c.args.text.now ps h

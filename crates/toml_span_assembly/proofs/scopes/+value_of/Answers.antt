@@ -7,7 +7,11 @@ use Rattle.toml_span_tree.specs.declared.value.ValueInner.TheVariants.{Array, Ta
 use Rattle.toml_span_tree.specs.declared.value.ValueInner.TheVariants as inners
 use Rattle.toml_span_read.specs.Data.{view}
 use Rattle.toml_span_read.specs.declared.value.ValKind.{the_lemmas}
+use Rattle.toml_span_read.specs.Borrowed.{assignment_written, written}
+use Rattle.toml_span_claims.proofs.BorrowLemmas.{element_push, of_node}
 use Rattle.toml_span_claims.proofs.Placed.{err-of}
+use Rattle.toml_span_assembly.proofs.Borrowing as borrowing
+use Rattle.toml_span_assembly.proofs.Borrowing.{again_from, assignment_from, err_ok, first_from}
 use Rattle.toml_span_assembly.proofs.Assignments.{none-left, places-one, val_span, remains-first, placing-more, placing-err, placing-none, table-gives, table-err}
 use Rattle.toml_span_assembly.proofs.Values.{elements-first, elements-more, elements-err, elements-none, string-gives, integer-gives, float-gives, boolean-gives, datetime-gives, array-gives, array-err, inline-gives, inline-err}
 use Rattle.toml_span_assembly.proofs.InsideLemmas.{assignment_inside, events_rest, events_again, items_rest, items_again, inline_inside}
@@ -21,6 +25,7 @@ array_of-loop-element-init t c = record {
   can = tt;
   ends = tt;
   inside = λ n h. items_again n _ _ c.into_iter-element-iterator.ensures.into_iter_gives.0 h;
+  borrows = λ text ps h. (again_from text ps written _ _ c.into_iter-element-iterator.ensures.into_iter_gives.0 h, rw c.in_ok-array.ensures.items tt);
   finished = elements-first _ _ _ c.into_iter-element-iterator.ensures.into_iter_gives.0 c.in_ok-array.ensures.items;
 }
 
@@ -29,6 +34,10 @@ array_of-loop-element-preserved t c = record {
   can = tt;
   ends = tt;
   inside = λ n h. (items_rest n _ _ c.in-Some.element c.in-Some.ensures.steps.0 (c.loop-element.invariant.inside n h)).1;
+  borrows = λ text ps h.
+      let before = c.loop-element.invariant.borrows text ps h in
+      let first = first_from text ps written _ _ c.in-Some.element c.in-Some.ensures.steps.0 before.0 in
+      (first.1, rw c.in_ok-push.ensures.items (element_push text ps c.in_ok-value_of.field-0 c.loop-element.array.items before.1 (c.in_ok-value_of.ensures.borrows text ps first.0)));
   finished = elements-more _ _ _ c.in-Some.element c.loop-element.array.items c.push.new.self.items c.in_ok-value_of.field-0 c.in-Some.ensures.steps.0 c.loop-element.invariant.finished c.in_ok-value_of.ensures.gives c.in_ok-push.ensures.items;
 }
 
@@ -65,6 +74,7 @@ place_pairs-loop-pair-init t c = record {
   can = tt;
   ends = tt;
   inside = λ n h. events_again n _ _ c.into_iter-pair-iterator.ensures.into_iter_gives.0 h;
+  borrows = λ text ps h before. (again_from text ps assignment_written _ _ c.into_iter-pair-iterator.ensures.into_iter_gives.0 h, before);
   placing = remains-first _ _ _ c.into_iter-pair-iterator.ensures.into_iter_gives.0;
 }
 
@@ -73,6 +83,10 @@ place_pairs-loop-pair-preserved t c = record {
   can = tt;
   ends = tt;
   inside = λ n h. (events_rest n _ _ c.in-Some.pair c.in-Some.ensures.steps.0 (c.loop-pair.invariant.inside n h)).1;
+  borrows = λ text ps h node.
+      let before = c.loop-pair.invariant.borrows text ps h node in
+      let first = first_from text ps assignment_written _ _ c.in-Some.pair c.in-Some.ensures.steps.0 before.0 in
+      (first.1, c.in_ok-place_one.ensures.borrows text ps first.0 before.1);
   placing = placing-more c.loop-pair.node c.place_one.new.node _ _ _ _ c.in-Some.pair c.in-Some.ensures.steps.0 c.loop-pair.invariant.placing c.in_ok-place_one.ensures.gives;
 }
 
@@ -98,11 +112,11 @@ pub table_of-returns-in_err-place_pairs-clause-gives : goal.table_of-returns-in_
 table_of-returns-in_err-place_pairs-clause-gives t c =
     let q = c.from_residual.result in
     let e = c.in_err-place_pairs.field-0.0 in
-    table-err c.new-scope.result c.place_pairs.new.node _ (λ t. inner_view (Table t)) q e c.new-scope.ensures (err-of q e _ c.from_residual.ensures.1 (λ y p. p)) c.in_err-place_pairs.ensures.gives
+    table-err c.new-scope.result c.place_pairs.new.node _ (λ t. inner_view (Table t)) q e c.new-scope.ensures.fresh (err-of q e _ c.from_residual.ensures.1 (λ y p. p)) c.in_err-place_pairs.ensures.gives
 
 pub table_of-returns-clause-gives : goal.table_of-returns-clause-gives
 table_of-returns-clause-gives t c =
-    table-gives c.new-scope.result c.place_pairs.new.node _ c.in_ok-into_table.field-0 c.new-scope.ensures c.in_ok-place_pairs.ensures.gives c.in_ok-into_table.ensures
+    table-gives c.new-scope.result c.place_pairs.new.node _ c.in_ok-into_table.field-0 c.new-scope.ensures.fresh c.in_ok-place_pairs.ensures.gives c.in_ok-into_table.ensures.finishes
 
 pub value_of-returns-in_err-array_of-in-Array-clause-gives : goal.value_of-returns-in_err-array_of-in-Array-clause-gives
 value_of-returns-in_err-array_of-in-Array-clause-gives t c =
@@ -121,7 +135,7 @@ value_of-returns-clause-gives t c =
     let v = c.args.val in
     let x = c.with_span.result in
     let inner = c.match-kind.inner in
-    let seen = c.with_span.ensures in
+    let seen = c.with_span.ensures.view in
     elim c.match-kind.branch [
       | value_of-in-String w ↦ string-gives v inner x w.in-String.text w.in-String.is w.inner-is seen
       | value_of-in-Integer w ↦
@@ -143,3 +157,42 @@ pub value_of-returns-in_err-table_of-in-Inline-clause-placed : goal.value_of-ret
 value_of-returns-in_err-table_of-in-Inline-clause-placed t c = λ n h.
     let placed = c.in_err-table_of-in-Inline.ensures.placed n (inline_inside n c.args.val c.in-Inline.pairs c.in-Inline.is h) in
     search (rules)
+
+-- ---- what is borrowed
+
+pub array_of-returns-clause-borrows : goal.array_of-returns-clause-borrows
+array_of-returns-clause-borrows t c = λ text ps h. (c.loop-element.invariant.borrows text ps h).1
+
+pub place_one-returns-clause-borrows : goal.place_one-returns-clause-borrows
+place_one-returns-clause-borrows t c = λ text ps h.
+    let from = assignment_from text ps c.args.pair h in
+    c.place_pair.ensures.borrows text ps (rw c.as_slice.ensures.value from.0) from.1 (c.value_of-value.ensures.borrows text ps from.2)
+
+pub place_pairs-returns-clause-borrows : goal.place_pairs-returns-clause-borrows
+place_pairs-returns-clause-borrows t c = λ text ps h node. (c.loop-pair.invariant.borrows text ps h node).1
+
+pub table_of-returns-clause-borrows : goal.table_of-returns-clause-borrows
+table_of-returns-clause-borrows t c = λ text ps h.
+    let placed = c.in_ok-place_pairs.ensures.borrows text ps h (rw c.new-scope.ensures.bare tt) in
+    let inside = of_node text ps c.place_pairs.new.node placed in
+    c.in_ok-into_table.ensures.borrows text ps inside.1 inside.0
+
+pub value_of-returns-clause-borrows : goal.value_of-returns-clause-borrows
+value_of-returns-clause-borrows t c = λ text ps h.
+    let v = c.args.val in
+    let x = c.with_span.result in
+    let inner = c.match-kind.inner in
+    let kept = c.with_span.ensures.kept in
+    elim c.match-kind.branch [
+      | value_of-in-String w ↦ borrowing.string_from text ps v x inner w.in-String.text w.in-String.is w.inner-is kept h
+      | value_of-in-Integer w ↦ borrowing.integer_right text ps x inner _ v.span kept w.inner-is
+      | value_of-in-Float w ↦ borrowing.float_right text ps x inner _ v.span kept w.inner-is
+      | value_of-in-Boolean w ↦ borrowing.boolean_right text ps x inner _ v.span kept w.inner-is
+      | value_of-in-Datetime w ↦ borrowing.datetime_right text ps x inner _ v.span kept w.inner-is
+      | value_of-in-Array+in_ok-array_of-in-Array w ↦
+          borrowing.array_right text ps x inner w.in_ok-array_of-in-Array.field-0 v.span kept w.inner-is
+          (w.in_ok-array_of-in-Array.ensures.borrows text ps (borrowing.array_from text ps v w.in-Array.elements w.in-Array.is h))
+      | value_of-in-Inline+in_ok-table_of-in-Inline w ↦
+          borrowing.table_right text ps x inner w.in_ok-table_of-in-Inline.field-0 v.span kept w.inner-is
+          (w.in_ok-table_of-in-Inline.ensures.borrows text ps (borrowing.inline_from text ps v w.in-Inline.pairs w.in-Inline.is h))
+    ]

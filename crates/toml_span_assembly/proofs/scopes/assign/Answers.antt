@@ -11,6 +11,7 @@ use Rattle.toml_span_claims.specs.declared.claims.Sort.TheVariants.{Assigned}
 use Rattle.toml_span_claims.specs.declared.node.Node.TheViews.{out-Node}
 use Rattle.toml_span_assembly.proofs.Assigned.{refused-child, refused-value, assigned-err, assigned-ok, sets-value, missing-free}
 use Rattle.toml_span_claims.proofs.Placed.{err-of}
+use Rattle.toml_span_assembly.proofs.Borrowing.{assigned_twice, err_ok, keeps_value}
 use Rattle.toml_span_claims.proofs.KeyMaps.{entry-found, entry-missing}
 use Rattle.toml_span_claims.proofs.PlaceLemmas.{pair_inside}
 use Rattle.toml_span_assembly.proofs.scopes.assign.Goals as goal
@@ -54,4 +55,22 @@ returns-in_ok-value-in-Vacant-clause-gives c = λ v value span before.
     assigned-ok c.args.node.now _ c.args.key c.in_ok-value-in-Vacant.field-0 v c.args.value c.pair_mark-mark.result
     (ap (λ m. m.sort) c.pair_mark-mark.ensures) c.in_ok-admit_beside_table.ensures.gives.0 free c.in_ok-value-in-Vacant.was value
     (sets-value c.args.node.now (record { marks = n.marks; values = values; tables = n.tables; entries = n.entries }) c.args.key c.in_ok-value-in-Vacant.field-0 free refl refl refl (ap (λ (m : BTreeMap Key Value). m.entries) is ∙ written)) before in
+    places _ (search (rules, same))
+
+pub returns-in-Occupied-clause-borrows : goal.returns-in-Occupied-clause-borrows
+returns-in-Occupied-clause-borrows c = λ text ps key value before.
+    assigned_twice c.admit.result c.pair_mark.result c.pair_mark-mark.result _ _ _ (ap (λ m. m.sort) c.pair_mark.ensures) (ap (λ m. m.sort) c.pair_mark-mark.ensures) c.admit.ensures.gives
+
+pub returns-in_ok-value-in-Vacant-clause-borrows : goal.returns-in_ok-value-in-Vacant-clause-borrows
+returns-in_ok-value-in-Vacant-clause-borrows c = λ text ps key value before.
+    let n = out-Node c.args.node.now in
+    let none = rw c.in-Vacant.is at c.in_ok-entry.ensures.found in
+    let free = entry-missing (part c.args.key).name n.values.entries none in
+    let same = rw c.in-Vacant.is at c.in_ok-entry.ensures.same_map in
+    let update = rw c.in-Vacant.is at c.in_ok-entry.ensures.update in
+    let written = update.1 c.insert.result.now ∙ ap (insert_entry key_cmp n.values.entries c.args.key) c.insert.ensures.value in
+    let right = rw c.in_ok-value-in-Vacant.was at value in
+    let places = λ (values : BTreeMap Key Value) (is : values ≡ map_with_value (Entry.Vacant c.in-Vacant.entry) c.insert.result.now).
+    keeps_value text ps c.args.node.now (record { marks = n.marks; values = values; tables = n.tables; entries = n.entries }) c.args.key c.in_ok-value-in-Vacant.field-0 free refl refl
+    (ap (λ (m : BTreeMap Key Value). m.entries) is ∙ written) key right before in
     places _ (search (rules, same))

@@ -1,5 +1,7 @@
 use Rattle.std.proofs.Common.{rules, ◌∙◌}
+use Rattle.toml_span_read.specs.Borrowed.{assignment_written}
 use Rattle.toml_span_claims.proofs.Placed.{err-of}
+use Rattle.toml_span_assembly.proofs.Borrowing.{again_from, first_from}
 use Rattle.toml_span_assembly.proofs.Assignments.{remains-first, placing-more, placing-err, placing-none}
 use Rattle.toml_span_assembly.proofs.InsideLemmas.{events_rest, events_again}
 use Rattle.toml_span_assembly.proofs.scopes.place_all.Goals as goal
@@ -9,12 +11,17 @@ loop-pair-init c =
     let all = c.into_iter-pair-iterator.ensures.into_iter_gives ∙ c.new-pair-items.ensures in
     record {
       inside = λ n h. events_again n _ _ all h;
+      borrows = λ text ps h before. (again_from text ps assignment_written _ _ all h, before);
       placing = remains-first _ _ _ all;
     }
 
 pub loop-pair-preserved : goal.loop-pair-preserved
 loop-pair-preserved c = record {
   inside = λ n h. (events_rest n _ _ c.in-Some.pair c.in-Some.ensures.steps (c.loop-pair.invariant.inside n h)).1;
+  borrows = λ text ps h node.
+      let before = c.loop-pair.invariant.borrows text ps h node in
+      let first = first_from text ps assignment_written _ _ c.in-Some.pair c.in-Some.ensures.steps before.0 in
+      (first.1, c.in_ok-place_one.ensures.borrows text ps first.0 before.1);
   placing = placing-more c.loop-pair.node c.place_one.new.node _ _ _ _ c.in-Some.pair c.in-Some.ensures.steps c.loop-pair.invariant.placing c.in_ok-place_one.ensures.gives;
 }
 
@@ -33,3 +40,6 @@ returns-in_err-place_one-clause-placed c = λ n h.
 
 pub returns-clause-gives : goal.returns-clause-gives
 returns-clause-gives c = placing-none c.loop-pair.node _ _ _ c.in-None.ensures.steps.0 c.loop-pair.invariant.placing
+
+pub returns-clause-borrows : goal.returns-clause-borrows
+returns-clause-borrows c = λ text ps h node. (c.loop-pair.invariant.borrows text ps h node).1

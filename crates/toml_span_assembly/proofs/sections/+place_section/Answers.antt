@@ -1,4 +1,4 @@
-use Rattle.std.proofs.Common.{BTreeMap, arith, ◌≡◌, ◌∙◌, [], ap, map, option_map, refl, rules, sym}
+use Rattle.std.proofs.Common.{BTreeMap, arith, ◌≡◌, ◌-◌, ◌<◌, length, vec_len, ◌∙◌, [], ap, map, option_map, refl, rules, sym}
 use Rattle.std.proofs.lemmas.Grind.{common_steps}
 use Rattle.std.specs.BTreeMap.{insert_entry}
 use Rattle.std.proofs.lemmas.Bool.{false≢true}
@@ -13,8 +13,11 @@ use Rattle.toml_span_claims.specs.declared.claims.Sort.TheVariants.{Passed}
 use Rattle.toml_span_claims.specs.declared.node.Node.{Node}
 use Rattle.toml_span_claims.specs.declared.node.Node.TheViews.{out-Node}
 use Rattle.toml_span_claims.specs.Claims.{event_claims, header_mark}
+use Rattle.toml_span_claims.specs.Tree.{entries}
 use Rattle.toml_span_claims.proofs.Claimed.{marked-roll}
+use Rattle.toml_span_claims.proofs.Placed.{roll-out}
 use Rattle.toml_span_assembly.proofs.Headers.{descended, descended-err, no-latest, parts-below, parts-front, parts-none, parts-some, pass-again, pass-end, pass-lent, pass-vec, section-beside, section-end, section-found, section-free, section-new, section-new-err}
+use Rattle.toml_span_assembly.proofs.Borrowing.{front_from, keeps_entry, keeps_found, keeps_marked, keeps_new, keeps_same}
 use Rattle.toml_span_assembly.proofs.InsideLemmas.{front_inside}
 use Rattle.toml_span_claims.proofs.PlaceLemmas.{header_inside}
 use Rattle.toml_span_claims.proofs.Placed.{err-of, found-box, missing-box, out-roll, sets-found, sets-new}
@@ -100,7 +103,7 @@ place_section-returns-in_err-pass_header-in-None-clause-gives t c =
     let e = c.in_err-pass_header-in-None.field-0.0 in
     rw front
     (section-new-err c.args.head (part c.part-item.result) (event_claims (map event c.args.pairs.items) []) _ c.args.node.now _ c.new-child.result c.pass_header.new.node c.pass_header.result q e _
-    (ap (option_map box_value) missing) (section-free c.args.head (part c.part-item.result) (event_claims (map event c.args.pairs.items) []) _ c.args.node.now free.0) c.new-child.ensures
+    (ap (option_map box_value) missing) (section-free c.args.head (part c.part-item.result) (event_claims (map event c.args.pairs.items) []) _ c.args.node.now free.0) c.new-child.ensures.fresh
     c.in_err-pass_header-in-None.was (err-of q e _ c.from_residual-in_err-pass_header-in-None.ensures.1 (λ y p. p)) c.pass_header.ensures.gives)
 
 pub place_section-returns-in-Some-clause-gives : goal.place_section-returns-in-Some-clause-gives
@@ -125,10 +128,57 @@ place_section-returns-in_ok-insert-in-None-clause-gives t c =
     let written = (rw out-roll at c.in_ok-insert-in-None.ensures.entries) ∙ ap (λ (m : BTreeMap Key (Box Node)). insert_entry key_cmp m.entries name w) c.get_mut.follows.holds-at-none in
     rw (front, out-roll)
     (section-new c.args.head (part c.part-item.result) (event_claims (map event c.args.pairs.items) []) _ c.args.node.now _ c.new-child.result c.pass_header.new.node (box_value w)
-    (ap (option_map box_value) missing) (section-free c.args.head (part c.part-item.result) (event_claims (map event c.args.pairs.items) []) _ c.args.node.now free.0) c.new-child.ensures
+    (ap (option_map box_value) missing) (section-free c.args.head (part c.part-item.result) (event_claims (map event c.args.pairs.items) []) _ c.args.node.now free.0) c.new-child.ensures.fresh
     c.in_ok-new-in-None.ensures.ok (sets-new c.args.node.now _ k name w same refl refl refl written) c.in_ok-pass_header-in-None.ensures.gives)
 
 pub pass_child-returns-clause-gives : goal.pass_child-returns-clause-gives
 pass_child-returns-clause-gives t c =
     pass-lent c.args.head (part c.args.part.now) (event_claims (map event c.args.pairs.items) []) (map part c.args.rest.now) c.as_mut.result.now c.args.child.now.value c.pass_header.new.node c.pass_header.result
     c.as_mut.ensures.value c.pass_header.ensures.gives
+
+-- ---- what is borrowed
+
+pub descend-returns-clause-borrows : goal.descend-returns-clause-borrows
+descend-returns-clause-borrows t c = λ text ps part rest pairs.
+    keeps_marked text ps c.args.node.now _ _ c.place_section.result refl refl refl (c.place_section.ensures.borrows text ps rest pairs)
+
+pub pass_header-returns-then-is_empty-clause-borrows : goal.pass_header-returns-then-is_empty-clause-borrows
+pass_header-returns-then-is_empty-clause-borrows t c = λ text ps part rest pairs. c.end_header.ensures.borrows text ps pairs
+
+pub pass_header-returns-in-Some-clause-borrows : goal.pass_header-returns-in-Some-clause-borrows
+pass_header-returns-in-Some-clause-borrows t c = λ text ps part rest pairs.
+    let n = c.args.node.now in
+    let some = c.in-Some.ensures.variant.0 refl in
+    let within : vec_len (out-Node n).entries - 1 < length (entries n) = omega (arith, (out-Node n).entries.ok.0, some) in
+    keeps_entry text ps n _ (vec_len (out-Node n).entries - 1) c.in-Some.latest.now c.descend.new.node c.descend.result refl refl refl within c.in-Some.ensures.value (c.descend.ensures.borrows text ps part rest pairs)
+
+pub pass_header-returns-in-None-clause-borrows : goal.pass_header-returns-in-None-clause-borrows
+pass_header-returns-in-None-clause-borrows t c = λ text ps part rest pairs.
+    keeps_same text ps _ c.args.node.now c.descend-in-None.new.node c.descend-in-None.result (roll-out c.args.node.now) (c.descend-in-None.ensures.borrows text ps part rest pairs)
+
+pub pass_child-returns-clause-borrows : goal.pass_child-returns-clause-borrows
+pass_child-returns-clause-borrows t c = λ text ps part rest pairs.
+    keeps_same text ps c.as_mut.result.now c.args.child.now.value _ c.pass_header.result c.as_mut.ensures.value (c.pass_header.ensures.borrows text ps part rest pairs)
+
+pub place_section-returns-in_default-clause-borrows : goal.place_section-returns-in_default-clause-borrows
+place_section-returns-in_default-clause-borrows t c = λ text ps parts pairs. c.place_all.ensures.borrows text ps pairs
+
+pub place_section-returns-in-Some-clause-borrows : goal.place_section-returns-in-Some-clause-borrows
+place_section-returns-in-Some-clause-borrows t c = λ text ps parts pairs.
+    let k = cow_str_bytes c.part-item.result.name in
+    let front = front_from text ps c.args.parts.now c.part-item.result _ c.in-len1-up.len_at_least c.part-item.is parts in
+    let found = found-box k (out-Node c.args.node.now).tables c.get_mut.result c.in-Some.child c.in-Some.is c.get_mut.ensures.value in
+    let box = c.pass_child.new.child in
+    keeps_found text ps c.args.node.now _ k c.in-Some.child.now box c.pass_child.result found refl refl (c.get_mut.follows.holds box).0
+    (c.pass_child.ensures.borrows text ps front.0 front.1 pairs)
+
+pub place_section-returns-in_ok-insert-in-None-clause-borrows : goal.place_section-returns-in_ok-insert-in-None-clause-borrows
+place_section-returns-in_ok-insert-in-None-clause-borrows t c = λ text ps parts pairs before.
+    let front = front_from text ps c.args.parts.now c.part-item.result _ c.in-len1-up.len_at_least c.part-item.is parts in
+    let box = c.in_ok-new-in-None.field-0 in
+    let name = c.in_ok-clone-in-None.field-0 in
+    let clone = c.in_ok-clone-in-None.ensures in
+    let inserted = (rw out-roll at c.in_ok-insert-in-None.ensures.entries) ∙ ap (λ (m : BTreeMap Key (Box Node)). insert_entry key_cmp m.entries name box) c.get_mut.follows.holds-at-none in
+    rw out-roll
+    (keeps_new text ps c.args.node.now _ c.part-item.result name c.new-child.result c.pass_header.new.node box c.new-child.ensures.bare clone.name clone.borrowed clone.owned c.in_ok-new-in-None.ensures.ok refl refl inserted front.0
+    (c.in_ok-pass_header-in-None.ensures.borrows text ps front.0 front.1 pairs) before)

@@ -5,13 +5,14 @@ use Rattle.toml_span_claims.specs.declared.claims.Sort.TheVariants.{Entry}
 use Rattle.toml_span_claims.specs.Claims.{event_claims, header_mark}
 use Rattle.toml_span_claims.specs.Relative.{opening}
 use Rattle.toml_span_claims.proofs.Placed.{err-of}
+use Rattle.toml_span_assembly.proofs.Borrowing.{keeps_pushed}
 use Rattle.toml_span_assembly.proofs.Entries.{reaches-added-err, reaches-pushed}
 use Rattle.toml_span_assembly.proofs.sections.add_entry.Goals as goal
 
 pub returns-in_err-open_table-clause-gives : goal.returns-in_err-open_table-clause-gives
 returns-in_err-open_table-clause-gives c =
     reaches-added-err (header_mark c.args.head Entry c.args.part.now.span) c.args.node.now _ c.new-entry.result c.open_table.new.node c.open_table.result c.from_residual.result c.in_err-open_table.field-0.0
-    (opening c.args.head Entry (part c.args.part.now) (event_claims (map event c.args.pairs.items) [])) _ _ c.new-entry.ensures c.in_err-open_table.was
+    (opening c.args.head Entry (part c.args.part.now) (event_claims (map event c.args.pairs.items) [])) _ _ c.new-entry.ensures.fresh c.in_err-open_table.was
     (err-of c.from_residual.result c.in_err-open_table.field-0.0 _ c.from_residual.ensures.1 (λ y p. p)) c.open_table.ensures.gives
 
 pub returns-in_err-open_table-clause-placed : goal.returns-in_err-open_table-clause-placed
@@ -20,4 +21,8 @@ returns-in_err-open_table-clause-placed c = λ n part line pairs. let placed = c
 pub returns-clause-gives : goal.returns-clause-gives
 returns-clause-gives c =
     reaches-pushed (header_mark c.args.head Entry c.args.part.now.span) c.args.node.now _ c.new-entry.result c.open_table.new.node
-    (opening c.args.head Entry (part c.args.part.now) (event_claims (map event c.args.pairs.items) [])) refl c.new-entry.ensures refl refl refl c.in_ok-push.ensures.items c.in_ok-open_table.ensures.gives
+    (opening c.args.head Entry (part c.args.part.now) (event_claims (map event c.args.pairs.items) [])) refl c.new-entry.ensures.fresh refl refl refl c.in_ok-push.ensures.items c.in_ok-open_table.ensures.gives
+
+pub returns-clause-borrows : goal.returns-clause-borrows
+returns-clause-borrows c = λ text ps pairs before.
+    keeps_pushed text ps c.args.node.now _ c.new-entry.result c.open_table.new.node c.new-entry.ensures.bare refl refl c.in_ok-push.ensures.items (c.in_ok-open_table.ensures.borrows text ps pairs) before

@@ -9,6 +9,7 @@ use Rattle.toml_span_claims.specs.Placing.{Reaches}
 use Rattle.toml_span_claims.specs.Tree.{IsHeld, IsOpen, counts}
 use Rattle.toml_span_claims.proofs.Claimed.{Marked, marked-roll}
 use Rattle.toml_span_claims.proofs.Placed.{err-of}
+use Rattle.toml_span_assembly.proofs.Borrowing.{keeps_marked, keeps_same}
 use Rattle.toml_span_assembly.proofs.Headers.{end-first, end-first-err, end-further, end-table, no-entries, some-entries}
 use Rattle.toml_span_claims.proofs.PlaceLemmas.{header_inside}
 use Rattle.toml_span_assembly.proofs.sections.end_header.Goals as goal
@@ -44,4 +45,12 @@ returns-clause-gives c =
           end-further c.args.head k tail c.args.node.now c.add_entry.new.node c.add_entry.result array
           (some-entries c.args.node.now (sym c.is_empty.ensures ∙ w.if-is_empty.false))
           (subst (λ n. Reaches IsOpen IsHeld n c.add_entry.new.node c.add_entry.result (adding c.args.head k tail (counts n [])) (one_more (counts n))) w.node-is c.add_entry.ensures.gives)
+    ]
+
+pub returns-clause-borrows : goal.returns-clause-borrows
+returns-clause-borrows c = λ text ps pairs.
+    let keep = c.add_entry.ensures.borrows text ps pairs in
+    elim c.if-is_empty.branch [
+      | then-is_empty+in_ok-claim w ↦ keeps_marked text ps c.args.node.now _ c.add_entry.new.node c.add_entry.result refl refl refl (keeps_same text ps _ _ c.add_entry.new.node c.add_entry.result w.node-is keep)
+      | else-is_empty w ↦ keeps_same text ps _ c.args.node.now c.add_entry.new.node c.add_entry.result w.node-is keep
     ]

@@ -4,6 +4,7 @@ use Rattle.toml_span_read.specs.Keys.{part}
 use Rattle.toml_span_claims.specs.Claims.{event_claims, header_mark}
 use Rattle.toml_span_claims.proofs.Claimed.{marked-roll}
 use Rattle.toml_span_claims.proofs.Placed.{err-of}
+use Rattle.toml_span_assembly.proofs.Borrowing.{err_ok, keeps_marked}
 use Rattle.toml_span_assembly.proofs.Headers.{opened-table, opened-table-err}
 use Rattle.toml_span_claims.proofs.PlaceLemmas.{header_inside}
 use Rattle.toml_span_assembly.proofs.sections.open_table.Goals as goal
@@ -14,6 +15,7 @@ returns-in_err-claim c = record {
       opened-table-err c.args.head (part c.args.part.now) c.args.sort (event_claims (map event c.args.pairs.items) []) c.args.node.now _ c.from_residual.result c.in_err-claim.field-0.0 _ _
       (err-of c.from_residual.result c.in_err-claim.field-0.0 _ c.from_residual.ensures.1 (λ y p. p)) (rw c.header_mark.ensures at c.in_err-claim.ensures.gives);
   placed = λ n part line pairs. let placed = c.in_err-claim.ensures.placed n (header_inside n _ _ _ _ _ c.header_mark.ensures part line) in search (rules);
+  borrows = λ text ps pairs before. err_ok c.from_residual.result _ _ c.from_residual.ensures.1;
 }
 
 pub returns : goal.returns
@@ -23,4 +25,5 @@ returns c = record {
       opened-table c.args.head (part c.args.part.now) c.args.sort (event_claims (map event c.args.pairs.items) []) c.args.node.now _ c.place_all.new.node c.place_all.result claimed.0
       (marked-roll (header_mark c.args.head c.args.sort c.args.part.now.span) c.args.node.now _ claimed.1 refl refl refl) c.place_all.ensures.gives;
   placed = λ n part line pairs. c.place_all.ensures.placed n pairs;
+  borrows = λ text ps pairs. keeps_marked text ps c.args.node.now _ _ c.place_all.result refl refl refl (c.place_all.ensures.borrows text ps pairs);
 }

@@ -1,13 +1,22 @@
+use Rattle.std.proofs.Common.{ℕ, List}
+use Rattle.toml_span_read.specs.Keys.{Part}
+use Rattle.toml_span_claims.specs.Borrowed.{AreRight, array_standing, boxes_standing, entries_of, table_standing}
 use Rattle.toml_span_claims.proofs.Finishing.{Filled, EntriesFilled}
 use Rattle.std.specs.Vec.Iter.{into_iter_items}
 use Rattle.toml_span_claims.proofs.node.+finish.Given as goal
 
 abbrev pub invariant-into_table-loop-key : goal.invariant-into_table-loop-key
-invariant-into_table-loop-key l = Filled l.fn.tables.entries l.key-iterator l.fn.values.entries l.values.entries
+invariant-into_table-loop-key l = record {
+  filled : Filled l.fn.tables.entries l.key-iterator l.fn.values.entries l.values.entries;
+  borrows : (text : List ℕ) (ps : List Part) → AreRight text ps (boxes_standing l.fn.tables.entries) → AreRight text ps (table_standing l.fn.values.entries)
+      → AreRight text ps (boxes_standing l.key-iterator) × AreRight text ps (table_standing l.values.entries);
+}
 
 abbrev pub invariant-into_array-loop-entry : goal.invariant-into_array-loop-entry
 invariant-into_array-loop-entry l = record {
   can : goal.iterator-into_array-loop-entry.can_next l.entry-iterator;
   ends : goal.iterator-into_array-loop-entry.is_finite l.entry-iterator;
   filled : EntriesFilled l.fn.entries.items (into_iter_items l.entry-iterator) l.array.items;
+  borrows : (text : List ℕ) (ps : List Part) → AreRight text ps (entries_of l.fn.entries.items)
+      → AreRight text ps (entries_of (into_iter_items l.entry-iterator)) × AreRight text ps (array_standing l.array.items);
 }

@@ -1,6 +1,6 @@
 use Rattle.std.proofs.Common.{◌∙◌, get_or, ap, sym, Global}
 use Rattle.std.specs.declared.borrow.CowStr.TheVariants as cow
-use Rattle.toml_span_lex.proofs.MadeStrings.{no_string, no_ends, borrows_same, borrows_own, is_string}
+use Rattle.toml_span_lex.proofs.MadeStrings.{no_string, no_ends, borrows_same, borrows_own, where_same, where_changed, is_string}
 use Rattle.toml_span_lex.proofs.strings.string_at.Goals as goal
 use Rattle.toml_span_lex.proofs.strings.string_at.Goals.{in-None, in-Some}
 
@@ -35,4 +35,19 @@ returns-after-kept-clause-gives c =
             rw w.val-is (is_string text _ at from to end m _ _ g.0 _ qe me c.requires.quote begins g.1 k.0 c.range-src.ensures.value c.content_span-span.ensures),
             rw (w.val-is, c.content_span-span.ensures) (borrows_own {Z = Global} text at from to end m g.0 (cow.Owned w.in-Some.s) begins c.in-Ok.ensures.ends.on tt k.0 k.1 c.in-Ok.ensures.ends.to_boundary.0),
           )
+    ]
+
+pub returns-after-kept-clause-borrows : goal.returns-after-kept-clause-borrows
+returns-after-kept-clause-borrows c =
+    let text = c.args.text.now in
+    let at = c.args.at in
+    let from = c.content_from-from.result in
+    let m = c.opens_multi-multi.result in
+    let to = c.in-Ok.to in
+    let g = c.in-Ok.ensures.gives in
+    elim c.match-kept.branch [
+      | in-None w ↦ rw (w.val-is, c.content_span-span.ensures) (where_same {Z = Global} text at from to m (cow.Borrowed w.range.result) c.requires.quote tt w.range.ensures.value)
+      | in-Some w ↦
+          let k = rw w.in-Some.is at g.2 in
+          rw (w.val-is, c.content_span-span.ensures) (where_changed {Z = Global} text _ at from to m g.0 (cow.Owned w.in-Some.s) tt k.0 k.1 c.in-Ok.ensures.ends.to_boundary.0 k.2)
     ]

@@ -1,7 +1,9 @@
-use Rattle.std.proofs.Common.{arith, ◌≡◌}
+use Rattle.std.proofs.Common.{arith, ◌≡◌, [], ◌∷◌}
 use Rattle.toml_span_read.specs.declared.fault.FaultKind.TheVariants.{ExceededDepthLimit}
 use Rattle.toml_span_read.specs.Faults.{fault_at}
 use Rattle.toml_span_read.specs.Keys.{too_many, dotted_on, onward}
+use Rattle.toml_span_read.specs.Borrowed.{IsRight, key_written, keys_written}
+use Rattle.toml_span_read.proofs.BorrowLemmas.{all_append, keys_more}
 use Rattle.toml_span_read.proofs.KeyLemmas.{handed_on, one_more, first_fault, part_fault, dotted_first, dotted_more, same_stuck}
 use Rattle.toml_span_read.proofs.keys.dotted_key.Goals as goal
 
@@ -17,6 +19,7 @@ parts-init c =
     record {
       forward = k.advances.on;
       boundary = k.advances.boundary;
+      borrows = (rw c.new-inner.ensures.items tt, k.borrows);
       few = omega (arith, f.0, c.requires.some);
       whole = f.1;
       stuck = f.2;
@@ -40,7 +43,14 @@ parts-preserved c =
     record {
       forward = omega (arith, k.advances.on, d.1.on);
       boundary = k.advances.boundary;
+      borrows = (
+        keys_more (IsRight c.args.text.now) c.parts.inner.items c.add.new.items.items _ c.in_default-add.ensures c.parts.invariant.borrows.0 (rw c.replace.ensures.value c.parts.invariant.borrows.1),
+        rw c.replace.ensures.after k.borrows,
+      );
       few = omega (arith, n, c.len.ensures);
       whole = dotted_more c.parts.inner.items c.add.new.items.items c.parts.last _ c.in_ok-key.key c.replace.new.dest c.args.text.now c.args.at c.parts.end _ _ c.in_default-add.ensures c.replace.ensures.value c.replace.ensures.after c.parts.invariant.whole d.0 k.gives;
       stuck = λ e h. c.parts.invariant.stuck e (dotted_on _ _ _ _ _ _ d.0 k.gives (omega (arith, c.len.ensures)) (rw n at h));
     }
+
+pub returns-clause-borrows : goal.returns-clause-borrows
+returns-clause-borrows c = all_append (IsRight c.args.text.now) (keys_written c.parts.inner.items) (key_written c.parts.last ∷ []) c.parts.invariant.borrows.0 (c.parts.invariant.borrows.1, tt)

@@ -1,6 +1,8 @@
 use Rattle.std.proofs.Common.{◌≡◌, ◌≤◌, ◌<◌, ◌-◌, ◌+◌, ◌++◌, ◌∷◌, ℕ, List, length, map}
 use Rattle.std.specs.Str.{IsCharBoundary}
 use Rattle.toml_span_read.specs.declared.fault.Fault.{Fault}
+use Rattle.toml_span_lex.specs.Strings.{BorrowsWhereSame}
+use Rattle.toml_span_read.specs.Borrowed.{AreRight, keys_written}
 use Rattle.toml_span_read.specs.Keys.{Part, part, Onward, Dotted, StuckOnward, StuckDotted}
 use Rattle.toml_span_read.proofs.keys.dotted_key.Given as goal
 
@@ -9,6 +11,7 @@ abbrev pub invariant-parts : goal.invariant-parts
 invariant-parts l = record {
   forward : l.at < l.end;
   boundary : IsCharBoundary l.text l.end;
+  borrows : AreRight l.text (keys_written l.inner.items) × BorrowsWhereSame l.text l.last.span l.last.name;
   few : length l.inner.items + 1 ≤ l.limit;
   whole : (tail : List Part) (j : ℕ) → Onward tail l.text l.end j → Dotted (map part l.inner.items ++ (part l.last ∷ tail)) l.text l.at j;
   stuck : (e : Fault) → StuckOnward l.text l.limit (length l.inner.items + 1) l.end e → StuckDotted l.text l.limit l.at e;

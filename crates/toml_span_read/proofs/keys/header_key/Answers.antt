@@ -1,5 +1,7 @@
 use Rattle.std.proofs.Common.{arith}
 use Rattle.toml_span_read.specs.Keys.{part, header_too_many, header_on}
+use Rattle.toml_span_read.specs.Borrowed.{IsRight}
+use Rattle.toml_span_read.proofs.BorrowLemmas.{keys_more}
 use Rattle.toml_span_read.proofs.KeyLemmas.{handed_on, one_more, header_fault, header_more, key_placed}
 use Rattle.toml_span_read.proofs.keys.header_key.Goals as goal
 
@@ -23,6 +25,7 @@ parts-preserved c =
     record {
       forward = omega (arith, k.advances.on, d.1.on);
       boundary = d.1.boundary;
+      borrows = keys_more (IsRight c.args.text.now) c.parts.parts.items c.push.new.self.items c.in_ok-key.key pushed c.parts.invariant.borrows k.borrows;
       few = omega (arith, n, c.len.ensures.value);
       whole = header_more c.parts.parts.items c.push.new.self.items c.in_ok-key.key c.args.text.now c.args.at c.parts.next _ _ pushed c.parts.invariant.whole k.gives d.0;
       stuck = λ e h. c.parts.invariant.stuck e (header_on _ _ _ _ _ _ k.gives (omega (arith, c.len.ensures.value)) d.0 (rw n at h));

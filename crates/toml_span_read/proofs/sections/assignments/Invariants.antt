@@ -1,5 +1,6 @@
 use Rattle.std.proofs.Common.{ℕ, ◌≤◌, ◌-◌, length, map}
 use Rattle.std.specs.Str.{IsCharBoundary}
+use Rattle.toml_span_read.specs.Borrowed.{AreRight, assignments_written}
 use Rattle.toml_span_read.specs.Data.{event}
 use Rattle.toml_span_read.specs.Earlier.{Knows}
 use Rattle.toml_span_read.specs.Gaps.{MaximalGap}
@@ -13,6 +14,7 @@ invariant-lines l = record {
   forward : l.from ≤ l.at;
   begun : (k : ℕ) × MaximalGap l.text l.from k × (k ≤ l.at);
   boundary : IsCharBoundary l.text l.at;
+  borrows : AreRight l.text (assignments_written l.found.items);
   within : WithinEvents l.limit (map event l.found.items);
   knows : Knows l.earlier (map event l.found.items);
   whole : WholeLines l.found.items l.text l.limit l.from l.at;

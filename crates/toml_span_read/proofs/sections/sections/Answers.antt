@@ -2,6 +2,7 @@ use Rattle.std.proofs.Common.{arith, ◌≡◌, length, map}
 use Rattle.toml_span_read.specs.Data.{event}
 use Rattle.toml_span_read.specs.Lines.{block, first_block}
 use Rattle.toml_span_read.proofs.KeyLemmas.{handed_on}
+use Rattle.toml_span_read.proofs.BorrowLemmas as borrow
 use Rattle.toml_span_read.proofs.LimitLemmas.{sections_more, first_within, none_within}
 use Rattle.toml_span_read.proofs.LineLemmas as lines
 use Rattle.toml_span_read.proofs.MemoryLemmas.{begun_by_lines, begun_on, keeps, lines_keep}
@@ -21,6 +22,10 @@ sections-init c =
       boundary = r.read.2;
       begun = begun_by_lines _ c.args.text.now c.args.limit c.first_place.result _ c.first_place.ensures.gives r.gives;
       header = r.header;
+      borrows = elim c.match-first_section.branch [
+        | in-Some+in_default-add w ↦ rw w.found-is (borrow.sections_more c.args.text.now c.new-found.result.items w.add.new.items.items _ w.in_default-add.ensures (rw e tt) (rw w.in-Some.ensures.written r.borrows))
+        | in_default w ↦ rw (w.found-is, e) tt
+      ];
       within = elim c.match-first_section.branch [
         | in-Some+in_default-add w ↦ rw w.found-is (first_within c.args.limit c.new-found.result.items w.add.new.items.items _ e w.in_default-add.ensures (w.in-Some.ensures.within c.args.limit r.read.0))
         | in_default w ↦ rw w.found-is (none_within c.args.limit c.new-found.result.items e)
@@ -40,6 +45,7 @@ sections-preserved c =
       boundary = r.read.2;
       begun = begun_on c.args.text.now c.sections.at _ i.begun (omega (arith, h.reads.1.on, r.read.1));
       header = r.header;
+      borrows = borrow.sections_more c.args.text.now c.sections.found.items c.add-in-sections.new.items.items _ m i.borrows (borrow.section_right c.args.text.now c.section_of.result c.in_ok-header.header.parts.items c.in_ok-behind.behind.items c.section_of.ensures.written h.borrows r.borrows);
       within = sections_more c.args.limit c.sections.found.items c.add-in-sections.new.items.items _ m i.within (c.section_of.ensures.within c.args.limit h.reads.0 r.read.0);
       whole = lines.sections_more c.sections.found.items c.add-in-sections.new.items.items _ c.args.text.now c.args.limit c.sections.at _ m i.whole s;
       stuck = λ e x. i.stuck e (lines.on_section c.args.text.now c.args.limit c.sections.at _ _ e s x);

@@ -3,6 +3,8 @@ use Rattle.std.specs.Prelude.{◌==◌}
 use Rattle.toml_span_read.specs.Keys.{parts}
 use Rattle.toml_span_read.specs.Stuck.{opens_nested, item_on}
 use Rattle.toml_span_read.proofs.KeyLemmas.{handed_on, parts_length}
+use Rattle.toml_span_read.specs.Borrowed.{IsRight, written, assignment_written}
+use Rattle.toml_span_read.proofs.BorrowLemmas.{joined_more, assignment_right}
 use Rattle.toml_span_read.specs.Data.{no_items, no_pairs}
 use Rattle.toml_span_read.proofs.LimitLemmas.{items_more, array_made, pairs_more, inline_made, crossing_placed, assignment_made}
 use Rattle.toml_span_read.proofs.ValueMade.{deep_stuck, nested_begins, array_spelled, items_go, items_end, array_stuck, behind_stuck, inline_spelled, pairs_go, pairs_end, pairs_on, inline_stuck, crossing_stuck, pair_behind_stuck, pair_spelled, key_stuck, equals_stuck, value_stuck}
@@ -28,6 +30,7 @@ array-items-preserved t c =
     record {
       forward = omega (arith, v.1.on, s.1.on, c.items.invariant.forward);
       boundary = s.1.boundary;
+      borrows = joined_more (IsRight c.args.text.now) written c.items.items.items c.add.new.items.items c.in-Ok.found.0 c.in_default.ensures c.items.invariant.borrows c.in-Ok.ensures.borrows;
       whole = items_more c.items.items.items c.add.new.items.items c.in-Ok.found.0 c.args.limit (c.args.depth + 1) c.in_default.ensures c.items.invariant.whole v.0;
       spells = items_go c.items.items.items c.add.new.items.items c.in-Ok.found.0 c.args.text.now c.args.limit (c.args.depth + 1) _ c.items.next _ _ c.in_default.ensures c.items.invariant.spells g s.0;
       stuck = λ e h. c.items.invariant.stuck e (item_on _ _ _ _ _ _ g s.0 h);
@@ -39,12 +42,17 @@ array-returns-in-Closed-clause-reads t c =
     let s = c.in-Closed.ensures in
     let more = items_more c.items.items.items c.add.new.items.items c.in-Ok.found.0 c.args.limit (c.args.depth + 1) c.in_default.ensures c.items.invariant.whole v.0 in
     let on : c.args.at < c.in-Closed.close = omega (arith, v.1.on, s.1.on, c.items.invariant.forward) in
-    let m = array_made _ _ c.args.limit c.args.depth c.args.at c.in-Closed.close c.array_of-in-Closed.ensures c.requires.1.1.1.1.1.1 (omega arith) (more no_items tt) in
+    let m = array_made _ _ c.args.limit c.args.depth c.args.at c.in-Closed.close c.array_of-in-Closed.ensures.view c.requires.1.1.1.1.1.1 (omega arith) (more no_items tt) in
     (m.0, record { on = on; boundary = s.1.boundary }, m.1)
+
+pub array-returns-in-Closed-clause-borrows : goal.array-returns-in-Closed-clause-borrows
+array-returns-in-Closed-clause-borrows t c =
+    rw c.array_of-in-Closed.ensures.written
+    (joined_more (IsRight c.args.text.now) written c.items.items.items c.add.new.items.items c.in-Ok.found.0 c.in_default.ensures c.items.invariant.borrows c.in-Ok.ensures.borrows)
 
 pub array-returns-in-Closed-clause-gives : goal.array-returns-in-Closed-clause-gives
 array-returns-in-Closed-clause-gives t c =
-    array_spelled _ _ c.args.text.now c.args.limit c.args.depth c.args.at _ c.in-Closed.close c.array_of-in-Closed.ensures (omega arith) c.requires.1.1.1.0 c.opened-next.ensures.run
+    array_spelled _ _ c.args.text.now c.args.limit c.args.depth c.args.at _ c.in-Closed.close c.array_of-in-Closed.ensures.view (omega arith) c.requires.1.1.1.0 c.opened-next.ensures.run
     (items_end c.items.items.items c.add.new.items.items c.in-Ok.found.0 c.args.text.now c.args.limit (c.args.depth + 1) _ c.items.next _ _ c.in_default.ensures c.items.invariant.spells c.in-Ok.ensures.gives c.in-Closed.ensures.0)
 
 pub array-returns-in-Neither-clause-gives : goal.array-returns-in-Neither-clause-gives
@@ -77,6 +85,7 @@ inline_table-pairs-preserved t c =
     record {
       forward = omega (arith, v.1.on, s.1.on, c.pairs.invariant.forward);
       boundary = s.1.boundary;
+      borrows = joined_more (IsRight c.args.text.now) assignment_written c.pairs.pairs.items c.add_clear.new.values.items c.in-Ok.found.0 a.0 c.pairs.invariant.borrows c.in-Ok.ensures.borrows;
       knows = c.in_default.ensures.knows;
       whole = pairs_more c.pairs.pairs.items c.add_clear.new.values.items c.in-Ok.found.0 c.args.limit (c.args.depth + 1) a.0 c.pairs.invariant.whole v.0;
       spells = pairs_go c.pairs.pairs.items c.add_clear.new.values.items c.in-Ok.found.0 c.args.text.now c.args.limit (c.args.depth + 1) _ c.pairs.next _ _ a.0 c.pairs.invariant.spells g a.1 s.0;
@@ -89,13 +98,18 @@ inline_table-returns-in-Closed-clause-reads t c =
     let s = c.in-Closed.ensures in
     let more = pairs_more c.pairs.pairs.items c.add_clear.new.values.items c.in-Ok.found.0 c.args.limit (c.args.depth + 1) c.in_default.ensures.adds.0 c.pairs.invariant.whole v.0 in
     let on : c.args.at < c.in-Closed.close = omega (arith, v.1.on, s.1.on, c.pairs.invariant.forward) in
-    let m = inline_made _ _ c.args.limit c.args.depth c.args.at c.in-Closed.close c.inline_of-in-Closed.ensures c.requires.1.1.1.1.1.1 (omega arith) (more no_pairs tt) in
+    let m = inline_made _ _ c.args.limit c.args.depth c.args.at c.in-Closed.close c.inline_of-in-Closed.ensures.view c.requires.1.1.1.1.1.1 (omega arith) (more no_pairs tt) in
     (m.0, record { on = on; boundary = s.1.boundary }, m.1)
+
+pub inline_table-returns-in-Closed-clause-borrows : goal.inline_table-returns-in-Closed-clause-borrows
+inline_table-returns-in-Closed-clause-borrows t c =
+    rw c.inline_of-in-Closed.ensures.written
+    (joined_more (IsRight c.args.text.now) assignment_written c.pairs.pairs.items c.add_clear.new.values.items c.in-Ok.found.0 c.in_default.ensures.adds.0 c.pairs.invariant.borrows c.in-Ok.ensures.borrows)
 
 pub inline_table-returns-in-Closed-clause-gives : goal.inline_table-returns-in-Closed-clause-gives
 inline_table-returns-in-Closed-clause-gives t c =
     let a = c.in_default.ensures.adds in
-    inline_spelled _ _ c.args.text.now c.args.limit c.args.depth c.args.at _ c.in-Closed.close c.inline_of-in-Closed.ensures (omega arith) c.requires.1.1.1.0 c.opened-next.ensures.run
+    inline_spelled _ _ c.args.text.now c.args.limit c.args.depth c.args.at _ c.in-Closed.close c.inline_of-in-Closed.ensures.view (omega arith) c.requires.1.1.1.0 c.opened-next.ensures.run
     (pairs_end c.pairs.pairs.items c.add_clear.new.values.items c.in-Ok.found.0 c.args.text.now c.args.limit (c.args.depth + 1) _ c.pairs.next _ _ a.0 c.pairs.invariant.spells c.in-Ok.ensures.gives a.1 c.in-Closed.ensures.0)
 
 pub inline_table-returns-in-Neither-clause-gives : goal.inline_table-returns-in-Neither-clause-gives
@@ -122,15 +136,18 @@ pair-returns-in-Ok-value-clause-reads t c =
     let q = c.in-Ok.ensures in
     let v = c.in-Ok-value.ensures.reads in
     let u : c.args.depth + (c.len.result + 1) ≡ c.args.depth + length (parts c.in_ok-parts.parts) = omega (arith, parts_length c.in_ok-parts.parts.inner.items c.in_ok-parts.parts.last, c.len.ensures) in
-    let m = assignment_made _ _ _ _ c.args.text.now c.args.limit c.args.depth _ c.args.at _ c.in-Ok.from c.in-Ok-value.end c.assigned.ensures k.gives.0 k.gives.1 (omega (arith, q.1.on)) u v.0 v.2 in
+    let m = assignment_made _ _ _ _ c.args.text.now c.args.limit c.args.depth _ c.args.at _ c.in-Ok.from c.in-Ok-value.end c.assigned.ensures.event k.gives.0 k.gives.1 (omega (arith, q.1.on)) u v.0 v.2 in
     (m.0, record { on = omega (arith, k.advances.on, q.1.on, v.1.on); boundary = v.1.boundary }, m.1.0, m.1.1, m.1.2)
+
+pub pair-returns-in-Ok-value-clause-borrows : goal.pair-returns-in-Ok-value-clause-borrows
+pair-returns-in-Ok-value-clause-borrows t c = assignment_right c.args.text.now _ c.in_ok-parts.parts c.in-Ok-value.value c.assigned.ensures.written c.in_ok-parts.ensures.borrows c.in-Ok-value.ensures.borrows
 
 pub pair-returns-in-Ok-value-clause-gives : goal.pair-returns-in-Ok-value-clause-gives
 pair-returns-in-Ok-value-clause-gives t c =
     let k = c.in_ok-parts.ensures.gives in
     let q = c.in-Ok.ensures in
     let u : c.args.depth + (c.len.result + 1) ≡ c.args.depth + length (parts c.in_ok-parts.parts) = omega (arith, parts_length c.in_ok-parts.parts.inner.items c.in_ok-parts.parts.last, c.len.ensures) in
-    pair_spelled _ _ _ c.args.text.now c.args.limit c.args.depth _ c.args.at c.in_ok-parts.key_end c.in-Ok.from c.in-Ok-value.end c.assigned.ensures k.0 k.1 q.0 u c.in-Ok-value.ensures.gives
+    pair_spelled _ _ _ c.args.text.now c.args.limit c.args.depth _ c.args.at c.in_ok-parts.key_end c.in-Ok.from c.in-Ok-value.end c.assigned.ensures.event k.0 k.1 q.0 u c.in-Ok-value.ensures.gives
 
 pub pair-returns-clause-gives : goal.pair-returns-clause-gives
 pair-returns-clause-gives t c =

@@ -2,6 +2,7 @@ use Rattle.std.proofs.Common.{◌≡◌, ◌≤◌, ◌<◌, ◌+◌, ◌-◌, �
 use Rattle.std.specs.Str.{IsCharBoundary}
 use Rattle.toml_span_read.specs.declared.fault.Fault.{Fault}
 use Rattle.toml_span_read.specs.Data.{Items, Pairs, view, event, onto, pairs_onto}
+use Rattle.toml_span_read.specs.Borrowed.{AreRight, joined, written, assignments_written}
 use Rattle.toml_span_read.specs.Limits.{WithinItems, WithinPairs}
 use Rattle.toml_span_read.specs.Earlier.{Knows}
 use Rattle.toml_span_read.specs.Grammar.{SpellsItems, SpellsPairs}
@@ -26,6 +27,7 @@ abbrev pub invariant-array-items : goal.invariant-array-items
 invariant-array-items l = record {
   forward : l.at < l.next;
   boundary : IsCharBoundary l.text l.next;
+  borrows : AreRight l.text (joined (map written l.items.items));
   whole : (tail : Items) → WithinItems l.limit (l.depth + 1) tail → WithinItems l.limit (l.depth + 1) (onto (map view l.items.items) tail);
   spells : (tail : Items) (j : ℕ) → SpellsItems tail l.text l.limit (l.depth + 1) l.next j → SpellsItems (onto (map view l.items.items) tail) l.text l.limit (l.depth + 1) l.initial.next j;
   stuck : (e : Fault) → StuckItems l.text l.limit (l.depth + 1) l.next e → StuckItems l.text l.limit (l.depth + 1) l.initial.next e;
@@ -38,6 +40,7 @@ abbrev pub invariant-inline_table-pairs : goal.invariant-inline_table-pairs
 invariant-inline_table-pairs l = record {
   forward : l.at < l.next;
   boundary : IsCharBoundary l.text l.next;
+  borrows : AreRight l.text (assignments_written l.pairs.items);
   knows : Knows l.earlier (map event l.pairs.items);
   whole : (tail : Pairs) → WithinPairs l.limit (l.depth + 1) tail → WithinPairs l.limit (l.depth + 1) (pairs_onto (map event l.pairs.items) tail);
   spells : (tail : Pairs) (j : ℕ) → SpellsPairs tail (map event l.pairs.items) l.text l.limit (l.depth + 1) l.next j

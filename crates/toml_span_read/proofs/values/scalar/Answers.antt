@@ -1,5 +1,6 @@
 use Rattle.std.proofs.Common.{◌≡◌, true, false, rules, arith, get_or}
 use Rattle.toml_span_read.specs.Stuck.{begins_bare}
+use Rattle.toml_span_read.proofs.BorrowLemmas.{scalar_right}
 use Rattle.toml_span_read.proofs.KeyLemmas.{handed_on}
 use Rattle.toml_span_read.proofs.ValueMade.{no_value_stuck, deep_stuck, bare_begins, bare_stuck, bare_made}
 use Rattle.toml_span_read.proofs.values.scalar.Goals as goal
@@ -20,4 +21,9 @@ returns-in_err-kind-clause-gives c =
     (bare_stuck c.in_err-kind.field-0.0 c.args.text.now c.args.limit c.args.depth c.args.at (omega arith) c.in_err-kind.ensures.gives)
 
 pub returns-clause-gives : goal.returns-clause-gives
-returns-clause-gives c = bare_made _ c.in_ok-kind.kind c.args.text.now c.args.limit c.args.depth c.args.at c.in_ok-kind.end c.scalar_of.ensures (omega arith) c.in_ok-kind.ensures.gives
+returns-clause-gives c = bare_made _ c.in_ok-kind.kind c.args.text.now c.args.limit c.args.depth c.args.at c.in_ok-kind.end c.scalar_of.ensures.view (omega arith) c.in_ok-kind.ensures.gives
+
+pub returns-clause-borrows : goal.returns-clause-borrows
+returns-clause-borrows c =
+    let b : begins_bare (get_or c.args.text.now c.args.at 0) ≡ true = search rules in
+    scalar_right _ c.in_ok-kind.kind _ c.args.text.now c.args.at c.in_ok-kind.end b c.in_ok-kind.ensures.gives c.scalar_of.ensures.written

@@ -16,8 +16,8 @@ returns-then-depth-limit-clause-gives c =
 pub returns-clause-reads : goal.returns-clause-reads
 returns-clause-reads c =
     let h = c.in_ok-token.ensures.gives in
-    let m = string_made _ _ _ c.args.limit c.args.depth c.args.at c.in_ok-token.token.end c.string_of.ensures (omega arith) (string_inside c.args.text.now _ _ c.args.at _ _ _ h.1) in
+    let m = string_made _ _ _ c.args.limit c.args.depth c.args.at c.in_ok-token.token.end c.string_of.ensures.view (omega arith) (string_inside c.args.text.now _ _ c.args.at _ _ _ h.1) in
     (m.0, h.3, m.1)
 
 pub returns-clause-gives : goal.returns-clause-gives
-returns-clause-gives c = string_spelled _ c.args.text.now c.args.limit c.args.depth c.args.at c.in_ok-token.token c.string_of.ensures (omega arith) c.in_ok-token.ensures.gives
+returns-clause-gives c = string_spelled _ c.args.text.now c.args.limit c.args.depth c.args.at c.in_ok-token.token c.string_of.ensures.view (omega arith) c.in_ok-token.ensures.gives

@@ -1,0 +1,122 @@
+-- What is put together is borrowed as its parts are.
+use Rattle.std.proofs.Common.{◌≡◌, ℕ, ◌+◌, ◌<◌, ◌≤◌, Bool, true, false, List, [], ◌∷◌, ◌++◌, map, length, get_or, drop, arith, rules, inl, inr, refl, sym, ap, ◌∙◌, subst, Vec, Global, Bor, Result, Ok, Err, Option, Some, None}
+use Rattle.std.specs.Prelude.{◌||◌, ◌==◌, slice_range}
+use Rattle.std.proofs.lemmas.Bool.{false≢true}
+use Rattle.std.specs.Cow.{cow_str_bytes, IsBorrowedStr}
+use Rattle.std.specs.List.{AllByRecursion}
+use Rattle.std.specs.declared.borrow.CowStr.{CowStr}
+use Rattle.toml_span_lex.specs.Bytes.{is_keylike}
+use Rattle.toml_span_lex.specs.declared.key.Key.{Key}
+use Rattle.toml_span_lex.specs.declared.span.Span.{Span}
+use Rattle.toml_span_lex.specs.declared.tokens.Token.{Token}
+use Rattle.toml_span_lex.specs.declared.tokens.Token.TheVariants as tokens
+use Rattle.toml_span_lex.specs.Strings.{BorrowsWhereSame, StringBorrows, IsString}
+use Rattle.toml_span_tree.specs.Node.{Scalar, text as text_scalar}
+use Rattle.toml_span_read.specs.declared.section.Section.{Section}
+use Rattle.toml_span_read.specs.declared.value.Val.{Val}
+use Rattle.toml_span_read.specs.declared.value.ValKind.{ValKind, the_lemmas}
+use Rattle.toml_span_read.specs.declared.value.ValKind.TheOpen.{ValKind-F}
+use Rattle.toml_span_read.specs.declared.value.ValKind.TheViews.{out-ValKind, roll-ValKind}
+use Rattle.toml_span_read.specs.declared.value.Assignment.{Assignment}
+use Rattle.toml_span_read.specs.declared.value.DottedKey.{DottedKey}
+use Rattle.toml_span_read.specs.Borrowed.{Written, IsRight, AreRight, joined, key_written, keys_written, dotted_written, written, kind_written, assignment_written, assignments_written, section_written, sections_written}
+use Rattle.toml_span_read.specs.Data.{Inner, scalar, array, inline, is_scalar, kind_view, onto, pairs_onto, no_items, no_pairs, view, event}
+use Rattle.toml_span_read.specs.Grammar.{from_to, IsScalar}
+use Rattle.toml_span_read.specs.Stuck.{begins_bare, BareGives}
+use Rattle.toml_span_read.proofs.Views.{kind_view-Array, kind_view-Inline}
+
+-- ---- lists
+
+pub all_append : {A : Type 0} (P : A → Type 0) (xs ys : List A) → AllByRecursion P xs → AllByRecursion P ys → AllByRecursion P (xs ++ ys)
+all_append P [] ys h k = k
+all_append P (x ∷ xs) ys h k = (h.0, all_append P xs ys h.1 k)
+
+pub all_front : {A : Type 0} (P : A → Type 0) (xs ys : List A) → AllByRecursion P (xs ++ ys) → AllByRecursion P xs
+all_front P [] ys h = tt
+all_front P (x ∷ xs) ys h = (h.0, all_front P xs ys h.1)
+
+pub all_behind : {A : Type 0} (P : A → Type 0) (xs ys : List A) → AllByRecursion P (xs ++ ys) → AllByRecursion P ys
+all_behind P [] ys h = h
+all_behind P (x ∷ xs) ys h = all_behind P xs ys h.1
+
+joined_push : {A : Type 0} (P : Written → Type 0) (f : A → List Written) (xs : List A) (x : A) → AllByRecursion P (joined (map f xs)) → AllByRecursion P (f x) → AllByRecursion P (joined (map f (xs ++ (x ∷ []))))
+joined_push P f [] x h k = all_append P (f x) [] k tt
+joined_push P f (y ∷ ys) x h k =
+    all_append P (f y) (joined (map f (ys ++ (x ∷ [])))) (all_front P (f y) (joined (map f ys)) h) (joined_push P f ys x (all_behind P (f y) (joined (map f ys)) h) k)
+
+-- one more at the end
+pub joined_more : {A : Type 0} (P : Written → Type 0) (f : A → List Written) (xs ys : List A) (x : A) → ys ≡ xs ++ (x ∷ []) → AllByRecursion P (joined (map f xs)) → AllByRecursion P (f x) → AllByRecursion P (joined (map f ys))
+joined_more P f xs ys x e h k = rw e (joined_push P f xs x h k)
+
+keys_push : (P : Written → Type 0) (xs : List Key) (x : Key) → AllByRecursion P (keys_written xs) → P (key_written x) → AllByRecursion P (keys_written (xs ++ (x ∷ [])))
+keys_push P [] x h k = (k, tt)
+keys_push P (y ∷ ys) x h k = (h.0, keys_push P ys x h.1 k)
+
+pub keys_more : (P : Written → Type 0) (xs ys : List Key) (x : Key) → ys ≡ xs ++ (x ∷ []) → AllByRecursion P (keys_written xs) → P (key_written x) → AllByRecursion P (keys_written ys)
+keys_more P xs ys x e h k = rw e (keys_push P xs x h k)
+
+-- ---- strings and keys
+
+pub string_right : (text : List ℕ) (span : Span) (token : Token) (j : ℕ) (src : Bor (List ℕ)) (val : CowStr Global) (multi : Bool) → StringBorrows text (Ok (span, token, j)) → token ≡ tokens.String src val multi → BorrowsWhereSame text span val
+string_right text span token j src val multi h e = rw e at h
+
+pub bare_right : (text : List ℕ) (i j : ℕ) (val : CowStr Global) → IsBorrowedStr val → cow_str_bytes val ≡ slice_range text i j → BorrowsWhereSame text (record { start = i; end = j }) val
+bare_right text i j val b e = (λ x. inl e, λ x. b)
+
+-- ---- values
+
+pub written_is : (v : Val) → written v ≡ kind_written v.kind v.span
+written_is v = search (rules, the_lemmas)
+
+pub assignment_written_is : (a : Assignment) → assignment_written a ≡ dotted_written a.parts ++ written a.value
+assignment_written_is a = search (rules, the_lemmas)
+
+not_text : (v text : List ℕ) (s : Scalar) (span : Span) (i j : ℕ) → begins_bare (get_or text i 0) ≡ true → s ≡ text_scalar v → IsScalar s span text i j → ⊥
+not_text v text s span i j b e h =
+    let is : IsScalar (text_scalar v) span text i j = rw e at h in
+    elim is.2.quote [
+      | inl q ↦ (let c : begins_bare 34 ≡ true = rw q at b in search (rules))
+      | inr q ↦ (let c : begins_bare 39 ≡ true = rw q at b in search (rules))
+    ]
+
+no_array : (k : Inner) (s : Scalar) → is_scalar k ≡ false → k ≡ scalar s → ⊥
+no_array k s a e = false≢true (sym a ∙ ap is_scalar e)
+
+rolled : (kind : ValKind) → kind ≡ roll-ValKind (out-ValKind kind)
+rolled kind = search (rules, the_lemmas)
+
+-- a scalar that is no text has no string in it
+plain_written : (kind : ValKind) (s : Scalar) (span : Span) → kind_view kind ≡ scalar s → ((v : List ℕ) → s ≡ text_scalar v → ⊥) → kind_written kind span ≡ []
+plain_written kind s span e other = go (out-ValKind kind) (rolled kind)
+  where
+    go : (x : ValKind-F ValKind Assignment Val) → kind ≡ roll-ValKind x → kind_written kind span ≡ []
+    go (ValKind-F.String c) is =
+        let seen : kind_view kind ≡ scalar (text_scalar (cow_str_bytes c)) = rw is (search (rules, the_lemmas)) in
+        let same : scalar s ≡ scalar (text_scalar (cow_str_bytes c)) = sym e ∙ seen in
+        absurd (other (cow_str_bytes c) cc)
+    go (ValKind-F.Integer n) is = rw is (search (rules, the_lemmas))
+    go (ValKind-F.Float x) is = rw is (search (rules, the_lemmas))
+    go (ValKind-F.Boolean b) is = rw is (search (rules, the_lemmas))
+    go (ValKind-F.Datetime d) is = rw is (search (rules, the_lemmas))
+    go (ValKind-F.Array vs) is =
+        let seen : is_scalar (kind_view kind) ≡ false = rw is (search (rules, the_lemmas)) in
+        absurd (no_array _ s seen e)
+    go (ValKind-F.Inline ps) is =
+        let seen : is_scalar (kind_view kind) ≡ false = rw is (search (rules, the_lemmas)) in
+        absurd (no_array _ s seen e)
+
+-- a number, a truth value or a date has none
+pub scalar_right : (ws : List Written) (kind : ValKind) (span : Span) (text : List ℕ) (i j : ℕ) → begins_bare (get_or text i 0) ≡ true → BareGives text i (Ok (kind, j)) → ws ≡ kind_written kind span → AreRight text ws
+scalar_right ws kind span text i j b (s, e, h) is = rw (is, plain_written kind s span e (λ v same. not_text v text s (from_to i j) i j b same h)) tt
+
+-- ---- sections
+
+pub section_right : (text : List ℕ) (s : Section) (keys : List Key) (found : List Assignment) → section_written s ≡ keys_written keys ++ assignments_written found → AreRight text (keys_written keys) → AreRight text (assignments_written found)
+    → AreRight text (section_written s)
+section_right text s keys found e h k = rw e (all_append (IsRight text) (keys_written keys) (assignments_written found) h k)
+
+pub assignment_right : (text : List ℕ) (ws : List Written) (key : DottedKey) (value : Val) → ws ≡ dotted_written key ++ written value → AreRight text (dotted_written key) → AreRight text (written value) → AreRight text ws
+assignment_right text ws key value e h k = rw e (all_append (IsRight text) (dotted_written key) (written value) h k)
+
+pub sections_more : (text : List ℕ) (xs ys : List Section) (s : Section) → ys ≡ xs ++ (s ∷ []) → AreRight text (sections_written xs) → AreRight text (section_written s) → AreRight text (sections_written ys)
+sections_more text xs ys s e h k = joined_more (IsRight text) section_written xs ys s e h k

@@ -1,0 +1,78 @@
+-- Which of the strings and keys that are read are borrowed.
+use Rattle.std.specs.Prelude.{List, [], ◌∷◌, ◌++◌, map, ℕ, Option, Some, None}
+use Rattle.std.specs.Global.{Global}
+use Rattle.std.specs.List.{AllByRecursion}
+use Rattle.std.specs.declared.borrow.CowStr.{CowStr}
+use Rattle.toml_span_lex.specs.declared.key.Key.{Key}
+use Rattle.toml_span_lex.specs.declared.span.Span.{Span}
+use Rattle.toml_span_lex.specs.Strings.{BorrowsWhereSame}
+use Rattle.toml_span_read.specs.declared.section.Section.{Section}
+use Rattle.toml_span_read.specs.declared.value.DottedKey.{DottedKey}
+use Rattle.toml_span_read.specs.declared.value.Val.{Val}
+use Rattle.toml_span_read.specs.declared.value.ValKind.{ValKind}
+use Rattle.toml_span_read.specs.declared.value.Assignment.{Assignment}
+use Rattle.toml_span_read.specs.declared.value.ValKind.TheOpen.{Val-F, ValKind-F, Assignment-F}
+use Rattle.toml_span_read.specs.declared.value.ValKind.TheFolds.{fold-Val, fold-ValKind, fold-Assignment}
+
+-- what is written as a string value or as a key, with its span
+pub data Written : Type 0 where
+  string : CowStr Global → Span → Written
+  name : CowStr Global → Span → Written
+
+-- borrowed exactly where it equals the text at its span
+abbrev pub IsRight : List ℕ → Written → Type 0
+IsRight text (string s span) = BorrowsWhereSame text span s
+IsRight text (name s span) = BorrowsWhereSame text span s
+
+abbrev pub AreRight : List ℕ → List Written → Type 0
+AreRight text ws = AllByRecursion (IsRight text) ws
+
+-- one list behind the other
+abbrev pub joined : List (List Written) → List Written
+joined [] = []
+joined (ws ∷ rest) = ws ++ joined rest
+
+abbrev pub key_written : Key → Written
+key_written key = name key.name key.span
+
+abbrev pub keys_written : List Key → List Written
+keys_written keys = map key_written keys
+
+abbrev pub dotted_written : DottedKey → List Written
+dotted_written key = keys_written key.inner.items ++ (key_written key.last ∷ [])
+
+-- one level of each type, with what is written in each value inside; a string's span is its value's
+abbrev pub kind_step : ValKind-F (Span → List Written) (List Written) (List Written) → Span → List Written
+kind_step (ValKind-F.String s) span = string s span ∷ []
+kind_step (ValKind-F.Integer n) span = []
+kind_step (ValKind-F.Float x) span = []
+kind_step (ValKind-F.Boolean b) span = []
+kind_step (ValKind-F.Datetime d) span = []
+kind_step (ValKind-F.Array v) span = joined v.items
+kind_step (ValKind-F.Inline v) span = joined v.items
+
+abbrev pub val_step : Val-F (Span → List Written) (List Written) (List Written) → List Written
+val_step v = v.kind v.span
+
+abbrev pub assignment_step : Assignment-F (Span → List Written) (List Written) (List Written) → List Written
+assignment_step a = dotted_written a.parts ++ a.value
+
+-- the strings and keys of a value, and of an assignment, in the order of the text
+abbrev pub written : Val → List Written
+written = fold-Val (Span → List Written) (List Written) (List Written) kind_step assignment_step val_step
+
+abbrev pub kind_written : ValKind → Span → List Written
+kind_written = fold-ValKind (Span → List Written) (List Written) (List Written) kind_step assignment_step val_step
+
+abbrev pub assignment_written : Assignment → List Written
+assignment_written = fold-Assignment (Span → List Written) (List Written) (List Written) kind_step assignment_step val_step
+
+abbrev pub assignments_written : List Assignment → List Written
+assignments_written found = joined (map assignment_written found)
+
+-- those of a section, its header's parts first, and of all sections
+abbrev pub section_written : Section → List Written
+section_written s = keys_written s.header.items ++ assignments_written s.assignments.items
+
+abbrev pub sections_written : List Section → List Written
+sections_written found = joined (map section_written found)
