@@ -1,5 +1,5 @@
 -- What is placed into the tree borrows as it was read.
-use Rattle.std.proofs.Common.{◌≡◌, ℕ, ◌-◌, ◌<◌, ◌≤◌, Bool, true, false, List, [], ◌∷◌, ◌++◌, map, length, take, drop, set, zero, ℤ, get_or, take_all, suc, Option, Some, None, option_map, Result, Ok, Err, inl, inr, refl, sym, ap, ◌∙◌, subst, rules, arith, Global, Vec, BTreeMap, OnOk}
+use Rattle.std.proofs.Common.{◌≡◌, ℕ, ◌-◌, ◌<◌, ◌≤◌, Bool, true, false, List, [], ◌∷◌, ◌++◌, map, length, take, drop, set, zero, ℤ, get_or, take_all, suc, Some, None, Result, Ok, Err, inl, inr, refl, sym, ap, ◌∙◌, subst, rules, arith, Global, Vec, BTreeMap, OnOk}
 use Rattle.std.specs.Prelude.{IfOk}
 use Rattle.std.specs.BTreeMap.{insert_entry}
 use Rattle.std.specs.Box.{box_value}
@@ -26,19 +26,17 @@ use Rattle.toml_span_read.specs.Keys.{Part}
 use Rattle.toml_span_read.proofs.BorrowLemmas.{all_append, all_front, all_behind, written_is, assignment_written_is}
 use Rattle.toml_span_read.proofs.EarlierTree.{key_cmp}
 use Rattle.toml_span_claims.specs.declared.claims.Halt.{Halt}
-use Rattle.toml_span_claims.specs.declared.claims.Halt.TheVariants.{Memory, Clash}
 use Rattle.toml_span_claims.specs.declared.claims.Mark.{Mark}
 use Rattle.toml_span_claims.specs.declared.claims.Sort.TheVariants.{Assigned}
 use Rattle.toml_span_claims.specs.declared.node.Node.{Node}
 use Rattle.toml_span_claims.specs.declared.node.Node.TheOpen.{Node-F}
 use Rattle.toml_span_claims.specs.declared.node.Node.TheViews.{roll-Node, out-Node}
-use Rattle.toml_span_claims.specs.Borrowed.{string as string_standing, Held, held, inner_held, key_standing, standing, boxes_standing, entries_of, value_standing, array_standing, table_standing, IsKeyOf, IsNamedBy, IsRight, AreRight, IsFrom, AreFrom, keys_of, Keeps, ValueRight}
+use Rattle.toml_span_claims.specs.Borrowed.{string as string_standing, Held, held, inner_held, key_standing, standing, entries_of, value_standing, array_standing, table_standing, IsKeyOf, IsNamedBy, IsRight, AreRight, IsFrom, AreFrom, keys_of, Keeps}
 use Rattle.toml_span_read.specs.Lines.{SpellsDocument, block}
 use Rattle.toml_span_claims.specs.Machine.{Gives, met}
 use Rattle.toml_span_assembly.specs.Parsing.{IsBorrowedTree}
 use Rattle.toml_span_claims.specs.Tree.{is_named, entries}
 use Rattle.toml_span_claims.proofs.BorrowLemmas.{held_is, made_table, made_array, of_node, node_of, insert_new, box_found, box_set, box_insert}
-use Rattle.toml_span_claims.proofs.Placed.{roll-out}
 
 -- ---- results
 

@@ -1,29 +1,26 @@
 -- The tree under construction, and what becomes of it, borrow as what is put into them.
-use Rattle.std.proofs.Common.{◌≡◌, ℕ, Bool, true, false, List, [], ◌∷◌, ◌++◌, map, Option, Some, None, option_map, Ordering, cond, is_eq, rules, inl, inr, refl, sym, ap, ◌∙◌, subst, Global, Vec, BTreeMap}
+use Rattle.std.proofs.Common.{◌≡◌, ℕ, Bool, true, false, List, [], ◌∷◌, ◌++◌, map, Some, None, option_map, is_eq, rules, inl, inr, refl, sym, ap, ◌∙◌, subst, Global, Vec, BTreeMap}
 use Rattle.std.specs.BTreeMap.{insert_entry}
 use Rattle.std.specs.Box.{box_value}
-use Rattle.std.specs.Cow.{cow_str_bytes, IsBorrowedStr}
+use Rattle.std.specs.Cow.{cow_str_bytes}
 use Rattle.std.specs.Global.{Box}
-use Rattle.std.specs.List.{AllByRecursion}
 use Rattle.std.specs.Map.{lookup, lookup_entry, set_value}
-use Rattle.std.specs.declared.borrow.CowStr.{CowStr}
 use Rattle.std.proofs.lemmas.Bool.{cases_Bool, false≢true}
 use Rattle.std.proofs.lemmas.Option.{none-some, same_Some}
 use Rattle.toml_span_lex.specs.declared.key.Key.{Key}
 use Rattle.toml_span_lex.specs.declared.span.Span.{Span}
-use Rattle.toml_span_lex.specs.Strings.{BorrowsWhereSame}
 use Rattle.toml_span_tree.specs.declared.value.Value.{Value}
 use Rattle.toml_span_tree.specs.declared.value.ValueInner.{ValueInner, the_lemmas}
 use Rattle.toml_span_tree.specs.declared.value.ValueInner.TheVariants as inners
 use Rattle.toml_span_read.specs.Keys.{Part}
-use Rattle.toml_span_read.proofs.EarlierTree.{key_cmp, same_name}
+use Rattle.toml_span_read.proofs.EarlierTree.{key_cmp}
 use Rattle.toml_span_read.proofs.BorrowLemmas.{all_append, all_front, all_behind}
 use Rattle.toml_span_claims.specs.declared.node.Node.{Node}
 use Rattle.toml_span_claims.specs.declared.node.Node.TheOpen.{Node-F}
 use Rattle.toml_span_claims.specs.declared.node.Node.TheViews.{roll-Node, out-Node}
 use Rattle.toml_span_claims.specs.declared.node.Node.TheFolds.{fold-roll-Node}
-use Rattle.toml_span_claims.specs.Borrowed.{Standing, title, Held, node_step, nodes_standing, key_standing, elements_standing, entries_standing, held_or_none, held, inner_held, value_standing, array_standing, table_standing, joined, standing, boxes_standing, entries_of, IsKeyOf, IsNamedBy, IsRight, AreRight}
-use Rattle.toml_span_claims.specs.Tree.{is_named, IsFresh}
+use Rattle.toml_span_claims.specs.Borrowed.{Standing, title, Held, node_step, nodes_standing, key_standing, held_or_none, held, inner_held, value_standing, array_standing, table_standing, standing, boxes_standing, entries_of, IsNamedBy, IsRight, AreRight}
+use Rattle.toml_span_claims.specs.Tree.{is_named}
 use Rattle.toml_span_claims.proofs.KeyMaps.{cases_ordering}
 use Rattle.toml_span_claims.proofs.Placed.{roll-out}
 

@@ -1,7 +1,6 @@
 -- Which of the strings and keys of a tree are borrowed. A key of a scalar value is so by its own span. That of a table or an array
 -- may have the span of one claim, and a name that was written at another one: it is so by the span of some key of its name.
 use Rattle.std.specs.Prelude.{◌≡◌, ◌⊎◌, ℕ, Bool, true, false, List, [], ◌∷◌, ◌++◌, map, Option, Some, None, Result, IfOk, OnOk}
-use Rattle.std.specs.BTreeMap.{BTreeMap}
 use Rattle.std.specs.Box.{box_value}
 use Rattle.std.specs.Cow.{cow_str_bytes}
 use Rattle.std.specs.Global.{Box, Global}

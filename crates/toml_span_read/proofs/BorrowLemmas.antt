@@ -1,16 +1,15 @@
 -- What is put together is borrowed as its parts are.
-use Rattle.std.proofs.Common.{◌≡◌, ℕ, ◌+◌, ◌<◌, ◌≤◌, Bool, true, false, List, [], ◌∷◌, ◌++◌, map, length, get_or, drop, arith, rules, inl, inr, refl, sym, ap, ◌∙◌, subst, Vec, Global, Bor, Result, Ok, Err, Option, Some, None}
-use Rattle.std.specs.Prelude.{◌||◌, ◌==◌, slice_range}
+use Rattle.std.proofs.Common.{◌≡◌, ℕ, ◌+◌, Bool, true, false, List, [], ◌∷◌, ◌++◌, map, get_or, rules, inl, inr, sym, ap, ◌∙◌, Global, Bor, Ok}
+use Rattle.std.specs.Prelude.{slice_range}
 use Rattle.std.proofs.lemmas.Bool.{false≢true}
 use Rattle.std.specs.Cow.{cow_str_bytes, IsBorrowedStr}
 use Rattle.std.specs.List.{AllByRecursion}
 use Rattle.std.specs.declared.borrow.CowStr.{CowStr}
-use Rattle.toml_span_lex.specs.Bytes.{is_keylike}
 use Rattle.toml_span_lex.specs.declared.key.Key.{Key}
 use Rattle.toml_span_lex.specs.declared.span.Span.{Span}
 use Rattle.toml_span_lex.specs.declared.tokens.Token.{Token}
 use Rattle.toml_span_lex.specs.declared.tokens.Token.TheVariants as tokens
-use Rattle.toml_span_lex.specs.Strings.{BorrowsWhereSame, StringBorrows, IsString}
+use Rattle.toml_span_lex.specs.Strings.{BorrowsWhereSame, StringBorrows}
 use Rattle.toml_span_tree.specs.Node.{Scalar, text as text_scalar}
 use Rattle.toml_span_read.specs.declared.section.Section.{Section}
 use Rattle.toml_span_read.specs.declared.value.Val.{Val}
@@ -20,10 +19,9 @@ use Rattle.toml_span_read.specs.declared.value.ValKind.TheViews.{out-ValKind, ro
 use Rattle.toml_span_read.specs.declared.value.Assignment.{Assignment}
 use Rattle.toml_span_read.specs.declared.value.DottedKey.{DottedKey}
 use Rattle.toml_span_read.specs.Borrowed.{Written, IsRight, AreRight, joined, key_written, keys_written, dotted_written, written, kind_written, assignment_written, assignments_written, section_written, sections_written}
-use Rattle.toml_span_read.specs.Data.{Inner, scalar, array, inline, is_scalar, kind_view, onto, pairs_onto, no_items, no_pairs, view, event}
+use Rattle.toml_span_read.specs.Data.{Inner, scalar, is_scalar, kind_view}
 use Rattle.toml_span_read.specs.Grammar.{from_to, IsScalar}
 use Rattle.toml_span_read.specs.Stuck.{begins_bare, BareGives}
-use Rattle.toml_span_read.proofs.Views.{kind_view-Array, kind_view-Inline}
 
 -- ---- lists
 

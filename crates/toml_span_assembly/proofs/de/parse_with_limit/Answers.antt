@@ -1,5 +1,5 @@
 use Rattle.toml_span_read.specs.Borrowed.{sections_written}
-use Rattle.toml_span_claims.specs.Borrowed.{keys_of, value_standing, AreRight}
+use Rattle.toml_span_claims.specs.Borrowed.{keys_of}
 use Rattle.toml_span_assembly.proofs.Borrowing.{all_from, tree_borrows}
 use Rattle.toml_span_assembly.proofs.Refusals.{refusal-read, spelled-headed}
 use Rattle.toml_span_assembly.proofs.de.parse_with_limit.Goals as goal

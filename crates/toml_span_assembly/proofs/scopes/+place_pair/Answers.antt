@@ -14,7 +14,7 @@ use Rattle.toml_span_claims.proofs.Claimed.{marked-roll}
 use Rattle.toml_span_assembly.proofs.DottedKeys.{passes-dotted, passes-dotted-err, pair-found, pair-new, pair-new-err, pair-beside}
 use Rattle.toml_span_claims.proofs.Placed.{err-of, out-roll, found-box, missing-box, sets-found, sets-boxed}
 use Rattle.toml_span_claims.proofs.PlaceLemmas.{pair_inside}
-use Rattle.toml_span_assembly.proofs.Borrowing.{err_ok, front_from, keeps_found, keeps_marked, keeps_new, keeps_same}
+use Rattle.toml_span_assembly.proofs.Borrowing.{front_from, keeps_found, keeps_marked, keeps_new, keeps_same}
 use Rattle.toml_span_assembly.proofs.InsideLemmas.{front_inside}
 use Rattle.toml_span_assembly.proofs.scopes.+place_pair.Goals as goal
 

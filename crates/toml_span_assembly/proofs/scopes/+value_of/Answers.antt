@@ -11,7 +11,7 @@ use Rattle.toml_span_read.specs.Borrowed.{assignment_written, written}
 use Rattle.toml_span_claims.proofs.BorrowLemmas.{element_push, of_node}
 use Rattle.toml_span_claims.proofs.Placed.{err-of}
 use Rattle.toml_span_assembly.proofs.Borrowing as borrowing
-use Rattle.toml_span_assembly.proofs.Borrowing.{again_from, assignment_from, err_ok, first_from}
+use Rattle.toml_span_assembly.proofs.Borrowing.{again_from, assignment_from, first_from}
 use Rattle.toml_span_assembly.proofs.Assignments.{none-left, places-one, val_span, remains-first, placing-more, placing-err, placing-none, table-gives, table-err}
 use Rattle.toml_span_assembly.proofs.Values.{elements-first, elements-more, elements-err, elements-none, string-gives, integer-gives, float-gives, boolean-gives, datetime-gives, array-gives, array-err, inline-gives, inline-err}
 use Rattle.toml_span_assembly.proofs.InsideLemmas.{assignment_inside, events_rest, events_again, items_rest, items_again, inline_inside}

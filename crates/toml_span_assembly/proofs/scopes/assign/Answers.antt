@@ -11,7 +11,7 @@ use Rattle.toml_span_claims.specs.declared.claims.Sort.TheVariants.{Assigned}
 use Rattle.toml_span_claims.specs.declared.node.Node.TheViews.{out-Node}
 use Rattle.toml_span_assembly.proofs.Assigned.{refused-child, refused-value, assigned-err, assigned-ok, sets-value, missing-free}
 use Rattle.toml_span_claims.proofs.Placed.{err-of}
-use Rattle.toml_span_assembly.proofs.Borrowing.{assigned_twice, err_ok, keeps_value}
+use Rattle.toml_span_assembly.proofs.Borrowing.{assigned_twice, keeps_value}
 use Rattle.toml_span_claims.proofs.KeyMaps.{entry-found, entry-missing}
 use Rattle.toml_span_claims.proofs.PlaceLemmas.{pair_inside}
 use Rattle.toml_span_assembly.proofs.scopes.assign.Goals as goal
