@@ -8,9 +8,17 @@ ghost use Rattle.toml_span_tree.specs.Value.{view, inner_view, items_view, membe
 ghost use Rattle.toml_span_tree.specs.Node.{get_member, get_item};
 ghost use Rattle.toml_span_tree.specs.Pointer.{PositionIs, position_of, entry, untaken_entry, segments, segments_behind, if_not_taken, set_named, set_item, Exchanged, Cut, found, pointed, put_pointed};
 ghost use Rattle.toml_span_tree.specs.Path.{set_entry};
+ghost use Rattle.std.specs.Borrow.{sem};
+ghost use Rattle.toml_span_tree.specs.Lending.{IsHeld, IsArray, IsTable, lends_inner, lends_member, lends_item, lends_entry, lends_child, lends_found, lends_pointed};
+ghost use Rattle.std.specs.Prelude.{IsSome, ◌<◌, length, vec_len, slice_index_or, ℕ, ◌^◌, drop, true};
+ghost use Rattle.toml_span_tree.specs.declared.value.ValueInner.{Array, Table};
+ghost use Rattle.toml_span_tree.specs.Node.{node};
+ghost use Rattle.std.specs.Cow.{cow_str_bytes};
+ghost use Rattle.toml_span_tree.specs.Value.{is_taken as is_taken_node};
 
 use crate::value::{Array, Table, Value, ValueInner, named};
 use std::mem;
+use toml_span_lex::key::Key;
 
 /// The position that the text spells. None also where it is past every list.
 fn position(segment: &str) -> Option<usize>
@@ -257,4 +265,131 @@ impl<'de> Value<'de> {
             None => Err(new),
         }
     }
+}
+
+/// The inner value, to write.
+fn inner_of<'v, 'de>(value: &'v mut Value<'de>) -> &'v mut ValueInner<'de>
+    requires { IsHeld value.old }
+    ensures* writes_back { sem 𝓛 (lends_inner value.entry result) }
+    ensures value { value.old.value ≡ Some result.now }
+{
+    match &mut value.value {
+        Some(inner) => inner,
+        None => unreachable!(),
+    }
+}
+
+fn member_of<'v, 'de, 'k>(table: &'v mut Table<'de>, key: &'k Key<'de>) -> &'v mut Value<'de>
+    requires { IsSome (get_member (cow_str_bytes key.now.name) (members_view table.old.entries)) }
+    ensures* writes_back { sem 𝓛 (lends_member table.entry (cow_str_bytes key.now.name) result) }
+    ensures value { get_member (cow_str_bytes key.now.name) (members_view table.old.entries) ≡ Some (view result.now) }
+{
+    match table.get_mut(key) {
+        Some(value) => value,
+        None => unreachable!(),
+    }
+}
+
+fn item_of<'v, 'de>(array: &'v mut Array<'de>, position: usize) -> &'v mut Value<'de>
+    requires { position < vec_len array.old }
+    ensures* writes_back { sem 𝓛 (lends_item array.entry position result) }
+    ensures value { result.now ≡ slice_index_or array.old.items position result.now }
+{
+    &mut array[position]
+}
+
+/// What a key's name names here, to write.
+fn entry_of<'v, 'de, 'k>(inner: &'v mut ValueInner<'de>, key: &'k Key<'de>) -> &'v mut Value<'de>
+    requires { IsSome (entry (cow_str_bytes key.now.name) (inner_view inner.old)) }
+    ensures* writes_back { sem 𝓛 (lends_entry inner.entry (cow_str_bytes key.now.name) result) }
+    ensures value { entry (cow_str_bytes key.now.name) (inner_view inner.old) ≡ Some (view result.now) }
+{
+    match inner {
+        ValueInner::Table(table) => {
+            let value = member_of(table, key);
+            value
+        }
+        ValueInner::Array(array) => {
+            let position = position_named(key);
+            let value = item_of(array, position);
+            value
+        }
+        _ => unreachable!(),
+    }
+}
+
+fn position_named<'k, 'de>(key: &'k Key<'de>) -> usize
+    ensures { (n : ℕ) → position_of (cow_str_bytes key.now.name) ≡ Some n → n < 2 ^ 64 → result ≡ n }
+{
+    match position(key.name.as_ref()) {
+        Some(position) => position,
+        None => 0,
+    }
+}
+
+/// What a key's name names here, to write.
+fn child_of<'v, 'de, 'k>(value: &'v mut Value<'de>, key: &'k Key<'de>) -> &'v mut Value<'de>
+    requires { IsSome (untaken_entry (cow_str_bytes key.now.name) (view value.old)) }
+    ensures* writes_back { sem 𝓛 (lends_child value.entry (cow_str_bytes key.now.name) result) }
+    ensures value { untaken_entry (cow_str_bytes key.now.name) (view value.old) ≡ Some (view result.now) }
+{
+    let inner = inner_of(value);
+    entry_of(inner, key)
+}
+
+fn release(key: Key<'_>) {}
+
+/// What a segment names here, to write.
+fn step_to<'v, 'de>(value: &'v mut Value<'de>, segment: &'de str) -> &'v mut Value<'de>
+    requires { IsSome (untaken_entry segment.now (view value.old)) }
+    ensures* writes_back { sem 𝓛 (lends_child value.entry segment.now result) }
+    ensures value { untaken_entry segment.now (view value.old) ≡ Some (view result.now) }
+{
+    let key = named(segment);
+    let child = child_of(value, &key);
+    release(key);
+    child
+}
+
+/// The first segment.
+fn first<'p>(path: &'p str) -> &'p str
+    ensures { segments path.now ≡ result.now ∷ drop 1 (segments path.now) }
+{
+    cut(path).0
+}
+
+/// Whether the first segment is the only one.
+fn is_last<'p>(path: &'p str) -> bool
+    ensures only { result ≡ true → drop 1 (segments path.now) ≡ [] }
+    ensures more { result ≡ false → 0 < length (drop 1 (segments path.now)) }
+{
+    match cut(path).1 {
+        Some(_) => false,
+        None => true,
+    }
+}
+
+/// What stands behind the first segment.
+fn behind<'p>(path: &'p str) -> &'p str
+    ensures { 0 < length (drop 1 (segments path.now)) → (segments result.now ≡ drop 1 (segments path.now)) × (length result.now < length path.now) }
+{
+    match cut(path).1 {
+        Some(rest) => rest,
+        None => path,
+    }
+}
+
+/// What the segments name, from here on, to write.
+fn at_path<'v, 'de>(value: &'v mut Value<'de>, path: &'de str) -> &'v mut Value<'de>
+    requires { IsSome (found (segments path.now) (view value.old)) }
+    ensures* writes_back { sem 𝓛 (lends_found value.entry path.now result) }
+    ensures value { found (segments path.now) (view value.old) ≡ Some (view result.now) }
+{
+    let segment = first(path);
+    let child = step_to(value, segment);
+    if is_last(path) {
+        return child;
+    }
+    let rest = behind(path);
+    at_path(child, rest)
 }
