@@ -1,5 +1,6 @@
 -- What is lent, and what stands in a tree after the loan.
 use Rattle.std.proofs.Common.{◌≡◌, ℕ, zero, suc, ◌<◌, ◌^◌, [], ◌∷◌, length, drop, ◌==◌, arith, rules, ℤ, ◌⊎◌, inl, inr, BTreeMap, Vec, Global, vec_len, slice_index_or, List, Option, Some, None, IsSome, option_map, option_and_then, Bool, true, false, cond, refl, sym, ap, subst, ◌∙◌, MutBor}
+use lib.Dec.{T, eqb→eq}
 use Rattle.std.specs.Map.{lookup, set_value}
 use Rattle.toml_span_tree.specs.declared.value.Value.{Value}
 use Rattle.toml_span_tree.specs.declared.value.ValueInner.{ValueInner, String, Integer, Float, Boolean, Datetime, Array, Table, the_lemmas}
@@ -14,11 +15,11 @@ use Rattle.std.specs.Cow.{cow_str_bytes}
 use Rattle.std.specs.declared.borrow.CowStr.{CowStr}
 use Rattle.toml_span_tree.specs.declared.date.DateText.{DateText}
 use Rattle.toml_span_tree.specs.declared.float.FloatText.{FloatText}
-use Rattle.toml_span_tree.specs.Pointer.{push_front, Cut, segments_behind, segments, found, put_found, entry, untaken_entry, if_not_taken, set_named, set_where_named, position_of}
+use Rattle.toml_span_tree.specs.Pointer.{pointer_segments, pointed, put_pointed, push_front, Cut, segments_behind, segments, found, put_found, entry, untaken_entry, if_not_taken, set_named, set_where_named, position_of}
 use Rattle.toml_span_tree.specs.Path.{position, set_entry}
 use Rattle.toml_span_tree.proofs.Values.{Entry, view_is, inner_view-Array, inner_view-Table, at_name, view-lookup}
-use Rattle.toml_span_tree.proofs.Pointers.{found-more, view-of_mut, entry-array, get_item-within}
-use Rattle.toml_span_tree.proofs.Puts.{put_found-more, view-set_value, view-set, view-made}
+use Rattle.toml_span_tree.proofs.Pointers.{pointed-found, pointer-empty, pointer-slash, found-more, view-of_mut, entry-array, get_item-within}
+use Rattle.toml_span_tree.proofs.Puts.{put_found-more, put_pointed-found, view-set_value, view-set, view-made}
 
 pub member-lent : (y : Option (MutBor Value)) (name : List ℕ) (es : List Entry) → option_map (λ x. x.now) y ≡ lookup (at_name name) es → option_map (λ v. view v.now) y ≡ get_member name (members_view es)
 member-lent y name es e = view-of_mut y ∙ ap (option_map view) e ∙ view-lookup name es
@@ -201,3 +202,29 @@ segments-some (x ∷ xs) = slash-some (x == 47) x (segments xs)
 
 pub more-some : (path segment : List ℕ) (o : Option (List ℕ)) (rest : List ℕ) → Cut path segment o → o ≡ Some rest → 0 < length (drop 1 (segments path))
 more-some path segment o rest c e = subst (λ names. 0 < length (drop 1 names)) (sym (c.parts ∙ ap (λ o. segment ∷ segments_behind o) e)) (segments-some rest)
+
+-- the text of a pointer
+empty-at : (p : List ℕ) → length p ≡ 0 → p ≡ []
+empty-at [] h = refl
+empty-at (x ∷ p) h = absurd (omega (arith, h))
+
+pub empty-is : (p : List ℕ) (n : Node) → length p ≡ 0 → pointed p n ≡ Some n
+empty-is p n h = pointed-found p n ∙ ap (option_and_then (λ names. found names n)) (pointer-empty p h)
+
+pub empty-set : (p : List ℕ) (n w r : Node) → length p ≡ 0 → r ≡ w → r ≡ put_pointed p w n
+empty-set p n w r h e = e ∙ sym (put_pointed-found p [] w n (pointer-empty p h))
+
+slash-at : (b : Bool) (x : ℕ) (xs : List ℕ) (n : Node) → (x == 47) ≡ b → IsSome (option_and_then (λ names. found names n) (cond b (Some (segments xs)) None)) → x ≡ 47
+slash-at true x xs n e h = eqb→eq x 47 (subst T (sym e) tt)
+slash-at false x xs n e h = absurd (cc h)
+
+pub slash-of : (p : List ℕ) (n : Node) → 0 < length p → IsSome (pointed p n) → (path : List ℕ) × (p ≡ 47 ∷ path)
+unfolding pointer_segments
+slash-of [] n more h = absurd (omega (arith, more))
+slash-of (x ∷ xs) n more h = (xs, ap (λ y. y ∷ xs) (slash-at (x == 47) x xs n refl (subst IsSome (pointed-found (x ∷ xs) n) h)))
+
+pub slash-is : (p path : List ℕ) (n : Node) → p ≡ 47 ∷ path → pointed p n ≡ found (segments path) n
+slash-is p path n e = pointed-found p n ∙ ap (option_and_then (λ names. found names n)) (pointer-slash p path e)
+
+pub slash-set : (p path : List ℕ) (n w r : Node) → p ≡ 47 ∷ path → r ≡ put_found (segments path) w n → r ≡ put_pointed p w n
+slash-set p path n w r e h = h ∙ sym (put_pointed-found p (segments path) w n (pointer-slash p path e))

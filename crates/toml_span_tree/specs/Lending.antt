@@ -61,6 +61,9 @@ lends_child s segment r = LendsBy value_row value_row s r (λ n w. view n ≡ no
 abbrev pub lends_found : MutBor Value → List ℕ → MutBor Value → Fml
 lends_found s path r = LendsBy value_row value_row s r (λ n w. view n ≡ put_found (segments path) (view w) (view s.now))
 
+abbrev pub lends_at : MutBor Value → List ℕ → MutBor Value → Fml
+lends_at s p r = LendsBy value_row value_row s r (λ n w. view n ≡ put_pointed p (view w) (view s.now))
+
 -- s ends with the last value behind r in the place that the pointer names, or is unchanged if r is None
 abbrev pub lends_pointed : MutBor Value → List ℕ → Option (MutBor Value) → Fml
 lends_pointed s p r = LendsSo value_row value_row s r (λ n w. OnSome r (view n ≡ put_pointed p (view w) (view s.now))) (λ n. n ≡ s.now)

@@ -9,8 +9,8 @@ ghost use Rattle.toml_span_tree.specs.Node.{get_member, get_item};
 ghost use Rattle.toml_span_tree.specs.Pointer.{PositionIs, position_of, entry, untaken_entry, segments, segments_behind, if_not_taken, set_named, set_item, Exchanged, Cut, found, pointed, put_pointed};
 ghost use Rattle.toml_span_tree.specs.Path.{set_entry};
 ghost use Rattle.std.specs.Borrow.{sem};
-ghost use Rattle.toml_span_tree.specs.Lending.{IsHeld, IsArray, IsTable, lends_inner, lends_member, lends_item, lends_entry, lends_child, lends_found, lends_pointed};
-ghost use Rattle.std.specs.Prelude.{IsSome, ◌<◌, length, vec_len, slice_index_or, ℕ, ◌^◌, drop, true};
+ghost use Rattle.toml_span_tree.specs.Lending.{IsHeld, IsArray, IsTable, lends_inner, lends_member, lends_item, lends_entry, lends_child, lends_found, lends_at, lends_pointed};
+ghost use Rattle.std.specs.Prelude.{IsSome, ◌<◌, length, vec_len, slice_index_or, ℕ, ◌^◌, drop, true, List};
 ghost use Rattle.toml_span_tree.specs.declared.value.ValueInner.{Array, Table};
 ghost use Rattle.toml_span_tree.specs.Node.{node};
 ghost use Rattle.std.specs.Cow.{cow_str_bytes};
@@ -392,4 +392,35 @@ fn at_path<'v, 'de>(value: &'v mut Value<'de>, path: &'de str) -> &'v mut Value<
     }
     let rest = behind(path);
     at_path(child, rest)
+}
+
+/// Whether the text is empty.
+fn is_end<'p>(pointer: &'p str) -> bool
+    ensures only { result ≡ true → length pointer.now ≡ 0 }
+    ensures more { result ≡ false → 0 < length pointer.now }
+{
+    pointer.is_empty()
+}
+
+/// What stands behind the slash with which the text begins.
+fn behind_slash<'p>(pointer: &'p str) -> &'p str
+    ensures { (path : List ℕ) → pointer.now ≡ 47 ∷ path → result.now ≡ path }
+{
+    match pointer.strip_prefix('/') {
+        Some(path) => path,
+        None => pointer,
+    }
+}
+
+/// The value that the pointer names, to write.
+fn at_pointer<'v, 'de>(value: &'v mut Value<'de>, pointer: &'de str) -> &'v mut Value<'de>
+    requires { IsSome (pointed pointer.now (view value.old)) }
+    ensures* writes_back { sem 𝓛 (lends_at value.entry pointer.now result) }
+    ensures value { pointed pointer.now (view value.old) ≡ Some (view result.now) }
+{
+    if is_end(pointer) {
+        return value;
+    }
+    let path = behind_slash(pointer);
+    at_path(value, path)
 }
