@@ -2,17 +2,23 @@
 --     so_weaken      a relation between the last values is weakened
 --     so_then        two steps make one
 --     so_of          a function is a relation
+--     so_some        a relation that is asked at `None` too is so where there is a reference
+--     so_none        where there is none, what is known of the lender's last value
 --     some_opened    a reference in a `Some`: the machine value, and the reference
+--     some_closed    a reference is put into a `Some`
+--     none_closed    a `None` owns nothing
 use mathlib.Core.Path.{◌≡◌, refl}
 use mathlib.Core.Option.{Option, none, some}
 use seplogic.Ra.Ura.{Ura}
 use base.Logic.{ent, sep}
-use base.Fml.{GName, Fml}
+use base.Fml.{GName, Fml, fres, fsep, feq, fex, ftrue}
 use types.Logic.{Logic, sem}
 use types.Kit.{‵, raw, ◌$◌, ◌∵◌, !, qed, done, move, use2, fpick, fpack}
-use denote.RattleType.{RattleType}
+use denote.RattleType.{RattleType, Valss, owns}
+use denote.Enum.Enum.{in_a_row}
+use denote.Steps.{nothing}
 use denote.Follow.{follows, follows_if, follows_so, follows_by, such_by, follows_then, followed}
-use Rattle.std.specs.Prelude.{⊤, Some}
+use Rattle.std.specs.Prelude.{⊤, Some, None}
 use Rattle.std.specs.contracts.option.Option as O
 use mathlib.Core.Path.{ap, ◌∙◌}
 use mathlib.Core.List.{List, ◌++◌}
@@ -21,11 +27,12 @@ use mir.Val.{Val, vptr, vcons, vnil, of_list}
 use base.Fml.{Lft}
 use base.Logic.{emp}
 use contract.Monad.{fact, fact_i}
-use types.Kit.{use0, drop, keep, fsplit, fjoin, feq_l, feq_i}
+use types.Kit.{use0, keep, fsplit, fjoin, feq_l, feq_i}
 use types.Match.{live}
 use denote.Ref.{MutBor, MutRef, mut_vals}
 use denote.Steps.{only}
 use mathlib.Core.List.{[], ◌∷◌}
+use Prim.Native.Nat.{ℕ}
 
 module _ {M : Type 1} {𝓤 : Ura M} (𝓛 : Logic 𝓤) (R T : RattleType) (γ : GName) where
   abbrev Such : (T.Denot → R.Denot → Type 0) → (R.Denot → Type 0) → Type 0
@@ -41,6 +48,17 @@ module _ {M : Type 1} {𝓤 : Ura M} (𝓛 : Logic 𝓤) (R T : RattleType) (γ 
       → (γ' : GName) → ent 𝓤 (sem 𝓛 (follows R T γ γ' F)) (sem 𝓛 (follows_so R T γ (some γ') P (λ _. ⊤)))
   unfolding such_by follows_by
   so_of F v P h γ' = qed 𝓛 (‵ (follows R T γ γ' F) ∷ []) ∵ fpack ! (Such P (λ _. ⊤)) (λ t. follows_if R T γ (some γ') t.0.0 t.0.1) ((F, v), h, tt) $ done !
+
+  pub so_some : (P Q : T.Denot → R.Denot → Type 0) (P₀ Q₀ : R.Denot → Type 0) → ((w : T.Denot) (n : R.Denot) → P w n → Q w n) → (v : R.Denot) → Q₀ v
+      → (γ' : GName) → ent 𝓤 (sem 𝓛 (follows_so R T γ (some γ') P P₀)) (sem 𝓛 (follows_so R T γ (some γ') Q Q₀))
+  unfolding such_by follows_by
+  so_some P Q P₀ Q₀ h v h₀ γ' = qed 𝓛 (‵ (follows_so R T γ (some γ') P P₀) ∷ []) ∵ fpick ! (λ s.
+      fpack ! (Such Q Q₀) (λ t. follows_if R T γ (some γ') t.0.0 t.0.1) ((s.0.0, v), (λ w. h w (s.0.0 w) (s.1 w)), h₀) $ done !)
+
+  pub so_none : (Q : T.Denot → R.Denot → Type 0) (Q₀ : R.Denot → Type 0) (v : R.Denot) → ((w : T.Denot) → Q w v) → Q₀ v
+      → ent 𝓤 (sem 𝓛 (fres γ (R.coded.code v))) (sem 𝓛 (follows_so R T γ none Q Q₀))
+  unfolding such_by follows_by
+  so_none Q Q₀ v h h₀ = qed 𝓛 (‵ (fres γ (R.coded.code v)) ∷ []) ∵ fpack ! (Such Q Q₀) (λ t. follows_if R T γ none t.0.0 t.0.1) (((λ w. v), v), h, h₀) $ done !
 
 module _ {M : Type 1} {𝓤 : Ura M} (𝓛 : Logic 𝓤) (R T U : RattleType) (γ γ' : GName) where
   if_then : (F : T.Denot → R.Denot) (G : U.Denot → T.Denot) (w v : T.Denot) (r : R.Denot) → (m : Option GName)
@@ -64,3 +82,23 @@ module _ {M : Type 1} {𝓤 : Ura M} (𝓛 : Logic 𝓤) (κ : Lft) (R : RattleT
       feq_i ! (List Val) (mut_vals x) (mut_vals x) refl $ fjoin ! $
       use0 𝓛 (raw (fact 𝓤 (v ≡ live 1 (vcons (vptr x.ref_ptr.0 x.ref_ptr.1) vnil)))) (fact_i 𝓤 _ (emp 𝓤) (ap only e ∙ ap (λ (ws : List Val). live 1 (of_list ws)) (e' ∙ ap (λ (ws : List Val). ws ++ []) vis))) $
       keep ! (0 ∷ 1 ∷ []) $ done !)))))
+
+  -- what a value of a variant owns, at the rows of its fields
+  abbrev tagged : (k : ℕ) (Ts : List RattleType) → (Valss Ts → Fml) → List Val → List Val → Fml
+  tagged k Ts F vs us = fsep (feq (List Val) vs (live k (of_list us) ∷ [])) (fex (Valss Ts) (in_a_row Ts F us))
+
+  abbrev B : RattleType
+  B = MutRef (named 0) κ R
+
+  abbrev pub held : Val
+  held = live 1 (vcons (vptr x.ref_ptr.0 x.ref_ptr.1) vnil)
+
+  pub some_closed : ent 𝓤 (sem 𝓛 (B.own_val x (mut_vals x))) (sem 𝓛 ((O.the_row B).own_val (Some x) (held ∷ [])))
+  some_closed = qed 𝓛 (‵ (B.own_val x (mut_vals x)) ∷ []) ∵ nothing ! $ move ! (1 ∷ 0 ∷ []) $ fjoin ! $ feq_i ! (List Val) (mut_vals x) (mut_vals x) refl $ fjoin ! $
+      fpack ! (Valss (B ∷ [])) (in_a_row (B ∷ []) (owns (B ∷ []) (x, tt)) (mut_vals x)) (mut_vals x, tt) $
+      feq_i ! (List Val) (held ∷ []) (held ∷ []) refl $ fjoin ! $ fpack ! (List Val) (tagged 1 (B ∷ []) (owns (B ∷ []) (x, tt)) (held ∷ [])) (mut_vals x) $ done !
+
+  pub none_closed : ent 𝓤 (sem 𝓛 ftrue) (sem 𝓛 ((O.the_row B).own_val None (live 0 vnil ∷ [])))
+  none_closed = qed 𝓛 (‵ ftrue ∷ []) ∵ feq_i ! (List Val) [] [] refl $ fjoin ! $
+      fpack ! (Valss []) (in_a_row [] (owns [] tt) []) tt $
+      feq_i ! (List Val) (live 0 vnil ∷ []) (live 0 vnil ∷ []) refl $ fjoin ! $ fpack ! (List Val) (tagged 0 [] (owns [] tt) (live 0 vnil ∷ [])) [] $ done !

@@ -3,18 +3,14 @@
 //! The empty text names the value itself. Another text begins with `/`, and names a place by the
 //! segments behind it, cut at each `/`: in a table a segment is a key's name, in an array it is a
 //! position in decimal.
-ghost use Rattle.std.specs.Prelude.{◌≡◌, ◌∷◌, [], option_map, option_and_then, IfOk, IfErr, Some, None, false};
+ghost use Rattle.std.specs.Prelude.{◌≡◌, ◌<◌, ◌∷◌, [], ◌^◌, option_map, option_and_then, IfOk, IfErr, IsSome, Some, None, List, ℕ, drop, false, length, slice_index_or, true, vec_len};
+ghost use Rattle.std.specs.Borrow.{sem};
+ghost use Rattle.std.specs.Cow.{cow_str_bytes};
 ghost use Rattle.toml_span_tree.specs.Value.{view, inner_view, items_view, members_view};
 ghost use Rattle.toml_span_tree.specs.Node.{get_member, get_item};
 ghost use Rattle.toml_span_tree.specs.Pointer.{PositionIs, position_of, entry, untaken_entry, segments, segments_behind, if_not_taken, set_named, set_item, Exchanged, Cut, found, pointed, put_pointed};
 ghost use Rattle.toml_span_tree.specs.Path.{set_entry};
-ghost use Rattle.std.specs.Borrow.{sem};
-ghost use Rattle.toml_span_tree.specs.Lending.{IsHeld, IsArray, IsTable, lends_inner, lends_member, lends_item, lends_entry, lends_child, lends_found, lends_at, lends_pointed};
-ghost use Rattle.std.specs.Prelude.{IsSome, ◌<◌, length, vec_len, slice_index_or, ℕ, ◌^◌, drop, true, List};
-ghost use Rattle.toml_span_tree.specs.declared.value.ValueInner.{Array, Table};
-ghost use Rattle.toml_span_tree.specs.Node.{node};
-ghost use Rattle.std.specs.Cow.{cow_str_bytes};
-ghost use Rattle.toml_span_tree.specs.Value.{is_taken as is_taken_node};
+ghost use Rattle.toml_span_tree.specs.Lending.{IsHeld, lends_inner, lends_member, lends_item, lends_entry, lends_child, lends_found, lends_at, lends_pointed};
 
 use crate::value::{Array, Table, Value, ValueInner, named};
 use std::mem;
@@ -114,30 +110,7 @@ impl<'de> Value<'de> {
     }
 }
 
-fn table_entry_mut<'v, 'de>(table: &'v mut Table<'de>, name: &'de str) -> Option<&'v mut Value<'de>>
-    ensures { option_map (λ v. view v.now) result ≡ get_member name.now (members_view table.old.entries) }
-{
-    table.get_mut(&named(name))
-}
-
-fn array_entry_mut<'v, 'de>(array: &'v mut Array<'de>, segment: &str) -> Option<&'v mut Value<'de>>
-    ensures { option_map (λ v. view v.now) result ≡ option_and_then (λ i. get_item i (items_view array.old.items)) (position_of segment.now) }
-{
-    array.get_mut(position(segment)?)
-}
-
 impl<'de> ValueInner<'de> {
-    /// What a segment names here, to write.
-    fn entry_mut(&mut self, segment: &'de str) -> Option<&mut Value<'de>>
-        ensures { option_map (λ v. view v.now) result ≡ entry segment.now (inner_view self.old) }
-    {
-        match self {
-            ValueInner::Table(table) => table_entry_mut(table, segment),
-            ValueInner::Array(array) => array_entry_mut(array, segment),
-            _ => None,
-        }
-    }
-
     /// Replaces what the segments name from here on.
     #[cycle(replace)]
     fn replace_found(
@@ -193,34 +166,19 @@ fn replace_element<'de>(
 }
 
 impl<'de> Value<'de> {
-    /// What a segment names here, unless it is taken, to write.
-    fn entry_mut(&mut self, segment: &'de str) -> Option<&mut Self>
-        ensures { option_map (λ v. view v.now) result ≡ untaken_entry segment.now (view self.old) }
-    {
-        let child = self.value.as_mut()?.entry_mut(segment)?;
-        if child.is_taken() { None } else { Some(child) }
-    }
-
-    /// What the segments name, from here on, to write.
-    fn found_mut(&mut self, path: &'de str) -> Option<&mut Self>
-        ensures { option_map (λ v. view v.now) result ≡ found (segments path.now) (view self.old) }
-    {
-        let (segment, rest) = cut(path);
-        let child = self.entry_mut(segment)?;
-        match rest {
-            Some(rest) => child.found_mut(rest),
-            None => Some(child),
-        }
-    }
-
     /// The value that the pointer names, to write. It names what it names for `pointer`.
+    ///
+    /// Once the loan has ended, the tree is as it was, with what is left behind the loan in that
+    /// place. Where the pointer names no value, nothing changes.
     pub fn pointer_mut(&mut self, pointer: &'de str) -> Option<&mut Self>
-        ensures { option_map (λ v. view v.now) result ≡ pointed pointer.now (view self.old) }
+        ensures* writes_back { sem 𝓛 (lends_pointed self.entry pointer.now result) }
+        ensures value { option_map (λ v. view v.now) result ≡ pointed pointer.now (view self.old) }
     {
-        if pointer.is_empty() {
-            return Some(self);
+        if is_pointed(self, pointer) {
+            let named = at_pointer(self, pointer);
+            return Some(named);
         }
-        self.found_mut(pointer.strip_prefix('/')?)
+        None
     }
 
     /// Replaces this value, or what stands below it, unless it is taken.
@@ -423,4 +381,14 @@ fn at_pointer<'v, 'de>(value: &'v mut Value<'de>, pointer: &'de str) -> &'v mut 
     }
     let path = behind_slash(pointer);
     at_path(value, path)
+}
+
+/// Whether the pointer names a value. It takes what `pointer_mut` has, a loan to write, and
+/// leaves the value as it is.
+fn is_pointed<'x, 'de>(value: &'x mut Value<'de>, pointer: &'de str) -> bool
+    ensures some { result ≡ true → IsSome (pointed pointer.now (view value.old)) }
+    ensures none { result ≡ false → pointed pointer.now (view value.old) ≡ None }
+    ensures same { value.new ≡ value.old }
+{
+    value.pointer(pointer).is_some()
 }

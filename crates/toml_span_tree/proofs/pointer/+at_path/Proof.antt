@@ -1,5 +1,5 @@
 -- What segments name is lent, a segment at a time.
-use Rattle.toml_span_tree.proofs.Walks.{◌≡◌, ℕ, ◌<◌, ◌+◌, List, [], ◌∷◌, length, refl, sym, ap, ◌∙◌, lit<, w64, full_share, Bor, MutBor, id⊢, emp, ftrue, flft, named, erased, Ty, Val, vint, vptr, fact, fact_i, tables, sem, ‵, raw, ◌⊛◌, some, later, at_ret, ◌$◌, ◌∵◌, !, qed, done, move, keep, drop, use0, use1, use2, split, split3, join, fsplit, fjoin, feq_i, feq_l, pick, await, rewrite, suffices, frame, group, by, enter, of_opd, addr, stop, no_more, and_then, returns, alloc_all, pass_all, free_all, look_at, get, through, sets, sets_last, lands_as, env, yes, no, MutRef, mut_vals, mut_Tells, RattleType, follows_so, plain, mut_ref_to, named_lft, nothing, heard, only, calls_at, Lasts, lasts, triple_of, Stays, walk_of, says, stay_dropped, Goes-dropped, Goes-spent_ref, ends_at, framed}
+use Rattle.toml_span_tree.proofs.Walks.{◌≡◌, ℕ, ◌<◌, List, [], ◌∷◌, length, refl, sym, ap, ◌∙◌, Bor, MutBor, id⊢, emp, ftrue, flft, named, Val, vptr, fact, fact_i, tables, ‵, raw, ◌⊛◌, some, later, at_ret, ◌$◌, ◌∵◌, !, qed, done, move, keep, drop, use0, use1, use2, split, split3, join, fsplit, fjoin, feq_i, feq_l, pick, await, rewrite, suffices, frame, by, enter, addr, stop, no_more, and_then, returns, alloc_all, pass_all, free_all, look_at, get, through, sets, lands_as, env, yes, no, MutRef, mut_vals, mut_Tells, RattleType, follows_so, plain, mut_ref_to, named_lft, nothing, heard, only, calls_at, Lasts, lasts, triple_of, Stays, walk_of, says, stay_dropped, Goes-dropped, Goes-spent_ref, ends_at, framed}
 use seplogic.Ra.Ura.{Ura}
 use types.Logic.{Logic}
 use types.Kit.{Item, ⋆}
@@ -13,7 +13,7 @@ use mathlib.Core.Path.{subst}
 use lib.Dec.{T, T_not}
 use lib.WfN.{lt-wf_rel}
 use mir.Syntax.{w8}
-use denote.Plain.{UInt, bool_vals, bool_Tells}
+use denote.Plain.{UInt}
 use denote.Builtin.{bool}
 use denote.Triple.Cycle.{mutual_elim, measured}
 use denote.Triple.Walked.{walked_at, walk_meets_at}
@@ -21,16 +21,16 @@ use denote.Triple.Call.{calls_from}
 use prog.Wp.{WpFn}
 use sound.WpLaws.{WpFn-mono}
 use contract.Running.{tables_of}
-use denote.Ref.{NamedLft, ShrRef, shr_vals}
+use denote.Ref.{NamedLft}
 use denote.Text.{Str, StrRefOf, Utf8, str-copy}
 use denote.Such.{such_Tells}
 use denote.Slice.{ShrSlice, shr_slice_vals, shr_slice_Tells}
 use denote.Laws.{shows, Is}
 use denote.Steps.{peeks, facts}
-use types.Run.{of_opd, first, branches, skips, exec, returns_within}
+use types.Run.{first, branches, skips, exec, returns_within}
 use mathlib.Core.Option.{some as some'}
 use Rattle.std.specs.Prelude.{⊤}
-use Rattle.std.proofs.Common.{Option, Some, IsSome, drop as drop_l}
+use Rattle.std.proofs.Common.{Some, IsSome, drop as drop_l}
 use Rattle.toml_span_tree.specs.declared.value.Value.{Value}
 use Rattle.toml_span_tree.specs.contracts.value.Value as value
 use Rattle.toml_span_tree.specs.Node.{node}

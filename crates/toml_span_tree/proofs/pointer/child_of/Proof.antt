@@ -1,15 +1,13 @@
 -- The value that a key's name names is lent.
-use Rattle.toml_span_tree.proofs.Walks.{◌≡◌, ℕ, ◌<◌, ◌+◌, List, [], ◌∷◌, length, refl, sym, ap, ◌∙◌, lit<, w64, full_share, Bor, MutBor, proved, id⊢, emp, ftrue, flft, named, erased, Ty, Val, vint, vptr, fact, fact_i, tables, sem, ‵, raw, ◌⊛◌, some, later, at_ret, ◌$◌, ◌∵◌, !, qed, done, move, keep, drop, use0, use1, use2, split, split3, join, fsplit, fjoin, feq_i, feq_l, pick, await, rewrite, suffices, frame, group, by, enter, of_opd, addr, stop, no_more, and_then, returns, alloc_all, pass_all, free_all, look_at, get, through, sets, sets_last, lands_as, env, yes, no, MutRef, mut_vals, mut_Tells, RattleType, follows_so, plain, mut_ref_to, named_lft, nothing, heard, only, calls_at, Lasts, lasts, triple_of, Stays, walk_of, says, stay_dropped, Goes-dropped, Goes-spent_ref, ends_at, framed}
+use Rattle.toml_span_tree.proofs.Walks.{◌≡◌, List, [], ◌∷◌, refl, ap, MutBor, proved, id⊢, emp, ftrue, flft, named, Val, vptr, fact, fact_i, tables, ‵, raw, ◌⊛◌, some, later, ◌$◌, ◌∵◌, !, qed, done, move, keep, drop, use0, use1, use2, split, split3, join, fsplit, fjoin, feq_i, feq_l, pick, await, suffices, frame, enter, addr, stop, no_more, and_then, returns, alloc_all, pass_all, free_all, look_at, get, through, sets, lands_as, yes, no, MutRef, mut_vals, mut_Tells, follows_so, plain, mut_ref_to, named_lft, nothing, heard, only, calls_at, Lasts, lasts, triple_of, Stays, says, stay_dropped, Goes-dropped, Goes-spent_ref, ends_at, framed}
 use denote.Ref.{NamedLft, ShrRef, shr_vals, shr_Tells}
 use denote.Signature.{shr_ref_to}
-use base.Logic.{SProp}
 use contract.Lifetimes.{Lfts}
 use denote.Follow.{follows}
 use mathlib.Core.Option.{some as some'}
 use Rattle.std.specs.Prelude.{⊤}
-use Rattle.std.proofs.Common.{Option, Some, None, IsSome}
+use Rattle.std.proofs.Common.{Some, IsSome}
 use Rattle.std.specs.Cow.{cow_str_bytes}
-use Rattle.toml_span_lex.specs.declared.key.Key.{Key}
 use Rattle.toml_span_lex.specs.contracts.key.Key as key
 use Rattle.toml_span_tree.specs.declared.value.Value.{Value}
 use Rattle.toml_span_tree.specs.declared.value.ValueInner.{ValueInner}

@@ -1,8 +1,7 @@
 -- What a key's name names in a table or in an array is lent.
-use Rattle.toml_span_tree.proofs.Walks.{◌≡◌, ℕ, ◌<◌, ◌+◌, List, [], ◌∷◌, length, refl, sym, ap, ◌∙◌, lit<, w64, full_share, Bor, MutBor, proved, id⊢, emp, ftrue, flft, named, erased, Ty, Val, vint, vptr, fact, fact_i, tables, sem, ‵, raw, ◌⊛◌, some, later, at_ret, ◌$◌, ◌∵◌, !, qed, done, move, keep, drop, use0, use1, use2, split, split3, join, fsplit, fsplit3, fjoin, feq_i, feq_l, pick, await, rewrite, suffices, frame, group, by, enter, of_opd, addr, stop, no_more, and_then, returns, alloc_all, pass_all, free_all, look_at, get, through, sets, sets_last, lands_as, env, yes, no, MutRef, mut_vals, mut_Tells, RattleType, follows_so, plain, mut_ref_to, named_lft, nothing, heard, only, calls_at, Lasts, lasts, triple_of, Stays, walk_of, says, stay_dropped, Goes-dropped, Goes-spent_ref, ends_at, framed}
+use Rattle.toml_span_tree.proofs.Walks.{◌≡◌, ℕ, ◌<◌, ◌+◌, List, [], ◌∷◌, length, refl, sym, ap, ◌∙◌, w64, full_share, MutBor, proved, id⊢, emp, ftrue, flft, named, erased, Ty, Val, vptr, fact, fact_i, tables, ‵, raw, ◌⊛◌, some, later, at_ret, ◌$◌, ◌∵◌, !, qed, done, move, keep, drop, use0, use1, use2, split, split3, join, fsplit, fsplit3, fjoin, feq_i, feq_l, pick, await, rewrite, suffices, frame, group, enter, of_opd, addr, stop, no_more, and_then, returns, alloc_all, pass_all, free_all, look_at, get, through, sets, sets_last, lands_as, env, yes, no, MutRef, mut_vals, mut_Tells, follows_so, plain, mut_ref_to, named_lft, nothing, heard, only, calls_at, Lasts, lasts, triple_of, Stays, walk_of, says, stay_dropped, Goes-dropped, Goes-spent_ref, ends_at, framed}
 use denote.Ref.{NamedLft, ShrRef, shr_vals, shr_Tells}
 use denote.Signature.{shr_ref_to}
-use base.Logic.{SProp}
 use base.Fml.{GName, fat}
 use contract.Lifetimes.{Lfts}
 use denote.Follow.{follows, lends_Part}
@@ -21,7 +20,7 @@ use borrow.Table.OneValue.{part_out_at, part_in_at}
 use mathlib.Core.Option.{some as some'}
 use mathlib.Core.Logic.{⊎_elim}
 use Rattle.std.specs.Prelude.{⊤}
-use Rattle.std.proofs.Common.{BTreeMap, Vec, Global, Option, Some, None, IsSome, vec_len, slice_index_or, ◌^◌}
+use Rattle.std.proofs.Common.{BTreeMap, Vec, Global, Some, IsSome, vec_len, slice_index_or, ◌^◌}
 use Rattle.std.specs.Vec.{with_item}
 use Rattle.std.specs.Cow.{cow_str_bytes}
 use Rattle.toml_span_lex.specs.declared.key.Key.{Key}

@@ -1,16 +1,15 @@
 -- The inner value is lent.
-use Rattle.toml_span_tree.proofs.Walks.{◌≡◌, ℕ, ◌+◌, List, [], ◌∷◌, refl, sym, ap, ◌∙◌, MutBor, proved, after, head, arm_body, full_share, id⊢, all, ent, sep, ftrue, fat, fobor, fobs, fauth, flft, named, erased, Ty, Val, Vals, vptr, of_list, fact, tables, sem, GName, ‵, raw, ◌⊛◌, some, later, at_ret, mean, ◌$◌, ◌∵◌, !, qed, done, move, keep, drop, use0, use1, use2, split, split3, join, fsplit, fsplit3, fjoin, feq_i, feq_l, pick, await, rewrite, suffices, frame, group, by, enter, of_opd, addr, load, stop, fld, first, exec, returns, switches_on, whole, live, vrt, look_tag, alloc_all, pass_all, free_all, look_at, get, through, sets, sets_last, env, open_ref, no, shows, Is, mem, part_at, MutRef, mut_vals, mut_Tells, RattleType, follows, lends_Part, plain, mut_ref_to, named_lft, nothing, heard, peeks, only, Stays, walk_of, says, stay_dropped, Goes-spent_ref, ends_at, then_runs}
+use Rattle.toml_span_tree.proofs.Walks.{◌≡◌, ℕ, ◌+◌, List, [], ◌∷◌, refl, sym, ap, ◌∙◌, proved, after, head, arm_body, full_share, ent, sep, ftrue, fat, flft, named, erased, Ty, Val, Vals, vptr, of_list, fact, tables, sem, GName, ‵, raw, ◌⊛◌, some, later, at_ret, mean, ◌$◌, ◌∵◌, !, qed, done, move, keep, drop, use1, use2, split, split3, join, fsplit3, fjoin, pick, await, rewrite, suffices, frame, group, by, enter, of_opd, addr, load, stop, fld, first, exec, returns, switches_on, whole, live, vrt, look_tag, alloc_all, pass_all, free_all, look_at, get, through, sets, sets_last, env, open_ref, no, shows, Is, mem, part_at, MutRef, mut_vals, mut_Tells, RattleType, follows, lends_Part, plain, mut_ref_to, named_lft, nothing, heard, peeks, only, Stays, walk_of, says, stay_dropped, Goes-spent_ref, ends_at, then_runs}
 use borrow.Table.OneValue.{part_out_at, part_in_at}
 use borrow.Enum.Lend.{kept_variant, variant_apart, variant_put}
 use borrow.Enum.Known.{at, choose}
-use base.Fml.{Fml, fex}
-use mathlib.Core.Path.{subst}
+use base.Fml.{fex}
 use denote.Memory.{lone}
 use denote.RattleType.{Valss, owns}
 use denote.Struct.Field.{Field, rows}
 use denote.Struct.Values.{Values, intos}
 use denote.Enum.Enum.{payload, tag, in_a_row}
-use denote.Enum.Declared.{row, tag_of, variants, intoss}
+use denote.Enum.Declared.{tag_of, variants, intoss}
 use Rattle.toml_span_tree.specs.declared.value.Value.{Value}
 use Rattle.toml_span_tree.specs.contracts.value.Value as value
 use seplogic.Ra.Ura.{Ura}
@@ -29,7 +28,6 @@ use Rattle.std.proofs.option.Option.TheLaws as O_laws
 use borrow.Struct.Lend.{kept_record_as, record_apart_as, record_fill_as}
 use borrow.Enum.SameAs.{Enum-same}
 use denote.Struct.Field.{row_field}
-use Rattle.toml_span_lex.specs.declared.span.Span.{Span}
 use Rattle.toml_span_tree.specs.contracts.pointer.inner_of as f
 use Rattle.toml_span_tree.proofs.pointer.inner_of.Statement.{statement}
 use Rattle.toml_span_tree.proofs.pointer.inner_of.Code as code

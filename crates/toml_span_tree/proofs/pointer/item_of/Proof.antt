@@ -1,8 +1,7 @@
 -- An element is lent.
-use Rattle.toml_span_tree.proofs.Walks.{◌≡◌, ℕ, ◌<◌, ◌+◌, List, [], ◌∷◌, length, refl, sym, ap, ◌∙◌, lit<, w64, full_share, MutBor, proved, id⊢, emp, ftrue, flft, named, erased, Ty, Val, vint, vptr, fact, fact_i, tables, sem, ‵, raw, ◌⊛◌, some, later, ◌$◌, ◌∵◌, !, qed, done, move, keep, drop, use0, use1, use2, split, split3, join, fsplit, fjoin, feq_i, feq_l, pick, await, rewrite, suffices, frame, group, by, enter, of_opd, addr, stop, no_more, and_then, returns, alloc_all, pass_all, free_all, look_at, get, through, sets, lands_as, usize, yes, no, uint_vals, uint_Tells, MutRef, mut_vals, mut_Tells, RattleType, follows, plain, mut_ref_to, named_lft, nothing, heard, only, calls_at, Lasts, lasts, triple_of, Stays, says, stay_dropped, Goes-dropped, Goes-spent_ref, ends_at, framed}
+use Rattle.toml_span_tree.proofs.Walks.{◌≡◌, ◌<◌, List, [], ◌∷◌, refl, ap, w64, full_share, MutBor, proved, id⊢, emp, ftrue, flft, named, Val, vptr, fact, fact_i, tables, ‵, raw, ◌⊛◌, some, later, ◌$◌, ◌∵◌, !, qed, done, move, keep, drop, use0, use1, use2, split, split3, join, fsplit, fjoin, feq_i, feq_l, pick, await, suffices, frame, enter, addr, stop, no_more, and_then, returns, alloc_all, pass_all, free_all, look_at, get, through, sets, lands_as, usize, yes, no, uint_vals, uint_Tells, MutRef, mut_vals, mut_Tells, RattleType, follows, plain, mut_ref_to, named_lft, nothing, heard, only, calls_at, Lasts, lasts, triple_of, Stays, says, stay_dropped, Goes-dropped, Goes-spent_ref, ends_at, framed}
 use denote.Ref.{NamedLft}
 use denote.Param.Laws.{Laws}
-use denote.Memory.{lone}
 use denote.Param.{arg, layout}
 use denote.Param.Laws.{arg_laws}
 use denote.Param.NoDrop.{glues}
@@ -10,7 +9,7 @@ use mir.Raw.{raw as bare}
 use mir.Syntax.{Dict, impl, tcons, tnil, dnil}
 use mathlib.Core.List.{not-mem-nil}
 use contract.Lifetimes.{Lfts}
-use Rattle.std.proofs.Common.{Vec, Global, vec_len, slice_index_or}
+use Rattle.std.proofs.Common.{vec_len, slice_index_or}
 use Rattle.std.specs.Vec.{with_item}
 use contract.BorrowLft.{◌⊑◌}
 use Rattle.toml_span_tree.specs.declared.value.Value.{Value}

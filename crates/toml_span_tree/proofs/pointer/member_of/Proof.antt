@@ -1,10 +1,9 @@
 -- The value at a key is lent.
-use Rattle.toml_span_tree.proofs.Walks.{◌≡◌, ℕ, ◌<◌, ◌+◌, List, [], ◌∷◌, length, refl, sym, ap, ◌∙◌, lit<, w64, full_share, Bor, MutBor, proved, id⊢, emp, ftrue, flft, named, erased, Ty, Val, vint, vptr, fact, fact_i, tables, sem, ‵, raw, ◌⊛◌, some, later, at_ret, ◌$◌, ◌∵◌, !, qed, done, move, keep, drop, use0, use1, use2, split, split3, join, fsplit, fjoin, feq_i, feq_l, pick, await, rewrite, suffices, frame, group, by, enter, of_opd, addr, stop, no_more, and_then, returns, alloc_all, pass_all, free_all, look_at, get, through, sets, sets_last, lands_as, env, yes, no, MutRef, mut_vals, mut_Tells, RattleType, follows_so, plain, mut_ref_to, named_lft, nothing, heard, only, calls_at, Lasts, lasts, triple_of, Stays, walk_of, says, stay_dropped, Goes-dropped, Goes-spent_ref, ends_at, framed}
+use Rattle.toml_span_tree.proofs.Walks.{◌≡◌, ℕ, List, [], ◌∷◌, refl, lit<, full_share, Bor, MutBor, proved, id⊢, emp, ftrue, flft, named, vptr, fact, fact_i, tables, ‵, raw, ◌⊛◌, some, later, at_ret, ◌$◌, ◌∵◌, !, qed, done, move, keep, drop, use0, use1, use2, split, split3, join, fjoin, pick, await, rewrite, suffices, frame, by, enter, of_opd, addr, stop, no_more, and_then, returns, alloc_all, pass_all, free_all, look_at, get, through, sets, sets_last, lands_as, env, yes, no, MutRef, mut_vals, mut_Tells, RattleType, follows_so, plain, mut_ref_to, named_lft, nothing, heard, calls_at, Lasts, lasts, triple_of, Stays, walk_of, says, stay_dropped, Goes-dropped, Goes-spent_ref, ends_at, framed}
 use denote.Ref.{NamedLft, ShrRef, shr_vals, shr_Tells}
 use denote.Signature.{shr_ref_to}
 use denote.Struct.Field.{shr_ref_field}
 use denote.Struct.Laws.{shr_ref_laws, shr_ref_copy}
-use denote.Memory.{lone}
 use denote.Param.{arg, layout}
 use denote.Param.Laws.{Laws, IsCopy, arg_laws, arg_copy, of_field, of_copyable}
 use denote.Param.Shared.{copy_shared}
@@ -13,10 +12,9 @@ use mir.Raw.{raw as bare}
 use mir.Syntax.{Dict, impl, tcons, tnil, dnil}
 use mathlib.Core.List.{not-mem-nil}
 use base.Share.{left, right}
-use denote.Triple.Clauses.{at_exit}
 use contract.Lifetimes.{Lfts}
 use contract.BorrowLft.{◌⊑◌, ⊑_meet}
-use Rattle.std.proofs.Common.{BTreeMap, Global, Option, Some, None, IsSome}
+use Rattle.std.proofs.Common.{BTreeMap, Option, Some, IsSome}
 use Rattle.std.specs.declared.collections.btree_map.Comparable.{Ghosts}
 use Rattle.toml_span_lex.specs.declared.key.Key.{Key}
 use Rattle.toml_span_tree.specs.declared.value.Value.{Value}
@@ -31,7 +29,6 @@ use Rattle.std.specs.List.{IsAmong}
 use Rattle.std.specs.BTreeMap.{WritesThrough, values, IsOrdered}
 use Rattle.std.specs.Prelude.{⊤, option_map}
 use mathlib.Core.Option.{some as some'}
-use types.Kit.{fpick}
 use base.Logic.{ent, SProp, via, ex_i}
 use seplogic.Ra.Ura.{Ura}
 use types.Logic.{Logic}
@@ -45,8 +42,6 @@ use types.ByLocal.{get_tag, get_in}
 use types.Match.{live, vrt, in_variant}
 use types.Part.{whole}
 use types.Run.{fld, first, exec, switches_on}
-use mir.Val.{of_list}
-use mathlib.Core.List.{◌++◌}
 use Rattle.toml_span_tree.proofs.Walks.{after, head, arm_body, then_runs}
 use Rattle.toml_span_tree.proofs.Values.{at_name}
 use Rattle.toml_span_tree.proofs.Lent.{member-some, member-is, member-set}

@@ -1,5 +1,5 @@
 -- What a segment names is lent, by a key that is made and dropped on the way.
-use Rattle.toml_span_tree.proofs.Walks.{◌≡◌, ℕ, ◌<◌, ◌+◌, List, [], ◌∷◌, length, refl, sym, ap, ◌∙◌, lit<, w64, full_share, Bor, MutBor, proved, id⊢, emp, ftrue, flft, named, erased, Ty, Val, vint, vptr, fact, fact_i, tables, sem, ‵, raw, ◌⊛◌, some, later, at_ret, ◌$◌, ◌∵◌, !, qed, done, move, keep, drop, use0, use1, use2, split, split3, join, fsplit, fjoin, feq_i, feq_l, pick, await, rewrite, suffices, frame, group, by, enter, of_opd, addr, stop, no_more, and_then, returns, alloc_all, pass_all, free_all, look_at, get, through, sets, sets_last, lands_as, env, yes, no, MutRef, mut_vals, mut_Tells, RattleType, follows_so, plain, mut_ref_to, named_lft, nothing, heard, only, calls_at, Lasts, lasts, triple_of, Stays, walk_of, says, stay_dropped, Goes-dropped, Goes-spent_ref, ends_at, framed}
+use Rattle.toml_span_tree.proofs.Walks.{◌≡◌, ℕ, List, [], ◌∷◌, refl, sym, ap, full_share, Bor, MutBor, proved, id⊢, emp, ftrue, flft, named, erased, Ty, Val, vptr, fact, fact_i, tables, ‵, raw, ◌⊛◌, some, later, ◌$◌, ◌∵◌, !, qed, done, move, keep, drop, use0, use1, use2, split, split3, join, fsplit, fjoin, feq_i, feq_l, pick, await, rewrite, suffices, frame, enter, of_opd, addr, stop, no_more, and_then, returns, alloc_all, pass_all, free_all, look_at, get, through, sets, lands_as, yes, no, MutRef, mut_vals, mut_Tells, follows_so, plain, mut_ref_to, named_lft, nothing, heard, only, calls_at, Lasts, lasts, triple_of, Stays, says, stay_dropped, Goes-dropped, Goes-spent_ref, ends_at, framed}
 use denote.Ref.{NamedLft, ShrRef, shr_vals}
 use denote.Text.{Str, StrRefOf, Utf8}
 use denote.Such.{such_Tells}
@@ -12,7 +12,7 @@ use denote.Builtin.{unit}
 use denote.Lend.{lends_shr}
 use mir.Syntax.{w8}
 use base.Logic.{SProp, sep, wand, apply∗}
-use base.Fml.{Lft, Share, fat, fdead, flent}
+use base.Fml.{Lft, fat, fdead, flent}
 use base.Share.{left, right}
 use base.FractionLaws.{common}
 use types.Run.{of_opd, from}
@@ -24,7 +24,7 @@ use contract.BorrowLft.{◌⊑◌, meet_⊑_left, meet_⊑_right}
 use mathlib.Core.Path.{subst}
 use mathlib.Core.Option.{some as some'}
 use Rattle.std.specs.Prelude.{⊤}
-use Rattle.std.proofs.Common.{Option, Some, IsSome}
+use Rattle.std.proofs.Common.{Some, IsSome}
 use Rattle.std.specs.Cow.{cow_str_bytes}
 use Rattle.toml_span_lex.specs.declared.key.Key.{Key}
 use Rattle.toml_span_lex.specs.contracts.key.Key as key
