@@ -3,6 +3,7 @@ pub mod Diagnostic
 pub mod Error
 pub mod Float
 pub mod Json
+pub mod Lending
 pub mod Listed
 pub mod Message
 pub mod Node

@@ -3,14 +3,18 @@
 //! The empty text names the value itself. Another text begins with `/`, and names a place by the
 //! segments behind it, cut at each `/`: in a table a segment is a key's name, in an array it is a
 //! position in decimal.
-ghost use Rattle.std.specs.Prelude.{◌≡◌, ◌∷◌, [], option_map, option_and_then, IfOk, IfErr, Some, None, false};
+ghost use Rattle.std.specs.Prelude.{◌≡◌, ◌<◌, ◌∷◌, [], ◌^◌, option_map, option_and_then, IfOk, IfErr, IsSome, Some, None, List, ℕ, drop, false, length, slice_index_or, true, vec_len};
+ghost use Rattle.std.specs.Borrow.{sem};
+ghost use Rattle.std.specs.Cow.{cow_str_bytes};
 ghost use Rattle.toml_span_tree.specs.Value.{view, inner_view, items_view, members_view};
 ghost use Rattle.toml_span_tree.specs.Node.{get_member, get_item};
 ghost use Rattle.toml_span_tree.specs.Pointer.{PositionIs, position_of, entry, untaken_entry, segments, segments_behind, if_not_taken, set_named, set_item, Exchanged, Cut, found, pointed, put_pointed};
 ghost use Rattle.toml_span_tree.specs.Path.{set_entry};
+ghost use Rattle.toml_span_tree.specs.Lending.{IsHeld, lends_inner, lends_member, lends_item, lends_entry, lends_child, lends_found, lends_at, lends_pointed};
 
 use crate::value::{Array, Table, Value, ValueInner, named};
 use std::mem;
+use toml_span_lex::key::Key;
 
 /// The position that the text spells. None also where it is past every list.
 fn position(segment: &str) -> Option<usize>
@@ -106,30 +110,7 @@ impl<'de> Value<'de> {
     }
 }
 
-fn table_entry_mut<'v, 'de>(table: &'v mut Table<'de>, name: &'de str) -> Option<&'v mut Value<'de>>
-    ensures { option_map (λ v. view v.now) result ≡ get_member name.now (members_view table.old.entries) }
-{
-    table.get_mut(&named(name))
-}
-
-fn array_entry_mut<'v, 'de>(array: &'v mut Array<'de>, segment: &str) -> Option<&'v mut Value<'de>>
-    ensures { option_map (λ v. view v.now) result ≡ option_and_then (λ i. get_item i (items_view array.old.items)) (position_of segment.now) }
-{
-    array.get_mut(position(segment)?)
-}
-
 impl<'de> ValueInner<'de> {
-    /// What a segment names here, to write.
-    fn entry_mut(&mut self, segment: &'de str) -> Option<&mut Value<'de>>
-        ensures { option_map (λ v. view v.now) result ≡ entry segment.now (inner_view self.old) }
-    {
-        match self {
-            ValueInner::Table(table) => table_entry_mut(table, segment),
-            ValueInner::Array(array) => array_entry_mut(array, segment),
-            _ => None,
-        }
-    }
-
     /// Replaces what the segments name from here on.
     #[cycle(replace)]
     fn replace_found(
@@ -185,34 +166,19 @@ fn replace_element<'de>(
 }
 
 impl<'de> Value<'de> {
-    /// What a segment names here, unless it is taken, to write.
-    fn entry_mut(&mut self, segment: &'de str) -> Option<&mut Self>
-        ensures { option_map (λ v. view v.now) result ≡ untaken_entry segment.now (view self.old) }
-    {
-        let child = self.value.as_mut()?.entry_mut(segment)?;
-        if child.is_taken() { None } else { Some(child) }
-    }
-
-    /// What the segments name, from here on, to write.
-    fn found_mut(&mut self, path: &'de str) -> Option<&mut Self>
-        ensures { option_map (λ v. view v.now) result ≡ found (segments path.now) (view self.old) }
-    {
-        let (segment, rest) = cut(path);
-        let child = self.entry_mut(segment)?;
-        match rest {
-            Some(rest) => child.found_mut(rest),
-            None => Some(child),
-        }
-    }
-
     /// The value that the pointer names, to write. It names what it names for `pointer`.
+    ///
+    /// Once the loan has ended, the tree is as it was, with what is left behind the loan in that
+    /// place. Where the pointer names no value, nothing changes.
     pub fn pointer_mut(&mut self, pointer: &'de str) -> Option<&mut Self>
-        ensures { option_map (λ v. view v.now) result ≡ pointed pointer.now (view self.old) }
+        ensures* writes_back { sem 𝓛 (lends_pointed self.entry pointer.now result) }
+        ensures value { option_map (λ v. view v.now) result ≡ pointed pointer.now (view self.old) }
     {
-        if pointer.is_empty() {
-            return Some(self);
+        if is_pointed(self, pointer) {
+            let named = at_pointer(self, pointer);
+            return Some(named);
         }
-        self.found_mut(pointer.strip_prefix('/')?)
+        None
     }
 
     /// Replaces this value, or what stands below it, unless it is taken.
@@ -257,4 +223,172 @@ impl<'de> Value<'de> {
             None => Err(new),
         }
     }
+}
+
+/// The inner value, to write.
+fn inner_of<'v, 'de>(value: &'v mut Value<'de>) -> &'v mut ValueInner<'de>
+    requires { IsHeld value.old }
+    ensures* writes_back { sem 𝓛 (lends_inner value.entry result) }
+    ensures value { value.old.value ≡ Some result.now }
+{
+    match &mut value.value {
+        Some(inner) => inner,
+        None => unreachable!(),
+    }
+}
+
+fn member_of<'v, 'de, 'k>(table: &'v mut Table<'de>, key: &'k Key<'de>) -> &'v mut Value<'de>
+    requires { IsSome (get_member (cow_str_bytes key.now.name) (members_view table.old.entries)) }
+    ensures* writes_back { sem 𝓛 (lends_member table.entry (cow_str_bytes key.now.name) result) }
+    ensures value { get_member (cow_str_bytes key.now.name) (members_view table.old.entries) ≡ Some (view result.now) }
+{
+    match table.get_mut(key) {
+        Some(value) => value,
+        None => unreachable!(),
+    }
+}
+
+fn item_of<'v, 'de>(array: &'v mut Array<'de>, position: usize) -> &'v mut Value<'de>
+    requires { position < vec_len array.old }
+    ensures* writes_back { sem 𝓛 (lends_item array.entry position result) }
+    ensures value { result.now ≡ slice_index_or array.old.items position result.now }
+{
+    &mut array[position]
+}
+
+/// What a key's name names here, to write.
+fn entry_of<'v, 'de, 'k>(inner: &'v mut ValueInner<'de>, key: &'k Key<'de>) -> &'v mut Value<'de>
+    requires { IsSome (entry (cow_str_bytes key.now.name) (inner_view inner.old)) }
+    ensures* writes_back { sem 𝓛 (lends_entry inner.entry (cow_str_bytes key.now.name) result) }
+    ensures value { entry (cow_str_bytes key.now.name) (inner_view inner.old) ≡ Some (view result.now) }
+{
+    match inner {
+        ValueInner::Table(table) => {
+            let value = member_of(table, key);
+            value
+        }
+        ValueInner::Array(array) => {
+            let position = position_named(key);
+            let value = item_of(array, position);
+            value
+        }
+        _ => unreachable!(),
+    }
+}
+
+fn position_named<'k, 'de>(key: &'k Key<'de>) -> usize
+    ensures { (n : ℕ) → position_of (cow_str_bytes key.now.name) ≡ Some n → n < 2 ^ 64 → result ≡ n }
+{
+    match position(key.name.as_ref()) {
+        Some(position) => position,
+        None => 0,
+    }
+}
+
+/// What a key's name names here, to write.
+fn child_of<'v, 'de, 'k>(value: &'v mut Value<'de>, key: &'k Key<'de>) -> &'v mut Value<'de>
+    requires { IsSome (untaken_entry (cow_str_bytes key.now.name) (view value.old)) }
+    ensures* writes_back { sem 𝓛 (lends_child value.entry (cow_str_bytes key.now.name) result) }
+    ensures value { untaken_entry (cow_str_bytes key.now.name) (view value.old) ≡ Some (view result.now) }
+{
+    let inner = inner_of(value);
+    entry_of(inner, key)
+}
+
+fn release(key: Key<'_>) {}
+
+/// What a segment names here, to write.
+fn step_to<'v, 'de>(value: &'v mut Value<'de>, segment: &'de str) -> &'v mut Value<'de>
+    requires { IsSome (untaken_entry segment.now (view value.old)) }
+    ensures* writes_back { sem 𝓛 (lends_child value.entry segment.now result) }
+    ensures value { untaken_entry segment.now (view value.old) ≡ Some (view result.now) }
+{
+    let key = named(segment);
+    let child = child_of(value, &key);
+    release(key);
+    child
+}
+
+/// The first segment.
+fn first<'p>(path: &'p str) -> &'p str
+    ensures { segments path.now ≡ result.now ∷ drop 1 (segments path.now) }
+{
+    cut(path).0
+}
+
+/// Whether the first segment is the only one.
+fn is_last<'p>(path: &'p str) -> bool
+    ensures only { result ≡ true → drop 1 (segments path.now) ≡ [] }
+    ensures more { result ≡ false → 0 < length (drop 1 (segments path.now)) }
+{
+    match cut(path).1 {
+        Some(_) => false,
+        None => true,
+    }
+}
+
+/// What stands behind the first segment.
+fn behind<'p>(path: &'p str) -> &'p str
+    ensures { 0 < length (drop 1 (segments path.now)) → (segments result.now ≡ drop 1 (segments path.now)) × (length result.now < length path.now) }
+{
+    match cut(path).1 {
+        Some(rest) => rest,
+        None => path,
+    }
+}
+
+/// What the segments name, from here on, to write.
+fn at_path<'v, 'de>(value: &'v mut Value<'de>, path: &'de str) -> &'v mut Value<'de>
+    requires { IsSome (found (segments path.now) (view value.old)) }
+    ensures* writes_back { sem 𝓛 (lends_found value.entry path.now result) }
+    ensures value { found (segments path.now) (view value.old) ≡ Some (view result.now) }
+{
+    let segment = first(path);
+    let child = step_to(value, segment);
+    if is_last(path) {
+        return child;
+    }
+    let rest = behind(path);
+    at_path(child, rest)
+}
+
+/// Whether the text is empty.
+fn is_end<'p>(pointer: &'p str) -> bool
+    ensures only { result ≡ true → length pointer.now ≡ 0 }
+    ensures more { result ≡ false → 0 < length pointer.now }
+{
+    pointer.is_empty()
+}
+
+/// What stands behind the slash with which the text begins.
+fn behind_slash<'p>(pointer: &'p str) -> &'p str
+    ensures { (path : List ℕ) → pointer.now ≡ 47 ∷ path → result.now ≡ path }
+{
+    match pointer.strip_prefix('/') {
+        Some(path) => path,
+        None => pointer,
+    }
+}
+
+/// The value that the pointer names, to write.
+fn at_pointer<'v, 'de>(value: &'v mut Value<'de>, pointer: &'de str) -> &'v mut Value<'de>
+    requires { IsSome (pointed pointer.now (view value.old)) }
+    ensures* writes_back { sem 𝓛 (lends_at value.entry pointer.now result) }
+    ensures value { pointed pointer.now (view value.old) ≡ Some (view result.now) }
+{
+    if is_end(pointer) {
+        return value;
+    }
+    let path = behind_slash(pointer);
+    at_path(value, path)
+}
+
+/// Whether the pointer names a value. It takes what `pointer_mut` has, a loan to write, and
+/// leaves the value as it is.
+fn is_pointed<'x, 'de>(value: &'x mut Value<'de>, pointer: &'de str) -> bool
+    ensures some { result ≡ true → IsSome (pointed pointer.now (view value.old)) }
+    ensures none { result ≡ false → pointed pointer.now (view value.old) ≡ None }
+    ensures same { value.new ≡ value.old }
+{
+    value.pointer(pointer).is_some()
 }
