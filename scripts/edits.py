@@ -173,7 +173,7 @@ def items_of(crate):
                 # (a relation that always holds says nothing)
                 if not line.endswith(". Unit {0} };"):
                     impl.clauses.append(ghost[1])
-            elif item and (clause := re.match(r"\s+ensures (?:(\w+) )?\{", line)):
+            elif item and (clause := re.match(r"\s+ensures\*? (?:(\w+) )?\{", line)):
                 item.clauses.append(clause[1] or "ensures")
     return [it for it in found if it.clauses]
 
