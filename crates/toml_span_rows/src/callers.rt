@@ -4,10 +4,12 @@
 //! - `refused_at`: the place of a refusal, with its line and its column.
 //! - `port_of`: the port of the document, if it has one.
 //! - `settings_of`: the settings of the document, or all their errors.
+//! - `port_told`: where the port of the document's server stands, or what is wrong.
 use crate::tokens::push_span;
 use std::alloc::{AllocError, Global};
 use std::fmt::Write;
 use toml_span::Stop;
+use toml_span_uses::first::port_told;
 use toml_span_uses::settings::settings_of;
 use toml_span_uses::{integer_at, port_of, refused_at, span_at};
 
@@ -25,6 +27,7 @@ pub fn answer(
         "refused_at" => refusal_row(alloc, text, out)?,
         "port_of" => port_row(alloc, text, out)?,
         "settings_of" => settings_row(alloc, text, out)?,
+        "port_told" => writeln!(out, "{}", port_told(alloc, text)?)?,
         _ => return Ok(false),
     }
     Ok(true)

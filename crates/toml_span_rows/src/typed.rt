@@ -11,7 +11,9 @@
 mod elements;
 mod faults;
 mod fields;
+mod odd;
 mod reads;
+mod structs;
 
 use crate::tokens::push_span;
 use crate::typed::faults::{push_error, push_faults, push_lists};

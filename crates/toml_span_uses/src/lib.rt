@@ -9,8 +9,7 @@ ghost use Rattle.toml_span_assembly.specs.Parsing.{IsRefusal};
 ghost use Rattle.toml_span.specs.Document.{IsDocument, StandsAt};
 ghost use Rattle.toml_span_uses.specs.Fields.{IsRefusedAt, NoPort};
 
-pub mod callers;
-pub mod example;
+pub mod first;
 pub mod settings;
 pub mod writes;
 

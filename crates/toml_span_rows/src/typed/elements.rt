@@ -1,12 +1,12 @@
 //! What a row shows of an element that was read.
 use crate::tokens::push_span;
+use crate::typed::odd::{Half, Never, Odd, Untouched};
+use crate::typed::structs::{Config, Server};
 use std::alloc::AllocError;
 use std::borrow::CowStr;
 use std::fmt::Write;
 use toml_span::Spanned;
 use toml_span::value::{DateText, FloatText};
-use toml_span_uses::callers::{Half, Never, Odd, Untouched};
-use toml_span_uses::example::{Config, Server};
 
 /// An element that a row shows.
 pub trait Shown {

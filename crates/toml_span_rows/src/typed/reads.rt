@@ -1,5 +1,7 @@
 //! Reads as a type that a row names.
 use crate::typed::elements::Shown;
+use crate::typed::odd::{Half, Never, Odd, Refusal, Untouched};
+use crate::typed::structs::{Config, Server};
 use std::alloc::{AllocError, Global};
 use std::borrow::CowStr;
 use std::fmt::Display;
@@ -7,8 +9,6 @@ use std::str::FromStr;
 use toml_span::de_helpers::parse;
 use toml_span::value::{DateText, FloatText, Value};
 use toml_span::{DeserError, Deserialize, Spanned, Stop};
-use toml_span_uses::callers::{Half, Never, Odd, Refusal, Untouched};
-use toml_span_uses::example::{Config, Server};
 
 /// What a read gave: the element as a text, or the errors.
 pub type Outcome<'de> = Result<String, DeserError<'de>>;
