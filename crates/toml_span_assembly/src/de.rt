@@ -1,9 +1,10 @@
 //! Reads a document into a tree.
-ghost use Rattle.std.specs.Prelude.{◌≡◌, ◌≤◌, List, true, IfOk, IfErr, length, map};
+ghost use Rattle.std.specs.Prelude.{◌≡◌, ◌≤◌, ℕ, List, [], true, IfOk, IfErr, IsOk, length, map};
+ghost use Rattle.toml_span_lex.specs.Tokenizer.{FirstPlace};
 ghost use Rattle.toml_span_read.specs.Borrowed.{sections_written};
 ghost use Rattle.toml_span_read.specs.Inside.{SectionsInside};
 ghost use Rattle.toml_span_read.specs.Keys.{Part};
-ghost use Rattle.toml_span_read.specs.Lines.{block};
+ghost use Rattle.toml_span_read.specs.Lines.{KeepsForm, block};
 ghost use Rattle.toml_span_tree.specs.Value.{is_whole, view};
 ghost use Rattle.toml_span_claims.specs.Borrowed.{AreFrom, AreRight, value_standing};
 ghost use Rattle.toml_span_claims.specs.Ordered.{IsOrdered};
@@ -36,6 +37,7 @@ fn tree_of<'de>(
     ensures whole { IfOk result (λ root. is_whole (view root) ≡ true) }
     ensures borrows { (ps : List Part) → AreFrom text.now ps (sections_written sections.entry.items) → IfOk result (λ root. AreRight text.now ps (value_standing root)) }
     ensures refused { IfErr result (IsClashStop (map block sections.entry.items) text.now) }
+    ensures bare { sections.entry.items ≡ [] → IsOk result }
 {
     match assemble(alloc, sections, text.len()) {
         Ok(root) => Ok(root),
@@ -52,12 +54,14 @@ fn tree_of<'de>(
 /// The error is the first fault of reading or, where the text is read, the first clash of two claims on
 /// one path; there is no tree then.
 pub fn parse<'de>(alloc: Global, s: &'de str) -> Result<Value<'de>, Stop<Error<'de>>>
-    ensures tree { IfOk result (IsTree s.now LIMIT) }
+    ensures tree { IfOk result (IsTree s.now 128) }
     ensures root { IfOk result (IsRoot (length s.now)) }
     ensures ordered { IfOk result (λ root. IsOrdered (view root)) }
     ensures whole { IfOk result (λ root. is_whole (view root) ≡ true) }
-    ensures borrows { IfOk result (IsBorrowedTree s.now LIMIT) }
-    ensures refused { IfErr result (IsRefusal s.now LIMIT) }
+    ensures borrows { IfOk result (IsBorrowedTree s.now 128) }
+    ensures refused { IfErr result (IsRefusal s.now 128) }
+    // Memory is wanted only where more than blank lines stand in the text.
+    ensures memory { (start : ℕ) × FirstPlace s.now start × KeepsForm s.now start result }
 {
     parse_with_limit(alloc, s, LIMIT)
 }
@@ -77,6 +81,8 @@ pub fn parse_with_limit<'de>(
     ensures whole { IfOk result (λ root. is_whole (view root) ≡ true) }
     ensures borrows { IfOk result (IsBorrowedTree s.now limit) }
     ensures refused { IfErr result (IsRefusal s.now limit) }
+    // Memory is wanted only where more than blank lines stand in the text.
+    ensures memory { (start : ℕ) × FirstPlace s.now start × KeepsForm s.now start result }
 {
     match read_sections(alloc, s, limit) {
         Ok(sections) => tree_of(alloc, sections, s),

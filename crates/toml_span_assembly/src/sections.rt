@@ -1,5 +1,5 @@
 //! Sections placed one by one into a tree.
-ghost use Rattle.std.specs.Prelude.{◌≡◌, ℕ, List, map, [], IfOk, IfErr};
+ghost use Rattle.std.specs.Prelude.{◌≡◌, ℕ, List, map, [], IfOk, IfErr, IsOk};
 ghost use Rattle.toml_span_read.specs.Borrowed.{assignments_written, key_written, keys_written, sections_written};
 ghost use Rattle.toml_span_read.specs.Data.{event};
 ghost use Rattle.toml_span_read.specs.Inside.{IsInside, PartsInside, EventsInside, SectionsInside};
@@ -215,6 +215,8 @@ pub(crate) fn assemble<'de>(
     ensures root { IfOk result (IsRoot length) }
     ensures placed { (n : ℕ) → SectionsInside n sections.entry.items → IfErr result (IsHaltInside n) }
     ensures borrows { (text : List ℕ) → (ps : List Part) → AreFrom text ps (sections_written sections.entry.items) → ValueRight text ps result }
+    // Where there are no sections, no memory is wanted.
+    ensures bare { sections.entry.items ≡ [] → IsOk result }
 {
     let mut root = Node::new(alloc);
     for section in Rest::new(sections) {

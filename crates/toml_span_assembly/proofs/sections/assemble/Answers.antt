@@ -1,4 +1,5 @@
 use Rattle.std.proofs.Common.{ap, ◌∙◌, refl, rules, map, Ok, Err}
+use Rattle.std.proofs.lemmas.Bool.{false≢true}
 use Rattle.toml_span_tree.specs.Node.{node}
 use Rattle.toml_span_tree.specs.Value.{members_view}
 use Rattle.toml_span_tree.proofs.Values.{inner_view-Table}
@@ -6,6 +7,7 @@ use Rattle.toml_span_read.specs.Lines.{block}
 use Rattle.toml_span_assembly.proofs.InsideLemmas.{sections_rest, sections_again, parts_again}
 use Rattle.toml_span_read.specs.Borrowed.{section_written}
 use Rattle.toml_span_claims.proofs.BorrowLemmas.{made_table, of_node}
+use Rattle.toml_span_claims.proofs.Finishing.{never-empty}
 use Rattle.toml_span_claims.proofs.Placed.{err-of}
 use Rattle.toml_span_assembly.proofs.Borrowing.{again_from, first_from, keys_again, section_from}
 use Rattle.toml_span_assembly.proofs.Assembly.{placed-block, remaining-first, remaining-next, assembles-err, assembles-ok}
@@ -18,6 +20,7 @@ loop-section-init c =
       inside = λ n h. sections_again n _ _ same h;
       borrows = λ text ps h. (again_from text ps section_written _ _ same h, rw c.new-root.ensures.bare tt);
       remaining = remaining-first _ _ _ (ap (map block) same) c.requires.headers c.new-root.ensures.fresh;
+      bare = λ none. (same ∙ none, c.new-root.ensures.fresh.no_tables);
     }
 
 pub loop-section-preserved : goal.loop-section-preserved
@@ -34,6 +37,7 @@ loop-section-preserved c =
           let from = section_from text ps s first.0 in
           (first.1, c.in_ok-place_section.ensures.borrows text ps (keys_again text ps _ _ c.as_slice.ensures from.0) from.1 before.1);
       remaining = remaining-next _ _ _ (block s) _ _ (ap (map block) steps) inv.remaining placed;
+      bare = λ none. absurd (never-empty _ _ _ steps (inv.bare none).0);
     }
 
 pub loop-section-preserved-in_ok-place_section : goal.loop-section-preserved-in_ok-place_section
@@ -50,6 +54,7 @@ loop-section-preserved-in_ok-place_section c =
           let from = section_from text ps s first.0 in
           (first.1, c.in_ok-place_section.ensures.borrows text ps (keys_again text ps _ _ c.as_slice.ensures from.0) from.1 before.1);
       remaining = remaining-next _ _ _ (block s) _ _ (ap (map block) steps) inv.remaining placed;
+      bare = λ none. absurd (never-empty _ _ _ steps (inv.bare none).0);
     }
 
 pub returns-in_err-place_section-clause-placed : goal.returns-in_err-place_section-clause-placed
@@ -81,3 +86,9 @@ pub returns-clause-borrows : goal.returns-clause-borrows
 returns-clause-borrows c = λ text ps h.
     let inside = of_node text ps c.loop-section.root (c.loop-section.invariant.borrows text ps h).1 in
     (made_table text ps c.with_span.result c.in_ok-table.table _ c.with_span.ensures.kept (c.in_ok-table.ensures.borrows text ps inside.1 inside.0)).1
+
+pub returns-in_err-place_section-clause-bare : goal.returns-in_err-place_section-clause-bare
+returns-in_err-place_section-clause-bare c = λ none. absurd (never-empty _ _ _ c.in-Some.ensures.steps (c.loop-section.invariant.bare none).0)
+
+pub returns-in_err-table-clause-bare : goal.returns-in_err-table-clause-bare
+returns-in_err-table-clause-bare c = λ none. absurd (false≢true (c.in_err-table.ensures.bare (c.loop-section.invariant.bare none).1))

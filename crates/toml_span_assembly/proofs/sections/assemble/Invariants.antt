@@ -1,9 +1,10 @@
-use Rattle.std.proofs.Common.{ℕ, List, map}
+use Rattle.std.proofs.Common.{◌≡◌, ℕ, List, [], map}
 use Rattle.toml_span_read.specs.Borrowed.{sections_written}
 use Rattle.toml_span_read.specs.Keys.{Part}
 use Rattle.toml_span_claims.specs.Borrowed.{AreFrom, AreRight, standing}
 use Rattle.toml_span_read.specs.Inside.{SectionsInside}
 use Rattle.toml_span_read.specs.Lines.{block}
+use Rattle.toml_span_claims.specs.declared.node.Node.TheViews.{out-Node}
 use Rattle.toml_span_assembly.proofs.Assembly.{Remaining}
 use Rattle.toml_span_assembly.proofs.sections.assemble.Given as goal
 
@@ -12,4 +13,5 @@ invariant-loop-section l = record {
   inside : (n : ℕ) → SectionsInside n l.fn.sections.items → SectionsInside n l.section-iterator;
   borrows : (text : List ℕ) (ps : List Part) → AreFrom text ps (sections_written l.fn.sections.items) → AreFrom text ps (sections_written l.section-iterator) × AreRight text ps (standing l.root);
   remaining : Remaining (map block l.fn.sections.items) (map block l.section-iterator) l.root;
+  bare : l.fn.sections.items ≡ [] → (l.section-iterator ≡ []) × ((out-Node l.root).tables.entries ≡ []);
 }
