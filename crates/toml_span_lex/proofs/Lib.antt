@@ -1,3 +1,4 @@
+pub mod Tables
 pub mod Runs
 pub mod Hex
 pub mod EscapeLemmas

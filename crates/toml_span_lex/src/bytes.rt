@@ -12,12 +12,23 @@ pub fn is_blank(byte: u8) -> bool
     byte == b' ' || byte == b'\t'
 }
 
+// An x stands at each byte of a bare key.
+static KEYLIKE: [u8; 256] = *b"\
+    ................................\
+    .............x..xxxxxxxxxx......\
+    .xxxxxxxxxxxxxxxxxxxxxxxxxx....x\
+    .xxxxxxxxxxxxxxxxxxxxxxxxxx.....\
+    ................................\
+    ................................\
+    ................................\
+    ................................";
+
 /// A byte of a bare key: an ASCII letter, a digit, a dash or an underscore.
 #[inline]
 pub fn is_keylike(byte: u8) -> bool
     ensures { result ≡ spec.is_keylike byte }
 {
-    byte.is_ascii_alphanumeric() || byte == b'-' || byte == b'_'
+    KEYLIKE[byte as usize] == b'x'
 }
 
 /// A byte that a comment can hold: a tab, or no control character.
