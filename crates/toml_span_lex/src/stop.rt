@@ -9,3 +9,14 @@ pub enum Stop<E> {
     Memory(AllocError),
     Fault(E),
 }
+
+impl<E> From<AllocError> for Stop<E> {
+    ghost use Rattle.std.specs.Prelude.{◌≡◌};
+    ghost use Rattle.toml_span_lex.specs.declared.stop.Stop.TheVariants.{Memory};
+
+    ghost from_gives = { λ error stop. stop ≡ Memory error };
+
+    fn from(error: AllocError) -> Stop<E> {
+        Stop::Memory(error)
+    }
+}

@@ -3,3 +3,4 @@ pub mod Reads
 pub mod Arrays
 pub mod TableHelper
 pub mod Parse
+pub mod Fields

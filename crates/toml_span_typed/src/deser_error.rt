@@ -8,6 +8,7 @@ use std::alloc::{AllocError, Global};
 use std::fmt::{Display, Formatter, Write};
 use std::marker::Model;
 use std::{fmt, mem};
+use toml_span_lex::stop::Stop;
 use toml_span_tree::Error;
 
 /// The errors of a read, in the order in which they were met. There is at least one.
@@ -37,6 +38,16 @@ impl<'s> From<Error<'s>> for DeserError<'s> {
             earlier: None,
             last: error,
         }
+    }
+}
+
+impl<'s> From<DeserError<'s>> for Stop<DeserError<'s>> {
+    ghost use Rattle.toml_span_lex.specs.declared.stop.Stop.TheVariants.{Fault};
+
+    ghost from_gives = { λ faults stop. stop ≡ Fault faults };
+
+    fn from(faults: DeserError<'s>) -> Stop<DeserError<'s>> {
+        Stop::Fault(faults)
     }
 }
 

@@ -19,11 +19,11 @@ use toml_span_tree::Value;
 ///
 /// An implementation states what its read may answer and leave: `reads` relates the value before, the
 /// answer, which is an element or the errors, and the value left, and `starved` says what want of
-/// memory leaves.
+/// memory leaves. An implementation that leaves them out says nothing of either.
 pub trait Deserialize<'de>: Sized + Drop {
-    ghost reads: { Node → Result Self Faults → Node → Type 0 };
+    ghost reads: { Node → Result Self Faults → Node → Type 0 } = { λ _ _ _. Unit {0} };
 
-    ghost starved: { Node → Node → Type 0 };
+    ghost starved: { Node → Node → Type 0 } = { λ _ _. Unit {0} };
 
     /// Reads the value, of which nothing may be taken, neither here nor below (`is_whole`).
     fn deserialize(alloc: Global, value: &mut Value<'de>) -> Result<Self, Stop<DeserError<'de>>>

@@ -6,6 +6,8 @@ ghost use Rattle.toml_span_tree.specs.Node.{entry_at};
 ghost use Rattle.toml_span_tree.specs.Value.{is_filled, members_view, span_of, view};
 ghost use Rattle.toml_span_typed.specs.TableHelper.{Closes, key_text, names_in, without};
 
+mod fields;
+
 use crate::de_helpers::expected;
 use crate::deser_error::DeserError;
 use crate::deserialize::Deserialize;
@@ -36,6 +38,19 @@ pub enum Unfinished<'de> {
     Faults(DeserError<'de>),
     /// Memory ran out: the helper comes back as it was.
     Memory(TableHelper<'de>),
+}
+
+impl<'de> From<Unfinished<'de>> for Stop<DeserError<'de>> {
+    ghost use Rattle.toml_span_typed.specs.Fields.{stop_of};
+
+    ghost from_gives = { λ unfinished stop. stop ≡ stop_of unfinished };
+
+    fn from(unfinished: Unfinished<'de>) -> Stop<DeserError<'de>> {
+        match unfinished {
+            Unfinished::Faults(faults) => Stop::Fault(faults),
+            Unfinished::Memory(_) => Stop::Memory(AllocError),
+        }
+    }
 }
 
 impl<'de> TableHelper<'de> {

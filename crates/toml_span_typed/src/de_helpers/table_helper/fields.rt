@@ -1,0 +1,74 @@
+//! Reads of fields whose errors stay in the helper.
+ghost use Rattle.std.specs.Prelude.{◌≡◌, ◌+◌, ◌≤◌, IfOk, IfSome, IsTrue, OnOk};
+ghost use Rattle.toml_span_tree.specs.Value.{is_whole};
+ghost use Rattle.toml_span_typed.specs.Fields.{Asks, kept, lacking};
+ghost use Rattle.toml_span_typed.specs.TableHelper.{AllWhole, Tries, found, state_of};
+
+use crate::de_helpers::table_helper::{TableHelper, missing_field};
+use crate::deser_error::DeserError;
+use crate::deserialize::Deserialize;
+use std::alloc::AllocError;
+use toml_span_lex::stop::Stop;
+
+impl<'de> TableHelper<'de> {
+    /// Records the name, moves its entry out and reads it. The helper keeps all errors.
+    ///
+    /// The answer is None where no entry stands, with the error `MissingField` at the table's span, and
+    /// where the read fails. So where `finish` answers Ok, each field was read. On want of memory nothing
+    /// has changed, or the name is recorded, its entry gone, and the errors are as before.
+    #[tactic(auto, using(crate::proofs::Whole::found_whole))]
+    pub fn read<T: Deserialize<'de>>(&mut self, name: &'de str) -> Result<Option<T>, AllocError>
+        requires { AllWhole (state_of self.old) }
+        ensures answer { Asks T.reads name.now (state_of self.old) result (state_of self.new) }
+        ensures told { IfOk result (λ field. kept (state_of self.old) + lacking field ≤ kept (state_of self.new)) }
+        ensures whole { AllWhole (state_of self.new) }
+    {
+        self.ask(name)
+    }
+
+    /// As `optional`, of a helper whose entries are whole.
+    #[tactic(auto, using(crate::proofs::Whole::found_whole))]
+    pub fn read_optional<T: Deserialize<'de>>(
+        &mut self,
+        name: &'de str,
+    ) -> Result<Option<T>, AllocError>
+        requires { AllWhole (state_of self.old) }
+        ensures answer { Tries T.reads name.now (state_of self.old) result (state_of self.new) }
+        ensures told { OnOk result (kept (state_of self.old) ≤ kept (state_of self.new)) }
+        ensures whole { AllWhole (state_of self.new) }
+    {
+        self.optional(name)
+    }
+
+    /// Ends the reads, as `finalize(None)` does. Ok exactly where there is no error and no key remains.
+    pub fn finish(self) -> Result<(), Stop<DeserError<'de>>>
+        ensures none { OnOk result (kept (state_of self.entry) ≡ 0) }
+    {
+        self.finalize(None)?;
+        Ok(())
+    }
+
+    /// Records the name, moves its entry out and reads it. The helper keeps all errors.
+    fn ask<T: Deserialize<'de>>(&mut self, name: &'de str) -> Result<Option<T>, AllocError>
+        requires { IfSome (found name.now (state_of self.old)) (λ value. IsTrue (is_whole value)) }
+        ensures answer { Asks T.reads name.now (state_of self.old) result (state_of self.new) }
+        ensures told { IfOk result (λ field. kept (state_of self.old) + lacking field ≤ kept (state_of self.new)) }
+        ensures whole { AllWhole (state_of self.old) → AllWhole (state_of self.new) }
+    {
+        match self.take(name) {
+            Err(e) => Err(e),
+            Ok(None) => match self.keep(missing_field(name, self.span)) {
+                Ok(()) => Ok(None),
+                Err(e) => Err(e),
+            },
+            Ok(Some((_key, mut value))) => match T::deserialize(self.alloc, &mut value) {
+                Ok(x) => Ok(Some(x)),
+                Err(Stop::Memory(e)) => Err(e),
+                Err(Stop::Fault(faults)) => match faults.append_to(&mut self.errors) {
+                    Ok(()) => Ok(None),
+                    Err(e) => Err(e),
+                },
+            },
+        }
+    }
+}
