@@ -39,6 +39,7 @@ run "stored runs of the program" bash scripts/runs.sh
 run "refusals of memory" bash scripts/refusals.sh
 run "the repository stands alone" bash scripts/stands_alone.sh
 run "each edit names its clause" python3 scripts/edits.py --check
+run "pages quote the sources" python3 scripts/pages.py --check
 
 times >"$log"
 read -r user system < <(tail -n 1 "$log")

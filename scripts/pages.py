@@ -1,0 +1,386 @@
+#!/usr/bin/env python3
+"""Checks that the pages (README.md, docs/*.md) say what the sources say: pages.py [--check] [PAGE..]
+
+What is looked at is marked:
+
+    ```rust            stands line by line in one file of crates/*/src that is proved, indentation aside. A line
+                       `// ..` stands for lines that are left out.
+    ```text clause     each paragraph stands in one file of crates/*/src or crates/*/specs, white space aside;
+                       in the file that is named, if one is: `text clause toml_span_claims/specs/Flat.antt`
+    ```text rows       stands line by line in the answers of toml_span_rows (its file stdout)
+    ```toml row        is the text of a row of toml_span_rows
+    ```toml run NAME   is the input crates/toml_span_show/runs/NAME (or `stdin`, beside it)
+    ```text run NAME   is what the program writes on it (NAME.stdout, or `stdout`)
+    ```sh              names files of scripts/, docs/ and crates/ that are there
+    <!-- rows: CALL -->    before a table: the first cell of each line has the text of a row of this call, as
+                       `parse 128`, and all that stands in code behind it stands in that row's answer: as words
+                       of one of its lines or, in a column with the name of a field (first, expected, found, key,
+                       name), as that field. Of a fault one cell has the code and the span. A column without a
+                       heading has remarks.
+    <!-- definitions -->   before a table: the first cell of each line names definitions, and the file that another
+                       cell names has them
+
+Besides, each path that stands in code and begins with `crates/`, `docs/` or `scripts/`, and each link to a file, leads
+somewhere, and each fault that a row of `parse` tells has an example in docs/LANGUAGE.md. Other blocks (`text`,
+`text shortened`) are not looked at; the last line counts them.
+"""
+
+import glob
+import os
+import re
+import sys
+
+TOP = os.path.dirname(os.path.dirname(os.path.abspath(__file__)))
+ROWS = "crates/toml_span_rows"
+SHOW = "crates/toml_span_show"
+FIELDS = ("first", "expected", "found", "key", "name")
+
+
+def text_of(path):
+    with open(f"{TOP}/{path}", encoding="utf-8") as file:
+        return file.read()
+
+
+def crates():
+    lines = [line.split("#")[0].strip() for line in text_of("crates.txt").split("\n")]
+    return [line.split(":")[0].split()[0] for line in lines if line]
+
+
+def proved_sources():
+    """The files of src/ that a crate's root leads to by `mod` items, and their lines without indentation."""
+    found = {}
+    for crate in crates():
+        src = f"crates/{crate}/src"
+        root = "lib" if os.path.isfile(f"{TOP}/{src}/lib.rt") else "main"
+        todo = [(root, "")]
+        while todo:
+            module, below = todo.pop()
+            path = f"{src}/{module}.rt"
+            lines = text_of(path).split("\n")
+            found[path] = [line.strip() for line in lines]
+            for line in lines:
+                named = re.match(r"(?:pub(?:\(crate\))? )?mod (\w+);", line)
+                if named:
+                    inner = f"{below}{named[1]}"
+                    todo.append((inner, f"{inner}/"))
+    return found
+
+
+def squeezed(text):
+    """A text with one space for all white space, and one at each end."""
+    return f" {' '.join(text.split())} "
+
+
+def quotable():
+    """The files of src/ and specs/, without their white space."""
+    paths = [*proved_sources()]
+    for crate in crates():
+        paths += glob.glob(f"crates/{crate}/specs/**/*.antt", root_dir=TOP, recursive=True)
+    return {path: squeezed(text_of(path)) for path in paths}
+
+
+def answers():
+    """The lines that answer each row of toml_span_rows."""
+    found, row = {}, None
+    for line in text_of(f"{ROWS}/stdout").split("\n"):
+        if line.startswith("    ") and row is not None:
+            found[row].append(line[4:])
+        elif line and not line.startswith("#"):
+            row = line
+            found[row] = []
+        else:
+            row = None
+    asked = {line for line in text_of(f"{ROWS}/stdin").split("\n") if line and not line.startswith("#")}
+    return {row: lines for row, lines in found.items() if row in asked}
+
+
+def in_rows(text):
+    """A text as the rows write it."""
+    for char, escape in (("\\", "\\\\"), ("\n", "\\n"), ("\r", "\\r"), ("\t", "\\t")):
+        text = text.replace(char, escape)
+    return text
+
+
+def fields_of(line):
+    """The fields of a fault's kind: texts without their quotes, spans as A..B."""
+    found = {}
+    for name, text, start, end in re.findall(r'(\w+): (?:"([^"]*)"|Span { start: (\d+), end: (\d+) })', line):
+        found[name] = f"{start}..{end}" if start else text
+    return found
+
+
+def position_of(lines, part, start=0):
+    """Where these lines stand one behind the other, or None."""
+    for at in range(start, len(lines) - len(part) + 1):
+        if lines[at : at + len(part)] == part:
+            return at
+    return None
+
+
+class Page:
+    """A page, the sources that it quotes, and what is wrong with it."""
+
+    def __init__(self, path, sources):
+        self.path, self.sources = path, sources
+        self.lines = text_of(path).split("\n")
+        self.faults, self.counts, self.unmarked = [], {}, []
+        self.shown = set()
+
+    def fault(self, at, what):
+        self.faults.append(f"{self.path}:{at + 1}: {what}")
+
+    def count(self, what):
+        self.counts[what] = self.counts.get(what, 0) + 1
+
+    def look(self):
+        """Goes over the page once."""
+        at, mark = 0, None
+        while at < len(self.lines):
+            line = self.lines[at]
+            fence = re.match(r" *```+(.*)", line)
+            if fence:
+                end = next((k for k in range(at + 1, len(self.lines)) if re.match(r" *```+ *$", self.lines[k])), None)
+                if end is None:
+                    return self.fault(at, "this block does not end: write ``` behind it")
+                self.block(at + 1, fence[1].split(), self.lines[at + 1 : end])
+                at = end
+            elif comment := re.match(r"<!-- (rows: [^>]*|definitions) -->$", line):
+                mark = comment[1]
+                if not any(it.startswith("|") for it in self.lines[at + 1 : at + 3]):
+                    self.fault(at, "no table stands behind this mark: write it right behind, or take the mark away")
+            elif line.startswith("|"):
+                end = next((k for k in range(at, len(self.lines)) if not self.lines[k].startswith("|")), len(self.lines))
+                if mark:
+                    self.table(at, mark, end)
+                self.paths(at, "\n".join(self.lines[at:end]))
+                mark, at = None, end - 1
+            else:
+                self.paths(at, line)
+            at += 1
+
+    def paths(self, at, text):
+        """The paths in code and the links of some lines."""
+        for code in re.findall(r"`((?:crates|docs|scripts)/[^` ]*)`", text):
+            if not re.search(r"\b(NAME|CRATE|FILE|out)\b", code) and not glob.glob(f"{TOP}/{code}"):
+                self.fault(at, f"there is no {code}: name what is there now")
+        for link in re.findall(r"\]\(([^)#: ]+)\)", text):
+            if not os.path.exists(f"{TOP}/{os.path.dirname(self.path)}/{link}"):
+                self.fault(at, f"this link leads nowhere: {link}")
+
+    # ---- blocks
+
+    def block(self, at, words, lines):
+        if words[:1] == ["rust"]:
+            self.rust(at, lines)
+        elif words[:2] == ["text", "clause"]:
+            self.clauses(at, words[2:], lines)
+        elif words == ["text", "rows"]:
+            self.count("blocks of rows")
+            if position_of(self.sources.row_lines, lines) is None:
+                self.fault(at, f"these lines do not stand so in {ROWS}/stdout: quote them as they are there now")
+        elif words == ["toml", "row"]:
+            self.document(at, lines)
+        elif words[1:2] == ["run"] and len(words) == 3 and words[0] in ("toml", "text"):
+            self.run(at, words[0] == "toml", words[2], lines)
+        elif words[:1] in (["sh"], ["bash"], ["console"]):
+            self.commands(at, lines)
+        elif words in ([], ["text"], ["text", "shortened"]):
+            self.unmarked.append(f"{self.path}:{at}")
+        else:
+            self.fault(at - 1, f"`{' '.join(words)}` is no mark: scripts/pages.py lists them")
+
+    def rust(self, at, lines):
+        """The parts between lines `// ..` stand in one file, one behind the other."""
+        self.count("blocks of code")
+        parts = [[]]
+        for k, line in enumerate(lines):
+            if line.strip().startswith("// .."):
+                parts.append([])
+            elif line.strip() or parts[-1]:
+                parts[-1].append((k, line.strip()))
+        parts = [part for part in parts if part]
+        for part in parts:
+            while not part[-1][1]:
+                part.pop()
+        far, where = -1, None
+        for path, source in self.sources.proved.items():
+            stands = self.how_far(parts, source)
+            if stands is None:
+                return
+            if stands > far:
+                far, where = stands, path
+        line = lines[max(far, 0)].strip()
+        best = f"{where} has the lines before it" if far > 0 else "no proved file begins so"
+        self.fault(at + max(far, 0), f"`{line}` does not stand so in the sources ({best}): quote them as they are now")
+
+    @staticmethod
+    def how_far(parts, source):
+        """None where all parts stand in the file, or the first line of the block that doesn't."""
+        start = 0
+        for part in parts:
+            place = position_of(source, [line for _, line in part], start)
+            if place is not None:
+                start = place + len(part)
+                continue
+            far = part[0][0]
+            for place in (k for k in range(start, len(source)) if source[k] == part[0][1]):
+                same = next((k for k, (_, line) in enumerate(part) if source[place + k : place + k + 1] != [line]), 0)
+                far = max(far, part[same][0])
+            return far
+        return None
+
+    def clauses(self, at, words, lines):
+        """Each paragraph stands in the sources."""
+        files = self.sources.quotable
+        if words:
+            path = words[0] if words[0].startswith("crates/") else f"crates/{words[0]}"
+            if path not in files:
+                return self.fault(at - 1, f"there is no {path} among the sources: name the file that has these lines")
+            files = {path: files[path]}
+        paragraph = []
+        for k, line in enumerate([*lines, ""]):
+            if line.strip():
+                paragraph.append(line)
+                continue
+            if paragraph:
+                self.count("clauses and definitions")
+                if not any(squeezed("\n".join(paragraph)) in text for text in files.values()):
+                    among = [*files][0] if words else "any file of src/ or specs/"
+                    self.fault(at + k - len(paragraph), f"this does not stand so in {among}: quote what is there now")
+            paragraph = []
+
+    def document(self, at, lines):
+        self.count("documents")
+        text = in_rows("\n".join(lines) + "\n")
+        if not any(row.endswith(f": {text}") for row in self.sources.answers):
+            self.fault(at, f"no row of {ROWS}/stdin has this text: add `parse 128: {text}` with its answer")
+
+    def run(self, at, is_input, name, lines):
+        self.count("runs")
+        beside = f"{SHOW}/{'stdin' if is_input else 'stdout'}"
+        path = beside if name == "stdin" else f"{SHOW}/runs/{name}{'' if is_input else '.stdout'}"
+        if not os.path.isfile(f"{TOP}/{path}"):
+            return self.fault(at - 1, f"there is no {path}: name a run that is there")
+        if text_of(path).rstrip("\n") != "\n".join(lines).rstrip("\n"):
+            self.fault(at, f"this is not {path}: quote it as it is now")
+
+    def commands(self, at, lines):
+        for k, line in enumerate(lines):
+            for path in re.findall(r"\b(?:scripts|docs|crates)/[\w./*-]+", line.split("#")[0]):
+                if not glob.glob(f"{TOP}/{path}"):
+                    self.fault(at + k, f"there is no {path}: name what is there now")
+
+    # ---- tables
+
+    def table(self, at, mark, end):
+        heads = self.cells(self.lines[at])
+        for k in range(at + 2, end):
+            cells = self.cells(self.lines[k])
+            if mark == "definitions":
+                self.definitions(k, cells)
+            else:
+                self.example(k, mark[len("rows: ") :], heads, cells)
+
+    @staticmethod
+    def cells(line):
+        return [cell.strip() for cell in line.strip().strip("|").split("|")]
+
+    def example(self, at, call, heads, cells):
+        """The row of the first cell, and what the others say of its answer."""
+        self.count("examples")
+        code = re.match(r"`([^`]*)`", cells[0])
+        row = f"{call}: {code[1]}" if code else f"{call}:"
+        answer = self.sources.answers.get(row)
+        if answer is None:
+            return self.fault(at, f"no row `{row}`: add it to {ROWS}/stdin, and its answer to {ROWS}/stdout")
+        refused = answer[0].startswith("error ")
+        fault = " ".join(answer[0].split()[1:3]) if refused else None
+        said = told = False
+        for head, cell in zip(heads[1:], cells[1:]):
+            if not head:
+                continue
+            for words in re.findall(r"`([^`]+)`", cell):
+                field = head.strip("`")
+                if field in FIELDS:
+                    stands = any(fields_of(line).get(field) == words for line in answer)
+                else:
+                    stands = any(f" {words} " in f" {line} " for line in answer)
+                    told = told or words == fault
+                if not stands:
+                    self.fault(at, f"`{words}` does not stand in the answer to `{row}`, which is `{answer[0]}`" + self.more(answer))
+                said = True
+        if not said:
+            self.fault(at, f"nothing of the answer to `{row}` is said in code: it is `{answer[0]}`" + self.more(answer))
+        elif refused and not told:
+            self.fault(at, f"`{row}` is refused: say `{fault}` in a cell of its own")
+        if refused:
+            self.shown.add(answer[0].split()[1])
+
+    @staticmethod
+    def more(answer):
+        return "" if len(answer) == 1 else f" and {len(answer) - 1} more"
+
+    def definitions(self, at, cells):
+        """The names of the first cell are defined in the file that another cell names."""
+        self.count("definitions named")
+        files = re.findall(r"`([\w/]+\.(?:antt|rt))`", " ".join(cells[1:]))
+        if len(files) != 1:
+            return self.fault(at, "a cell of this line has to name one file in code, as `toml_span_claims/specs/Flat.antt`")
+        path = f"crates/{files[0].removeprefix('crates/')}"
+        if not os.path.isfile(f"{TOP}/{path}"):
+            return self.fault(at, f"there is no {path}: name the file that has these definitions")
+        text = text_of(path)
+        for name in re.findall(r"`([^`]+)`", cells[0]):
+            forms = (
+                rf"^(?:(?:abbrev|unfoldable) )?(?:mutual )?pub {re.escape(name)} :",
+                rf"^ *pub {re.escape(name)} :",
+                rf"^ *pub (?:record|data) {re.escape(name)}\b",
+                rf"^ *pub (?:fn|struct|enum|trait|const) {re.escape(name)}\b",
+                rf"^ *ensures\*? {re.escape(name)} ",
+            )
+            if not any(re.search(form, text, re.M) for form in forms):
+                self.fault(at, f"{path} has no definition {name}: name the file that has it")
+
+
+class Sources:
+    """What pages quote, read once."""
+
+    def __init__(self):
+        self.proved = proved_sources()
+        self.quotable = quotable()
+        self.answers = answers()
+        self.row_lines = text_of(f"{ROWS}/stdout").split("\n")
+
+
+def untold(page, sources):
+    """The faults that `parse` tells in a row and that have no example on the page of the language."""
+    codes = {
+        lines[0].split()[1] for row, lines in sources.answers.items() if row.startswith("parse ") and lines[0].startswith("error ")
+    }
+    for code in sorted(codes - page.shown):
+        page.fault(0, f"no example of the fault {code} is on this page: add one to a table of rows")
+
+
+def main(words):
+    named = [word for word in words if not word.startswith("-")]
+    paths = named or ["README.md", *sorted(glob.glob("docs/*.md", root_dir=TOP))]
+    sources, counts, faults, unmarked = Sources(), {}, [], []
+    for path in paths:
+        page = Page(path, sources)
+        page.look()
+        if path == "docs/LANGUAGE.md":
+            untold(page, sources)
+        faults += page.faults
+        unmarked += page.unmarked
+        for what, count in page.counts.items():
+            counts[what] = counts.get(what, 0) + count
+    for fault in faults:
+        print(fault)
+    if unmarked:
+        print(f"not looked at: {', '.join(unmarked)}")
+    said = ", ".join(f"{count} {what}" for what, count in counts.items())
+    print(f"{len(paths)} pages: {said}; {len(faults)} faults")
+    return 1 if faults else 0
+
+
+sys.exit(main(sys.argv[1:]))
