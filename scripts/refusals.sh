@@ -1,9 +1,8 @@
 #!/usr/bin/env bash
 # Each request for memory refused in turn, in each call that takes memory.
 #
-# The test program tests/refusals is run by `rt try`, beside a copy of the crates that it calls; nothing of it is
-# proved. It makes one call, which its standard input names, and makes as many requests before it as make one of the
-# call's own its hundredth. It is run for each call with a request refused that
+# The program toml_span_refusals makes one call, which its standard input names, and makes as many requests
+# before it as make one of the call's own its hundredth. It is run for each call with a request refused that
 # it never makes, which tells how many it does make, and then with the hundredth refused, once for each of
 # them. Each run has to print `right`, and to tell of the refusal (status 3). Of three calls the last requests
 # are those of the test, which prints what the call gave: there the first requests have to be told of.
@@ -12,22 +11,9 @@
 # one falls into the reading, into the parsing and into the lines: each time it has to end with status 4, and
 # to write nothing.
 set -euo pipefail
-cd "$(dirname "$0")/.."
+cd "$(dirname "$0")/../crates"
 work=$(mktemp -d)
 trap 'rm -rf "$work"' EXIT
-
-# the test program in a repository of its own, over the crates' sources
-below="toml_span_lex toml_span_tree toml_span_read toml_span_read_laws toml_span_typed toml_span_claims toml_span_assembly toml_span"
-mkdir -p "$work/root/crates"
-cp -r tests/refusals "$work/root/crates/refusals"
-for crate in $below; do
-    mkdir "$work/root/crates/$crate"
-    cp -r "crates/$crate/src" "crates/$crate/specs" "$work/root/crates/$crate"
-done
-grep -E "^(${below// /|}):" crates.txt >"$work/root/crates.txt"
-echo "refusals: $below serde_json" >>"$work/root/crates.txt"
-cp HANDLES "$work/root"
-cd crates
 
 calls=()
 for call in step peek eat eat_spanned expect expect_spanned table_key; do
@@ -67,7 +53,7 @@ for index in "${!calls[@]}"; do
     printf 'right\n' >"$work/none/$index.stdout"
 done
 report=$work/report
-(cd "$work/root/crates/refusals" && rt try --cases "$work/none" --fail-alloc 1000) >"$report" 2>&1 || true
+(cd toml_span_refusals && rt try --cases "$work/none" --fail-alloc 1000) >"$report" 2>&1 || true
 right=$(grep -c '^case=.* status=0 .*output=expected' "$report" || true)
 [ "$right" -eq "${#calls[@]}" ] || fail "$report" "$right of ${#calls[@]} calls right with nothing refused"
 
@@ -80,7 +66,7 @@ while read -r index made; do
         printf 'right\n' >"$work/each/${index}_$request.stdout"
     done
 done < <(requests "$report")
-(cd "$work/root/crates/refusals" && rt try --cases "$work/each" --fail-alloc 100) >"$report" 2>&1 || true
+(cd toml_span_refusals && rt try --cases "$work/each" --fail-alloc 100) >"$report" 2>&1 || true
 right=$(grep -c '^case=.* status=[03] .*output=expected' "$report" || true)
 [ "$right" -eq "$count" ] || fail "$report" "$right of $count runs right"
 quiet=

@@ -1,4 +1,6 @@
 //! The typed reads and the calls of the table helper that take memory.
+ghost use Rattle.std.specs.Prelude.{IfSome};
+ghost use Rattle.toml_span_typed.specs.TableHelper.{AllWhole, state_of};
 
 use crate::outcome::Outcome;
 use std::alloc::{AllocError, Global};
@@ -29,7 +31,7 @@ fn table<'de>(alloc: Global, name: &'de str, text: &'de str) -> Result<Value<'de
 
 /// A helper over such a table, or `None` for want of memory.
 fn helper<'de>(alloc: Global, name: &'de str, text: &'de str) -> Option<TableHelper<'de>>
-    
+    ensures { IfSome result (λ helper. AllWhole (state_of helper)) }
 {
     let Ok(mut value) = table(alloc, name, text) else {
         return None;
@@ -102,6 +104,7 @@ fn parsed(alloc: Global) -> Outcome {
 }
 
 /// How a required read of a string went. A refusal keeps no error.
+#[tactic(auto, using(toml_span_typed::proofs::Whole::found_whole))]
 fn required(alloc: Global) -> Outcome {
     let Some(mut helper) = helper(alloc, "n", "abc") else {
         return Outcome::Refused;
@@ -114,6 +117,7 @@ fn required(alloc: Global) -> Outcome {
 }
 
 /// How a required read of a missing field went. A refusal keeps no error.
+#[tactic(auto, using(toml_span_typed::proofs::Whole::found_whole))]
 fn missing(alloc: Global) -> Outcome {
     let Some(mut helper) = helper(alloc, "n", "abc") else {
         return Outcome::Refused;
@@ -128,6 +132,7 @@ fn missing(alloc: Global) -> Outcome {
 }
 
 /// How an optional read that fails went. A refusal keeps no error.
+#[tactic(auto, using(toml_span_typed::proofs::Whole::found_whole))]
 fn optional(alloc: Global) -> Outcome {
     let Some(mut helper) = helper(alloc, "n", "abc") else {
         return Outcome::Refused;

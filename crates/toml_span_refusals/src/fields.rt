@@ -1,4 +1,6 @@
 //! The typed reads of documents.
+ghost use Rattle.std.specs.Prelude.{IfSome};
+ghost use Rattle.toml_span_typed.specs.TableHelper.{AllWhole, state_of};
 
 use crate::outcome::Outcome;
 use std::alloc::Global;
@@ -19,7 +21,7 @@ fn root_of(alloc: Global, text: &'static str) -> Option<Value<'static>> {
 
 /// A helper over a tree.
 fn opened(alloc: Global, root: &mut Value<'static>) -> Option<TableHelper<'static>>
-    
+    ensures { IfSome result (λ helper. AllWhole (state_of helper)) }
 {
     if !root.is_whole() {
         return None;
@@ -100,6 +102,7 @@ fn second(there: bool, told: Told, end: usize) -> Told {
 
 /// How the reads went of a number that is too large and of a string as a truth value, with a key that
 /// remains.
+#[tactic(auto, using(toml_span_typed::proofs::Whole::found_whole))]
 fn all_errors(alloc: Global) -> Outcome {
     let Some(mut root) = root_of(alloc, "n = 300\nm = \"q\"\nz = true\n") else {
         return Outcome::Refused;
@@ -142,6 +145,7 @@ fn all_errors(alloc: Global) -> Outcome {
 }
 
 /// How the read of a missing field went behind which the rest is put back.
+#[tactic(auto, using(toml_span_typed::proofs::Whole::found_whole))]
 fn rest_back(alloc: Global) -> Outcome {
     let Some(mut root) = root_of(alloc, "n = 1") else {
         return Outcome::Refused;
@@ -164,6 +168,7 @@ fn rest_back(alloc: Global) -> Outcome {
 }
 
 /// How optional reads went of a number that is too small and of an absent one.
+#[tactic(auto, using(toml_span_typed::proofs::Whole::found_whole))]
 fn absent(alloc: Global) -> Outcome {
     let Some(mut root) = root_of(alloc, "a = 1\nb = -1\n") else {
         return Outcome::Refused;
@@ -206,6 +211,7 @@ fn absent(alloc: Global) -> Outcome {
 }
 
 /// How two reads of one missing field went, with a key that remains.
+#[tactic(auto, using(toml_span_typed::proofs::Whole::found_whole))]
 fn asked_twice(alloc: Global) -> Outcome {
     let Some(mut root) = root_of(alloc, "z = 1") else {
         return Outcome::Refused;
@@ -245,6 +251,7 @@ fn asked_twice(alloc: Global) -> Outcome {
 }
 
 /// How the reads of a number with its place, of an absent one and of an entry went.
+#[tactic(auto, using(toml_span_typed::proofs::Whole::found_whole))]
 fn entries(alloc: Global) -> Outcome {
     let Some(mut root) = root_of(alloc, "n = 7\nm = \"q\"\n") else {
         return Outcome::Refused;
