@@ -5,8 +5,9 @@ What is looked at is marked:
 
     ```rust            stands line by line in one file of crates/*/src that is proved, indentation aside. A line
                        `// ..` stands for lines that are left out.
-    ```text clause     each paragraph stands in one file of crates/*/src or crates/*/specs, white space aside;
-                       in the file that is named, if one is: `text clause toml_span_claims/specs/Flat.antt`
+    ```text clause     each paragraph stands in one file of crates/*/src or crates/*/specs, or in proofs/Examples.antt
+                       of a crate, white space aside; in the file that is named, if one is, as in
+                       `text clause toml_span_claims/specs/Flat.antt`
     ```text rows       stands line by line in the answers of toml_span_rows (its file stdout)
     ```toml row        is the text of a row of toml_span_rows
     ```toml run NAME   is the input crates/toml_span_show/runs/NAME (or `stdin`, beside it)
@@ -72,10 +73,11 @@ def squeezed(text):
 
 
 def quotable():
-    """The files of src/ and specs/, without their white space."""
+    """The files of src/ and specs/, and worked examples, without their white space."""
     paths = [*proved_sources()]
     for crate in crates():
         paths += glob.glob(f"crates/{crate}/specs/**/*.antt", root_dir=TOP, recursive=True)
+        paths += glob.glob(f"crates/{crate}/proofs/Examples.antt", root_dir=TOP)
     return {path: squeezed(text_of(path)) for path in paths}
 
 
