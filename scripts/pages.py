@@ -381,7 +381,7 @@ def main(words):
     if unmarked:
         print(f"not looked at: {', '.join(unmarked)}")
     said = ", ".join(f"{count} {what}" for what, count in counts.items())
-    print(f"{len(paths)} pages: {said}; {len(faults)} faults")
+    print(f"{len(paths)} pages: {said}; {len(faults)} wrong")
     return 1 if faults else 0
 
 
