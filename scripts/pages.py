@@ -151,7 +151,8 @@ class Page:
                 if not any(it.startswith("|") for it in self.lines[at + 1 : at + 3]):
                     self.fault(at, "no table stands behind this mark: write it right behind, or take the mark away")
             elif line.startswith("|"):
-                end = next((k for k in range(at, len(self.lines)) if not self.lines[k].startswith("|")), len(self.lines))
+                behind = (k for k in range(at, len(self.lines)) if not self.lines[k].startswith("|"))
+                end = next(behind, len(self.lines))
                 if mark:
                     self.table(at, mark, end)
                 self.paths(at, "\n".join(self.lines[at:end]))
@@ -296,6 +297,7 @@ class Page:
         if answer is None:
             return self.fault(at, f"no row `{row}`: add it to {ROWS}/stdin, and its answer to {ROWS}/stdout")
         refused = answer[0].startswith("error ")
+        is_it = f"the answer to `{row}` is `{answer[0]}`" + self.more(answer)
         fault = " ".join(answer[0].split()[1:3]) if refused else None
         said = told = False
         for head, cell in zip(heads[1:], cells[1:]):
@@ -309,12 +311,12 @@ class Page:
                     stands = any(f" {words} " in f" {line} " for line in answer)
                     told = told or words == fault
                 if not stands:
-                    self.fault(at, f"`{words}` does not stand in the answer to `{row}`, which is `{answer[0]}`" + self.more(answer))
+                    self.fault(at, f"`{words}` does not stand there: {is_it}")
                 said = True
         if not said:
-            self.fault(at, f"nothing of the answer to `{row}` is said in code: it is `{answer[0]}`" + self.more(answer))
+            self.fault(at, f"nothing of it is said in code: {is_it}")
         elif refused and not told:
-            self.fault(at, f"`{row}` is refused: say `{fault}` in a cell of its own")
+            self.fault(at, f"say `{fault}` in code: {is_it}")
         if refused:
             self.shown.add(answer[0].split()[1])
 
@@ -327,7 +329,7 @@ class Page:
         self.count("definitions named")
         files = re.findall(r"`([\w/]+\.(?:antt|rt))`", " ".join(cells[1:]))
         if len(files) != 1:
-            return self.fault(at, "a cell of this line has to name one file in code, as `toml_span_claims/specs/Flat.antt`")
+            return self.fault(at, "name one file in code in this line, as `toml_span_claims/specs/Flat.antt`")
         path = f"crates/{files[0].removeprefix('crates/')}"
         if not os.path.isfile(f"{TOP}/{path}"):
             return self.fault(at, f"there is no {path}: name the file that has these definitions")
@@ -356,9 +358,8 @@ class Sources:
 
 def untold(page, sources):
     """The faults that `parse` tells in a row and that have no example on the page of the language."""
-    codes = {
-        lines[0].split()[1] for row, lines in sources.answers.items() if row.startswith("parse ") and lines[0].startswith("error ")
-    }
+    told = [lines[0].split() for row, lines in sources.answers.items() if row.startswith("parse ")]
+    codes = {words[1] for words in told if words[0] == "error"}
     for code in sorted(codes - page.shown):
         page.fault(0, f"no example of the fault {code} is on this page: add one to a table of rows")
 

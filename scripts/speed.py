@@ -10,7 +10,8 @@ A line says, for each byte of the text, how many nanoseconds of processor time a
 tree: `user` is the program's own time, `all` has the system's part too. It is the difference between a run of one
 parse and a run of N more (--passes, 10), so that the start and the reading of the file are left out; of the rounds
 (--rounds, 3) the best. `peak` is the most memory that a process of one parse held, in MB (some 20 MB are this script's
-own, before the program starts), and a ratio says how many times as long the Rust crate took. How the time grows is seen by several sizes: --bytes 100000,1000000,10000000.
+own, before the program starts), and a ratio says how many times as long the Rust crate took. How the time grows is
+seen by several sizes: --bytes 100000,1000000,10000000.
 """
 
 import argparse
@@ -167,7 +168,8 @@ def built_over(crate, work):
 
 def main():
     about = __doc__.split("\n\n", 1)
-    parser = argparse.ArgumentParser(description=about[0], epilog=about[1], formatter_class=argparse.RawTextHelpFormatter)
+    parser = argparse.ArgumentParser(description=about[0], epilog=about[1])
+    parser.formatter_class = argparse.RawTextHelpFormatter
     parser.add_argument("--bytes", default="1000000")
     parser.add_argument("--passes", type=int, default=10)
     parser.add_argument("--rounds", type=int, default=3)
@@ -177,7 +179,8 @@ def main():
     unknown = [kind for kind in words.kinds if kind not in KINDS]
     if unknown:
         parser.error(f"there is no kind {unknown[0]}; there are {', '.join(KINDS)}")
-    made = subprocess.run(["bash", f"{TOP}/scripts/native.sh", "toml_span_bench"], stdout=subprocess.PIPE, text=True, check=False)
+    native = ["bash", f"{TOP}/scripts/native.sh", "toml_span_bench"]
+    made = subprocess.run(native, stdout=subprocess.PIPE, text=True, check=False)
     if made.returncode:
         sys.exit(made.returncode)
     with tempfile.TemporaryDirectory() as work:
@@ -196,7 +199,8 @@ def main():
                     file.write(document(kind, int(size)))
                 found = measure(programs, path, words.passes, words.rounds)
                 cells = [kind, f"{os.path.getsize(path) / 1e6:.1f}"]
-                cells += [cell for user, total, peak in found for cell in (f"{user:.1f}", f"{total:.1f}", f"{peak:.0f}")]
+                for user, total, peak in found:
+                    cells += [f"{user:.1f}", f"{total:.1f}", f"{peak:.0f}"]
                 if words.crate:
                     (user, total, _), (their_user, their_total, _) = found
                     cells += [f"{their_user / user:.1f}", f"{their_total / total:.1f}"]
