@@ -5,8 +5,9 @@ What is looked at is marked:
 
     ```rust            stands line by line in one file of crates/*/src that is proved, indentation aside. A line
                        `// ..` stands for lines that are left out.
-    ```text clause     each paragraph stands in one file of crates/*/src or crates/*/specs, white space aside;
-                       in the file that is named, if one is: `text clause toml_span_claims/specs/Flat.antt`
+    ```text clause     each paragraph stands in one file of crates/*/src or crates/*/specs, or in proofs/Examples.antt
+                       of a crate, white space aside; in the file that is named, if one is, as in
+                       `text clause toml_span_claims/specs/Flat.antt`
     ```text rows       stands line by line in the answers of toml_span_rows (its file stdout)
     ```toml row        is the text of a row of toml_span_rows
     ```toml run NAME   is the input crates/toml_span_show/runs/NAME (or `stdin`, beside it)
@@ -72,10 +73,11 @@ def squeezed(text):
 
 
 def quotable():
-    """The files of src/ and specs/, without their white space."""
+    """The files of src/ and specs/, and worked examples, without their white space."""
     paths = [*proved_sources()]
     for crate in crates():
         paths += glob.glob(f"crates/{crate}/specs/**/*.antt", root_dir=TOP, recursive=True)
+        paths += glob.glob(f"crates/{crate}/proofs/Examples.antt", root_dir=TOP)
     return {path: squeezed(text_of(path)) for path in paths}
 
 
@@ -149,7 +151,8 @@ class Page:
                 if not any(it.startswith("|") for it in self.lines[at + 1 : at + 3]):
                     self.fault(at, "no table stands behind this mark: write it right behind, or take the mark away")
             elif line.startswith("|"):
-                end = next((k for k in range(at, len(self.lines)) if not self.lines[k].startswith("|")), len(self.lines))
+                behind = (k for k in range(at, len(self.lines)) if not self.lines[k].startswith("|"))
+                end = next(behind, len(self.lines))
                 if mark:
                     self.table(at, mark, end)
                 self.paths(at, "\n".join(self.lines[at:end]))
@@ -294,6 +297,7 @@ class Page:
         if answer is None:
             return self.fault(at, f"no row `{row}`: add it to {ROWS}/stdin, and its answer to {ROWS}/stdout")
         refused = answer[0].startswith("error ")
+        is_it = f"the answer to `{row}` is `{answer[0]}`" + self.more(answer)
         fault = " ".join(answer[0].split()[1:3]) if refused else None
         said = told = False
         for head, cell in zip(heads[1:], cells[1:]):
@@ -307,12 +311,12 @@ class Page:
                     stands = any(f" {words} " in f" {line} " for line in answer)
                     told = told or words == fault
                 if not stands:
-                    self.fault(at, f"`{words}` does not stand in the answer to `{row}`, which is `{answer[0]}`" + self.more(answer))
+                    self.fault(at, f"`{words}` does not stand there: {is_it}")
                 said = True
         if not said:
-            self.fault(at, f"nothing of the answer to `{row}` is said in code: it is `{answer[0]}`" + self.more(answer))
+            self.fault(at, f"nothing of it is said in code: {is_it}")
         elif refused and not told:
-            self.fault(at, f"`{row}` is refused: say `{fault}` in a cell of its own")
+            self.fault(at, f"say `{fault}` in code: {is_it}")
         if refused:
             self.shown.add(answer[0].split()[1])
 
@@ -325,7 +329,7 @@ class Page:
         self.count("definitions named")
         files = re.findall(r"`([\w/]+\.(?:antt|rt))`", " ".join(cells[1:]))
         if len(files) != 1:
-            return self.fault(at, "a cell of this line has to name one file in code, as `toml_span_claims/specs/Flat.antt`")
+            return self.fault(at, "name one file in code in this line, as `toml_span_claims/specs/Flat.antt`")
         path = f"crates/{files[0].removeprefix('crates/')}"
         if not os.path.isfile(f"{TOP}/{path}"):
             return self.fault(at, f"there is no {path}: name the file that has these definitions")
@@ -354,9 +358,8 @@ class Sources:
 
 def untold(page, sources):
     """The faults that `parse` tells in a row and that have no example on the page of the language."""
-    codes = {
-        lines[0].split()[1] for row, lines in sources.answers.items() if row.startswith("parse ") and lines[0].startswith("error ")
-    }
+    told = [lines[0].split() for row, lines in sources.answers.items() if row.startswith("parse ")]
+    codes = {words[1] for words in told if words[0] == "error"}
     for code in sorted(codes - page.shown):
         page.fault(0, f"no example of the fault {code} is on this page: add one to a table of rows")
 
@@ -379,7 +382,7 @@ def main(words):
     if unmarked:
         print(f"not looked at: {', '.join(unmarked)}")
     said = ", ".join(f"{count} {what}" for what, count in counts.items())
-    print(f"{len(paths)} pages: {said}; {len(faults)} faults")
+    print(f"{len(paths)} pages: {said}; {len(faults)} wrong")
     return 1 if faults else 0
 
 

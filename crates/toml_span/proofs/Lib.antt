@@ -8,3 +8,4 @@ pub mod ReadStrings
 pub mod OneTree
 pub mod Pointed
 pub mod Fields
+pub mod Examples
