@@ -1,6 +1,6 @@
 -- Integers of a few digits alone.
-use Rattle.std.proofs.Common.{◌≡◌, ℕ, ◌+◌, ◌-◌, ◌<◌, ◌≤◌, Bool, true, false, drop, take, List, [], ◌∷◌, length, get_or, arith, inl, inr, refl, sym, ◌∙◌, length-take, length-drop}
-use Rattle.std.specs.Prelude.{ℤ, ◌*◌, ◌^◌, slice_range, ◌==◌, ◌&&◌, ◌||◌, Ok}
+use Rattle.std.proofs.Common.{◌≡◌, ℕ, ◌+◌, ◌-◌, ◌<◌, ◌≤◌, true, false, drop, List, [], length, get_or, arith, inl, inr, refl, sym, ◌∙◌, length-take, length-drop}
+use Rattle.std.specs.Prelude.{ℤ, ◌*◌, slice_range, ◌==◌, Ok}
 use Rattle.std.specs.Str.{IsUtf8, IsCharBoundary}
 use Rattle.std.proofs.lemmas.Bool.{cases_lt, false≢true, or_cases}
 use Rattle.std.proofs.lemmas.Bool.Decides.{nat_tests}
@@ -12,7 +12,7 @@ use Rattle.toml_span_read.specs.declared.value.ValKind.{ValKind}
 use Rattle.toml_span_read.specs.Data.{kind_view, scalar}
 use Rattle.toml_span_read.specs.Dates.{is_decimal, begins_date}
 use Rattle.toml_span_read.specs.Gaps.{Further}
-use Rattle.toml_span_read.specs.Numbers.{is_digit, digit_value, Digits, magnitude, DecimalInteger, IsSigned, behind_sign, is_negative}
+use Rattle.toml_span_read.specs.Numbers.{is_digit, digit_value, Digits, magnitude, DecimalInteger, IsSigned, behind_sign}
 use Rattle.toml_span_read.specs.Stuck.{BareGives}
 use Rattle.toml_span_read.proofs.NumberLemmas.{is_false, byte_is, and_left, and_right, digit_figure, no_keylike_figure, digit_no_underscore, no_sign, stands_alone, Summed, sum_goes_on}
 

@@ -1,6 +1,6 @@
 -- Strings on one line in which each character stands for itself.
-use Rattle.std.proofs.Common.{◌≡◌, ℕ, ◌+◌, ◌-◌, ◌<◌, ◌≤◌, ◌⊎◌, Bool, true, false, List, [], ◌∷◌, ◌++◌, length, get_or, drop, arith, inl, inr, refl, sym, subst, ◌∙◌, append-nil}
-use Rattle.std.specs.Prelude.{slice_range, ◌==◌, ◌&&◌, not}
+use Rattle.std.proofs.Common.{◌≡◌, ℕ, ◌+◌, ◌-◌, ◌<◌, ◌⊎◌, true, false, List, [], ◌∷◌, length, get_or, arith, inl, inr, refl, sym, subst, ◌∙◌, append-nil}
+use Rattle.std.specs.Prelude.{slice_range, ◌==◌}
 use Rattle.std.specs.Str.{IsUtf8, IsCharBoundary}
 use Rattle.std.specs.Cow.{cow_str_bytes, IsBorrowedStr}
 use Rattle.std.specs.declared.borrow.CowStr.{CowStr}
@@ -12,7 +12,6 @@ use Rattle.toml_span_lex.specs.Pieces.{is_plain}
 use Rattle.toml_span_lex.specs.Strings.{IsContent, IsString, Borrows, BorrowsWhereSame, content_span, opens_multi}
 use Rattle.toml_span_lex.proofs.MadeStrings.{is_string, borrows_same, where_same}
 use Rattle.toml_span_read.specs.Gaps.{Further}
-use Rattle.toml_span_read.proofs.NumberLemmas.{is_false, and_left}
 use Rattle.toml_span_read.proofs.Places.{behind_byte, read_within}
 
 plain_other : (q c : ℕ) → is_plain q c ≡ true → (c == q) ≡ false
