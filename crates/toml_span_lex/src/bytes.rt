@@ -107,7 +107,7 @@ pub fn printed_end(text: &str, from: usize) -> usize
         start += 16;
     }
     for at in start..bytes.len() {
-        if !is_printed(bytes[at]) {
+        if !is_unescaped(bytes[at]) && !is_printed(bytes[at]) {
             return at;
         }
     }

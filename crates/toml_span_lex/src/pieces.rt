@@ -61,6 +61,9 @@ pub fn plain_end(text: &str, quote: u8, from: usize) -> usize
     ensures boundary { IsCharBoundary text.now result }
 {
     let bytes = text.as_bytes();
+    if from < bytes.len() && !is_plain_alone(quote, bytes[from]) {
+        return from;
+    }
     let mut start = from;
     while bytes.len() - start >= 16 && all_plain(quote, &bytes[start..start + 16]) {
         start += 16;
