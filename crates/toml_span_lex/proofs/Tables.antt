@@ -1,5 +1,5 @@
 -- A table of classes is held against a definition at each of the 256 bytes, by computing.
-use Rattle.std.proofs.Common.{◌≡◌, ℕ, zero, suc, ◌<◌, Bool, true, false, ◌&&◌, List, refl, arith, inl, inr, nat_eq, get_or}
+use Rattle.std.proofs.Common.{◌≡◌, ℕ, zero, suc, ◌<◌, Bool, true, false, ◌&&◌, List, refl, arith, inl, inr, not, nat_eq, bit_and, get_or}
 use Rattle.std.specs.Bool.{beq}
 use Rattle.std.proofs.lemmas.Bool.{cases_eq}
 
@@ -21,9 +21,9 @@ agree_at f g (suc n) h b lt =
     let both = both_of (f n) (g n) (agree_below f g n) h in
     elim (cases_eq b n) [ inl same ↦ rw same both.0 | inr other ↦ agree_at f g n both.1 b (omega arith) ]
 
--- the byte of a class in a table
-abbrev pub in_table : List ℕ → ℕ → ℕ → Bool
-in_table table mark b = nat_eq (get_or table b 0) mark
+-- the table gives this class to the byte
+abbrev pub has_class : List ℕ → ℕ → ℕ → Bool
+has_class table class b = not (nat_eq (bit_and (get_or table b 0) class) 0)
 
-pub from_table : (table : List ℕ) (mark : ℕ) (test : ℕ → Bool) (b : ℕ) → b < 256 → agree_below (in_table table mark) test 256 ≡ true → in_table table mark b ≡ test b
-from_table table mark test b lt h = agree_at _ _ 256 h b lt
+pub from_table : (table : List ℕ) (class : ℕ) (test : ℕ → Bool) (b : ℕ) → b < 256 → agree_below (has_class table class) test 256 ≡ true → has_class table class b ≡ test b
+from_table table class test b lt h = agree_at _ _ 256 h b lt

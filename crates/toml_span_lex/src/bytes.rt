@@ -1,5 +1,5 @@
 //! The classes of bytes, and runs of them (TOML 1.1, "Whitespace", "Keys", "Comment").
-ghost use Rattle.std.specs.Prelude.{◌≡◌, ℕ, ◌<◌, true, length, slice_index, IsTrue};
+ghost use Rattle.std.specs.Prelude.{◌≡◌, ℕ, ◌<◌, ◌==◌, ◌&&◌, not, true, length, slice_index, IsTrue};
 ghost use Rattle.std.specs.Str.{IsCharBoundary};
 ghost use Rattle.toml_span_lex.specs.Bytes as spec;
 ghost use Rattle.toml_span_lex.specs.Bytes.{MaximalRun};
@@ -12,23 +12,37 @@ pub fn is_blank(byte: u8) -> bool
     byte == b' ' || byte == b'\t'
 }
 
-// An x stands at each byte of a bare key.
-static KEYLIKE: [u8; 256] = *b"\
-    ................................\
-    .............x..xxxxxxxxxx......\
-    .xxxxxxxxxxxxxxxxxxxxxxxxxx....x\
-    .xxxxxxxxxxxxxxxxxxxxxxxxxx.....\
-    ................................\
-    ................................\
-    ................................\
-    ................................";
+/// Of `CLASS`: a byte of a bare key.
+const KEYLIKE: u8 = 1;
+
+/// Of `CLASS`: a byte that stands for itself in a string, unless it is its quote.
+const PLAIN: u8 = 2;
+
+// For each byte a digit, whose low two bits are the classes above.
+static CLASS: [u8; 256] = *b"\
+    00000000020000000000000000000000\
+    22222222222223223333333333222222\
+    23333333333333333333333333320223\
+    23333333333333333333333333322220\
+    22222222222222222222222222222222\
+    22222222222222222222222222222222\
+    22222222222222222222222222222222\
+    22222222222222222222222222222222";
 
 /// A byte of a bare key: an ASCII letter, a digit, a dash or an underscore.
 #[inline]
 pub fn is_keylike(byte: u8) -> bool
     ensures { result ≡ spec.is_keylike byte }
 {
-    KEYLIKE[byte as usize] == b'x'
+    CLASS[byte as usize] & KEYLIKE != 0
+}
+
+/// A byte that stands for itself in a string, unless it is its quote: one of a comment, but no backslash.
+#[inline]
+pub(crate) fn is_unescaped(byte: u8) -> bool
+    ensures { result ≡ (spec.is_printed byte && not (byte == spec.backslash)) }
+{
+    CLASS[byte as usize] & PLAIN != 0
 }
 
 /// A byte that a comment can hold: a tab, or no control character.
@@ -93,7 +107,7 @@ pub fn printed_end(text: &str, from: usize) -> usize
         start += 16;
     }
     for at in start..bytes.len() {
-        if !is_printed(bytes[at]) {
+        if !is_unescaped(bytes[at]) && !is_printed(bytes[at]) {
             return at;
         }
     }

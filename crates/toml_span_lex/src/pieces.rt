@@ -6,7 +6,7 @@ ghost use Rattle.toml_span_lex.specs.Pieces as spec;
 ghost use Rattle.toml_span_lex.specs.Strings.{IsQuote};
 ghost use Rattle.toml_span_lex.specs.Text.{LeadsTo};
 
-use crate::bytes::{blanks_end, is_blank, is_printed};
+use crate::bytes::{blanks_end, is_blank, is_printed, is_unescaped};
 use crate::escapes::escape;
 use crate::text::{char_at, is_crlf, line_end};
 use crate::tokens::Error;
@@ -32,6 +32,14 @@ fn is_plain(quote: u8, byte: u8) -> bool
     is_printed(byte) && byte != quote && !(quote == b'"' && byte == b'\\')
 }
 
+/// The same, mostly by one look at a table.
+#[inline(always)]
+fn is_plain_alone(quote: u8, byte: u8) -> bool
+    ensures { result ≡ spec.is_plain quote byte }
+{
+    (byte != quote && is_unescaped(byte)) || is_plain(quote, byte)
+}
+
 /// Whether each byte stands for itself between these quotes.
 #[inline(always)]
 fn all_plain(quote: u8, bytes: &[u8]) -> bool
@@ -53,12 +61,15 @@ pub fn plain_end(text: &str, quote: u8, from: usize) -> usize
     ensures boundary { IsCharBoundary text.now result }
 {
     let bytes = text.as_bytes();
+    if from < bytes.len() && !is_plain_alone(quote, bytes[from]) {
+        return from;
+    }
     let mut start = from;
     while bytes.len() - start >= 16 && all_plain(quote, &bytes[start..start + 16]) {
         start += 16;
     }
     for at in start..bytes.len() {
-        if !is_plain(quote, bytes[at]) {
+        if !is_plain_alone(quote, bytes[at]) {
             return at;
         }
     }

@@ -12,6 +12,8 @@ pub mod EarlierTree
 pub mod EarlierKnows
 pub mod KeyOrder
 pub mod NumberLemmas
+pub mod ShortIntegers
+pub mod ShortStrings
 pub mod Views
 pub mod InsideLemmas
 pub mod NumberRows

@@ -1,7 +1,10 @@
 //! Numbers.
-ghost use Rattle.std.specs.Prelude.{◌≡◌, ℕ, ◌+◌, ◌*◌, ◌<◌, ◌≤◌, ◌||◌, ◌&&◌, ◌==◌, ◌⊎◌, not, true, false, length, slice_index, filter, string_bytes, IfOk};
+ghost use Rattle.std.specs.Prelude.{◌≡◌, ℕ, ◌+◌, ◌*◌, ◌<◌, ◌≤◌, ◌||◌, ◌&&◌, ◌==◌, ◌⊎◌, not, true, false, length, slice_index, filter, string_bytes, IfOk, IfSome, Ok};
 ghost use Rattle.std.specs.Str.{IsCharBoundary};
 ghost use Rattle.toml_span_lex.specs.Bytes.{is_keylike, MaximalRun};
+ghost use Rattle.toml_span_read.specs.Dates.{is_decimal};
+ghost use Rattle.toml_span_read.specs.Gaps.{Further};
+ghost use Rattle.toml_span_read.specs.Stuck.{BareGives};
 ghost use Rattle.toml_span_read.specs.Faults.{Advances, IsPlaced};
 ghost use Rattle.toml_span_read.specs.Data.{IsScalarKind, kind_view, scalar};
 ghost use Rattle.toml_span_tree.specs.Node.{integer, float};
@@ -13,7 +16,7 @@ use crate::fault::{Fault, invalid_number};
 use crate::gaps::byte_at;
 use crate::value::ValKind;
 use std::alloc::{AllocError, Global};
-use toml_span_lex::bytes::keylike_end;
+use toml_span_lex::bytes::{is_keylike, keylike_end};
 use toml_span_lex::span::Span;
 use toml_span_lex::stop::Stop;
 use toml_span_tree::FloatText;
@@ -324,6 +327,47 @@ pub fn decimal_number(text: &str, start: usize, first: Span) -> Result<Decimal, 
         return Ok(Decimal::Float(fraction_end(text, start, first)?));
     }
     Ok(Decimal::Integer(integer(text, first, from, end, 10, negative)?))
+}
+
+/// What the first digits at a place come to, below 2^60, and where these end.
+fn few_digits(text: &str, from: usize) -> (u64, usize)
+    requires { from ≤ length text.now }
+    ensures forward { from ≤ result.1 }
+    ensures within { result.1 ≤ length text.now }
+    ensures digits { (k : ℕ) → from ≤ k → k < result.1 → is_decimal (slice_index text.now k) ≡ true }
+    ensures value { result.0 ≡ spec.magnitude 10 text.now from result.1 }
+{
+    let bytes = text.as_bytes();
+    let mut value: u64 = 0;
+    for at in from..bytes.len() {
+        let byte = bytes[at];
+        if !byte.is_ascii_digit() || value >= 1 << 56 {
+            return (value, at);
+        }
+        value = value * 10 + u64::from(byte - b'0');
+    }
+    (value, bytes.len())
+}
+
+/// The integer of a few digits alone that stands at a place, and where it ends: no date, and no number with a sign,
+/// an underscore, a prefix, a dot or an exponent.
+pub(crate) fn short_integer<'de>(text: &'de str, at: usize) -> Option<(ValKind<'de>, usize)>
+    requires { IsCharBoundary text.now at }
+    ensures gives { IfSome result (λ found. BareGives text.now at (Ok found)) }
+    ensures further { IfSome result (λ found. Further text.now at found.1) }
+{
+    let (value, end) = few_digits(text, at);
+    if at == end || (byte_at(text, at) == b'0' && at + 1 < end) {
+        return None;
+    }
+    let behind = byte_at(text, end);
+    if is_keylike(behind) || behind == b'.' || behind == b':' {
+        return None;
+    }
+    match signed(false, value) {
+        Some(value) => Some((integer_kind(value), end)),
+        None => None,
+    }
 }
 
 /// Whether a byte stands in the cleaned text of a float as it is.

@@ -19,7 +19,7 @@ use crate::earlier::{Earlier, add_clear};
 use crate::fault::{Due, Fault, FaultKind, fault_at};
 use crate::gaps::{Behind, after_element, behind_sign, byte_at, opened, pair_equals};
 use crate::keys::{add, dotted_key};
-use crate::numbers::number;
+use crate::numbers::{number, short_integer};
 use crate::value::{Assignment, DottedKey, Val, ValKind};
 use crate::wanted::{no_value, string, wanted};
 use std::alloc::Global;
@@ -119,6 +119,9 @@ fn bare<'de>(alloc: Global, text: &'de str, at: usize) -> Result<(ValKind<'de>, 
     ensures advances { Advances text.now at result }
     ensures gives { BareGives text.now at result }
 {
+    if let Some(found) = short_integer(text, at) {
+        return Ok(found);
+    }
     if begins_date(text, at) {
         return match date(text, at) {
             Ok((date, end)) => Ok((dated(date), end)),

@@ -1,5 +1,5 @@
 //! What stands where another token is due.
-ghost use Rattle.std.specs.Prelude.{◌≡◌, ◌<◌, ◌≤◌, ◌||◌, ◌==◌, ◌⊎◌, if◌then◌else◌, length, slice_index, false, IfOk};
+ghost use Rattle.std.specs.Prelude.{◌≡◌, ◌<◌, ◌≤◌, ◌||◌, ◌==◌, ◌⊎◌, if◌then◌else◌, length, slice_index, false, IfOk, IfSome, Ok};
 ghost use Rattle.std.specs.Str.{IsCharBoundary};
 ghost use Rattle.toml_span_lex.specs.Strings.{BorrowsWhereSame};
 ghost use Rattle.toml_span_lex.specs.Tokens.{lexeme};
@@ -8,8 +8,10 @@ ghost use Rattle.toml_span_read.specs.Wanted as spec;
 ghost use Rattle.toml_span_read.specs.Wanted.{StringReads, FoundGives, WantedGives, NoValueGives, Bounded};
 
 use crate::fault::{Due, Fault, FaultKind, Found, fault_at};
+use crate::gaps::byte_at;
 use std::alloc::Global;
 use std::borrow::CowStr;
+use toml_span_lex::pieces::plain_end;
 use toml_span_lex::span::Span;
 use toml_span_lex::stop::Stop;
 use toml_span_lex::strings::string_at;
@@ -52,8 +54,30 @@ fn token_fault(error: Error) -> Fault
     }
 }
 
-/// The string that begins at a place.
-pub fn string<'de>(
+/// The string on one line at a place, if it has characters that stand for themselves, and no others.
+#[inline(always)]
+pub(crate) fn short_string<'de>(text: &'de str, at: usize) -> Option<StringToken<'de>>
+    requires within { at < length text.now }
+    requires quote { (slice_index text.now at ≡ 34) ⊎ (slice_index text.now at ≡ 39) }
+    ensures gives { IfSome result (λ token. StringReads text.now at (Ok token)) }
+    ensures borrows { IfSome result (λ token. BorrowsWhereSame text.now token.span token.content) }
+{
+    let quote = text.as_bytes()[at];
+    let start = at + 1;
+    let end = plain_end(text, quote, start);
+    if start == end || byte_at(text, end) != quote {
+        return None;
+    }
+    Some(StringToken {
+        content: CowStr::Borrowed(&text[start..end]),
+        span: Span { start, end },
+        is_multiline: false,
+        end: end + 1,
+    })
+}
+
+/// The string that begins at a place, in pieces.
+fn pieced_string<'de>(
     alloc: Global,
     text: &'de str,
     at: usize,
@@ -80,6 +104,25 @@ pub fn string<'de>(
         },
         Err(Stop::Memory(e)) => Err(Stop::Memory(e)),
         Err(Stop::Fault((error, _))) => Err(Stop::Fault(token_fault(error))),
+    }
+}
+
+/// The string that begins at a place.
+#[inline]
+pub fn string<'de>(
+    alloc: Global,
+    text: &'de str,
+    at: usize,
+) -> Result<StringToken<'de>, Stop<Fault>>
+    requires within { at < length text.now }
+    requires quote { (slice_index text.now at ≡ 34) ⊎ (slice_index text.now at ≡ 39) }
+    ensures gives { StringReads text.now at result }
+    ensures borrows { IfOk result (λ token. BorrowsWhereSame text.now token.span token.content) }
+    ensures placed { faults.IsPlacedEnd text.now result }
+{
+    match short_string(text, at) {
+        Some(token) => Ok(token),
+        None => pieced_string(alloc, text, at),
     }
 }
 

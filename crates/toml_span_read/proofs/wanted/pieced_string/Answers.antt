@@ -1,8 +1,7 @@
 use Rattle.toml_span_lex.specs.Tokens.{string}
 use Rattle.toml_span_lex.proofs.Within.{token_within}
-use Rattle.toml_span_read.proofs.FaultPlaces.{token_placed}
 use Rattle.toml_span_read.proofs.StringLemmas.{string_read}
-use Rattle.toml_span_read.proofs.wanted.string.Goals as goal
+use Rattle.toml_span_read.proofs.wanted.pieced_string.Goals as goal
 
 pub returns-in-String-clause-gives : goal.returns-in-String-clause-gives
 returns-in-String-clause-gives c =

@@ -1,0 +1,146 @@
+-- Integers of a few digits alone.
+use Rattle.std.proofs.Common.{◌≡◌, ℕ, ◌+◌, ◌-◌, ◌<◌, ◌≤◌, true, false, drop, List, [], length, get_or, arith, inl, inr, refl, sym, ◌∙◌, length-take, length-drop}
+use Rattle.std.specs.Prelude.{ℤ, ◌*◌, slice_range, ◌==◌, Ok}
+use Rattle.std.specs.Str.{IsUtf8, IsCharBoundary}
+use Rattle.std.proofs.lemmas.Bool.{cases_lt, false≢true, or_cases}
+use Rattle.std.proofs.lemmas.Bool.Decides.{nat_tests}
+use Rattle.std.proofs.lemmas.List.{get_or-take, get_or-drop, drop_all}
+use Rattle.toml_span_lex.specs.Bytes.{is_keylike}
+use Rattle.toml_span_lex.proofs.Runs.{boundary_after}
+use Rattle.toml_span_tree.specs.Node.{integer}
+use Rattle.toml_span_read.specs.declared.value.ValKind.{ValKind}
+use Rattle.toml_span_read.specs.Data.{kind_view, scalar}
+use Rattle.toml_span_read.specs.Dates.{is_decimal, begins_date}
+use Rattle.toml_span_read.specs.Gaps.{Further}
+use Rattle.toml_span_read.specs.Numbers.{is_digit, digit_value, Digits, magnitude, DecimalInteger, IsSigned, behind_sign}
+use Rattle.toml_span_read.specs.Stuck.{BareGives}
+use Rattle.toml_span_read.proofs.NumberLemmas.{is_false, byte_is, and_left, and_right, digit_figure, no_keylike_figure, digit_no_underscore, no_sign, stands_alone, Summed, sum_goes_on}
+
+-- ---- digits
+
+pub decimal_digit : (c : ℕ) → is_decimal c ≡ true → is_digit 10 c ≡ true
+decimal_digit c h = grind (arith, nat_tests)
+
+pub decimal_value : (c : ℕ) → is_decimal c ≡ true → digit_value c ≡ c - 48
+decimal_value c h = grind (arith, nat_tests)
+
+pub decimal_keylike : (c : ℕ) → is_decimal c ≡ true → is_keylike c ≡ true
+decimal_keylike c h = grind arith
+
+decimal_ascii : (c : ℕ) → is_decimal c ≡ true → c < 128
+decimal_ascii c h = grind arith
+
+not_decimal : (c k : ℕ) → is_decimal c ≡ true → c ≡ k → is_decimal k ≡ false → ⊥
+not_decimal c k h e n = false≢true (sym n ∙ (rw e at h))
+
+no_keylike_decimal : (c : ℕ) → is_keylike c ≡ false → is_decimal c ≡ true → ⊥
+no_keylike_decimal c n h = false≢true (sym n ∙ decimal_keylike c h)
+
+abbrev pub Decimals : List ℕ → ℕ → ℕ → Type 0
+Decimals text i j = (k : ℕ) → i ≤ k → k < j → is_decimal (get_or text k 0) ≡ true
+
+digits_alone : (text : List ℕ) (i j : ℕ) → i < j → j ≤ length text → Decimals text i j → is_keylike (get_or text j 0) ≡ false → Digits 10 text i j
+digits_alone text i j l w h n = record {
+  begins = decimal_digit (get_or text i 0) (h i (omega arith) l);
+  run = record { forward = omega arith; within = w; passes = λ k a b. digit_figure 10 (get_or text k 0) (decimal_digit (get_or text k 0) (h k a b)); stops = λ x. no_keylike_figure 10 (get_or text j 0) n };
+  between = λ k a b u. absurd (digit_no_underscore 10 (get_or text k 0) (decimal_digit (get_or text k 0) (h k a b)) u);
+}
+
+-- ---- no date begins with them
+
+-- where a decimal digit stands at k, k is among the digits
+among : (text : List ℕ) (i j k : ℕ) → is_keylike (get_or text j 0) ≡ false → k ≤ j → is_decimal (get_or text k 0) ≡ true → k < j
+among text i j k n le h = elim (cases_lt k j) [ inl lt ↦ lt | inr ge ↦ let e : k ≡ j = omega arith in absurd (no_keylike_decimal (get_or text j 0) n (rw e at h)) ]
+
+no_dash : (text : List ℕ) (i j k : ℕ) → Decimals text i j → is_keylike (get_or text j 0) ≡ false → i ≤ k → k ≤ j → (get_or text k 0 == 45) ≡ true → ⊥
+no_dash text i j k h n a b e =
+    elim (cases_lt k j) [
+      | inl lt ↦ not_decimal (get_or text k 0) 45 (h k a lt) (byte_is (get_or text k 0) 45 e) refl
+      | inr ge ↦
+          let same : k ≡ j = omega arith in
+          let dash : get_or text j 0 ≡ 45 = rw same at (byte_is (get_or text k 0) 45 e) in
+          false≢true (sym n ∙ (rw dash refl))
+    ]
+
+no_colon : (text : List ℕ) (i j k : ℕ) → Decimals text i j → (get_or text j 0 == 58) ≡ false → i ≤ k → k ≤ j → (get_or text k 0 == 58) ≡ true → ⊥
+no_colon text i j k h n a b e =
+    elim (cases_lt k j) [
+      | inl lt ↦ not_decimal (get_or text k 0) 58 (h k a lt) (byte_is (get_or text k 0) 58 e) refl
+      | inr ge ↦ let same : k ≡ j = omega arith in false≢true (sym n ∙ (rw same at e))
+    ]
+
+date_no : (text : List ℕ) (i j : ℕ) → i < j → Decimals text i j → is_keylike (get_or text j 0) ≡ false → (get_or text j 0 == 58) ≡ false → begins_date text i ≡ true → ⊥
+date_no text i j l h n c b =
+    let two : i + 1 < j = among text i j (i + 1) n (omega arith) (and_right _ _ (and_left _ _ b)) in
+    elim (or_cases _ _ (and_right _ _ b)) [
+      | inl colon ↦ no_colon text i j (i + 2) h c (omega arith) (omega arith) colon
+      | inr rest ↦
+          let three : i + 2 < j = among text i j (i + 2) n (omega arith) (and_left _ _ (and_left _ _ rest)) in
+          let four : i + 3 < j = among text i j (i + 3) n (omega arith) (and_right _ _ (and_left _ _ rest)) in
+          no_dash text i j (i + 4) h n (omega arith) (omega arith) (and_right _ _ rest)
+    ]
+
+-- ---- what they come to
+
+-- the digits from `from` to `at` are read, and come to v
+pub record FewDigits (text : List ℕ) (from at v : ℕ) : Type 0 where
+  pub digits : Decimals text from at
+  pub sum : (j : ℕ) → at ≤ j → j ≤ length text → Summed 10 v (drop (at - from) (slice_range text from j)) (slice_range text from j)
+
+zero_times : (p s : ℕ) → 0 * p + s ≡ s
+zero_times p s = omega arith
+
+pub few_start : (text : List ℕ) (from : ℕ) → FewDigits text from from 0
+few_start text from = record {
+  digits = λ k a b. absurd (omega arith);
+  sum = λ j a w. (let e : from - from ≡ 0 = omega arith in rw e (zero_times _ _));
+}
+
+range_length : (text : List ℕ) (a b : ℕ) → b ≤ length text → length (slice_range text a b) ≡ b - a
+range_length text a b w = omega (arith, length-take (b - a) (drop a text), length-drop a text)
+
+range_at : (text : List ℕ) (a b k : ℕ) → a ≤ k → k < b → get_or (slice_range text a b) (k - a) 0 ≡ get_or text k 0
+range_at text a b k x y =
+    let at : a + (k - a) ≡ k = omega arith in
+    let below : k - a < b - a = omega arith in
+    rw (get_or-take (b - a) (drop a text) (k - a) 0 below, get_or-drop, at) refl
+
+pub few_more : (text : List ℕ) (from at v w : ℕ) → from ≤ at → is_decimal (get_or text at 0) ≡ true → w ≡ v * 10 + (get_or text at 0 - 48) → FewDigits text from at v → FewDigits text from (at + 1) w
+few_more text from at v w f h e s = record {
+  digits = λ k a b. elim (cases_lt k at) [ inl x ↦ s.digits k a x | inr x ↦ let same : k ≡ at = omega arith in rw same h ];
+  sum = λ j a l. (
+      let ds : List ℕ = slice_range text from j in
+      let is : get_or ds (at - from) 0 ≡ get_or text at 0 = range_at text from j at f (omega arith) in
+      let below : at - from < length ds = omega (arith, range_length text from j l) in
+      let next : (at + 1) - from ≡ (at - from) + 1 = omega arith in
+      let digit : is_digit 10 (get_or ds (at - from) 0) ≡ true = rw is (decimal_digit (get_or text at 0) h) in
+      let value : w ≡ v * 10 + digit_value (get_or ds (at - from) 0) = rw (is, decimal_value (get_or text at 0) h) e in
+      rw next (sum_goes_on 10 v w (at - from) ds below digit value (s.sum j (omega arith) l))
+      );
+}
+
+pub few_value : (text : List ℕ) (from at v : ℕ) → from ≤ at → at ≤ length text → FewDigits text from at v → v ≡ magnitude 10 text from at
+few_value text from at v f w s =
+    let ds : List ℕ = slice_range text from at in
+    let none : drop (at - from) ds ≡ [] = drop_all (at - from) ds (omega (arith, range_length text from at w)) in
+    let sum : v * 1 + 0 ≡ magnitude 10 text from at = rw none at (s.sum at (omega arith) w) in
+    omega (arith, sum)
+
+-- ---- the integer
+
+pub short_made : (kind : ValKind) (n : ℤ) (text : List ℕ) (i j m : ℕ) → kind_view kind ≡ scalar (integer n) → i < j → j ≤ length text → Decimals text i j → m ≡ magnitude 10 text i j
+    → (get_or text i 0 ≡ 48 → j ≡ i + 1) → is_keylike (get_or text j 0) ≡ false → (get_or text j 0 == 46) ≡ false → (get_or text j 0 == 58) ≡ false → IsSigned false m n → BareGives text i (Ok (kind, j))
+short_made kind n text i j m e l w h v lead k dot colon value =
+    let first = h i (omega arith) l in
+    let plus : (get_or text i 0 == 43) ≡ false = is_false _ (λ x. not_decimal (get_or text i 0) 43 first (byte_is (get_or text i 0) 43 x) refl) in
+    let dash : (get_or text i 0 == 45) ≡ false = is_false _ (λ x. not_decimal (get_or text i 0) 45 first (byte_is (get_or text i 0) 45 x) refl) in
+    let b : behind_sign text i ≡ i = no_sign text i plus dash in
+    let d : DecimalInteger n text i j = record {
+      digits = rw b (record { digits = digits_alone text i j l w h k; leading = lead });
+      ends = stands_alone text j k dot;
+      value = rw (b, dash, ← v) value;
+    } in
+    (integer n, e, (is_false _ (date_no text i j l h k colon), inl d, refl))
+
+pub short_further : (text : List ℕ) (i j : ℕ) → IsUtf8 text → IsCharBoundary text i → i < j → j ≤ length text → Decimals text i j → Further text i j
+short_further text i j u b l w h = record { on = l; boundary = boundary_after is_decimal text i j decimal_ascii u b (omega arith) w h }
