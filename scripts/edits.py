@@ -28,6 +28,7 @@ ONE_VALUE = {
     ("Spanned::clone", "value"),
     ("Told::new", "inner"),
     ("Told::into_inner", "ensures"),
+    ("<Stop<E> as From<AllocError>>", "from_gives"),
     ("<Halt as From<AllocError>>", "from_gives"),
     ("<Halt as From<AllocFailed<T>>>", "from_gives"),
 }

@@ -10,5 +10,6 @@ pub mod PointerLaws
 pub mod Pointers
 pub mod Positions
 pub mod Puts
+pub mod Sizes
 pub mod Values
 pub mod Walks

@@ -10,3 +10,4 @@ pub mod Node
 pub mod Path
 pub mod Pointer
 pub mod Value
+pub mod Order

@@ -8,7 +8,9 @@ mod float;
 mod json;
 pub mod laws;
 mod listed;
+mod lookup;
 mod message;
+mod order;
 mod pointer;
 mod value;
 
@@ -16,4 +18,5 @@ pub use date::DateText;
 pub use diagnostic::{Diagnostic, Label};
 pub use error::{Error, ErrorKind};
 pub use float::FloatText;
+pub use order::in_text_order;
 pub use value::{Array, Table, Value, ValueInner};

@@ -39,7 +39,7 @@ fn position(segment: &str) -> Option<usize>
 }
 
 /// The first segment, and what stands behind its slash, if one stands there.
-fn cut<'p>(path: &'p str) -> (&'p str, Option<&'p str>)
+pub(crate) fn cut<'p>(path: &'p str) -> (&'p str, Option<&'p str>)
     ensures { Cut path.now result.0.now (option_map (λ rest. rest.now) result.1) }
 {
     match path.split_once('/') {
@@ -54,7 +54,7 @@ fn table_entry<'v, 'de>(table: &'v Table<'de>, name: &'de str) -> Option<&'v Val
     table.get(&named(name))
 }
 
-fn array_entry<'v, 'de>(array: &'v Array<'de>, segment: &str) -> Option<&'v Value<'de>>
+pub(crate) fn array_entry<'v, 'de>(array: &'v Array<'de>, segment: &str) -> Option<&'v Value<'de>>
     ensures { option_map (λ v. view v.now) result ≡ option_and_then (λ i. get_item i (items_view array.now.items)) (position_of segment.now) }
 {
     array.get(position(segment)?)

@@ -64,7 +64,7 @@ impl Debug for Value<'_> {
 impl<'de> Value<'de> {
     ghost use Rattle.toml_span_tree.specs.Error.{fault_of};
     ghost use Rattle.toml_span_tree.specs.Node.{node, taken, get_member};
-    ghost use Rattle.toml_span_tree.specs.Value.{view, inner_view, date_bytes, decimal_of, items_view, members_view, inner_of, is_taken as is_taken_node, is_whole as is_whole_node, text_in, integer_in, float_in, boolean_in, datetime_in, items_in, members_in, not_a, has_members};
+    ghost use Rattle.toml_span_tree.specs.Value.{view, inner_view, date_bytes, decimal_of, items_view, members_view, inner_of, is_taken as is_taken_node, is_whole as is_whole_node, text_in, integer_in, float_in, boolean_in, datetime_in, items_in, members_in, kind_name, not_a, has_members};
 
     /// A value with the span 0..0.
     pub fn new(value: ValueInner<'de>) -> Self
@@ -173,6 +173,16 @@ impl<'de> Value<'de> {
         match self.as_table() {
             Some(table) => table.contains_key(&named(key)),
             None => false,
+        }
+    }
+
+    /// The name of the kind, as that of `ValueInner`. Empty where the value is taken.
+    pub fn type_str(&self) -> &'static str
+        ensures { result.now ≡ kind_name (inner_of (view self.now)) }
+    {
+        match &self.value {
+            Some(inner) => inner.type_str(),
+            None => "",
         }
     }
 

@@ -1,11 +1,15 @@
 -- What a helper answers of a field, where it keeps the errors itself.
-use Rattle.std.specs.Prelude.{◌≡◌, ◌+◌, ◌≤◌, ℕ, List, [], ◌∷◌, length, Option, Some, None, MatchOption, Result, Ok, Err}
+use Rattle.std.specs.Prelude.{◌≡◌, ℕ, List, [], ◌∷◌, length, Option, Some, None, MatchOption, true, Result, Ok, Err}
 use Rattle.std.specs.declared.alloc.AllocError.{AllocError}
 use Rattle.toml_span_lex.specs.declared.stop.Stop.{Stop}
 use Rattle.toml_span_lex.specs.declared.stop.Stop.TheVariants as stop
+use Rattle.toml_span_tree.specs.declared.error.Error.{Error}
+use Rattle.toml_span_tree.specs.Error.{fault_of}
 use Rattle.toml_span_tree.specs.Node.{Node}
-use Rattle.toml_span_typed.specs.Faults.{Faults, all}
-use Rattle.toml_span_typed.specs.TableHelper.{Starved, State, found, keeping, missing, noted}
+use Rattle.toml_span_tree.specs.Value.{is_filled}
+use Rattle.toml_span_typed.specs.Faults.{Faults, all, one}
+use Rattle.toml_span_typed.specs.Parse.{Parses}
+use Rattle.toml_span_typed.specs.TableHelper.{Starved, State, found, keeping, missing, noted, with_unasked}
 use Rattle.toml_span_typed.specs.declared.de_helpers.table_helper.Unfinished.{Unfinished}
 use Rattle.toml_span_typed.specs.declared.de_helpers.table_helper.Unfinished.TheVariants as unfinished
 
@@ -32,3 +36,22 @@ kept s = length s.errors
 abbrev pub lacking : {T : Type 0} → Option T → ℕ
 lacking None = 1
 lacking (Some x) = 0
+
+-- `finish`: the kept errors and that of the keys that remain; want of memory comes only where keys remain
+abbrev pub Finishes : State → Result (Unit {0}) (Stop Faults) → Type 0
+Finishes s (Ok done) = with_unasked s ≡ []
+Finishes s (Err (stop.Fault faults)) = with_unasked s ≡ all faults
+Finishes s (Err (stop.Memory error)) = is_filled s.members ≡ true
+
+-- `finish_into`: the kept errors
+abbrev pub FinishesInto : State → Result (Unit {0}) (Stop Faults) → Type 0
+FinishesInto s (Ok done) = s.errors ≡ []
+FinishesInto s (Err (stop.Fault faults)) = s.errors ≡ all faults
+FinishesInto s (Err (stop.Memory error)) = ⊥
+
+-- `parsed`: as `Parses`, with the error in a list
+abbrev pub ParsesAll : {T E : Type 0} → (List ℕ → Result T E → Type 0) → (E → Option (List ℕ)) → Node → Result T (Stop Faults) → Type 0
+ParsesAll gives output value (Ok x) = Parses gives output value (Ok x)
+ParsesAll gives output value (Err (stop.Fault faults)) =
+    (error : Error) × Parses gives output value (Err (stop.Fault error)) × (faults ≡ one (fault_of error))
+ParsesAll gives output value (Err (stop.Memory e)) = Parses gives output value (Err (stop.Memory e))

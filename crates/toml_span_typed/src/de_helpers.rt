@@ -6,12 +6,14 @@ ghost use Rattle.toml_span_tree.specs.Value.{inner_view, is_taken, not_a, view};
 ghost use Rattle.toml_span_typed.specs.Parse.{Parses, TellsRefusal};
 ghost use Rattle.toml_span_typed.specs.Reads.{Taken};
 
+mod strings;
 mod table_helper;
 
 use std::alloc::{AllocError, Global};
 use std::borrow::CowStr;
 use std::fmt::Display;
 use std::str::FromStr;
+pub use strings::parsed;
 pub use table_helper::{TableHelper, Unfinished};
 use toml_span_lex::span::Span;
 use toml_span_lex::stop::Stop;

@@ -4,6 +4,7 @@
 pub mod de_helpers;
 mod deser_error;
 mod deserialize;
+mod read_table;
 
 pub use deser_error::{DeserError, ErrorIter, Unmerged};
 pub use deserialize::Deserialize;

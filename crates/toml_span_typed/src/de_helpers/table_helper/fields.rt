@@ -1,14 +1,15 @@
 //! Reads of fields whose errors stay in the helper.
 ghost use Rattle.std.specs.Prelude.{◌≡◌, ◌+◌, ◌≤◌, IfOk, IfSome, IsTrue, OnOk};
 ghost use Rattle.toml_span_tree.specs.Value.{is_whole};
-ghost use Rattle.toml_span_typed.specs.Fields.{Asks, kept, lacking};
-ghost use Rattle.toml_span_typed.specs.TableHelper.{AllWhole, Tries, found, state_of};
+ghost use Rattle.toml_span_typed.specs.Fields.{Asks, Finishes, FinishesInto, kept, lacking};
+ghost use Rattle.toml_span_typed.specs.TableHelper.{AllWhole, HoldsRest, Tries, found, state_of};
 
 use crate::de_helpers::table_helper::{TableHelper, missing_field};
 use crate::deser_error::DeserError;
 use crate::deserialize::Deserialize;
 use std::alloc::AllocError;
 use toml_span_lex::stop::Stop;
+use toml_span_tree::Value;
 
 impl<'de> TableHelper<'de> {
     /// Records the name, moves its entry out and reads it. The helper keeps all errors.
@@ -40,11 +41,27 @@ impl<'de> TableHelper<'de> {
         self.optional(name)
     }
 
-    /// Ends the reads, as `finalize(None)` does. Ok exactly where there is no error and no key remains.
+    /// Ends the reads, as `finalize(None)` does: Ok exactly where no error was kept and no key remains.
+    ///
+    /// Else all errors, the last one that of the keys that remain, if any do. Memory is wanted only for
+    /// that one.
     pub fn finish(self) -> Result<(), Stop<DeserError<'de>>>
+        ensures answer { Finishes (state_of self.entry) result }
         ensures none { OnOk result (kept (state_of self.entry) ≡ 0) }
     {
         self.finalize(None)?;
+        Ok(())
+    }
+
+    /// Ends the reads, as `finalize(Some(value))` does: the keys that remain are put back into the value.
+    ///
+    /// Ok exactly where no error was kept, and else all errors. Takes no memory.
+    pub fn finish_into(self, value: &mut Value<'de>) -> Result<(), Stop<DeserError<'de>>>
+        ensures answer { FinishesInto (state_of self.entry) result }
+        ensures none { OnOk result (kept (state_of self.entry) ≡ 0) }
+        ensures rest { HoldsRest self.entry.table value.old value.new }
+    {
+        self.put_back(value)?;
         Ok(())
     }
 

@@ -1,0 +1,59 @@
+//! Reads of a struct from a table.
+
+/// The body of a `deserialize` that reads a struct from a table, in a function that answers
+/// `Result<_, Stop<DeserError>>`: `read_table!(alloc, value, Server { host: String; port: u16; })`.
+///
+/// Each field is read as its type, of the key that has the field's name, and ends in a semicolon. What
+/// may stand before it:
+///
+/// - `port: u16 = "listen-port";` reads another key;
+/// - `tags: Vec<String>, optional;` is an `Option`, and None where the key is not there;
+/// - `port: u16, or(80);` is the value in brackets where the key is not there, which is evaluated only
+///   then;
+/// - `port: u16 = "listen-port", or(80);` is both.
+///
+/// Other keys are an error; with `..` behind the last field they are put back into the value. All errors
+/// are told, in the order of the fields.
+#[macro_export]
+macro_rules! read_table {
+    ($alloc:expr, $value:expr, $table:ident {
+        $($field:ident: $ty:ty $(= $key:literal)? $(, $how:ident $(($default:expr))?)?;)*
+    }) => {{
+        let mut helper = $crate::de_helpers::TableHelper::new($alloc, $value)?;
+        $(let $field = $crate::read_table!(
+            @read helper, $ty, $crate::read_table!(@key $field $($key)?) $(, $how $($default)?)?
+        );)*
+        helper.finish()?;
+        Ok($table {
+            $($field: $crate::read_table!(@field $field $($how)?),)*
+        })
+    }};
+    ($alloc:expr, $value:expr, $table:ident {
+        $($field:ident: $ty:ty $(= $key:literal)? $(, $how:ident $(($default:expr))?)?;)*
+        ..
+    }) => {{
+        let mut helper = $crate::de_helpers::TableHelper::new($alloc, $value)?;
+        $(let $field = $crate::read_table!(
+            @read helper, $ty, $crate::read_table!(@key $field $($key)?) $(, $how $($default)?)?
+        );)*
+        helper.finish_into($value)?;
+        Ok($table {
+            $($field: $crate::read_table!(@field $field $($how)?),)*
+        })
+    }};
+
+    (@key $field:ident) => { stringify!($field) };
+    (@key $field:ident $key:literal) => { $key };
+
+    (@read $helper:ident, $ty:ty, $key:expr) => { $helper.read::<$ty>($key)? };
+    (@read $helper:ident, $ty:ty, $key:expr, optional) => { $helper.read_optional::<$ty>($key)? };
+    (@read $helper:ident, $ty:ty, $key:expr, or $default:expr) => {
+        match $helper.read_optional::<$ty>($key)? {
+            Some(field) => field,
+            None => $default,
+        }
+    };
+
+    (@field $field:ident) => { $field.unwrap() };
+    (@field $field:ident $how:ident) => { $field };
+}
