@@ -2,6 +2,7 @@ pub mod Answered
 pub mod PathDepth
 pub mod Order
 pub mod Apart
+pub mod FirstPair
 pub mod SpelledClaims
 pub mod ReadAgain
 pub mod ReadStrings
