@@ -193,7 +193,7 @@ pair-behind earlier x cs t free p = record {
 pair-inside : (earlier : List Claim) (inner cs : Claims) (t : Told) → Rises (all_claims inner ++ all_claims cs) → Pair [] inner t → Pair earlier (scope inner cs) t
 pair-inside earlier inner cs t r p =
     let after : (e f : Claim) → IsPair earlier cs e f → start_of p.d < start_of f = λ e f more.
-        strictly p.d f (rises-across (all_claims inner) (all_claims cs) p.d f r (pair-in [] inner p.c p.d p.is.pair) (pair-in earlier cs e f more)) (later-plain e f (pair-clash earlier cs e f more)) in
+    strictly p.d f (rises-across (all_claims inner) (all_claims cs) p.d f r (pair-in [] inner p.c p.d p.is.pair) (pair-in earlier cs e f more)) (later-plain e f (pair-clash earlier cs e f more)) in
     record {
       c = p.c;
       d = p.d;

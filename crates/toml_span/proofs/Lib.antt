@@ -3,6 +3,9 @@ pub mod PathDepth
 pub mod Order
 pub mod Apart
 pub mod FirstPair
+pub mod Scoped
+pub mod EntryDecides
+pub mod OneScope
 pub mod SpelledClaims
 pub mod ReadAgain
 pub mod ReadStrings
