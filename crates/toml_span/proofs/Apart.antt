@@ -11,6 +11,7 @@ use Rattle.toml_span_read.specs.Lines.{Block, SpellsDocument}
 use Rattle.toml_span_claims.specs.declared.claims.Sort.TheVariants.{Entry}
 use Rattle.toml_span_claims.specs.Claims.{Claim, Claims, no_claims, claimed, scope, claims}
 use Rattle.toml_span_claims.specs.Flat.{all_claims, flat}
+use Rattle.toml_span.specs.Clashing.{IsIn}
 use Rattle.toml_span.specs.Order.{start_of, Follows, key_at, KeysApart}
 use Rattle.toml_span_assembly.specs.Parsing.{IsTree}
 use Rattle.toml_span_assembly.proofs.EachClaim.{Each, flat-decides}
@@ -18,21 +19,17 @@ use Rattle.toml_span.proofs.Order.{IsKeyed, Onward, Rising, follows-start, docum
 
 -- ---- claims of a list
 
-abbrev In : Claim → List Claim → Type 0
-In c [] = ⊥
-In c (d ∷ ds) = (c ≡ d) ⊎ In c ds
-
-in-left : (c : Claim) (xs ys : List Claim) → In c xs → In c (xs ++ ys)
+pub in-left : (c : Claim) (xs ys : List Claim) → IsIn c xs → IsIn c (xs ++ ys)
 in-left c [] ys h = absurd h
 in-left c (x ∷ xs) ys (inl here) = inl here
 in-left c (x ∷ xs) ys (inr later) = inr (in-left c xs ys later)
 
-in-right : (c : Claim) (xs ys : List Claim) → In c ys → In c (xs ++ ys)
+pub in-right : (c : Claim) (xs ys : List Claim) → IsIn c ys → IsIn c (xs ++ ys)
 in-right c [] ys h = h
 in-right c (x ∷ xs) ys h = inr (in-right c xs ys h)
 
 -- each claim is in the list that holds all of them
-each-in : (cs : Claims) (l : List Claim) → ((c : Claim) → In c (all_claims cs) → In c l) → Each (λ c. In c l) cs
+each-in : (cs : Claims) (l : List Claim) → ((c : Claim) → IsIn c (all_claims cs) → IsIn c l) → Each (λ c. IsIn c l) cs
 unfolding all_claims
 each-in no_claims l f = tt
 each-in (claimed c cs) l f = (f c (inl refl), each-in cs l (λ d h. f d (inr h)))
@@ -42,7 +39,7 @@ each-in (scope inner cs) l f =
 -- ---- claims that ascend
 
 -- the claim starts behind the other, or it is an entry
-abbrev IsLater : Claim → Claim → Type 0
+abbrev pub IsLater : Claim → Claim → Type 0
 IsLater c d = (start_of c < start_of d) ⊎ (d.mark.sort ≡ Entry)
 
 follows-later : (c d : Claim) → Follows c d → IsLater c d
@@ -53,12 +50,12 @@ later-on : (c d e : Claim) → Follows c d → IsLater d e → IsLater c e
 later-on c d e f (inl behind) = inl (omega (arith, follows-start c d f, behind))
 later-on c d e f (inr entry) = inr entry
 
-onward-later : (c d : Claim) (ds : List Claim) (j : ℕ) → Onward c ds j → In d ds → IsLater c d
+pub onward-later : (c d : Claim) (ds : List Claim) (j : ℕ) → Onward c ds j → IsIn d ds → IsLater c d
 onward-later c d [] j h i = absurd i
 onward-later c d (e ∷ ds) j h (inl same) = rw same (follows-later c e h.1)
 onward-later c d (e ∷ ds) j h (inr later) = later-on c e d h.1 (onward-later e d ds j h.2 later)
 
-onward-rest : (c : Claim) (ds : List Claim) (j : ℕ) → Onward c ds j → Rising ds (start_of c) j
+pub onward-rest : (c : Claim) (ds : List Claim) (j : ℕ) → Onward c ds j → Rising ds (start_of c) j
 onward-rest c [] j h = omega (arith, h.1)
 onward-rest c (d ∷ ds) j h = (follows-start c d h.1, h.2)
 
@@ -66,7 +63,7 @@ onward-keyed : (c : Claim) (ds : List Claim) (j : ℕ) → Onward c ds j → IsK
 onward-keyed c [] j h = h.0
 onward-keyed c (d ∷ ds) j h = h.0
 
-rising-keyed : (c : Claim) (l : List Claim) (i j : ℕ) → Rising l i j → In c l → IsKeyed c
+rising-keyed : (c : Claim) (l : List Claim) (i j : ℕ) → Rising l i j → IsIn c l → IsKeyed c
 rising-keyed c [] i j r h = absurd h
 rising-keyed c (d ∷ ds) i j r (inl same) = rw same (onward-keyed d ds j r.1)
 rising-keyed c (d ∷ ds) i j r (inr later) = rising-keyed c ds (start_of d) j (onward-rest d ds j r.1) later
@@ -76,7 +73,7 @@ not-later c d f e (inl behind) = omega arith
 not-later c d f e (inr entry) = f entry
 
 -- two claims that start at one place are one, if neither is an entry
-one-claim : (c d : Claim) (l : List Claim) (i j : ℕ) → Rising l i j → In c l → In d l → (c.mark.sort ≡ Entry → ⊥) → (d.mark.sort ≡ Entry → ⊥) → start_of c ≡ start_of d → c ≡ d
+one-claim : (c d : Claim) (l : List Claim) (i j : ℕ) → Rising l i j → IsIn c l → IsIn d l → (c.mark.sort ≡ Entry → ⊥) → (d.mark.sort ≡ Entry → ⊥) → start_of c ≡ start_of d → c ≡ d
 one-claim c d [] i j r h g f e at = absurd h
 one-claim c d (x ∷ xs) i j r (inl same) (inl other) f e at = same ∙ sym other
 one-claim c d (x ∷ xs) i j r (inl same) (inr later) f e at = absurd (not-later c d e at (rw same (onward-later x d xs j r.1 later)))
@@ -89,7 +86,7 @@ one-claim c d (x ∷ xs) i j r (inr later) (inr also) f e at = one-claim c d xs 
 record ClaimAt (l : List Claim) (p : Path) (k : Span) : Type 0 where
   claim : Claim
   on : claim.path ≡ p
-  among : In claim l
+  among : IsIn claim l
   spanned : claim.place.key_span ≡ Some k
 
 keyed-place : (o : Option Place) (k : Span) → option_and_then (λ x. x.key_span) o ≡ Some k → (x : Place) × (o ≡ Some x) × (x.key_span ≡ Some k)
@@ -101,7 +98,7 @@ unfolding flat
 key-claimed n cs [] k h = absurd (none-some k h)
 key-claimed n cs (s ∷ p) k h =
     let (x, is, spanned) = keyed-place (flat n cs (s ∷ p)) k h in
-    let d = flat-decides (λ c. In c (all_claims cs)) n cs s p x (each-in cs (all_claims cs) (λ c i. i)) is in
+    let d = flat-decides (λ c. IsIn c (all_claims cs)) n cs s p x (each-in cs (all_claims cs) (λ c i. i)) is in
     record { claim = d.claim; on = d.on; among = d.holds; spanned = ap (λ y. y.key_span) d.place ∙ spanned }
 
 one-key : (l : List Claim) (i j : ℕ) (p q : Path) (k m : Span) → Rising l i j → ClaimAt l p k → ClaimAt l q m → k.start ≡ m.start → p ≡ q

@@ -2,6 +2,10 @@ pub mod Answered
 pub mod PathDepth
 pub mod Order
 pub mod Apart
+pub mod FirstPair
+pub mod Scoped
+pub mod EntryDecides
+pub mod OneScope
 pub mod SpelledClaims
 pub mod ReadAgain
 pub mod ReadStrings

@@ -6,6 +6,8 @@ pub use Rattle.toml_span_tree.specs.Pointer
 pub use Rattle.toml_span_tree.specs.Value
 pub mod Laws
 pub mod Order
+pub mod Clashing
+pub mod Scopes
 pub mod Outcomes
 pub mod Document
 pub mod Parts

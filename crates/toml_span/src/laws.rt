@@ -34,6 +34,8 @@ ghost use Rattle.toml_span.specs.Outcomes.{HasOutcome, IsAlike, IsAnswered, IsAn
 ghost use Rattle.toml_span_claims.specs.Ordered.{IsOrdered};
 ghost use Rattle.toml_span_assembly.specs.Parsing.{IsClash, IsFault, IsRefusal, IsTree};
 
+pub mod clashes;
+
 use toml_span_read_laws::judged::document_or_stuck;
 use toml_span_typed::Deserialize;
 

@@ -1,0 +1,27 @@
+-- Which claims of one scope clash, and which two of them are the first by the places of their keys.
+use Rattle.std.specs.Prelude.{◌≡◌, ◌<◌, ◌⊎◌, List, [], ◌∷◌, ◌++◌, Some}
+use Rattle.toml_span_claims.specs.Claims.{Claim, Claims, no_claims, claimed, scope}
+use Rattle.toml_span_claims.specs.Clashes.{Told, clash}
+use Rattle.toml_span.specs.Order.{start_of}
+
+-- the claim stands in the list
+abbrev pub IsIn : Claim → List Claim → Type 0
+IsIn c [] = ⊥
+IsIn c (d ∷ ds) = (c ≡ d) ⊎ IsIn c ds
+
+-- an earlier claim clashes with a later one
+abbrev pub DoClash : Claim → Claim → Type 0
+DoClash c d = (t : Told) × (clash c d ≡ Some t)
+
+-- Behind these earlier claims of the scope, or in a scope inside, a claim clashes with an earlier one of its scope.
+abbrev pub IsPair : List Claim → Claims → Claim → Claim → Type 0
+IsPair earlier no_claims c d = ⊥
+IsPair earlier (claimed x cs) c d = ((d ≡ x) × IsIn c earlier × DoClash c d) ⊎ IsPair (earlier ++ (x ∷ [])) cs c d
+IsPair earlier (scope inner cs) c d = IsPair [] inner c d ⊎ IsPair earlier cs c d
+
+-- The two clash. The later one starts before every other claim that clashes with an earlier one of its scope, and the earlier
+-- one before every other claim with which the later one clashes.
+pub record IsFirstPair (earlier : List Claim) (cs : Claims) (c d : Claim) : Type 0 where
+  pub pair : IsPair earlier cs c d
+  pub first : (e f : Claim) → IsPair earlier cs e f → (f ≡ d) ⊎ (start_of d < start_of f)
+  pub partner : (e : Claim) → IsPair earlier cs e d → (e ≡ c) ⊎ (start_of c < start_of e)
