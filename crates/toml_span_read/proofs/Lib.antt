@@ -18,3 +18,4 @@ pub mod NumberRows
 pub mod SpanLaws
 pub mod MemoryLemmas
 pub mod BorrowLemmas
+pub mod StepLemmas
