@@ -15,3 +15,4 @@ pub mod EachClaim
 pub mod WholeTree
 pub mod ShownWhole
 pub mod Borrowing
+pub mod Growth
