@@ -23,20 +23,12 @@ use Rattle.toml_span_claims.specs.Ordered.{HoldsOrdered}
 use Rattle.toml_span_claims.specs.Placing.{Places, AreSections, Assembles, ShowsBelow, place_shown}
 use Rattle.toml_span_claims.specs.Relative.{section_at, grown}
 use Rattle.toml_span_claims.specs.Tree.{cells, counts, IsFresh, IsScope}
+use Rattle.toml_span_assembly.specs.Growing.{Placed, Remaining}
 use Rattle.toml_span_assembly.proofs.Absolute.{section_at-is, grown-is}
 use Rattle.toml_span_claims.proofs.Grafts.{told-followed, put_all-followed}
 use Rattle.toml_span_assembly.proofs.Judged.{told-none, told-some}
 use Rattle.toml_span_claims.proofs.Nodes.{cells-fresh, counts-fresh, sound-fresh}
 use Rattle.toml_span_assembly.proofs.Shown.{shown-flat}
-
--- what is left to place behind some sections, into a tree of what they claim
-pub record Remaining (all rest : List Block) (root : Node) : Type 0 where
-  pub earlier : List Block
-  pub headers : AreSections rest
-  pub telling : told (cells root) (claims_behind earlier rest) ≡ told nothing (claims all)
-  pub putting : put_all (cells root) (claims_behind earlier rest) ≡ put_all nothing (claims all)
-  pub counting : counts root ≡ entries_at (opened_by earlier)
-  pub scope : IsScope root
 
 pub remaining-first : (all rest : List Block) (root : Node) → rest ≡ all → AreSections all → IsFresh root → Remaining all rest root
 unfolding opened_by
@@ -48,11 +40,6 @@ remaining-first all rest root same headers fresh = record {
   counting = counts-fresh root fresh;
   scope = (sound-fresh root fresh, fresh.no_entries);
 }
-
--- a section placed from the root on
-abbrev pub Placed : Block → Node → Node → Result (Unit {0}) Halt → Type 0
-Placed b root new r =
-    Places root new r (section_at (counts root) (head_of b) b.header (event_claims b.events [])) (grown (counts root) (head_of b) b.header)
 
 pub placed-block : (s : Section) (parts : List Key) (root new : Node) (r : Result (Unit {0}) Halt) → parts ≡ s.header.items
     → Places root new r (section_at (counts root) (head_of (block s)) (map part parts) (event_claims (map event s.assignments.items) [])) (grown (counts root) (head_of (block s)) (map part parts))

@@ -7,7 +7,8 @@ use Rattle.toml_span_tree.specs.declared.error.Error.{Error}
 use Rattle.toml_span_tree.specs.declared.value.Value.{Value}
 use Rattle.toml_span_read.specs.declared.fault.Fault.{Fault}
 use Rattle.toml_span_read.specs.Data.{Event}
-use Rattle.toml_span_read.specs.Faults.{IsPlaced}
+use Rattle.toml_span_tree.specs.Error.{fault_of}
+use Rattle.toml_span_read.specs.Faults.{IsPlacedStop, Tells}
 use Rattle.toml_span_read.specs.Keys.{Part, Dotted}
 use Rattle.toml_span_read.specs.Limits.{Reads}
 use Rattle.toml_span_read.specs.Lines.{Block, SpellsDocument, SpellsSections, first_block, ReadsDocument}
@@ -17,41 +18,20 @@ use Rattle.toml_span_claims.specs.declared.claims.Halt.TheVariants as halts
 use Rattle.toml_span_claims.specs.Claims.{claims}
 use Rattle.toml_span_claims.specs.Clashes.{TellsFirst}
 use Rattle.toml_span_claims.specs.Machine.{told_by}
+use Rattle.toml_span_assembly.specs.Growing.{GrownGives}
 use Rattle.toml_span_assembly.specs.Parsing.{IsTreeOf, IsTree, IsClashStop, IsRefusal}
 use Rattle.toml_span_claims.specs.Placing.{AreSections, Assembles}
 
--- two faults that one error tells have one span
-placed_alike : (text : List ℕ) (f g : Fault) → IsPlaced text f → f.span ≡ g.span → IsPlaced text g
-placed_alike text f g h e = record {
-  within = rw (sym e) h.within;
-  forward = rw (sym e) h.forward;
-}
-
-pub refusal-read : (text : List ℕ) (limit : ℕ) (stop : Stop Error) → Reads text limit (Err stop) → ReadsDocument text limit (Err stop) → IsRefusal text limit stop
-refusal-read text limit (stops.Memory e) h g = tt
-refusal-read text limit (stops.Fault error) (f, placed, (line, column, info, is)) (g, stuck, (row, place, tells, told)) =
-    let same : f.span ≡ g.span = sym (ap (λ x. x.span) is) ∙ ap (λ x. x.span) told in
-    inl (g, stuck, placed_alike text f g placed same, (row, place, tells, told))
+-- a fault of reading is told as an error
+pub refusal-fault : (text : List ℕ) (limit : ℕ) (stop : Stop Fault) (fault : Fault) (error : Error) → stop ≡ stops.Fault fault → GrownGives text limit (Err stop) → IsPlacedStop text stop
+    → Tells text fault (fault_of error) → IsRefusal text limit (stops.Fault error)
+refusal-fault text limit stop fault error is stuck placed tells = inl (fault, (rw is at stuck), (rw is at placed), tells)
 
 -- ---- the sections that a text spells
 
 -- a dotted key has a part
-some_part : (array : Bool) (text : List ℕ) (i j : ℕ) (ps : List Part) → Dotted ps text i j → ps ≡ [] → array ≡ false
+pub some_part : (array : Bool) (text : List ℕ) (i j : ℕ) (ps : List Part) → Dotted ps text i j → ps ≡ [] → array ≡ false
 some_part array text i j ps key none = absurd (rw none at key)
-
-sections-headed : (bs : List Block) (text : List ℕ) (limit i : ℕ) → SpellsSections bs text limit i → AreSections bs
-sections-headed [] text limit i h = tt
-sections-headed (b ∷ bs) text limit i (j, here, rest) =
-    (some_part b.array text _ _ b.header here.header.front.key, sections-headed bs text limit j rest)
-
-first-headed : (evs : List Event) (bs : List Block) → AreSections bs → AreSections (first_block evs ++ bs)
-first-headed [] bs h = h
-first-headed (ev ∷ evs) bs h = (λ none. refl, h)
-
--- only a section without a header has no parts, and that is no array of tables
-pub spelled-headed : (bs : List Block) (text : List ℕ) (limit : ℕ) → SpellsDocument bs text limit → AreSections bs
-spelled-headed bs text limit h =
-    subst AreSections (sym h.all) (first-headed h.first h.rest (sections-headed h.rest text limit h.end h.sections))
 
 -- ---- their tree, or their first clash
 

@@ -1,45 +1,64 @@
 //! Reads a document into a tree.
-ghost use Rattle.std.specs.Prelude.{◌≡◌, ◌≤◌, ℕ, List, [], true, IfOk, IfErr, IsOk, length, map};
+ghost use Rattle.std.specs.Prelude.{◌≡◌, ◌≤◌, ℕ, List, true, IfOk, IfErr, IsOk, length};
 ghost use Rattle.toml_span_lex.specs.Tokenizer.{FirstPlace};
-ghost use Rattle.toml_span_read.specs.Borrowed.{sections_written};
-ghost use Rattle.toml_span_read.specs.Inside.{SectionsInside};
+ghost use Rattle.toml_span_read.specs.Faults.{IsPlacedStop};
 ghost use Rattle.toml_span_read.specs.Keys.{Part};
-ghost use Rattle.toml_span_read.specs.Lines.{KeepsForm, block};
+ghost use Rattle.toml_span_read.specs.Lines.{Block, KeepsForm};
 ghost use Rattle.toml_span_tree.specs.Value.{is_whole, view};
-ghost use Rattle.toml_span_claims.specs.Borrowed.{AreFrom, AreRight, value_standing};
+ghost use Rattle.toml_span_claims.specs.Borrowed.{AreRight, value_standing};
 ghost use Rattle.toml_span_claims.specs.Ordered.{IsOrdered};
+ghost use Rattle.toml_span_assembly.specs.Growing.{GrownGives, GrownRight, Grows, IsBare, IsGrownInside};
 ghost use Rattle.toml_span_assembly.specs.Parsing.{IsBorrowedTree, IsClashStop, IsRefusal, IsTree, IsTreeOf};
-ghost use Rattle.toml_span_claims.specs.Placing.{AreSections};
 ghost use Rattle.toml_span_assembly.specs.Roots.{IsRoot};
 
-use crate::sections::assemble;
+use crate::sections::{Grown, begin, finish, grow};
 use std::alloc::Global;
 use toml_span_claims::claims::Halt;
 use toml_span_lex::stop::Stop;
-use toml_span_read::fault::line_info;
-use toml_span_read::{Section, read_sections};
+use toml_span_read::fault::{Fault, error_of, line_info};
+use toml_span_read::{read_first, read_section};
 use toml_span_tree::{Error, Value};
 
 /// How deep a value, a header and a dotted key may be.
 const LIMIT: usize = 128;
 
-/// The tree of the sections of a document.
-fn tree_of<'de>(
-    alloc: Global,
-    sections: Vec<Section<'de>>,
-    text: &'de str,
-) -> Result<Value<'de>, Stop<Error<'de>>>
-    requires inside { SectionsInside (length text.now) sections.items }
-    requires headers { AreSections (map block sections.items) }
-    ensures tree { IfOk result (IsTreeOf (map block sections.entry.items) (length text.now)) }
-    ensures root { IfOk result (IsRoot (length text.now)) }
-    ensures ordered { IfOk result (λ root. IsOrdered (view root)) }
-    ensures whole { IfOk result (λ root. is_whole (view root) ≡ true) }
-    ensures borrows { (ps : List Part) → AreFrom text.now ps (sections_written sections.entry.items) → IfOk result (λ root. AreRight text.now ps (value_standing root)) }
-    ensures refused { IfErr result (IsClashStop (map block sections.entry.items) text.now) }
-    ensures bare { sections.entry.items ≡ [] → IsOk result }
+/// What the sections of a text make, or its fault. Each section is placed as it is read.
+fn grown_of<'de>(alloc: Global, text: &'de str, limit: usize) -> Result<Grown<'de>, Stop<Fault>>
+    requires some { 1 ≤ limit }
+    requires small { limit ≤ 128 }
+    ensures placed { IfErr result (IsPlacedStop text.now) }
+    ensures gives { GrownGives text.now limit result }
+    ensures memory { (start : ℕ) × FirstPlace text.now start × KeepsForm text.now start result }
 {
-    match assemble(alloc, sections, text.len()) {
+    let (first, start) = read_first(alloc, text, limit)?;
+    let mut grown = match begin(alloc, first) {
+        Ok(grown) => grown,
+        Err(error) => return Err(Stop::Memory(error)),
+    };
+    let mut at = start;
+    'sections: while at < text.len() {
+        let (section, next) = read_section(alloc, text, at, limit)?;
+        grown = match grow(alloc, grown, section) {
+            Ok(grown) => grown,
+            Err(error) => return Err(Stop::Memory(error)),
+        };
+        at = next;
+    }
+    Ok(grown)
+}
+
+/// The tree of a document, or its first clash.
+fn tree_of<'de>(grown: Grown<'de>, text: &'de str) -> Result<Value<'de>, Stop<Error<'de>>>
+    requires inside { IsGrownInside (length text.now) grown }
+    ensures tree { (bs : List Block) → Grows bs grown.entry → IfOk result (IsTreeOf bs (length text.now)) }
+    ensures root { IfOk result (IsRoot (length text.now)) }
+    ensures ordered { (bs : List Block) → Grows bs grown.entry → IfOk result (λ root. IsOrdered (view root)) }
+    ensures whole { (bs : List Block) → Grows bs grown.entry → IfOk result (λ root. is_whole (view root) ≡ true) }
+    ensures borrows { (ps : List Part) → GrownRight text.now ps grown.entry → IfOk result (λ root. AreRight text.now ps (value_standing root)) }
+    ensures refused { (bs : List Block) → Grows bs grown.entry → IfErr result (IsClashStop bs text.now) }
+    ensures bare { IsBare grown.entry → IsOk result }
+{
+    match finish(grown, text.len()) {
         Ok(root) => Ok(root),
         Err(Halt::Memory(error)) => Err(Stop::Memory(error)),
         Err(Halt::Clash(clash)) => {
@@ -84,8 +103,9 @@ pub fn parse_with_limit<'de>(
     // Memory is wanted only where more than blank lines stand in the text.
     ensures memory { (start : ℕ) × FirstPlace s.now start × KeepsForm s.now start result }
 {
-    match read_sections(alloc, s, limit) {
-        Ok(sections) => tree_of(alloc, sections, s),
-        Err(stop) => Err(stop),
+    match grown_of(alloc, s, limit) {
+        Ok(grown) => tree_of(grown, s),
+        Err(Stop::Memory(error)) => Err(Stop::Memory(error)),
+        Err(Stop::Fault(fault)) => Err(Stop::Fault(error_of(s, fault))),
     }
 }

@@ -1,10 +1,10 @@
 //! Sections placed one by one into a tree.
-ghost use Rattle.std.specs.Prelude.{◌≡◌, ℕ, List, map, [], IfOk, IfErr, IsOk};
-ghost use Rattle.toml_span_read.specs.Borrowed.{assignments_written, key_written, keys_written, sections_written};
+ghost use Rattle.std.specs.Prelude.{◌≡◌, ℕ, List, map, [], ◌∷◌, ◌++◌, IfOk, IfErr, IfSome, IsOk, None};
+ghost use Rattle.toml_span_read.specs.Borrowed.{assignments_written, key_written, keys_written, section_written};
 ghost use Rattle.toml_span_read.specs.Data.{event};
-ghost use Rattle.toml_span_read.specs.Inside.{IsInside, PartsInside, EventsInside, SectionsInside};
+ghost use Rattle.toml_span_read.specs.Inside.{IsInside, PartsInside, EventsInside, SectionInside};
 ghost use Rattle.toml_span_read.specs.Keys.{Part, part as part_of};
-ghost use Rattle.toml_span_read.specs.Lines.{block};
+ghost use Rattle.toml_span_read.specs.Lines.{Block, block, first_blocks};
 ghost use Rattle.toml_span_claims.specs.declared.claims.Sort.TheVariants.{Passed};
 ghost use Rattle.toml_span_claims.specs.Borrowed.{AreFrom, IsFrom, Keeps, ValueRight};
 ghost use Rattle.toml_span_claims.specs.Claims as claims;
@@ -13,13 +13,13 @@ ghost use Rattle.toml_span_claims.specs.Places.{IsHaltInside};
 ghost use Rattle.toml_span_claims.specs.Placing.{AreSections, Assembles, Opening, Opens, Passes, Places, Reaches};
 ghost use Rattle.toml_span_claims.specs.Relative.{adding, ending, grown, grown_here, grown_through, one_more, opening, part_sort, passing, section_at, through};
 ghost use Rattle.toml_span_claims.specs.Tree.{counts, IsHeld, IsOpen, IsScope};
+ghost use Rattle.toml_span_assembly.specs.Growing.{GivesBare, GrownRight, Grows, IsBare, IsGrownInside, IsHalted, Placed};
 ghost use Rattle.toml_span_assembly.specs.Roots.{IsRoot};
 
 use crate::scopes::{admit_beside_value, place_all};
-use std::alloc::Global;
-use toml_span_claims::claims::{Halt, Head, Mark, Sort, claim};
+use std::alloc::{AllocError, Global};
+use toml_span_claims::claims::{Clash, Halt, Head, Mark, Sort, claim};
 use toml_span_claims::node::{Node, into_table};
-use toml_span_claims::rest::Rest;
 use toml_span_lex::key::Key;
 use toml_span_lex::span::Span;
 use toml_span_read::{Assignment, Section};
@@ -204,36 +204,114 @@ fn end_header<'de>(
     add_entry(alloc, node, part, head, pairs)
 }
 
-/// The tree of a document's sections, which is `length` bytes long.
-pub(crate) fn assemble<'de>(
-    alloc: Global,
-    sections: Vec<Section<'de>>,
-    length: usize,
-) -> Result<Value<'de>, Halt>
-    requires headers { AreSections (map block sections.items) }
-    ensures gives { Assembles (map block sections.entry.items) length result }
-    ensures root { IfOk result (IsRoot length) }
-    ensures placed { (n : ℕ) → SectionsInside n sections.entry.items → IfErr result (IsHaltInside n) }
-    ensures borrows { (text : List ℕ) → (ps : List Part) → AreFrom text ps (sections_written sections.entry.items) → ValueRight text ps result }
-    // Where there are no sections, no memory is wanted.
-    ensures bare { sections.entry.items ≡ [] → IsOk result }
+/// Places a section below the root of a tree.
+fn place<'de>(alloc: Global, root: &mut Node<'de>, section: Section<'de>) -> Result<(), Halt>
+    ensures gives { Placed (block section.entry) root.old root.new result }
+    ensures placed { (n : ℕ) → SectionInside n section.entry → IfErr result (IsHaltInside n) }
+    ensures borrows { (text : List ℕ) → (ps : List Part) → AreFrom text ps (section_written section.entry) → Keeps text ps root.old root.new result }
 {
-    let mut root = Node::new(alloc);
-    for section in Rest::new(sections) {
-        let Section {
-            header,
-            array,
-            header_span: line,
-            extent,
-            assignments,
-        } = section;
-        let head = Head {
-            array,
-            line,
-            extent,
-        };
-        place_section(alloc, &mut root, header.as_slice(), head, assignments)?;
+    let Section {
+        header,
+        array,
+        header_span: line,
+        extent,
+        assignments,
+    } = section;
+    let head = Head {
+        array,
+        line,
+        extent,
+    };
+    place_section(alloc, root, header.as_slice(), head, assignments)
+}
+
+/// What the sections that are read so far make.
+#[derive(Drop)]
+pub(crate) enum Grown<'de> {
+    /// Their tree.
+    Tree(Node<'de>),
+    /// Their first clash.
+    Clash(Clash),
+}
+
+impl<'de> Grown<'de> {
+    /// What no sections make.
+    pub(crate) fn new(alloc: Global) -> Self
+        ensures grows { Grows [] result }
+        ensures inside { (n : ℕ) → IsGrownInside n result }
+        ensures borrows { (text : List ℕ) → (ps : List Part) → GrownRight text ps result }
+        ensures bare { IsBare result }
+    {
+        Self::Tree(Node::new(alloc))
     }
+}
+
+/// The clash, unless memory ran out.
+fn halted<'de>(halt: Halt) -> Result<Grown<'de>, AllocError>
+    ensures gives { IfOk result (IsHalted halt) }
+{
+    match halt {
+        Halt::Clash(clash) => Ok(Grown::Clash(clash)),
+        Halt::Memory(error) => Err(error),
+    }
+}
+
+/// Places one more section, unless two have clashed.
+pub(crate) fn grow<'de>(
+    alloc: Global,
+    grown: Grown<'de>,
+    section: Section<'de>,
+) -> Result<Grown<'de>, AllocError>
+    ensures grows { (bs : List Block) → AreSections (block section.entry ∷ []) → Grows bs grown.entry → IfOk result (Grows (bs ++ (block section.entry ∷ []))) }
+    ensures inside { (n : ℕ) → SectionInside n section.entry → IsGrownInside n grown.entry → IfOk result (IsGrownInside n) }
+    ensures borrows { (text : List ℕ) → (ps : List Part) → AreFrom text ps (section_written section.entry) → GrownRight text ps grown.entry → IfOk result (GrownRight text ps) }
+{
+    let mut root = match grown {
+        Grown::Tree(root) => root,
+        Grown::Clash(clash) => {
+            drop(section);
+            return Ok(Grown::Clash(clash));
+        }
+    };
+    match place(alloc, &mut root, section) {
+        Ok(()) => Ok(Grown::Tree(root)),
+        Err(halt) => {
+            drop(root);
+            halted(halt)
+        }
+    }
+}
+
+/// What the section before the first header makes, if there is one.
+pub(crate) fn begin<'de>(
+    alloc: Global,
+    first: Option<Section<'de>>,
+) -> Result<Grown<'de>, AllocError>
+    ensures grows { AreSections (first_blocks first.entry) → IfOk result (Grows (first_blocks first.entry)) }
+    ensures inside { (n : ℕ) → IfSome first.entry (SectionInside n) → IfOk result (IsGrownInside n) }
+    ensures borrows { (text : List ℕ) → (ps : List Part) → IfSome first.entry (λ section. AreFrom text ps (section_written section)) → IfOk result (GrownRight text ps) }
+    // No section, no memory.
+    ensures bare { first.entry ≡ None → GivesBare result }
+{
+    let grown = Grown::new(alloc);
+    match first {
+        Some(section) => grow(alloc, grown, section),
+        None => Ok(grown),
+    }
+}
+
+/// The tree of a document, which is `length` bytes long, or its first clash.
+pub(crate) fn finish<'de>(grown: Grown<'de>, length: usize) -> Result<Value<'de>, Halt>
+    ensures gives { (bs : List Block) → Grows bs grown.entry → Assembles bs length result }
+    ensures root { IfOk result (IsRoot length) }
+    ensures placed { (n : ℕ) → IsGrownInside n grown.entry → IfErr result (IsHaltInside n) }
+    ensures borrows { (text : List ℕ) → (ps : List Part) → GrownRight text ps grown.entry → ValueRight text ps result }
+    ensures bare { IsBare grown.entry → IsOk result }
+{
+    let root = match grown {
+        Grown::Tree(root) => root,
+        Grown::Clash(clash) => return Err(Halt::Clash(clash)),
+    };
     let table = into_table(root.tables, root.values)?;
     let span = Span {
         start: 0,

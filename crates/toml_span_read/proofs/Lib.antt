@@ -20,3 +20,4 @@ pub mod NumberRows
 pub mod SpanLaws
 pub mod MemoryLemmas
 pub mod BorrowLemmas
+pub mod StepLemmas

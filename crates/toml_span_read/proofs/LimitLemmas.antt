@@ -125,9 +125,3 @@ sections_on limit (w ∷ ws) v before here = (before.0, sections_on limit ws v b
 
 pub sections_more : (limit : ℕ) (vs ws : List Section) (v : Section) → ws ≡ vs ++ (v ∷ []) → WithinSections limit vs → WithinSection limit v → WithinSections limit ws
 sections_more limit vs ws v e before here = rw e (sections_on limit vs v before here)
-
-pub first_within : (limit : ℕ) (vs ws : List Section) (v : Section) → vs ≡ [] → ws ≡ vs ++ (v ∷ []) → WithinSection limit v → WithinSections limit ws
-first_within limit vs ws v e f here = rw (f, e) (here, tt)
-
-pub none_within : (limit : ℕ) (vs : List Section) → vs ≡ [] → WithinSections limit vs
-none_within limit vs e = rw e tt

@@ -161,12 +161,6 @@ WholeSections ss text limit at = (rest : List Block) → SpellsSections rest tex
 abbrev pub StuckFrom : List ℕ → ℕ → ℕ → Type 0
 StuckFrom text limit at = (e : Fault) → StuckSections text limit at e → StuckDocument text limit e
 
-pub first_some : (ss ts : List Section) (s : Section) (bs : List Block) → ss ≡ [] → ts ≡ ss ++ (s ∷ []) → first_blocks (Some s) ≡ bs → map block ts ≡ bs
-first_some ss ts s bs e f g = rw (f, e) g
-
-pub first_none : (ss : List Section) (bs : List Block) → ss ≡ [] → first_blocks None ≡ bs → map block ss ≡ bs
-first_none ss bs e g = rw e g
-
 pub sections_begin : (ss : List Section) (evs : List Event) (text : List ℕ) (limit i j : ℕ) → map block ss ≡ first_block evs → FirstPlace text i → SpellsLines evs text limit i j
     → WholeSections ss text limit j × StuckFrom text limit j
 sections_begin ss evs text limit i j e begins lines =
@@ -178,19 +172,6 @@ sections_more xs ys s text limit i j e whole here rest h = rw (e, map_more block
 
 pub sections_end : (ss : List Section) (text : List ℕ) (limit i : ℕ) → WholeSections ss text limit i → i ≡ length text → SpellsDocument (map block ss) text limit
 sections_end ss text limit i whole e = rw (append-nil (map block ss)) at (whole [] e)
-
-pub first_lines_fault : (stop : Stop Fault) (text : List ℕ) (limit i : ℕ) → FirstPlace text i → LinesGive text limit i (Err stop) → SectionsGive text limit (Err stop)
-first_lines_fault (stops.Memory e) text limit i begins h = tt
-first_lines_fault (stops.Fault e) text limit i begins h = before_headers i e begins h
-
-pub header_fault : (stop : Stop Fault) (text : List ℕ) (limit i : ℕ) → StuckFrom text limit i → HeaderGives text limit i (Err stop) → SectionsGive text limit (Err stop)
-header_fault (stops.Memory e) text limit i stuck h = tt
-header_fault (stops.Fault e) text limit i stuck h = stuck e (in_header i e h)
-
-pub section_fault : (stop : Stop Fault) (h : Header) (text : List ℕ) (limit i : ℕ) → StuckFrom text limit i → HeaderGives text limit i (Ok h) → LinesGive text limit h.extent.end (Err stop)
-    → SectionsGive text limit (Err stop)
-section_fault (stops.Memory e) h text limit i stuck header lines = tt
-section_fault (stops.Fault e) h text limit i stuck header lines = stuck e (in_section i h.extent.end h.array (map part h.parts.items) e header.0 lines)
 
 pub on_section : (text : List ℕ) (limit i j : ℕ) (b : Block) (e : Fault) → SpellsSection b text limit i j → StuckSections text limit j e → StuckSections text limit i e
 on_section text limit i j b e s h = section_on i j b e s h

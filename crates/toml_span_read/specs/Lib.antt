@@ -13,3 +13,4 @@ pub mod Lines
 pub mod Inside
 pub mod Spans
 pub mod Borrowed
+pub mod Stepwise

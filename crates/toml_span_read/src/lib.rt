@@ -14,5 +14,5 @@ pub mod values;
 pub mod wanted;
 
 pub use section::Section;
-pub use sections::read_sections;
+pub use sections::{read_first, read_section, read_sections};
 pub use value::{Assignment, DottedKey, Val, ValKind};

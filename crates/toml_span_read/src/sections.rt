@@ -8,6 +8,7 @@ ghost use Rattle.toml_span_read.specs.Lines.{Opens, EventGives, LineGives, Lines
 ghost use Rattle.toml_span_read.specs.Gaps.{Further};
 ghost use Rattle.toml_span_lex.specs.Tokenizer.{FirstPlace};
 ghost use Rattle.toml_span_read.specs.Inside.{SectionsInside};
+ghost use Rattle.toml_span_read.specs.Stepwise.{FirstReads, FirstGives, SectionReads, SectionGives};
 ghost use Rattle.toml_span_read.specs.Limits.{AssignmentReads, AssignmentsRead, LineReads, HeaderReads, SectionsRead, WithinSection, WithinEvents, EndsAtHeader, Reads};
 
 use crate::earlier::{Earlier, add_clear};
@@ -230,6 +231,46 @@ fn first_section<'de>(alloc: Global, assignments: Vec<Assignment<'de>>) -> Optio
     })
 }
 
+/// The section of the assignments before the first header, if there are any, and where they end: at the
+/// first header, or at the end of the text.
+///
+/// The error is the first fault there.
+pub fn read_first<'de>(
+    alloc: Global,
+    text: &'de str,
+    limit: usize,
+) -> Result<(Option<Section<'de>>, usize), Stop<Fault>>
+    requires some { 1 ≤ limit }
+    requires small { limit ≤ 128 }
+    ensures reads { FirstReads text.now limit result }
+    ensures gives { FirstGives text.now limit result }
+    ensures memory { (start : ℕ) × FirstPlace text.now start × KeepsForm text.now start result }
+{
+    let (before, end) = assignments(alloc, text, first_place(text), limit)?;
+    Ok((first_section(alloc, before), end))
+}
+
+/// The section whose header's first bracket is at a place, and where it ends: at the next header, or at
+/// the end of the text.
+///
+/// The error is the first fault there.
+pub fn read_section<'de>(
+    alloc: Global,
+    text: &'de str,
+    at: usize,
+    limit: usize,
+) -> Result<(Section<'de>, usize), Stop<Fault>>
+    requires opens { slice_index text.now at ≡ 91 }
+    requires some { 1 ≤ limit }
+    requires small { limit ≤ 128 }
+    ensures reads { SectionReads text.now limit at result }
+    ensures gives { SectionGives text.now limit at result }
+{
+    let header = read_header(alloc, text, at, limit)?;
+    let (behind, end) = assignments(alloc, text, header.extent.end, limit)?;
+    Ok((section_of(header, behind), end))
+}
+
 /// The sections of a text, or its fault.
 fn sections<'de>(
     alloc: Global,
@@ -244,16 +285,18 @@ fn sections<'de>(
     ensures memory { (start : ℕ) × FirstPlace text.now start × KeepsForm text.now start result }
 {
     let mut found = Vec::new(alloc);
-    let (before, mut at) = assignments(alloc, text, first_place(text), limit)?;
-    if let Some(section) = first_section(alloc, before) {
-        if let Err(e) = add(&mut found, section) {
-            return Err(Stop::Memory(e));
+    let (first, mut at) = read_first(alloc, text, limit)?;
+    match first {
+        Some(section) => {
+            if let Err(e) = add(&mut found, section) {
+                return Err(Stop::Memory(e));
+            }
         }
+        None => {}
     }
     'sections: while at < text.len() {
-        let header = read_header(alloc, text, at, limit)?;
-        let (behind, next) = assignments(alloc, text, header.extent.end, limit)?;
-        if let Err(e) = add(&mut found, section_of(header, behind)) {
+        let (section, next) = read_section(alloc, text, at, limit)?;
+        if let Err(e) = add(&mut found, section) {
             return Err(Stop::Memory(e));
         }
         at = next;

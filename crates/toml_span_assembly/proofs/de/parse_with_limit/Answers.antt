@@ -1,28 +1,48 @@
-use Rattle.std.specs.Global.{Global}
-use Rattle.std.specs.Prelude.{Vec}
+use Rattle.std.proofs.Common.{map}
 use Rattle.toml_span_read.specs.Borrowed.{sections_written}
-use Rattle.toml_span_read.specs.declared.section.Section.{Section}
-use Rattle.toml_span_tree.specs.declared.error.Error.{Error}
-use Rattle.toml_span_tree.specs.declared.value.Value.{Value}
+use Rattle.toml_span_read.specs.Lines.{block}
 use Rattle.toml_span_claims.specs.Borrowed.{keys_of}
 use Rattle.toml_span_assembly.proofs.Borrowing.{all_from, tree_borrows}
-use Rattle.toml_span_assembly.proofs.Memory.{keeps-on, keeps-placed}
-use Rattle.toml_span_assembly.proofs.Refusals.{refusal-read, spelled-headed}
+use Rattle.toml_span_assembly.proofs.Memory.{keeps-placed}
+use Rattle.toml_span_assembly.proofs.Refusals.{refusal-fault, refusals-clash, tree-spelled}
 use Rattle.toml_span_assembly.proofs.de.parse_with_limit.Goals as goal
 
-pub returns-in-Err-clause-refused : goal.returns-in-Err-clause-refused
-returns-in-Err-clause-refused c = refusal-read c.args.s.now c.args.limit c.in-Err.stop c.in-Err.ensures.reads c.in-Err.ensures.document
+pub tree_of-requires : goal.tree_of-requires
+tree_of-requires c = record { inside = c.in-Ok.ensures.gives.inside }
 
-pub tree_of-requires-clause-headers : goal.tree_of-requires-clause-headers
-tree_of-requires-clause-headers c = spelled-headed _ c.args.s.now c.args.limit c.in-Ok.ensures.document
+pub returns-in-Ok-clause-tree : goal.returns-in-Ok-clause-tree
+returns-in-Ok-clause-tree c =
+    let g = c.in-Ok.ensures.gives in
+    let bs = map block g.sections in
+    tree-spelled c.args.s.now c.args.limit bs c.tree_of.result g.spelled (c.tree_of.ensures.tree bs g.grows)
+
+pub returns-in-Ok-clause-ordered : goal.returns-in-Ok-clause-ordered
+returns-in-Ok-clause-ordered c = let g = c.in-Ok.ensures.gives in c.tree_of.ensures.ordered (map block g.sections) g.grows
+
+pub returns-in-Ok-clause-whole : goal.returns-in-Ok-clause-whole
+returns-in-Ok-clause-whole c = let g = c.in-Ok.ensures.gives in c.tree_of.ensures.whole (map block g.sections) g.grows
 
 pub returns-in-Ok-clause-borrows : goal.returns-in-Ok-clause-borrows
 returns-in-Ok-clause-borrows c =
-    tree_borrows c.in-Ok.sections.items c.args.s.now c.args.limit c.tree_of.result c.in-Ok.ensures.document
-    (c.tree_of.ensures.borrows (keys_of (sections_written c.in-Ok.sections.items)) (all_from c.args.s.now (sections_written c.in-Ok.sections.items) c.in-Ok.ensures.borrows))
+    let g = c.in-Ok.ensures.gives in
+    let keys = keys_of (sections_written g.sections) in
+    tree_borrows g.sections c.args.s.now c.args.limit c.tree_of.result g.spelled
+    (c.tree_of.ensures.borrows keys (g.borrows keys (all_from c.args.s.now (sections_written g.sections) g.read)))
+
+pub returns-in-Ok-clause-refused : goal.returns-in-Ok-clause-refused
+returns-in-Ok-clause-refused c =
+    let g = c.in-Ok.ensures.gives in
+    let bs = map block g.sections in
+    refusals-clash c.args.s.now c.args.limit bs c.tree_of.result g.spelled (c.tree_of.ensures.refused bs g.grows)
+
+pub returns-in-Err-Fault-clause-refused : goal.returns-in-Err-Fault-clause-refused
+returns-in-Err-Fault-clause-refused c = refusal-fault c.args.s.now c.args.limit _ c.in-Err-Fault.fault _ c.in-Err-Fault.field-0-is c.in-Err-Fault.ensures.gives c.in-Err-Fault.ensures.placed c.error_of.ensures
 
 pub returns-in-Ok-clause-memory : goal.returns-in-Ok-clause-memory
-returns-in-Ok-clause-memory c = keeps-placed c.in-Ok.sections.items c.args.s.now c.args.limit c.tree_of.result c.in-Ok.ensures.document c.tree_of.ensures.bare
+returns-in-Ok-clause-memory c = let g = c.in-Ok.ensures.gives in keeps-placed g.sections c.args.s.now c.args.limit c.tree_of.result g.spelled (λ none. c.tree_of.ensures.bare (g.bare none))
 
-pub returns-in-Err-clause-memory : goal.returns-in-Err-clause-memory
-returns-in-Err-clause-memory c = keeps-on (Vec Section Global) Value Error c.in-Err.stop c.args.s.now c.in-Err.ensures.memory
+pub returns-in-Err-Memory-clause-memory : goal.returns-in-Err-Memory-clause-memory
+returns-in-Err-Memory-clause-memory c = let m = c.in-Err-Memory.ensures.memory in (m.0, m.1.0, m.1.1)
+
+pub returns-in-Err-Fault-clause-memory : goal.returns-in-Err-Fault-clause-memory
+returns-in-Err-Fault-clause-memory c = let m = c.in-Err-Fault.ensures.memory in (m.0, m.1.0, tt)

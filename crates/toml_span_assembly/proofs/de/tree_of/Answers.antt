@@ -1,4 +1,5 @@
 use Rattle.std.proofs.Common.{arith, length}
+use Rattle.std.proofs.lemmas.Bool.{false≢true}
 use Rattle.toml_span_claims.specs.Machine.{told_by}
 use Rattle.toml_span_claims.proofs.Ordered.{one-each}
 use Rattle.toml_span_claims.proofs.PlaceLemmas.{clash_inside}
@@ -13,18 +14,18 @@ line_info-place-requires c =
     omega (arith, inside.0, inside.1)
 
 pub returns-in-Ok-clause-tree : goal.returns-in-Ok-clause-tree
-returns-in-Ok-clause-tree c = record { resolves = c.in-Ok.ensures.gives.0; shows = c.in-Ok.ensures.gives.1 }
+returns-in-Ok-clause-tree c = λ bs grows. let gives = c.in-Ok.ensures.gives bs grows in record { resolves = gives.0; shows = gives.1 }
 
 pub returns-in-Ok-clause-ordered : goal.returns-in-Ok-clause-ordered
-returns-in-Ok-clause-ordered c = c.in-Ok.ensures.gives.2
+returns-in-Ok-clause-ordered c = λ bs grows. (c.in-Ok.ensures.gives bs grows).2
 
 pub returns-in-Ok-clause-whole : goal.returns-in-Ok-clause-whole
-returns-in-Ok-clause-whole c =
-    let gives = c.in-Ok.ensures.gives in
+returns-in-Ok-clause-whole c = λ bs grows.
+    let gives = c.in-Ok.ensures.gives bs grows in
     shown-whole _ (length c.args.text.now) _ (one-each _ gives.2) gives.1
 
 pub returns-in-Err-Clash-clause-refused : goal.returns-in-Err-Clash-clause-refused
-returns-in-Err-Clash-clause-refused c =
+returns-in-Err-Clash-clause-refused c = λ bs grows.
     let n = length c.args.text.now in
     let place = c.line_info-place.result in
     let inside = clash_inside n _ _ c.in-Err-Clash.field-0-is (c.in-Err-Clash.ensures.placed n c.requires.inside) in
@@ -32,7 +33,7 @@ returns-in-Err-Clash-clause-refused c =
       clash = told_by c.in-Err-Clash.clash;
       line = place.0;
       column = place.1;
-      first = first-of-halt _ n _ _ c.in-Err-Clash.field-0-is c.in-Err-Clash.ensures.gives;
+      first = first-of-halt _ n _ _ c.in-Err-Clash.field-0-is (c.in-Err-Clash.ensures.gives bs grows);
       tells = c.into_error.ensures;
       within = omega (arith, inside.0, inside.1);
       forward = inside.0;
@@ -41,3 +42,9 @@ returns-in-Err-Clash-clause-refused c =
 
 pub returns-in-Ok-clause-borrows : goal.returns-in-Ok-clause-borrows
 returns-in-Ok-clause-borrows c = λ ps h. c.in-Ok.ensures.borrows c.args.text.now ps h
+
+pub returns-in-Err-Memory-clause-bare : goal.returns-in-Err-Memory-clause-bare
+returns-in-Err-Memory-clause-bare c = λ bare. absurd (false≢true (c.in-Err-Memory.ensures.bare bare))
+
+pub returns-in-Err-Clash-clause-bare : goal.returns-in-Err-Clash-clause-bare
+returns-in-Err-Clash-clause-bare c = λ bare. absurd (false≢true (c.in-Err-Clash.ensures.bare bare))

@@ -1,0 +1,65 @@
+use Rattle.std.proofs.Common.{arith, length, ◌≡◌, ℕ, Option}
+use Rattle.toml_span_read.specs.declared.fault.Fault.{Fault}
+use Rattle.toml_span_read.specs.declared.section.Section.{Section}
+use Rattle.toml_span_assembly.specs.declared.sections.Grown.{Grown}
+use Rattle.toml_span_read.proofs.KeyLemmas.{handed_on}
+use Rattle.toml_span_read.proofs.LineLemmas.{on_section}
+use Rattle.toml_span_assembly.proofs.Growth.{first-refused, growing-first, growing-more, grown-whole, section-refused}
+use Rattle.toml_span_assembly.proofs.Memory.{first-held, held-stop, keeps-on, lines-hold}
+use Rattle.toml_span_assembly.proofs.de.grown_of.Goals as goal
+
+pub sections-init : goal.sections-init
+sections-init c =
+    let first = c.in_ok-first.ensures in
+    let begun = c.in-Ok.ensures in
+    let h = growing-first c.args.text.now c.args.limit _ c.in_ok-first.first c.in-Ok.grown first.reads.0 first.gives begun.grows begun.inside begun.borrows begun.bare in
+    let (start, evs, begins, lines, same) = first.gives in
+    record { boundary = first.reads.1.0; header = first.reads.1.1; growing = h.0; stuck = h.1; memory = (start, begins, lines-hold evs c.args.text.now c.args.limit start _ lines) }
+
+pub sections-preserved : goal.sections-preserved
+sections-preserved c =
+    let read = c.in_ok-section.ensures in
+    let more = c.in-Ok-grow.ensures in
+    let i = c.sections.invariant in
+    record {
+      boundary = read.reads.2.0;
+      header = read.reads.2.1;
+      growing = growing-more c.args.text.now c.args.limit c.sections.at _ c.in_ok-section.section c.sections.grown c.in-Ok-grow.grown read.reads.0 read.gives i.growing more.grows more.inside more.borrows;
+      stuck = λ e x. i.stuck e (on_section c.args.text.now c.args.limit c.sections.at _ _ e read.gives x);
+      memory = (i.memory.0, i.memory.1.0, λ less. i.memory.1.1 c.WHILE);
+    }
+
+pub returns-in_err-first-clause-gives : goal.returns-in_err-first-clause-gives
+returns-in_err-first-clause-gives c =
+    rw (handed_on c.from_residual.result c.in_err-first.field-0.0 c.from_residual.ensures.1)
+    (first-refused c.in_err-first.field-0.0 c.args.text.now c.args.limit c.in_err-first.ensures.gives)
+
+pub returns-in_err-section-clause-gives : goal.returns-in_err-section-clause-gives
+returns-in_err-section-clause-gives c =
+    rw (handed_on c.from_residual-in_err-section.result c.in_err-section.field-0.0 c.from_residual-in_err-section.ensures.1)
+    (section-refused c.in_err-section.field-0.0 c.args.text.now c.args.limit c.sections.at c.sections.invariant.stuck c.in_err-section.ensures.gives)
+
+pub returns-clause-gives : goal.returns-clause-gives
+returns-clause-gives c =
+    let end : c.sections.at ≡ length c.args.text.now = omega (arith, c.sections.invariant.boundary.0) in
+    grown-whole c.args.text.now c.args.limit c.sections.at c.sections.grown c.sections.invariant.growing end
+
+pub returns-in_err-first-clause-memory : goal.returns-in_err-first-clause-memory
+returns-in_err-first-clause-memory c =
+    rw (handed_on c.from_residual.result c.in_err-first.field-0.0 c.from_residual.ensures.1)
+    (keeps-on (Option Section × ℕ) Grown Fault c.in_err-first.field-0.0 c.args.text.now c.in_err-first.ensures.memory)
+
+pub returns-in-Err-clause-memory : goal.returns-in-Err-clause-memory
+returns-in-Err-clause-memory c = first-held c.args.text.now c.args.limit _ c.in_ok-first.first c.in_ok-first.ensures.gives c.in-Err.ensures.bare
+
+pub returns-in_err-section-clause-memory : goal.returns-in_err-section-clause-memory
+returns-in_err-section-clause-memory c =
+    let m = c.sections.invariant.memory in
+    rw (handed_on c.from_residual-in_err-section.result c.in_err-section.field-0.0 c.from_residual-in_err-section.ensures.1)
+    (m.0, m.1.0, held-stop c.in_err-section.field-0.0 c.args.text.now m.0 (m.1.1 c.WHILE))
+
+pub returns-in-Err-grow-clause-memory : goal.returns-in-Err-grow-clause-memory
+returns-in-Err-grow-clause-memory c = let m = c.sections.invariant.memory in (m.0, m.1.0, m.1.1 c.WHILE)
+
+pub returns-clause-memory : goal.returns-clause-memory
+returns-clause-memory c = let m = c.sections.invariant.memory in (m.0, m.1.0, tt)
