@@ -56,13 +56,13 @@ keeps-placed ss text limit (Err (stops.Memory e)) h bare =
 -- where lines end before the text does, more than blank lines stand
 pub lines-hold : (es : List Event) (text : List ℕ) (limit start j : ℕ) → SpellsLines es text limit start j → j < length text → HoldsForm text start
 lines-hold [] text limit start j (k, gap, h) less = (k, gap, omega (arith, less, h))
-lines-hold (ev ∷ es) text limit start j (k, gap, m, n, q, h, t, c, g, r) less = (k, gap, key-before ev.parts text k h.key_end h.key)
+lines-hold (ev ∷ es) text limit start j (k, gap, (m, n, q, h, t, c, g, r)) less = (k, gap, key-before ev.parts text k h.key_end h.key)
 
 -- where a section stands before the first header, more than blank lines do
 pub first-held : (text : List ℕ) (limit at : ℕ) (o : Option Section) → FirstGives text limit (Ok (o, at)) → (o ≡ None → ⊥) → (start : ℕ) × FirstPlace text start × HoldsForm text start
 first-held text limit at None h some = absurd (some refl)
 first-held text limit at (Some s) (start, [], begins, lines, same) some = absurd (never-empty (block s) [] _ refl same)
-first-held text limit at (Some s) (start, ev ∷ evs, begins, (k, gap, m, n, q, h, t, c, g, r), same) some = (start, begins, k, gap, key-before ev.parts text k h.key_end h.key)
+first-held text limit at (Some s) (start, ev ∷ evs, begins, (k, gap, (m, n, q, h, t, c, g, r)), same) some = (start, begins, (k, gap, key-before ev.parts text k h.key_end h.key))
 
 -- whatever stops there, where more than blank lines stand
 pub held-stop : (stop : Stop Fault) (text : List ℕ) (start : ℕ) → HoldsForm text start → KeepsForm {A = Grown} text start (Err stop)

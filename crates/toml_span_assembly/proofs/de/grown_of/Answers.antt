@@ -26,7 +26,7 @@ sections-preserved c =
       header = read.reads.2.1;
       growing = growing-more c.args.text.now c.args.limit c.sections.at _ c.in_ok-section.section c.sections.grown c.in-Ok-grow.grown read.reads.0 read.gives i.growing more.grows more.inside more.borrows;
       stuck = λ e x. i.stuck e (on_section c.args.text.now c.args.limit c.sections.at _ _ e read.gives x);
-      memory = (i.memory.0, i.memory.1.0, λ less. i.memory.1.1 c.WHILE);
+      memory = (i.memory.0, i.memory.1, λ less. i.memory.2 c.sections-test.true);
     }
 
 pub returns-in_err-first-clause-gives : goal.returns-in_err-first-clause-gives
@@ -56,10 +56,10 @@ pub returns-in_err-section-clause-memory : goal.returns-in_err-section-clause-me
 returns-in_err-section-clause-memory c =
     let m = c.sections.invariant.memory in
     rw (handed_on c.from_residual-in_err-section.result c.in_err-section.field-0.0 c.from_residual-in_err-section.ensures.1)
-    (m.0, m.1.0, held-stop c.in_err-section.field-0.0 c.args.text.now m.0 (m.1.1 c.WHILE))
+    (m.0, m.1, held-stop c.in_err-section.field-0.0 c.args.text.now m.0 (m.2 c.sections-test.true))
 
 pub returns-in-Err-grow-clause-memory : goal.returns-in-Err-grow-clause-memory
-returns-in-Err-grow-clause-memory c = let m = c.sections.invariant.memory in (m.0, m.1.0, m.1.1 c.WHILE)
+returns-in-Err-grow-clause-memory c = let m = c.sections.invariant.memory in (m.0, m.1, m.2 c.sections-test.true)
 
 pub returns-clause-memory : goal.returns-clause-memory
-returns-clause-memory c = let m = c.sections.invariant.memory in (m.0, m.1.0, tt)
+returns-clause-memory c = let m = c.sections.invariant.memory in (m.0, m.1, tt)

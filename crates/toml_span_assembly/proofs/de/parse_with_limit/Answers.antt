@@ -42,7 +42,7 @@ pub returns-in-Ok-clause-memory : goal.returns-in-Ok-clause-memory
 returns-in-Ok-clause-memory c = let g = c.in-Ok.ensures.gives in keeps-placed g.sections c.args.s.now c.args.limit c.tree_of.result g.spelled (λ none. c.tree_of.ensures.bare (g.bare none))
 
 pub returns-in-Err-Memory-clause-memory : goal.returns-in-Err-Memory-clause-memory
-returns-in-Err-Memory-clause-memory c = let m = c.in-Err-Memory.ensures.memory in (m.0, m.1.0, m.1.1)
+returns-in-Err-Memory-clause-memory c = let m = c.in-Err-Memory.ensures.memory in (m.0, m.1, rw c.in-Err-Memory.field-0-is at m.2)
 
 pub returns-in-Err-Fault-clause-memory : goal.returns-in-Err-Fault-clause-memory
-returns-in-Err-Fault-clause-memory c = let m = c.in-Err-Fault.ensures.memory in (m.0, m.1.0, tt)
+returns-in-Err-Fault-clause-memory c = let m = c.in-Err-Fault.ensures.memory in (m.0, m.1, tt)
