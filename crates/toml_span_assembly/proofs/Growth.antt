@@ -8,17 +8,20 @@ use Rattle.toml_span_tree.specs.Node.{node}
 use Rattle.toml_span_tree.specs.Value.{view, inner_view}
 use Rattle.toml_span_tree.specs.declared.value.Value.{Value}
 use Rattle.toml_span_tree.specs.declared.value.ValueInner.TheVariants.{Table as table_inner}
+use Rattle.toml_span_lex.specs.Tokenizer.{FirstPlace}
 use Rattle.toml_span_lex.specs.declared.stop.Stop.{Stop}
 use Rattle.toml_span_lex.specs.declared.stop.Stop.TheVariants as stops
 use Rattle.toml_span_read.specs.Borrowed.{IsRight as IsRightRead, AreRight as AreRightRead, section_written, sections_written}
 use Rattle.toml_span_read.specs.Data.{Event}
 use Rattle.toml_span_read.specs.Inside.{SectionInside}
 use Rattle.toml_span_read.specs.Keys.{Part}
-use Rattle.toml_span_read.specs.Lines.{Block, block, first_block, first_blocks}
+use Rattle.toml_span_read.specs.Lines.{Block, block, first_block, first_blocks, HoldsForm}
 use Rattle.toml_span_read.specs.Stepwise.{FirstGives, IsReadFirst, IsReadSection, SectionGives}
 use Rattle.toml_span_read.specs.declared.fault.Fault.{Fault}
 use Rattle.toml_span_read.specs.declared.section.Section.{Section}
 use Rattle.toml_span_read.proofs.BorrowLemmas.{all_append, all_behind, all_front, sections_more as sections_right}
+use Rattle.toml_span_read.proofs.MemoryLemmas.{Begun, begun_by_lines}
+use Rattle.toml_span_read.proofs.StepLemmas.{first_keeps}
 use Rattle.toml_span_read.proofs.LineLemmas.{StuckFrom, WholeSections, sections_begin, sections_end, sections_more}
 use Rattle.toml_span_claims.specs.Borrowed.{AreFrom, IsFrom}
 use Rattle.toml_span_claims.specs.declared.claims.Clash as code
@@ -34,7 +37,7 @@ use Rattle.toml_span_claims.specs.Placing.{AreSections, Assembles, ShowsBelow}
 use Rattle.toml_span_claims.specs.Tree.{cells, IsFresh, IsScope}
 use Rattle.toml_span_assembly.specs.declared.sections.Grown.{Grown}
 use Rattle.toml_span_assembly.specs.declared.sections.Grown.TheVariants as growns
-use Rattle.toml_span_assembly.specs.Growing.{GrownGives, GrownRight, Grows, IsGrown, IsGrownInside, IsHalted, Placed, Remaining}
+use Rattle.toml_span_assembly.specs.Growing.{GrownGives, GrownRight, Grows, IsBare, IsGrown, IsGrownInside, IsHalted, Placed, Remaining}
 use Rattle.toml_span_assembly.proofs.Refusals.{some_part}
 use Rattle.toml_span_assembly.proofs.Assembly.{remaining-first, remaining-next, assembles-err, assembles-ok}
 
@@ -73,6 +76,7 @@ pub record Growing (text : List ℕ) (limit at : ℕ) (g : Grown) : Type 0 where
   pub whole : WholeSections sections text limit at
   pub grows : Grows (map block sections) g
   pub inside : IsGrownInside (length text) g
+  pub bare : sections ≡ [] → IsBare g
   pub read : AreRightRead text (sections_written sections)
   pub borrows : (ps : List Part) → AreFrom text ps (sections_written sections) → GrownRight text ps g
 
@@ -82,18 +86,19 @@ begins-headed (ev ∷ evs) = (λ none. refl, tt)
 
 pub growing-first : (text : List ℕ) (limit at : ℕ) (o : Option Section) (g : Grown) → IsReadFirst text limit o → FirstGives text limit (Ok (o, at))
     → (AreSections (first_blocks o) → Grows (first_blocks o) g) → ((n : ℕ) → IfSome o (SectionInside n) → IsGrownInside n g)
-    → ((t : List ℕ) (ps : List Part) → IfSome o (λ s. AreFrom t ps (section_written s)) → GrownRight t ps g)
+    → ((t : List ℕ) (ps : List Part) → IfSome o (λ s. AreFrom t ps (section_written s)) → GrownRight t ps g) → (o ≡ None → IsBare g)
     → Growing text limit at g × StuckFrom text limit at
-growing-first text limit at None g read (start, evs, begins, lines, same) grows inside borrows =
+growing-first text limit at None g read (start, evs, begins, lines, same) grows inside borrows bare =
     let b = sections_begin [] evs text limit start at same begins lines in
-    (record { sections = []; whole = b.0; grows = grows tt; inside = inside (length text) tt; read = tt; borrows = λ ps h. borrows text ps tt }, b.1)
-growing-first text limit at (Some s) g read (start, evs, begins, lines, same) grows inside borrows =
+    (record { sections = []; whole = b.0; grows = grows tt; inside = inside (length text) tt; bare = λ none. bare refl; read = tt; borrows = λ ps h. borrows text ps tt }, b.1)
+growing-first text limit at (Some s) g read (start, evs, begins, lines, same) grows inside borrows bare =
     let b = sections_begin (s ∷ []) evs text limit start at same begins lines in (
       record {
         sections = s ∷ [];
         whole = b.0;
         grows = grows (subst AreSections (sym same) (begins-headed evs));
         inside = inside (length text) read.inside;
+        bare = λ none. cc;
         read = all_append (IsRightRead text) (section_written s) [] read.borrows tt;
         borrows = λ ps h. borrows text ps (all_front (IsFrom text ps) (section_written s) [] h);
       },
@@ -113,6 +118,10 @@ from-end text ps (x ∷ xs) s h =
       rest.1,
     )
 
+never-empty : (ss : List Section) (s : Section) → ss ++ (s ∷ []) ≡ [] → ⊥
+never-empty [] s none = cc
+never-empty (x ∷ xs) s none = cc
+
 pub growing-more : (text : List ℕ) (limit at next : ℕ) (s : Section) (g new : Grown) → IsReadSection text limit s → SectionGives text limit at (Ok (s, next)) → Growing text limit at g
     → ((bs : List Block) → AreSections (block s ∷ []) → Grows bs g → Grows (bs ++ (block s ∷ [])) new) → ((n : ℕ) → SectionInside n s → IsGrownInside n g → IsGrownInside n new)
     → ((t : List ℕ) (ps : List Part) → AreFrom t ps (section_written s) → GrownRight t ps g → GrownRight t ps new)
@@ -122,6 +131,7 @@ growing-more text limit at next s g new read spelled old grows inside borrows = 
   whole = sections_more old.sections (old.sections ++ (s ∷ [])) s text limit at next refl old.whole spelled;
   grows = subst (λ bs. Grows bs new) (sym (blocks-end old.sections s)) (grows (map block old.sections) (some_part (block s).array text _ _ (block s).header spelled.header.front.key, tt) old.grows);
   inside = inside (length text) read.inside old.inside;
+  bare = λ none. absurd (never-empty old.sections s none);
   read = sections_right text old.sections (old.sections ++ (s ∷ [])) s refl old.read read.borrows;
   borrows = λ ps h. let from = from-end text ps old.sections s h in borrows text ps from.1 (old.borrows ps from.0);
 }
@@ -140,6 +150,7 @@ grown-whole text limit at g h end = record {
   spelled = sections_end h.sections text limit at h.whole end;
   grows = h.grows;
   inside = h.inside;
+  bare = h.bare;
   read = h.read;
   borrows = h.borrows;
 }
@@ -156,3 +167,13 @@ pub halted-inside : (n : ℕ) (halt : Halt) (r : Result Grown AllocError) → Is
 halted-inside n halt (Ok (growns.Tree x)) inside is = tt
 halted-inside n halt (Ok (growns.Clash c)) inside is = rw is at inside
 halted-inside n halt (Err e) inside is = tt
+
+-- ---- want of memory
+
+pub first-begun : (text : List ℕ) (limit at : ℕ) (o : Option Section) → FirstGives text limit (Ok (o, at)) → Begun text at
+first-begun text limit at o (start, evs, begins, lines, same) = begun_by_lines evs text limit start at begins lines
+
+-- a section that is placed is something to keep
+pub begin-keeps : (text : List ℕ) (limit at : ℕ) (o : Option Section) → FirstGives text limit (Ok (o, at)) → (o ≡ None → ⊥) → (i : ℕ) × FirstPlace text i × HoldsForm text i
+begin-keeps text limit at None given some = absurd (some refl)
+begin-keeps text limit at (Some s) given some = first_keeps text limit at (Some s) s refl given

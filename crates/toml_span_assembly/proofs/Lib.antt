@@ -16,3 +16,4 @@ pub mod WholeTree
 pub mod ShownWhole
 pub mod Borrowing
 pub mod Growth
+pub mod Memory

@@ -11,6 +11,7 @@ use Rattle.toml_span_read.specs.declared.section.Section.{Section}
 use Rattle.toml_span_claims.specs.declared.claims.Halt.{Halt}
 use Rattle.toml_span_claims.specs.declared.claims.Halt.TheVariants as halts
 use Rattle.toml_span_claims.specs.declared.node.Node.{Node}
+use Rattle.toml_span_claims.specs.declared.node.Node.TheViews.{out-Node}
 use Rattle.toml_span_claims.specs.Borrowed.{AreFrom, AreRight, standing}
 use Rattle.toml_span_claims.specs.Claims.{event_claims, claims_behind, claims, head_of}
 use Rattle.toml_span_claims.specs.Clashes.{TellsFirst}
@@ -56,12 +57,18 @@ abbrev pub GrownRight : List ℕ → List Part → Grown → Type 0
 GrownRight text ps (Tree root) = AreRight text ps (standing root)
 GrownRight text ps (Clash c) = ⊤
 
+-- no table is to be finished
+abbrev pub IsBare : Grown → Type 0
+IsBare (Tree root) = (out-Node root).tables.entries ≡ []
+IsBare (Clash c) = ⊥
+
 -- The text spells these sections, and this is what they make.
 pub record IsGrown (text : List ℕ) (limit : ℕ) (g : Grown) : Type 0 where
   pub sections : List Section
   pub spelled : SpellsDocument (map block sections) text limit
   pub grows : Grows (map block sections) g
   pub inside : IsGrownInside (length text) g
+  pub bare : sections ≡ [] → IsBare g
   pub read : AreRightRead text (sections_written sections)
   pub borrows : (ps : List Part) → AreFrom text ps (sections_written sections) → GrownRight text ps g
 

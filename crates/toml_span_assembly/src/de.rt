@@ -1,12 +1,13 @@
 //! Reads a document into a tree.
-ghost use Rattle.std.specs.Prelude.{◌≡◌, ◌≤◌, List, true, IfOk, IfErr, length};
+ghost use Rattle.std.specs.Prelude.{◌≡◌, ◌≤◌, ℕ, List, true, IfOk, IfErr, IsOk, length};
+ghost use Rattle.toml_span_lex.specs.Tokenizer.{FirstPlace};
 ghost use Rattle.toml_span_read.specs.Faults.{IsPlacedStop};
 ghost use Rattle.toml_span_read.specs.Keys.{Part};
-ghost use Rattle.toml_span_read.specs.Lines.{Block};
+ghost use Rattle.toml_span_read.specs.Lines.{Block, KeepsForm};
 ghost use Rattle.toml_span_tree.specs.Value.{is_whole, view};
 ghost use Rattle.toml_span_claims.specs.Borrowed.{AreRight, value_standing};
 ghost use Rattle.toml_span_claims.specs.Ordered.{IsOrdered};
-ghost use Rattle.toml_span_assembly.specs.Growing.{GrownGives, GrownRight, Grows, IsGrownInside};
+ghost use Rattle.toml_span_assembly.specs.Growing.{GrownGives, GrownRight, Grows, IsBare, IsGrownInside};
 ghost use Rattle.toml_span_assembly.specs.Parsing.{IsBorrowedTree, IsClashStop, IsRefusal, IsTree, IsTreeOf};
 ghost use Rattle.toml_span_assembly.specs.Roots.{IsRoot};
 
@@ -27,6 +28,7 @@ fn grown_of<'de>(alloc: Global, text: &'de str, limit: usize) -> Result<Grown<'d
     requires small { limit ≤ 128 }
     ensures placed { IfErr result (IsPlacedStop text.now) }
     ensures gives { GrownGives text.now limit result }
+    ensures memory { (start : ℕ) × FirstPlace text.now start × KeepsForm text.now start result }
 {
     let (first, start) = read_first(alloc, text, limit)?;
     let mut grown = match begin(alloc, first) {
@@ -54,6 +56,7 @@ fn tree_of<'de>(grown: Grown<'de>, text: &'de str) -> Result<Value<'de>, Stop<Er
     ensures whole { (bs : List Block) → Grows bs grown.entry → IfOk result (λ root. is_whole (view root) ≡ true) }
     ensures borrows { (ps : List Part) → GrownRight text.now ps grown.entry → IfOk result (λ root. AreRight text.now ps (value_standing root)) }
     ensures refused { (bs : List Block) → Grows bs grown.entry → IfErr result (IsClashStop bs text.now) }
+    ensures bare { IsBare grown.entry → IsOk result }
 {
     match finish(grown, text.len()) {
         Ok(root) => Ok(root),
@@ -70,12 +73,14 @@ fn tree_of<'de>(grown: Grown<'de>, text: &'de str) -> Result<Value<'de>, Stop<Er
 /// The error is the first fault of reading or, where the text is read, the first clash of two claims on
 /// one path; there is no tree then.
 pub fn parse<'de>(alloc: Global, s: &'de str) -> Result<Value<'de>, Stop<Error<'de>>>
-    ensures tree { IfOk result (IsTree s.now LIMIT) }
+    ensures tree { IfOk result (IsTree s.now 128) }
     ensures root { IfOk result (IsRoot (length s.now)) }
     ensures ordered { IfOk result (λ root. IsOrdered (view root)) }
     ensures whole { IfOk result (λ root. is_whole (view root) ≡ true) }
-    ensures borrows { IfOk result (IsBorrowedTree s.now LIMIT) }
-    ensures refused { IfErr result (IsRefusal s.now LIMIT) }
+    ensures borrows { IfOk result (IsBorrowedTree s.now 128) }
+    ensures refused { IfErr result (IsRefusal s.now 128) }
+    // Memory is wanted only where more than blank lines stand in the text.
+    ensures memory { (start : ℕ) × FirstPlace s.now start × KeepsForm s.now start result }
 {
     parse_with_limit(alloc, s, LIMIT)
 }
@@ -95,6 +100,8 @@ pub fn parse_with_limit<'de>(
     ensures whole { IfOk result (λ root. is_whole (view root) ≡ true) }
     ensures borrows { IfOk result (IsBorrowedTree s.now limit) }
     ensures refused { IfErr result (IsRefusal s.now limit) }
+    // Memory is wanted only where more than blank lines stand in the text.
+    ensures memory { (start : ℕ) × FirstPlace s.now start × KeepsForm s.now start result }
 {
     match grown_of(alloc, s, limit) {
         Ok(grown) => tree_of(grown, s),

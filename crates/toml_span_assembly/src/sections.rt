@@ -1,5 +1,5 @@
 //! Sections placed one by one into a tree.
-ghost use Rattle.std.specs.Prelude.{◌≡◌, ℕ, List, map, [], ◌∷◌, ◌++◌, IfOk, IfErr, IfSome};
+ghost use Rattle.std.specs.Prelude.{◌≡◌, ℕ, List, map, [], ◌∷◌, ◌++◌, IfOk, IfErr, IfSome, IsOk, IsOkAnd, None};
 ghost use Rattle.toml_span_read.specs.Borrowed.{assignments_written, key_written, keys_written, section_written};
 ghost use Rattle.toml_span_read.specs.Data.{event};
 ghost use Rattle.toml_span_read.specs.Inside.{IsInside, PartsInside, EventsInside, SectionInside};
@@ -13,7 +13,7 @@ ghost use Rattle.toml_span_claims.specs.Places.{IsHaltInside};
 ghost use Rattle.toml_span_claims.specs.Placing.{AreSections, Assembles, Opening, Opens, Passes, Places, Reaches};
 ghost use Rattle.toml_span_claims.specs.Relative.{adding, ending, grown, grown_here, grown_through, one_more, opening, part_sort, passing, section_at, through};
 ghost use Rattle.toml_span_claims.specs.Tree.{counts, IsHeld, IsOpen, IsScope};
-ghost use Rattle.toml_span_assembly.specs.Growing.{GrownRight, Grows, IsGrownInside, IsHalted, Placed};
+ghost use Rattle.toml_span_assembly.specs.Growing.{GrownRight, Grows, IsBare, IsGrownInside, IsHalted, Placed};
 ghost use Rattle.toml_span_assembly.specs.Roots.{IsRoot};
 
 use crate::scopes::{admit_beside_value, place_all};
@@ -240,6 +240,7 @@ impl<'de> Grown<'de> {
         ensures grows { Grows [] result }
         ensures inside { (n : ℕ) → IsGrownInside n result }
         ensures borrows { (text : List ℕ) → (ps : List Part) → GrownRight text ps result }
+        ensures bare { IsBare result }
     {
         Self::Tree(Node::new(alloc))
     }
@@ -289,6 +290,7 @@ pub(crate) fn begin<'de>(
     ensures grows { AreSections (first_blocks first.entry) → IfOk result (Grows (first_blocks first.entry)) }
     ensures inside { (n : ℕ) → IfSome first.entry (SectionInside n) → IfOk result (IsGrownInside n) }
     ensures borrows { (text : List ℕ) → (ps : List Part) → IfSome first.entry (λ section. AreFrom text ps (section_written section)) → IfOk result (GrownRight text ps) }
+    ensures bare { first.entry ≡ None → IsOkAnd result IsBare }
 {
     let grown = Grown::new(alloc);
     match first {
@@ -303,6 +305,7 @@ pub(crate) fn finish<'de>(grown: Grown<'de>, length: usize) -> Result<Value<'de>
     ensures root { IfOk result (IsRoot length) }
     ensures placed { (n : ℕ) → IsGrownInside n grown.entry → IfErr result (IsHaltInside n) }
     ensures borrows { (text : List ℕ) → (ps : List Part) → GrownRight text ps grown.entry → ValueRight text ps result }
+    ensures bare { IsBare grown.entry → IsOk result }
 {
     let root = match grown {
         Grown::Tree(root) => root,

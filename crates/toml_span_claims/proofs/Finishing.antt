@@ -379,3 +379,7 @@ became-array n a spans v placed seen some made =
     shape arr m is =
         let claim : arr.claim ≡ m = array-decides arr.claim m arr.array (rw arr.only at is) in
         rw (inner_view-Array a, ← claim, arr.array)
+
+-- a list from which something is taken is not empty
+pub never-empty : {A : Type 0} (x : A) (xs ys : List A) → ys ≡ x ∷ xs → ys ≡ [] → ⊥
+never-empty x xs ys some none = let same : [] ≡ x ∷ xs = sym none ∙ some in cc

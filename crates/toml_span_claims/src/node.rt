@@ -1,5 +1,5 @@
 //! The tree under construction.
-ghost use Rattle.std.specs.Prelude.{◌≡◌, ℕ, List, [], false, IfOk, IfSome};
+ghost use Rattle.std.specs.Prelude.{◌≡◌, ℕ, List, [], false, IfOk, IfSome, IsOk};
 ghost use Rattle.toml_span_read.specs.Keys.{Part};
 ghost use Rattle.toml_span_claims.specs.Marks as kept;
 ghost use Rattle.toml_span_claims.specs.Borrowed.{AreRight, array_standing, boxes_standing, entries_of, held, standing, table_standing, value_standing};
@@ -90,6 +90,8 @@ pub fn into_table<'de>(tables: Nodes<'de>, mut values: Table<'de>) -> Result<Tab
     ensures finishes { Finishes tables.entry values.entry result }
     ensures borrows { (text : List ℕ) → (ps : List Part) → AreRight text ps (boxes_standing tables.entry.entries) → AreRight text ps (table_standing values.entry.entries)
         → IfOk result (λ table. AreRight text ps (table_standing table.entries)) }
+    // Where there are no nodes, no memory is wanted.
+    ensures bare { tables.entry.entries ≡ [] → IsOk result }
 {
     for (key, child) in tables {
         let (span, value) = into_value(Box::into_inner(child))?;

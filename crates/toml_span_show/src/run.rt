@@ -123,7 +123,7 @@ pub fn run_with_limit<R: Source, W: Sink>(
 pub fn run<R: Source, W: Sink>(alloc: Global, reader: &mut R, writer: &mut W) -> u8
     requires reader { R.failed reader.old ≡ false }
     requires writer { W.failed writer.old ≡ false }
-    ensures { Runs LIMIT (R.remaining reader.old) (R.remaining reader.new) (R.failed reader.new)
+    ensures { Runs 128 (R.remaining reader.old) (R.remaining reader.new) (R.failed reader.new)
         (W.contents writer.old) (W.contents writer.new) (W.failed writer.new) result }
 {
     run_with_limit(alloc, LIMIT, reader, writer)

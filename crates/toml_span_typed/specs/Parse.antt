@@ -8,11 +8,11 @@ use Rattle.toml_span_tree.specs.Error.{Fault, custom, fault_of}
 use Rattle.toml_span_tree.specs.Node.{Node}
 use Rattle.toml_span_tree.specs.Value.{inner_of, not_a, span_of, text_in}
 
--- an error at the span whose message ends in the refusal's text, if that is stated
+-- an error at the span whose message begins so and ends in a text: the refusal's, if that is stated
 abbrev pub TellsRefusal : Option (List ℕ) → Span → Fault → Type 0
 TellsRefusal shown span fault =
-    (message : List ℕ) × (fault ≡ record { kind = custom message; span = span; line_info = None })
-    × IfSome shown (λ text. message ≡ codes "failed to parse string: " ++ text)
+    (text : List ℕ) × (fault ≡ record { kind = custom (codes "failed to parse string: " ++ text); span = span; line_info = None })
+    × IfSome shown (λ stated. text ≡ stated)
 
 -- the string is read as `from_str_gives` says; memory is wanted only where it refuses the string
 abbrev pub Parses : {T E : Type 0} → (List ℕ → Result T E → Type 0) → (E → Option (List ℕ)) → Node → Result T (Stop Error) → Type 0

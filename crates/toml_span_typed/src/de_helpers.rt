@@ -65,6 +65,7 @@ fn unparsed<'s, E: Display + Drop>(
 ) -> Result<Error<'s>, AllocError>
     ensures { IfOk result (λ error. TellsRefusal (E.output refusal) span (fault_of error)) }
 {
-    let message = format!(in alloc; "failed to parse string: {refusal}")?;
+    let shown = refusal.to_string(alloc)?;
+    let message = format!(in alloc; "failed to parse string: {shown}")?;
     Ok(Error::from((ErrorKind::Custom(CowStr::Owned(message)), span)))
 }

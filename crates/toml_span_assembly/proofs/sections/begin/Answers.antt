@@ -1,4 +1,5 @@
-use Rattle.std.proofs.Common.{[]}
+use Rattle.std.proofs.Common.{◌≡◌, [], sym, ◌∙◌}
+use Rattle.std.proofs.lemmas.Option.{none-some}
 use Rattle.toml_span_assembly.proofs.sections.begin.Goals as goal
 
 pub returns-in-Some-clause-grows : goal.returns-in-Some-clause-grows
@@ -18,3 +19,9 @@ returns-in-None-clause-inside c = λ n inside. c.new-grown.ensures.inside n
 
 pub returns-in-None-clause-borrows : goal.returns-in-None-clause-borrows
 returns-in-None-clause-borrows c = λ text ps from. c.new-grown.ensures.borrows text ps
+
+pub returns-in-Some-clause-bare : goal.returns-in-Some-clause-bare
+returns-in-Some-clause-bare c = λ none. absurd (none-some _ (sym none ∙ c.in-Some.is))
+
+pub returns-in-None-clause-bare : goal.returns-in-None-clause-bare
+returns-in-None-clause-bare c = λ none. c.new-grown.ensures.bare

@@ -1,4 +1,5 @@
 use Rattle.std.proofs.Common.{refl}
+use Rattle.std.proofs.lemmas.Bool.{false≢true}
 use Rattle.toml_span_claims.proofs.BorrowLemmas.{made_table, of_node}
 use Rattle.toml_span_assembly.proofs.Growth.{finish-clash, finish-tree}
 use Rattle.toml_span_assembly.proofs.sections.finish.Goals as goal
@@ -14,3 +15,9 @@ pub returns-clause-borrows : goal.returns-clause-borrows
 returns-clause-borrows c = λ text ps right.
     let inside = of_node text ps c.in-Tree.root (rw c.in-Tree.is at right) in
     (made_table text ps c.with_span.result c.in_ok-table.table _ c.with_span.ensures.kept (c.in_ok-table.ensures.borrows text ps inside.1 inside.0)).1
+
+pub returns-in-Clash-clause-bare : goal.returns-in-Clash-clause-bare
+returns-in-Clash-clause-bare c = λ bare. absurd (rw c.in-Clash.is at bare)
+
+pub returns-in_err-table-clause-bare : goal.returns-in_err-table-clause-bare
+returns-in_err-table-clause-bare c = λ bare. absurd (false≢true (c.in_err-table.ensures.bare (rw c.in-Tree.is at bare)))

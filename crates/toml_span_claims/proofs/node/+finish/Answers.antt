@@ -1,6 +1,6 @@
 use Rattle.std.proofs.Common.{refl}
 use Rattle.toml_span_claims.proofs.BorrowLemmas.{box_first, entry_first, element_push, insert_title, of_node, made_table, made_array}
-use Rattle.toml_span_claims.proofs.Finishing.{no_entries, some_entries, entries-more, filled-more, filled-finishes, became-table, became-array}
+use Rattle.toml_span_claims.proofs.Finishing.{no_entries, some_entries, never-empty, entries-more, filled-more, filled-finishes, became-table, became-array}
 use Rattle.toml_span_claims.proofs.node.+finish.Goals as goal
 
 pub into_array-loop-entry-preserved : goal.into_array-loop-entry-preserved
@@ -24,6 +24,7 @@ into_table-loop-key-preserved t c = record {
       let first = box_first text ps c.in-Some.key c.in-Some.child _ _ c.in-Some.ensures.steps before.0 in
       let made = c.in_ok-span.ensures.borrows text ps (rw c.into_inner.ensures first.1) in
       (first.2, rw c.in_ok-insert.ensures.entries (insert_title text ps _ c.in_ok-span.value _ first.0 made.0 made.1 before.1));
+  bare = λ none. absurd (never-empty _ _ _ c.in-Some.ensures.steps (c.loop-key.invariant.bare none));
 }
 
 pub into_table-returns-clause-finishes : goal.into_table-returns-clause-finishes
@@ -52,3 +53,9 @@ into_value-returns-clause-borrows t c = λ text ps h.
 
 pub into_array-returns-clause-borrows : goal.into_array-returns-clause-borrows
 into_array-returns-clause-borrows t c = λ text ps h. (c.loop-entry.invariant.borrows text ps h).1
+
+pub into_table-returns-in_err-span-clause-bare : goal.into_table-returns-in_err-span-clause-bare
+into_table-returns-in_err-span-clause-bare t c = λ none. absurd (never-empty _ _ _ c.in-Some.ensures.steps (c.loop-key.invariant.bare none))
+
+pub into_table-returns-in_err-insert-clause-bare : goal.into_table-returns-in_err-insert-clause-bare
+into_table-returns-in_err-insert-clause-bare t c = λ none. absurd (never-empty _ _ _ c.in-Some.ensures.steps (c.loop-key.invariant.bare none))

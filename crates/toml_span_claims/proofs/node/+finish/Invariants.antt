@@ -1,4 +1,4 @@
-use Rattle.std.proofs.Common.{ℕ, List}
+use Rattle.std.proofs.Common.{◌≡◌, ℕ, List, []}
 use Rattle.toml_span_read.specs.Keys.{Part}
 use Rattle.toml_span_claims.specs.Borrowed.{AreRight, array_standing, boxes_standing, entries_of, table_standing}
 use Rattle.toml_span_claims.proofs.Finishing.{Filled, EntriesFilled}
@@ -10,6 +10,7 @@ invariant-into_table-loop-key l = record {
   filled : Filled l.fn.tables.entries l.key-iterator l.fn.values.entries l.values.entries;
   borrows : (text : List ℕ) (ps : List Part) → AreRight text ps (boxes_standing l.fn.tables.entries) → AreRight text ps (table_standing l.fn.values.entries)
       → AreRight text ps (boxes_standing l.key-iterator) × AreRight text ps (table_standing l.values.entries);
+  bare : l.fn.tables.entries ≡ [] → l.key-iterator ≡ [];
 }
 
 abbrev pub invariant-into_array-loop-entry : goal.invariant-into_array-loop-entry
