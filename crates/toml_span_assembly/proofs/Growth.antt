@@ -1,8 +1,8 @@
 -- What sections make, one after another.
-use Rattle.std.proofs.Common.{◌≡◌, ℕ, ◌<◌, ◌≤◌, ◌⊎◌, List, [], ◌∷◌, ◌++◌, map, length, Option, Some, None, Result, Ok, Err, refl, sym, ap, ◌∙◌, subst, append_assoc, append-nil, inl, inr}
-use Rattle.std.specs.Prelude.{IfSome, IfOk}
+use Rattle.std.proofs.Common.{◌≡◌, ℕ, ◌<◌, ◌≤◌, ◌⊎◌, List, [], ◌∷◌, ◌++◌, map, length, true, false, Option, Some, None, Result, Ok, Err, refl, sym, ap, ◌∙◌, subst, append_assoc, append-nil, inl, inr}
+use Rattle.std.specs.Prelude.{IfSome, IfNone, is_some}
 use Rattle.std.specs.BTreeMap.{BTreeMap}
-use Rattle.std.specs.declared.alloc.AllocError.{AllocError}
+use Rattle.std.proofs.lemmas.Bool.{false≢true}
 use Rattle.toml_span_lex.specs.declared.key.Key.{Key}
 use Rattle.toml_span_tree.specs.Node.{node}
 use Rattle.toml_span_tree.specs.Value.{view, inner_view}
@@ -13,7 +13,7 @@ use Rattle.toml_span_lex.specs.declared.stop.Stop.{Stop}
 use Rattle.toml_span_lex.specs.declared.stop.Stop.TheVariants as stops
 use Rattle.toml_span_read.specs.Borrowed.{IsRight as IsRightRead, AreRight as AreRightRead, section_written, sections_written}
 use Rattle.toml_span_read.specs.Data.{Event}
-use Rattle.toml_span_read.specs.Inside.{SectionInside}
+use Rattle.toml_span_read.specs.Inside.{IsInside, SectionInside}
 use Rattle.toml_span_read.specs.Keys.{Part}
 use Rattle.toml_span_read.specs.Lines.{Block, block, first_block, first_blocks, HoldsForm}
 use Rattle.toml_span_read.specs.Stepwise.{FirstGives, IsReadFirst, IsReadSection, SectionGives}
@@ -23,8 +23,8 @@ use Rattle.toml_span_read.proofs.BorrowLemmas.{all_append, all_behind, all_front
 use Rattle.toml_span_read.proofs.MemoryLemmas.{Begun, begun_by_lines}
 use Rattle.toml_span_read.proofs.StepLemmas.{first_keeps}
 use Rattle.toml_span_read.proofs.LineLemmas.{StuckFrom, WholeSections, sections_begin, sections_end, sections_more}
-use Rattle.toml_span_claims.specs.Borrowed.{AreFrom, IsFrom}
-use Rattle.toml_span_claims.specs.declared.claims.Clash as code
+use Rattle.toml_span_claims.specs.Borrowed.{AreFrom, AreRight, IsFrom, standing}
+use Rattle.toml_span_claims.specs.declared.claims.Clash.{Clash}
 use Rattle.toml_span_claims.specs.declared.claims.Halt.{Halt}
 use Rattle.toml_span_claims.specs.declared.claims.Halt.TheVariants as halts
 use Rattle.toml_span_claims.specs.declared.node.Node.{Node}
@@ -36,37 +36,42 @@ use Rattle.toml_span_claims.specs.Ordered.{HoldsOrdered}
 use Rattle.toml_span_claims.specs.Placing.{AreSections, Assembles, ShowsBelow}
 use Rattle.toml_span_claims.specs.Tree.{cells, IsFresh, IsScope}
 use Rattle.toml_span_assembly.specs.declared.sections.Grown.{Grown}
-use Rattle.toml_span_assembly.specs.declared.sections.Grown.TheVariants as growns
-use Rattle.toml_span_assembly.specs.Growing.{GrownGives, GrownRight, Grows, IsBare, IsGrown, IsGrownInside, IsHalted, Placed, Remaining}
+use Rattle.toml_span_assembly.specs.Growing.{GrownGives, GrownRight, Grows, IsBare, IsGrown, GrowsTo, IsGrownInside, Placed, Remaining}
 use Rattle.toml_span_assembly.proofs.Refusals.{some_part}
 use Rattle.toml_span_assembly.proofs.Assembly.{remaining-first, remaining-next, assembles-err, assembles-ok}
 
-pub grows-none : (root : Node) → IsFresh root → Grows [] (growns.Tree root)
+pub grows-none : (root : Node) → IsFresh root → GrowsTo [] root None
 grows-none root fresh rest headed = remaining-first rest rest root refl headed fresh
 
-pub grows-more : (bs : List Block) (b : Block) (root new : Node) → AreSections (b ∷ []) → Grows bs (growns.Tree root) → Placed b root new (Ok tt) → Grows (bs ++ (b ∷ [])) (growns.Tree new)
-grows-more bs b root new headed grows placed rest are =
+pub grows-more : (bs : List Block) (b : Block) (root new : Node) (o : Option Clash) → is_some o ≡ false → AreSections (b ∷ []) → GrowsTo bs root o → Placed b root new (Ok tt) → GrowsTo (bs ++ (b ∷ [])) new o
+grows-more bs b root new (Some c) none headed grows placed = absurd (false≢true (sym none))
+grows-more bs b root new None none headed grows placed = λ rest are.
     subst (λ all. Remaining all rest new) (sym (append_assoc bs (b ∷ []) rest))
     (remaining-next (bs ++ (b ∷ rest)) (b ∷ rest) rest b root new refl (grows (b ∷ rest) (headed.0, are)) placed)
 
-pub grows-clash : (bs : List Block) (b : Block) (root new : Node) (c : code.Clash) → AreSections (b ∷ []) → Grows bs (growns.Tree root) → Placed b root new (Err (halts.Clash c))
-    → Grows (bs ++ (b ∷ [])) (growns.Clash c)
-grows-clash bs b root new c headed grows placed rest are =
+pub grows-clash : (bs : List Block) (b : Block) (root new : Node) (o : Option Clash) (halt : Halt) (c : Clash) → is_some o ≡ false → halt ≡ halts.Clash c → AreSections (b ∷ []) → GrowsTo bs root o
+    → Placed b root new (Err halt) → GrowsTo (bs ++ (b ∷ [])) new (Some c)
+grows-clash bs b root new (Some d) halt c none is headed grows placed = absurd (false≢true (sym none))
+grows-clash bs b root new None halt c none is headed grows placed = λ rest are.
     subst (λ all. TellsFirst [] (claims all) (told_by c)) (sym (append_assoc bs (b ∷ []) rest))
-    (assembles-err (bs ++ (b ∷ rest)) (b ∷ rest) rest 0 b root new (Err (halts.Clash c)) (halts.Clash c) refl (grows (b ∷ rest) (headed.0, are)) refl placed)
+    (assembles-err (bs ++ (b ∷ rest)) (b ∷ rest) rest 0 b root new (Err (halts.Clash c)) (halts.Clash c) refl (grows (b ∷ rest) (headed.0, are)) refl (rw is at placed))
 
-pub grows-still : (bs : List Block) (b : Block) (c : code.Clash) → AreSections (b ∷ []) → Grows bs (growns.Clash c) → Grows (bs ++ (b ∷ [])) (growns.Clash c)
-grows-still bs b c headed grows rest are =
-    subst (λ all. TellsFirst [] (claims all) (told_by c)) (sym (append_assoc bs (b ∷ []) rest)) (grows (b ∷ rest) (headed.0, are))
+pub right-more : (text : List ℕ) (ps : List Part) (root new : Node) (o : Option Clash) → is_some o ≡ false → IfNone o (AreRight text ps (standing root)) → (AreRight text ps (standing root) → AreRight text ps (standing new))
+    → IfNone o (AreRight text ps (standing new))
+right-more text ps root new None none right keeps = keeps right
+right-more text ps root new (Some c) none right keeps = tt
 
-pub finish-tree : (bs : List Block) (length : ℕ) (t : BTreeMap Key Value) (root : Node) (v : Value) → Grows bs (growns.Tree root)
+pub halt-inside : (n : ℕ) (halt : Halt) (c : Clash) → halt ≡ halts.Clash c → IsHaltInside n halt → IsInside n c.meeting.place
+halt-inside n halt c is inside = rw is at inside
+
+pub finish-tree : (bs : List Block) (length : ℕ) (t : BTreeMap Key Value) (root : Node) (v : Value) → GrowsTo bs root None
     → (IsScope root → ShowsBelow (inner_view (table_inner t)) (cells root) × HoldsOrdered (inner_view (table_inner t))) → view v ≡ node (inner_view (table_inner t)) (record { start = 0; end = length })
     → Assembles bs length (Ok v)
 finish-tree bs length t root v grows finished shows =
     assembles-ok bs [] length t root v refl (subst (λ all. Remaining all [] root) (append-nil bs) (grows [] tt)) finished shows
 
-pub finish-clash : (bs : List Block) (length : ℕ) (c : code.Clash) → Grows bs (growns.Clash c) → Assembles bs length (Err (halts.Clash c))
-finish-clash bs length c grows = subst (λ all. TellsFirst [] (claims all) (told_by c)) (append-nil bs) (grows [] tt)
+pub finish-clash : (bs : List Block) (length : ℕ) (root : Node) (c : Clash) → GrowsTo bs root (Some c) → Assembles bs length (Err (halts.Clash c))
+finish-clash bs length root c grows = subst (λ all. TellsFirst [] (claims all) (told_by c)) (append-nil bs) (grows [] tt)
 
 -- ---- while a text is read
 
@@ -154,19 +159,6 @@ grown-whole text limit at g h end = record {
   read = h.read;
   borrows = h.borrows;
 }
-
--- ---- where a section halts
-
-pub halted-grows : (bs : List Block) (b : Block) (root new : Node) (halt : Halt) (r : Result Grown AllocError) → AreSections (b ∷ []) → Grows bs (growns.Tree root) → Placed b root new (Err halt)
-    → IfOk r (IsHalted halt) → IfOk r (Grows (bs ++ (b ∷ [])))
-halted-grows bs b root new halt (Ok (growns.Tree x)) headed grows placed is = absurd is
-halted-grows bs b root new halt (Ok (growns.Clash c)) headed grows placed is = grows-clash bs b root new c headed grows (rw is at placed)
-halted-grows bs b root new halt (Err e) headed grows placed is = tt
-
-pub halted-inside : (n : ℕ) (halt : Halt) (r : Result Grown AllocError) → IsHaltInside n halt → IfOk r (IsHalted halt) → IfOk r (IsGrownInside n)
-halted-inside n halt (Ok (growns.Tree x)) inside is = tt
-halted-inside n halt (Ok (growns.Clash c)) inside is = rw is at inside
-halted-inside n halt (Err e) inside is = tt
 
 -- ---- want of memory
 

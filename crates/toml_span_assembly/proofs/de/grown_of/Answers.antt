@@ -18,13 +18,13 @@ sections-init c =
 pub sections-preserved : goal.sections-preserved
 sections-preserved c =
     let read = c.in_ok-section.ensures in
-    let more = c.in-Ok-grow.ensures in
+    let more = c.in_default.ensures in
     let i = c.sections.invariant in
     record {
       boundary = read.reads.2.0;
       begun = begun_on c.args.text.now c.sections.at _ i.begun (omega (arith, read.reads.1.on));
       header = read.reads.2.1;
-      growing = growing-more c.args.text.now c.args.limit c.sections.at _ c.in_ok-section.section c.sections.grown c.in-Ok-grow.grown read.reads.0 read.gives i.growing more.grows more.inside more.borrows;
+      growing = growing-more c.args.text.now c.args.limit c.sections.at _ c.in_ok-section.section c.sections.grown c.grow.new.grown read.reads.0 read.gives i.growing more.grows more.inside more.borrows;
       stuck = λ e x. i.stuck e (on_section c.args.text.now c.args.limit c.sections.at _ _ e read.gives x);
     }
 
