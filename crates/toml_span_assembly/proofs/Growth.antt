@@ -1,27 +1,30 @@
 -- What sections make, one after another.
-use Rattle.std.proofs.Common.{◌≡◌, ℕ, ◌<◌, ◌≤◌, ◌⊎◌, List, [], ◌∷◌, ◌++◌, map, length, Option, Some, None, Result, Ok, Err, refl, sym, ap, ◌∙◌, subst, append_assoc, append-nil, inl, inr}
-use Rattle.std.specs.Prelude.{IfSome, IfOk}
+use Rattle.std.proofs.Common.{◌≡◌, ℕ, ◌<◌, ◌≤◌, ◌⊎◌, List, [], ◌∷◌, ◌++◌, map, length, true, false, Option, Some, None, Result, Ok, Err, refl, sym, ap, ◌∙◌, subst, append_assoc, append-nil, inl, inr}
+use Rattle.std.specs.Prelude.{IfSome, IfNone, is_some}
 use Rattle.std.specs.BTreeMap.{BTreeMap}
-use Rattle.std.specs.declared.alloc.AllocError.{AllocError}
+use Rattle.std.proofs.lemmas.Bool.{false≢true}
 use Rattle.toml_span_lex.specs.declared.key.Key.{Key}
 use Rattle.toml_span_tree.specs.Node.{node}
 use Rattle.toml_span_tree.specs.Value.{view, inner_view}
 use Rattle.toml_span_tree.specs.declared.value.Value.{Value}
 use Rattle.toml_span_tree.specs.declared.value.ValueInner.TheVariants.{Table as table_inner}
+use Rattle.toml_span_lex.specs.Tokenizer.{FirstPlace}
 use Rattle.toml_span_lex.specs.declared.stop.Stop.{Stop}
 use Rattle.toml_span_lex.specs.declared.stop.Stop.TheVariants as stops
 use Rattle.toml_span_read.specs.Borrowed.{IsRight as IsRightRead, AreRight as AreRightRead, section_written, sections_written}
 use Rattle.toml_span_read.specs.Data.{Event}
-use Rattle.toml_span_read.specs.Inside.{SectionInside}
+use Rattle.toml_span_read.specs.Inside.{IsInside, SectionInside}
 use Rattle.toml_span_read.specs.Keys.{Part}
-use Rattle.toml_span_read.specs.Lines.{Block, block, first_block, first_blocks}
+use Rattle.toml_span_read.specs.Lines.{Block, block, first_block, first_blocks, HoldsForm}
 use Rattle.toml_span_read.specs.Stepwise.{FirstGives, IsReadFirst, IsReadSection, SectionGives}
 use Rattle.toml_span_read.specs.declared.fault.Fault.{Fault}
 use Rattle.toml_span_read.specs.declared.section.Section.{Section}
 use Rattle.toml_span_read.proofs.BorrowLemmas.{all_append, all_behind, all_front, sections_more as sections_right}
+use Rattle.toml_span_read.proofs.MemoryLemmas.{Begun, begun_by_lines}
+use Rattle.toml_span_read.proofs.StepLemmas.{first_keeps}
 use Rattle.toml_span_read.proofs.LineLemmas.{StuckFrom, WholeSections, sections_begin, sections_end, sections_more}
-use Rattle.toml_span_claims.specs.Borrowed.{AreFrom, IsFrom}
-use Rattle.toml_span_claims.specs.declared.claims.Clash as code
+use Rattle.toml_span_claims.specs.Borrowed.{AreFrom, AreRight, IsFrom, standing}
+use Rattle.toml_span_claims.specs.declared.claims.Clash.{Clash}
 use Rattle.toml_span_claims.specs.declared.claims.Halt.{Halt}
 use Rattle.toml_span_claims.specs.declared.claims.Halt.TheVariants as halts
 use Rattle.toml_span_claims.specs.declared.node.Node.{Node}
@@ -32,39 +35,43 @@ use Rattle.toml_span_claims.specs.Places.{IsHaltInside}
 use Rattle.toml_span_claims.specs.Ordered.{HoldsOrdered}
 use Rattle.toml_span_claims.specs.Placing.{AreSections, Assembles, ShowsBelow}
 use Rattle.toml_span_claims.specs.Tree.{cells, IsFresh, IsScope}
-use Rattle.toml_span_claims.proofs.Finishing.{never-empty}
 use Rattle.toml_span_assembly.specs.declared.sections.Grown.{Grown}
-use Rattle.toml_span_assembly.specs.declared.sections.Grown.TheVariants as growns
-use Rattle.toml_span_assembly.specs.Growing.{GrownGives, GrownRight, Grows, IsBare, IsGrown, IsGrownInside, IsHalted, Placed, Remaining}
+use Rattle.toml_span_assembly.specs.Growing.{GrownGives, GrownRight, Grows, IsBare, IsGrown, GrowsTo, IsGrownInside, Placed, Remaining}
 use Rattle.toml_span_assembly.proofs.Refusals.{some_part}
 use Rattle.toml_span_assembly.proofs.Assembly.{remaining-first, remaining-next, assembles-err, assembles-ok}
 
-pub grows-none : (root : Node) → IsFresh root → Grows [] (growns.Tree root)
+pub grows-none : (root : Node) → IsFresh root → GrowsTo [] root None
 grows-none root fresh rest headed = remaining-first rest rest root refl headed fresh
 
-pub grows-more : (bs : List Block) (b : Block) (root new : Node) → AreSections (b ∷ []) → Grows bs (growns.Tree root) → Placed b root new (Ok tt) → Grows (bs ++ (b ∷ [])) (growns.Tree new)
-grows-more bs b root new headed grows placed rest are =
+pub grows-more : (bs : List Block) (b : Block) (root new : Node) (o : Option Clash) → is_some o ≡ false → AreSections (b ∷ []) → GrowsTo bs root o → Placed b root new (Ok tt) → GrowsTo (bs ++ (b ∷ [])) new o
+grows-more bs b root new (Some c) none headed grows placed = absurd (false≢true (sym none))
+grows-more bs b root new None none headed grows placed = λ rest are.
     subst (λ all. Remaining all rest new) (sym (append_assoc bs (b ∷ []) rest))
     (remaining-next (bs ++ (b ∷ rest)) (b ∷ rest) rest b root new refl (grows (b ∷ rest) (headed.0, are)) placed)
 
-pub grows-clash : (bs : List Block) (b : Block) (root new : Node) (c : code.Clash) → AreSections (b ∷ []) → Grows bs (growns.Tree root) → Placed b root new (Err (halts.Clash c))
-    → Grows (bs ++ (b ∷ [])) (growns.Clash c)
-grows-clash bs b root new c headed grows placed rest are =
+pub grows-clash : (bs : List Block) (b : Block) (root new : Node) (o : Option Clash) (halt : Halt) (c : Clash) → is_some o ≡ false → halt ≡ halts.Clash c → AreSections (b ∷ []) → GrowsTo bs root o
+    → Placed b root new (Err halt) → GrowsTo (bs ++ (b ∷ [])) new (Some c)
+grows-clash bs b root new (Some d) halt c none is headed grows placed = absurd (false≢true (sym none))
+grows-clash bs b root new None halt c none is headed grows placed = λ rest are.
     subst (λ all. TellsFirst [] (claims all) (told_by c)) (sym (append_assoc bs (b ∷ []) rest))
-    (assembles-err (bs ++ (b ∷ rest)) (b ∷ rest) rest 0 b root new (Err (halts.Clash c)) (halts.Clash c) refl (grows (b ∷ rest) (headed.0, are)) refl placed)
+    (assembles-err (bs ++ (b ∷ rest)) (b ∷ rest) rest 0 b root new (Err (halts.Clash c)) (halts.Clash c) refl (grows (b ∷ rest) (headed.0, are)) refl (rw is at placed))
 
-pub grows-still : (bs : List Block) (b : Block) (c : code.Clash) → AreSections (b ∷ []) → Grows bs (growns.Clash c) → Grows (bs ++ (b ∷ [])) (growns.Clash c)
-grows-still bs b c headed grows rest are =
-    subst (λ all. TellsFirst [] (claims all) (told_by c)) (sym (append_assoc bs (b ∷ []) rest)) (grows (b ∷ rest) (headed.0, are))
+pub right-more : (text : List ℕ) (ps : List Part) (root new : Node) (o : Option Clash) → is_some o ≡ false → IfNone o (AreRight text ps (standing root)) → (AreRight text ps (standing root) → AreRight text ps (standing new))
+    → IfNone o (AreRight text ps (standing new))
+right-more text ps root new None none right keeps = keeps right
+right-more text ps root new (Some c) none right keeps = tt
 
-pub finish-tree : (bs : List Block) (length : ℕ) (t : BTreeMap Key Value) (root : Node) (v : Value) → Grows bs (growns.Tree root)
+pub halt-inside : (n : ℕ) (halt : Halt) (c : Clash) → halt ≡ halts.Clash c → IsHaltInside n halt → IsInside n c.meeting.place
+halt-inside n halt c is inside = rw is at inside
+
+pub finish-tree : (bs : List Block) (length : ℕ) (t : BTreeMap Key Value) (root : Node) (v : Value) → GrowsTo bs root None
     → (IsScope root → ShowsBelow (inner_view (table_inner t)) (cells root) × HoldsOrdered (inner_view (table_inner t))) → view v ≡ node (inner_view (table_inner t)) (record { start = 0; end = length })
     → Assembles bs length (Ok v)
 finish-tree bs length t root v grows finished shows =
     assembles-ok bs [] length t root v refl (subst (λ all. Remaining all [] root) (append-nil bs) (grows [] tt)) finished shows
 
-pub finish-clash : (bs : List Block) (length : ℕ) (c : code.Clash) → Grows bs (growns.Clash c) → Assembles bs length (Err (halts.Clash c))
-finish-clash bs length c grows = subst (λ all. TellsFirst [] (claims all) (told_by c)) (append-nil bs) (grows [] tt)
+pub finish-clash : (bs : List Block) (length : ℕ) (root : Node) (c : Clash) → GrowsTo bs root (Some c) → Assembles bs length (Err (halts.Clash c))
+finish-clash bs length root c grows = subst (λ all. TellsFirst [] (claims all) (told_by c)) (append-nil bs) (grows [] tt)
 
 -- ---- while a text is read
 
@@ -74,9 +81,9 @@ pub record Growing (text : List ℕ) (limit at : ℕ) (g : Grown) : Type 0 where
   pub whole : WholeSections sections text limit at
   pub grows : Grows (map block sections) g
   pub inside : IsGrownInside (length text) g
+  pub bare : sections ≡ [] → IsBare g
   pub read : AreRightRead text (sections_written sections)
   pub borrows : (ps : List Part) → AreFrom text ps (sections_written sections) → GrownRight text ps g
-  pub bare : sections ≡ [] → IsBare g
 
 begins-headed : (evs : List Event) → AreSections (first_block evs)
 begins-headed [] = tt
@@ -88,7 +95,7 @@ pub growing-first : (text : List ℕ) (limit at : ℕ) (o : Option Section) (g :
     → Growing text limit at g × StuckFrom text limit at
 growing-first text limit at None g read (start, evs, begins, lines, same) grows inside borrows bare =
     let b = sections_begin [] evs text limit start at same begins lines in
-    (record { sections = []; whole = b.0; grows = grows tt; inside = inside (length text) tt; read = tt; borrows = λ ps h. borrows text ps tt; bare = λ none. bare refl }, b.1)
+    (record { sections = []; whole = b.0; grows = grows tt; inside = inside (length text) tt; bare = λ none. bare refl; read = tt; borrows = λ ps h. borrows text ps tt }, b.1)
 growing-first text limit at (Some s) g read (start, evs, begins, lines, same) grows inside borrows bare =
     let b = sections_begin (s ∷ []) evs text limit start at same begins lines in (
       record {
@@ -96,9 +103,9 @@ growing-first text limit at (Some s) g read (start, evs, begins, lines, same) gr
         whole = b.0;
         grows = grows (subst AreSections (sym same) (begins-headed evs));
         inside = inside (length text) read.inside;
+        bare = λ none. cc;
         read = all_append (IsRightRead text) (section_written s) [] read.borrows tt;
         borrows = λ ps h. borrows text ps (all_front (IsFrom text ps) (section_written s) [] h);
-        bare = λ none. absurd (never-empty s [] _ refl none);
       },
       b.1,
     )
@@ -116,9 +123,9 @@ from-end text ps (x ∷ xs) s h =
       rest.1,
     )
 
-more-than-none : (ss : List Section) (s : Section) → ss ++ (s ∷ []) ≡ [] → ⊥
-more-than-none [] s none = never-empty s [] _ refl none
-more-than-none (x ∷ xs) s none = never-empty x (xs ++ (s ∷ [])) _ refl none
+never-empty : (ss : List Section) (s : Section) → ss ++ (s ∷ []) ≡ [] → ⊥
+never-empty [] s none = cc
+never-empty (x ∷ xs) s none = cc
 
 pub growing-more : (text : List ℕ) (limit at next : ℕ) (s : Section) (g new : Grown) → IsReadSection text limit s → SectionGives text limit at (Ok (s, next)) → Growing text limit at g
     → ((bs : List Block) → AreSections (block s ∷ []) → Grows bs g → Grows (bs ++ (block s ∷ [])) new) → ((n : ℕ) → SectionInside n s → IsGrownInside n g → IsGrownInside n new)
@@ -129,9 +136,9 @@ growing-more text limit at next s g new read spelled old grows inside borrows = 
   whole = sections_more old.sections (old.sections ++ (s ∷ [])) s text limit at next refl old.whole spelled;
   grows = subst (λ bs. Grows bs new) (sym (blocks-end old.sections s)) (grows (map block old.sections) (some_part (block s).array text _ _ (block s).header spelled.header.front.key, tt) old.grows);
   inside = inside (length text) read.inside old.inside;
+  bare = λ none. absurd (never-empty old.sections s none);
   read = sections_right text old.sections (old.sections ++ (s ∷ [])) s refl old.read read.borrows;
   borrows = λ ps h. let from = from-end text ps old.sections s h in borrows text ps from.1 (old.borrows ps from.0);
-  bare = λ none. absurd (more-than-none old.sections s none);
 }
 
 pub first-refused : (stop : Stop Fault) (text : List ℕ) (limit : ℕ) → FirstGives text limit (Err stop) → GrownGives text limit (Err stop)
@@ -148,20 +155,17 @@ grown-whole text limit at g h end = record {
   spelled = sections_end h.sections text limit at h.whole end;
   grows = h.grows;
   inside = h.inside;
+  bare = h.bare;
   read = h.read;
   borrows = h.borrows;
-  bare = h.bare;
 }
 
--- ---- where a section halts
+-- ---- want of memory
 
-pub halted-grows : (bs : List Block) (b : Block) (root new : Node) (halt : Halt) (r : Result Grown AllocError) → AreSections (b ∷ []) → Grows bs (growns.Tree root) → Placed b root new (Err halt)
-    → IfOk r (IsHalted halt) → IfOk r (Grows (bs ++ (b ∷ [])))
-halted-grows bs b root new halt (Ok (growns.Tree x)) headed grows placed is = absurd is
-halted-grows bs b root new halt (Ok (growns.Clash c)) headed grows placed is = grows-clash bs b root new c headed grows (rw is at placed)
-halted-grows bs b root new halt (Err e) headed grows placed is = tt
+pub first-begun : (text : List ℕ) (limit at : ℕ) (o : Option Section) → FirstGives text limit (Ok (o, at)) → Begun text at
+first-begun text limit at o (start, evs, begins, lines, same) = begun_by_lines evs text limit start at begins lines
 
-pub halted-inside : (n : ℕ) (halt : Halt) (r : Result Grown AllocError) → IsHaltInside n halt → IfOk r (IsHalted halt) → IfOk r (IsGrownInside n)
-halted-inside n halt (Ok (growns.Tree x)) inside is = tt
-halted-inside n halt (Ok (growns.Clash c)) inside is = rw is at inside
-halted-inside n halt (Err e) inside is = tt
+-- a section that is placed is something to keep
+pub begin-keeps : (text : List ℕ) (limit at : ℕ) (o : Option Section) → FirstGives text limit (Ok (o, at)) → (o ≡ None → ⊥) → (i : ℕ) × FirstPlace text i × HoldsForm text i
+begin-keeps text limit at None given some = absurd (some refl)
+begin-keeps text limit at (Some s) given some = first_keeps text limit at (Some s) s refl given

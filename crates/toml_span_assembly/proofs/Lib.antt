@@ -15,5 +15,5 @@ pub mod EachClaim
 pub mod WholeTree
 pub mod ShownWhole
 pub mod Borrowing
-pub mod Memory
 pub mod Growth
+pub mod Memory

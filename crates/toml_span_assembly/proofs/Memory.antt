@@ -1,21 +1,20 @@
 -- Memory is wanted only where there is something to place.
-use Rattle.std.proofs.Common.{◌≡◌, ℕ, ◌<◌, ◌≤◌, Bool, true, false, List, [], ◌∷◌, ◌++◌, map, length, arith, Option, Some, None, Result, Ok, Err, refl, ◌∙◌}
+use Rattle.std.proofs.Common.{◌≡◌, ℕ, ◌<◌, ◌≤◌, Bool, true, false, List, [], ◌∷◌, ◌++◌, map, length, arith, Result, Ok, Err, refl, ◌∙◌}
 use Rattle.std.specs.Prelude.{IsOk}
 use Rattle.std.proofs.lemmas.Bool.{false≢true}
 use Rattle.toml_span_lex.specs.declared.stop.Stop.{Stop}
 use Rattle.toml_span_lex.specs.declared.stop.Stop.TheVariants as stops
 use Rattle.toml_span_lex.specs.Tokenizer.{FirstPlace}
+use Rattle.std.specs.declared.alloc.AllocError.{AllocError}
+use Rattle.toml_span_assembly.specs.declared.sections.Grown.{Grown}
+use Rattle.toml_span_read.specs.declared.fault.Fault.{Fault}
 use Rattle.toml_span_tree.specs.declared.error.Error.{Error}
 use Rattle.toml_span_tree.specs.declared.value.Value.{Value}
 use Rattle.toml_span_read.specs.declared.section.Section.{Section}
 use Rattle.toml_span_read.specs.Data.{Event}
 use Rattle.toml_span_read.specs.Gaps.{MaximalGap}
 use Rattle.toml_span_read.specs.Keys.{Part, Dotted}
-use Rattle.toml_span_read.specs.Lines.{Block, block, first_block, HoldsForm, KeepsForm, Opens, SpellsDocument, SpellsEvents, SpellsLines, SpellsSection, SpellsSections}
-use Rattle.toml_span_read.specs.Stepwise.{FirstGives}
-use Rattle.toml_span_read.specs.declared.fault.Fault.{Fault}
-use Rattle.toml_span_claims.proofs.Finishing.{never-empty}
-use Rattle.toml_span_assembly.specs.declared.sections.Grown.{Grown}
+use Rattle.toml_span_read.specs.Lines.{Block, block, first_block, HoldsForm, KeepsForm, Opens, SpellsDocument, SpellsEvents, SpellsSection, SpellsSections}
 use Rattle.toml_span_read.proofs.InsideLemmas.{ascend_forward}
 use Rattle.toml_span_read.proofs.KeyOrder.{dotted_ascend}
 
@@ -53,24 +52,7 @@ keeps-placed ss text limit (Err (stops.Fault error)) h bare = (h.start, h.begins
 keeps-placed ss text limit (Err (stops.Memory e)) h bare =
     (h.start, h.begins, sections-hold h.first h.rest text limit h.start h.lines.0 h.end h.lines.1 h.lines.2 h.sections (λ none. false≢true (bare (no-blocks ss (h.all ∙ none)))))
 
--- where lines end before the text does, more than blank lines stand
-pub lines-hold : (es : List Event) (text : List ℕ) (limit start j : ℕ) → SpellsLines es text limit start j → j < length text → HoldsForm text start
-lines-hold [] text limit start j (k, gap, h) less = (k, gap, omega (arith, less, h))
-lines-hold (ev ∷ es) text limit start j (k, gap, (m, n, q, h, t, c, g, r)) less = (k, gap, key-before ev.parts text k h.key_end h.key)
-
--- where a section stands before the first header, more than blank lines do
-pub first-held : (text : List ℕ) (limit at : ℕ) (o : Option Section) → FirstGives text limit (Ok (o, at)) → (o ≡ None → ⊥) → (start : ℕ) × FirstPlace text start × HoldsForm text start
-first-held text limit at None h some = absurd (some refl)
-first-held text limit at (Some s) (start, [], begins, lines, same) some = absurd (never-empty (block s) [] _ refl same)
-first-held text limit at (Some s) (start, ev ∷ evs, begins, (k, gap, (m, n, q, h, t, c, g, r)), same) some = (start, begins, (k, gap, key-before ev.parts text k h.key_end h.key))
-
--- whatever stops there, where more than blank lines stand
-pub held-stop : (stop : Stop Fault) (text : List ℕ) (start : ℕ) → HoldsForm text start → KeepsForm {A = Grown} text start (Err stop)
-held-stop (stops.Memory e) text start h = h
-held-stop (stops.Fault e) text start h = tt
-
 -- want of memory is handed on
-pub keeps-on : (A B E : Type 0) (stop : Stop E) (text : List ℕ) → ((start : ℕ) × FirstPlace text start × KeepsForm {A = A} text start (Err stop))
-    → (start : ℕ) × FirstPlace text start × KeepsForm {A = B} text start (Err stop)
-keeps-on A B E (stops.Memory e) text h = h
-keeps-on A B E (stops.Fault e) text h = h
+pub keeps-on : (text : List ℕ) (stop : Stop Fault) (e : AllocError) → stop ≡ stops.Memory e → ((start : ℕ) × FirstPlace text start × KeepsForm {A = Grown} text start (Err stop))
+    → (start : ℕ) × FirstPlace text start × KeepsForm {A = Value} {E = Error} text start (Err (stops.Memory e))
+keeps-on text stop e is h = rw is at h

@@ -1,5 +1,5 @@
 -- What the sections that are read so far make, whatever sections follow.
-use Rattle.std.specs.Prelude.{◌≡◌, ⊤, ℕ, List, [], ◌∷◌, ◌++◌, map, length, Result, Ok, Err}
+use Rattle.std.specs.Prelude.{◌≡◌, ⊤, ℕ, List, [], ◌∷◌, ◌++◌, map, length, IfSome, IfNone, Option, Some, None, Result, Ok, Err}
 use Rattle.toml_span_lex.specs.declared.stop.Stop.{Stop}
 use Rattle.toml_span_lex.specs.declared.stop.Stop.TheVariants as stops
 use Rattle.toml_span_read.specs.Borrowed.{AreRight as AreRightRead, sections_written}
@@ -8,8 +8,8 @@ use Rattle.toml_span_read.specs.Keys.{Part}
 use Rattle.toml_span_read.specs.Lines.{Block, SpellsDocument, StuckDocument, block}
 use Rattle.toml_span_read.specs.declared.fault.Fault.{Fault}
 use Rattle.toml_span_read.specs.declared.section.Section.{Section}
+use Rattle.toml_span_claims.specs.declared.claims.Clash.{Clash}
 use Rattle.toml_span_claims.specs.declared.claims.Halt.{Halt}
-use Rattle.toml_span_claims.specs.declared.claims.Halt.TheVariants as halts
 use Rattle.toml_span_claims.specs.declared.node.Node.{Node}
 use Rattle.toml_span_claims.specs.declared.node.Node.TheViews.{out-Node}
 use Rattle.toml_span_claims.specs.Borrowed.{AreFrom, AreRight, standing}
@@ -21,7 +21,6 @@ use Rattle.toml_span_claims.specs.Placing.{AreSections, Places}
 use Rattle.toml_span_claims.specs.Relative.{section_at, grown}
 use Rattle.toml_span_claims.specs.Tree.{cells, counts, IsScope}
 use Rattle.toml_span_assembly.specs.declared.sections.Grown.{Grown}
-use Rattle.toml_span_assembly.specs.declared.sections.Grown.TheVariants.{Tree, Clash}
 
 -- a section placed from the root on
 abbrev pub Placed : Block → Node → Node → Result (Unit {0}) Halt → Type 0
@@ -38,33 +37,24 @@ pub record Remaining (all rest : List Block) (root : Node) : Type 0 where
   pub scope : IsScope root
 
 -- The tree has what these sections claim, and those that follow are left to place. Or this is their first clash.
-abbrev pub Grows : List Block → Grown → Type 0
-Grows bs (Tree root) = (rest : List Block) → AreSections rest → Remaining (bs ++ rest) rest root
-Grows bs (Clash c) = (rest : List Block) → AreSections rest → TellsFirst [] (claims (bs ++ rest)) (told_by c)
+abbrev pub GrowsTo : List Block → Node → Option Clash → Type 0
+GrowsTo bs root None = (rest : List Block) → AreSections rest → Remaining (bs ++ rest) rest root
+GrowsTo bs root (Some c) = (rest : List Block) → AreSections rest → TellsFirst [] (claims (bs ++ rest)) (told_by c)
 
--- where a halt is no want of memory, its clash is what was made
-abbrev pub IsHalted : Halt → Grown → Type 0
-IsHalted h (Tree root) = ⊥
-IsHalted h (Clash c) = h ≡ halts.Clash c
+abbrev pub Grows : List Block → Grown → Type 0
+Grows bs g = GrowsTo bs g.root g.clash
 
 -- a clash is told inside the first n bytes
 abbrev pub IsGrownInside : ℕ → Grown → Type 0
-IsGrownInside n (Tree root) = ⊤
-IsGrownInside n (Clash c) = IsInside n c.meeting.place
+IsGrownInside n g = IfSome g.clash (λ c. IsInside n c.meeting.place)
 
 -- what stands in the tree is borrowed as it was read
 abbrev pub GrownRight : List ℕ → List Part → Grown → Type 0
-GrownRight text ps (Tree root) = AreRight text ps (standing root)
-GrownRight text ps (Clash c) = ⊤
+GrownRight text ps g = IfNone g.clash (AreRight text ps (standing g.root))
 
--- no table stands in the tree, so it is finished without memory
+-- no two clash, and no table is to be finished
 abbrev pub IsBare : Grown → Type 0
-IsBare (Tree root) = (out-Node root).tables.entries ≡ []
-IsBare (Clash c) = ⊥
-
-abbrev pub GivesBare : {E : Type 0} → Result Grown E → Type 0
-GivesBare (Ok g) = IsBare g
-GivesBare (Err e) = ⊥
+IsBare g = (g.clash ≡ None) × ((out-Node g.root).tables.entries ≡ [])
 
 -- The text spells these sections, and this is what they make.
 pub record IsGrown (text : List ℕ) (limit : ℕ) (g : Grown) : Type 0 where
@@ -72,9 +62,9 @@ pub record IsGrown (text : List ℕ) (limit : ℕ) (g : Grown) : Type 0 where
   pub spelled : SpellsDocument (map block sections) text limit
   pub grows : Grows (map block sections) g
   pub inside : IsGrownInside (length text) g
+  pub bare : sections ≡ [] → IsBare g
   pub read : AreRightRead text (sections_written sections)
   pub borrows : (ps : List Part) → AreFrom text ps (sections_written sections) → GrownRight text ps g
-  pub bare : sections ≡ [] → IsBare g
 
 abbrev pub GrownGives : List ℕ → ℕ → Result Grown (Stop Fault) → Type 0
 GrownGives text limit (Ok g) = IsGrown text limit g

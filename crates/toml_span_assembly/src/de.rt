@@ -38,10 +38,9 @@ fn grown_of<'de>(alloc: Global, text: &'de str, limit: usize) -> Result<Grown<'d
     let mut at = start;
     'sections: while at < text.len() {
         let (section, next) = read_section(alloc, text, at, limit)?;
-        grown = match grow(alloc, grown, section) {
-            Ok(grown) => grown,
-            Err(error) => return Err(Stop::Memory(error)),
-        };
+        if let Err(error) = grow(alloc, &mut grown, section) {
+            return Err(Stop::Memory(error));
+        }
         at = next;
     }
     Ok(grown)

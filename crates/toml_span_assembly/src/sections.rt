@@ -1,5 +1,5 @@
 //! Sections placed one by one into a tree.
-ghost use Rattle.std.specs.Prelude.{◌≡◌, ℕ, List, map, [], ◌∷◌, ◌++◌, IfOk, IfErr, IfSome, IsOk, None};
+ghost use Rattle.std.specs.Prelude.{◌≡◌, ℕ, List, map, [], ◌∷◌, ◌++◌, IfOk, IfErr, IfSome, IsOk, IsOkAnd, None, OnOk};
 ghost use Rattle.toml_span_read.specs.Borrowed.{assignments_written, key_written, keys_written, section_written};
 ghost use Rattle.toml_span_read.specs.Data.{event};
 ghost use Rattle.toml_span_read.specs.Inside.{IsInside, PartsInside, EventsInside, SectionInside};
@@ -13,7 +13,7 @@ ghost use Rattle.toml_span_claims.specs.Places.{IsHaltInside};
 ghost use Rattle.toml_span_claims.specs.Placing.{AreSections, Assembles, Opening, Opens, Passes, Places, Reaches};
 ghost use Rattle.toml_span_claims.specs.Relative.{adding, ending, grown, grown_here, grown_through, one_more, opening, part_sort, passing, section_at, through};
 ghost use Rattle.toml_span_claims.specs.Tree.{counts, IsHeld, IsOpen, IsScope};
-ghost use Rattle.toml_span_assembly.specs.Growing.{GivesBare, GrownRight, Grows, IsBare, IsGrownInside, IsHalted, Placed};
+ghost use Rattle.toml_span_assembly.specs.Growing.{GrownRight, Grows, IsBare, IsGrownInside, Placed};
 ghost use Rattle.toml_span_assembly.specs.Roots.{IsRoot};
 
 use crate::scopes::{admit_beside_value, place_all};
@@ -227,11 +227,11 @@ fn place<'de>(alloc: Global, root: &mut Node<'de>, section: Section<'de>) -> Res
 
 /// What the sections that are read so far make.
 #[derive(Drop)]
-pub(crate) enum Grown<'de> {
-    /// Their tree.
-    Tree(Node<'de>),
+pub(crate) struct Grown<'de> {
+    /// Their tree, as long as no two clash.
+    root: Node<'de>,
     /// Their first clash.
-    Clash(Clash),
+    clash: Option<Clash>,
 }
 
 impl<'de> Grown<'de> {
@@ -242,43 +242,34 @@ impl<'de> Grown<'de> {
         ensures borrows { (text : List ℕ) → (ps : List Part) → GrownRight text ps result }
         ensures bare { IsBare result }
     {
-        Self::Tree(Node::new(alloc))
-    }
-}
-
-/// The clash, unless memory ran out.
-fn halted<'de>(halt: Halt) -> Result<Grown<'de>, AllocError>
-    ensures gives { IfOk result (IsHalted halt) }
-{
-    match halt {
-        Halt::Clash(clash) => Ok(Grown::Clash(clash)),
-        Halt::Memory(error) => Err(error),
+        Self {
+            root: Node::new(alloc),
+            clash: None,
+        }
     }
 }
 
 /// Places one more section, unless two have clashed.
 pub(crate) fn grow<'de>(
     alloc: Global,
-    grown: Grown<'de>,
+    grown: &mut Grown<'de>,
     section: Section<'de>,
-) -> Result<Grown<'de>, AllocError>
-    ensures grows { (bs : List Block) → AreSections (block section.entry ∷ []) → Grows bs grown.entry → IfOk result (Grows (bs ++ (block section.entry ∷ []))) }
-    ensures inside { (n : ℕ) → SectionInside n section.entry → IsGrownInside n grown.entry → IfOk result (IsGrownInside n) }
-    ensures borrows { (text : List ℕ) → (ps : List Part) → AreFrom text ps (section_written section.entry) → GrownRight text ps grown.entry → IfOk result (GrownRight text ps) }
+) -> Result<(), AllocError>
+    ensures grows { (bs : List Block) → AreSections (block section.entry ∷ []) → Grows bs grown.old → OnOk result (Grows (bs ++ (block section.entry ∷ [])) grown.new) }
+    ensures inside { (n : ℕ) → SectionInside n section.entry → IsGrownInside n grown.old → OnOk result (IsGrownInside n grown.new) }
+    ensures borrows { (text : List ℕ) → (ps : List Part) → AreFrom text ps (section_written section.entry) → GrownRight text ps grown.old → OnOk result (GrownRight text ps grown.new) }
 {
-    let mut root = match grown {
-        Grown::Tree(root) => root,
-        Grown::Clash(clash) => {
-            drop(section);
-            return Ok(Grown::Clash(clash));
+    if grown.clash.is_some() {
+        drop(section);
+        return Ok(());
+    }
+    match place(alloc, &mut grown.root, section) {
+        Ok(()) => Ok(()),
+        Err(Halt::Clash(clash)) => {
+            grown.clash = Some(clash);
+            Ok(())
         }
-    };
-    match place(alloc, &mut root, section) {
-        Ok(()) => Ok(Grown::Tree(root)),
-        Err(halt) => {
-            drop(root);
-            halted(halt)
-        }
+        Err(Halt::Memory(error)) => Err(error),
     }
 }
 
@@ -290,12 +281,14 @@ pub(crate) fn begin<'de>(
     ensures grows { AreSections (first_blocks first.entry) → IfOk result (Grows (first_blocks first.entry)) }
     ensures inside { (n : ℕ) → IfSome first.entry (SectionInside n) → IfOk result (IsGrownInside n) }
     ensures borrows { (text : List ℕ) → (ps : List Part) → IfSome first.entry (λ section. AreFrom text ps (section_written section)) → IfOk result (GrownRight text ps) }
-    // No section, no memory.
-    ensures bare { first.entry ≡ None → GivesBare result }
+    ensures bare { first.entry ≡ None → IsOkAnd result IsBare }
 {
-    let grown = Grown::new(alloc);
+    let mut grown = Grown::new(alloc);
     match first {
-        Some(section) => grow(alloc, grown, section),
+        Some(section) => {
+            grow(alloc, &mut grown, section)?;
+            Ok(grown)
+        }
         None => Ok(grown),
     }
 }
@@ -308,10 +301,14 @@ pub(crate) fn finish<'de>(grown: Grown<'de>, length: usize) -> Result<Value<'de>
     ensures borrows { (text : List ℕ) → (ps : List Part) → GrownRight text ps grown.entry → ValueRight text ps result }
     ensures bare { IsBare grown.entry → IsOk result }
 {
-    let root = match grown {
-        Grown::Tree(root) => root,
-        Grown::Clash(clash) => return Err(Halt::Clash(clash)),
-    };
+    let Grown { root, clash } = grown;
+    match clash {
+        Some(clash) => {
+            drop(root);
+            return Err(Halt::Clash(clash));
+        }
+        None => {}
+    }
     let table = into_table(root.tables, root.values)?;
     let span = Span {
         start: 0,

@@ -1,8 +1,7 @@
-use Rattle.std.proofs.Common.{◌≡◌, ℕ, ◌<◌, ◌-◌, ◌⊎◌, length, get_or}
+use Rattle.std.proofs.Common.{◌≡◌, ◌-◌, ◌⊎◌, length, get_or}
 use Rattle.std.specs.Str.{IsCharBoundary}
-use Rattle.toml_span_lex.specs.Tokenizer.{FirstPlace}
-use Rattle.toml_span_read.specs.Lines.{HoldsForm}
 use Rattle.toml_span_read.proofs.LineLemmas.{StuckFrom}
+use Rattle.toml_span_read.proofs.MemoryLemmas.{Begun}
 use Rattle.toml_span_assembly.proofs.Growth.{Growing}
 use Rattle.toml_span_assembly.proofs.de.grown_of.Given as goal
 
@@ -10,10 +9,10 @@ use Rattle.toml_span_assembly.proofs.de.grown_of.Given as goal
 abbrev pub invariant-sections : goal.invariant-sections
 invariant-sections l = record {
   boundary : IsCharBoundary l.text l.at;
+  begun : Begun l.text l.at;
   header : (l.at ≡ length l.text) ⊎ (get_or l.text l.at 0 ≡ 91);
   growing : Growing l.text l.limit l.at l.grown;
   stuck : StuckFrom l.text l.limit l.at;
-  memory : (start : ℕ) × FirstPlace l.text start × (l.at < length l.text → HoldsForm l.text start);
 }
 
 abbrev pub decreases-sections : goal.decreases-sections

@@ -3,7 +3,7 @@ use Rattle.toml_span_read.specs.Borrowed.{sections_written}
 use Rattle.toml_span_read.specs.Lines.{block}
 use Rattle.toml_span_claims.specs.Borrowed.{keys_of}
 use Rattle.toml_span_assembly.proofs.Borrowing.{all_from, tree_borrows}
-use Rattle.toml_span_assembly.proofs.Memory.{keeps-placed}
+use Rattle.toml_span_assembly.proofs.Memory.{keeps-on, keeps-placed}
 use Rattle.toml_span_assembly.proofs.Refusals.{refusal-fault, refusals-clash, tree-spelled}
 use Rattle.toml_span_assembly.proofs.de.parse_with_limit.Goals as goal
 
@@ -39,10 +39,12 @@ pub returns-in-Err-Fault-clause-refused : goal.returns-in-Err-Fault-clause-refus
 returns-in-Err-Fault-clause-refused c = refusal-fault c.args.s.now c.args.limit _ c.in-Err-Fault.fault _ c.in-Err-Fault.field-0-is c.in-Err-Fault.ensures.gives c.in-Err-Fault.ensures.placed c.error_of.ensures
 
 pub returns-in-Ok-clause-memory : goal.returns-in-Ok-clause-memory
-returns-in-Ok-clause-memory c = let g = c.in-Ok.ensures.gives in keeps-placed g.sections c.args.s.now c.args.limit c.tree_of.result g.spelled (λ none. c.tree_of.ensures.bare (g.bare none))
+returns-in-Ok-clause-memory c =
+    let g = c.in-Ok.ensures.gives in
+    keeps-placed g.sections c.args.s.now c.args.limit c.tree_of.result g.spelled (λ none. c.tree_of.ensures.bare (g.bare none))
 
 pub returns-in-Err-Memory-clause-memory : goal.returns-in-Err-Memory-clause-memory
-returns-in-Err-Memory-clause-memory c = let m = c.in-Err-Memory.ensures.memory in (m.0, m.1, rw c.in-Err-Memory.field-0-is at m.2)
+returns-in-Err-Memory-clause-memory c = keeps-on c.args.s.now _ c.in-Err-Memory.error c.in-Err-Memory.field-0-is c.in-Err-Memory.ensures.memory
 
 pub returns-in-Err-Fault-clause-memory : goal.returns-in-Err-Fault-clause-memory
 returns-in-Err-Fault-clause-memory c = let m = c.in-Err-Fault.ensures.memory in (m.0, m.1, tt)

@@ -1,5 +1,4 @@
 use Rattle.std.proofs.Common.{arith, length}
-use Rattle.std.proofs.lemmas.Bool.{false≢true}
 use Rattle.toml_span_claims.specs.Machine.{told_by}
 use Rattle.toml_span_claims.proofs.Ordered.{one-each}
 use Rattle.toml_span_claims.proofs.PlaceLemmas.{clash_inside}
@@ -42,9 +41,3 @@ returns-in-Err-Clash-clause-refused c = λ bs grows.
 
 pub returns-in-Ok-clause-borrows : goal.returns-in-Ok-clause-borrows
 returns-in-Ok-clause-borrows c = λ ps h. c.in-Ok.ensures.borrows c.args.text.now ps h
-
-pub returns-in-Err-Memory-clause-bare : goal.returns-in-Err-Memory-clause-bare
-returns-in-Err-Memory-clause-bare c = λ bare. absurd (false≢true (c.in-Err-Memory.ensures.bare bare))
-
-pub returns-in-Err-Clash-clause-bare : goal.returns-in-Err-Clash-clause-bare
-returns-in-Err-Clash-clause-bare c = λ bare. absurd (false≢true (c.in-Err-Clash.ensures.bare bare))
