@@ -1,3 +1,4 @@
 pub mod Conclusions
 pub mod Reading
 pub mod Configured
+pub mod Serving

@@ -11,6 +11,7 @@ ghost use Rattle.toml_span_uses.specs.Fields.{IsRefusedAt, NoPort};
 
 pub mod callers;
 pub mod example;
+pub mod servers;
 pub mod settings;
 pub mod writes;
 
