@@ -2,3 +2,4 @@ pub mod Conclusions
 pub mod Reading
 pub mod Configured
 pub mod Serving
+pub mod Writing
