@@ -91,7 +91,7 @@ over-root s root places state (ms, is) value opens =
     let over = opens-over places (view root) state value opens in
     record { over = over.0; asked_is = over.1; errors_are = over.2; span_is = opened-at (view root) state ms (whole s) is opens }
 
-moved : (o p : Option Place) (A : Type 0) (B : Place → Type 0) → o ≡ p → MatchOption o A B → MatchOption p A B
+pub moved : (o p : Option Place) (A : Type 0) (B : Place → Type 0) → o ≡ p → MatchOption o A B → MatchOption p A B
 moved o p A B is h = subst (λ q. MatchOption q A B) is h
 
 -- ---- `required`
@@ -103,7 +103,7 @@ Stepped f field places span asked errors (Err (stops.Fault error)) after =
     (faults : Faults) × (field ≡ Err faults) × (fault_of error ≡ faults.last) × Over places span asked (errors ++ all faults) after
 Stepped f field places span asked errors (Err (stops.Memory error)) after = ⊤
 
-after-noted : (places : Path → Option Place) (span : Span) (asked : List (List ℕ)) (errors more : List Fault) (name : List ℕ) (before after : State) → Over places span asked errors before → IsOver places after
+pub after-noted : (places : Path → Option Place) (span : Span) (asked : List (List ℕ)) (errors more : List Fault) (name : List ℕ) (before after : State) → Over places span asked errors before → IsOver places after
     → after ≡ keeping more (noted name before) → Over places span (asked ++ name ∷ []) (errors ++ more) after
 after-noted places span asked errors more name before after h over is = record {
   over = over;
@@ -112,7 +112,7 @@ after-noted places span asked errors more name before after h over is = record {
   span_is = ap (λ t. t.span) is ∙ h.span_is;
 }
 
-after-read : (places : Path → Option Place) (span : Span) (asked : List (List ℕ)) (errors : List Fault) (name : List ℕ) (before after : State) → Over places span asked errors before → IsOver places after
+pub after-read : (places : Path → Option Place) (span : Span) (asked : List (List ℕ)) (errors : List Fault) (name : List ℕ) (before after : State) → Over places span asked errors before → IsOver places after
     → after ≡ noted name before → Over places span (asked ++ name ∷ []) errors after
 after-read places span asked errors name before after h over is = record {
   over = over;
@@ -173,7 +173,7 @@ nil-behind : {A : Type 0} (xs : List A) → xs ++ [] ≡ xs
 nil-behind [] = refl
 nil-behind (x ∷ xs) = ap (λ l. x ∷ l) (nil-behind xs)
 
-never-empty : (faults : Faults) → all faults ≡ [] → ⊥
+pub never-empty : (faults : Faults) → all faults ≡ [] → ⊥
 never-empty faults h = by faults.earlier h
   where
     by : (earlier : List Fault) → earlier ++ faults.last ∷ [] ≡ [] → ⊥

@@ -1,2 +1,4 @@
 pub mod Fields
 pub mod Settings
+pub mod Servers
+pub mod Writes

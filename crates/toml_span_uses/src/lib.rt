@@ -10,6 +10,7 @@ ghost use Rattle.toml_span.specs.Document.{IsDocument, StandsAt};
 ghost use Rattle.toml_span_uses.specs.Fields.{IsRefusedAt, NoPort};
 
 pub mod first;
+pub mod servers;
 pub mod settings;
 pub mod writes;
 

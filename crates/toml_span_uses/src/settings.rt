@@ -20,7 +20,7 @@ pub struct Settings<'de> {
 }
 
 /// The field, if it was read. Want of memory ends the read at once.
-fn field<'de, T: Drop>(
+pub(crate) fn field<'de, T: Drop>(
     read: Result<T, Stop<Error<'de>>>,
 ) -> Result<Option<T>, Stop<DeserError<'de>>>
     ensures { IsField read.entry result }
@@ -33,7 +33,7 @@ fn field<'de, T: Drop>(
 }
 
 /// Why the reads did not end well.
-fn stopped<'de>(unfinished: Unfinished<'de>) -> Stop<DeserError<'de>>
+pub(crate) fn stopped<'de>(unfinished: Unfinished<'de>) -> Stop<DeserError<'de>>
     ensures { IsStopped unfinished.entry result }
 {
     match unfinished {

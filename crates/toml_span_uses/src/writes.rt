@@ -1,9 +1,13 @@
-//! A caller that writes into a tree.
-ghost use Rattle.std.specs.Prelude.{◌≡◌, Some, false, codes, IfOk};
+//! Callers that write into a tree.
+ghost use Rattle.std.specs.Prelude.{◌≡◌, Some, false, codes, IfOk, IfErr};
 ghost use Rattle.toml_span_tree.specs.Value.{view, is_taken};
 ghost use Rattle.toml_span_tree.specs.Pointer.{pointed};
+ghost use Rattle.toml_span_assembly.specs.Parsing.{IsRefusal};
+ghost use Rattle.toml_span.specs.Document.{IsDocument};
+ghost use Rattle.toml_span_uses.specs.Writes.{IsChanged};
 
-use toml_span::Value;
+use std::alloc::Global;
+use toml_span::{Error, Stop, Value, parse};
 
 /// Writes at one place, and knows of two what stands there.
 pub fn write_second<'de>(root: &mut Value<'de>, new: Value<'de>) -> Result<Value<'de>, Value<'de>>
@@ -12,4 +16,22 @@ pub fn write_second<'de>(root: &mut Value<'de>, new: Value<'de>) -> Result<Value
     ensures kept { IfOk result (λ _. pointed (codes "/a/x") (view root.new) ≡ pointed (codes "/a/x") (view root.old)) }
 {
     root.replace("/b/x", new)
+}
+
+/// The tree of the document with a new value in the place that the pointer names, or `None` where it names
+/// none.
+pub fn with_value<'de>(
+    alloc: Global,
+    text: &'de str,
+    pointer: &'de str,
+    new: Value<'de>,
+) -> Result<Option<Value<'de>>, Stop<Error<'de>>>
+    ensures changed { IfOk result (λ o. IsDocument text.now (IsChanged pointer.now (view new.entry) o)) }
+    ensures refused { IfErr result (IsRefusal text.now 128) }
+{
+    let mut root = parse(alloc, text)?;
+    match root.replace(pointer, new) {
+        Ok(_) => Ok(Some(root)),
+        Err(_) => Ok(None),
+    }
 }
