@@ -12,3 +12,4 @@ pub mod Outcomes
 pub mod Document
 pub mod Parts
 pub mod Helpers
+pub mod Reading

@@ -2,7 +2,9 @@
 #![tactic(auto)]
 
 pub mod laws;
+mod read;
 
+pub use read::{from_str, line_and_column};
 pub use toml_span_assembly::de::parse;
 pub use toml_span_lex::span::Span;
 pub use toml_span_lex::spanned::Spanned;
@@ -17,7 +19,7 @@ pub mod de {
 
 /// Typed reads of a table's fields.
 pub mod de_helpers {
-    pub use toml_span_typed::de_helpers::{TableHelper, Unfinished, expected, parse};
+    pub use toml_span_typed::de_helpers::{TableHelper, Unfinished, expected, parse, parsed};
 }
 
 /// Places in a text.
@@ -35,5 +37,5 @@ pub mod tokens {
 /// The tree of values.
 pub mod value {
     pub use toml_span_lex::key::Key;
-    pub use toml_span_tree::{Array, DateText, FloatText, Table, Value, ValueInner};
+    pub use toml_span_tree::{Array, DateText, FloatText, Table, Value, ValueInner, in_text_order};
 }

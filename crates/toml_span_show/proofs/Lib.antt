@@ -1,5 +1,4 @@
 pub mod Known
-pub mod Sizes
 pub mod Walks
 pub mod Entries
 pub mod EntryLines

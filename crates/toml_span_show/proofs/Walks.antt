@@ -9,7 +9,6 @@ use Rattle.toml_span_tree.specs.declared.value.Value.{Value}
 use Rattle.toml_span_tree.specs.Node.{Node, node, Inner, taken, scalar, array, table}
 use Rattle.toml_span_tree.specs.Value.{view, items_view, members_view, is_taken, holds_nothing, kind_name}
 use Rattle.toml_span_show.specs.Lines.{line, node_lines, held_lines, items_lines, members_lines, position_segment, key_segment}
-use Rattle.toml_span_show.proofs.Sizes.{node_size, items_size, members_size}
 
 not_taken_lines : (i : Inner) (span : Span) (path : List ℕ) → holds_nothing i ≡ false →
     node_lines path (node i span) ≡ line path (kind_name i) span.start span.end ++ held_lines path i
@@ -49,15 +48,6 @@ items_lines-next path i es e out after all below here before step =
     let joined : after ++ later ≡ all = ap (λ o. o ++ later) step ∙ append_assoc out mine later ∙ opened in
     ap (λ k. after ++ items_lines path k (items_view (drop (i + 1) es))) (add-one i) ∙ joined
 
-pub items_size-next : (i : ℕ) (es : List Value) (e : Value) (all : ℕ) →
-    i < length es → get_or es i e ≡ e → items_size (items_view (drop i es)) ≤ all →
-    items_size (items_view (drop (i + 1) es)) ≤ all
-items_size-next i es e all below here before =
-    let split : drop i es ≡ e ∷ drop (i + 1) es = drop_more es i e below ∙ ap (λ x. x ∷ drop (i + 1) es) here in
-    let more : items_size (items_view (drop i es)) ≡ node_size (view e) + items_size (items_view (drop (i + 1) es)) =
-    ap (λ l. items_size (items_view l)) split in
-    omega arith
-
 -- the lines of the entries from one on
 pub members_lines-next : (path : List ℕ) (es rest : List (Key × Value)) (key : Key) (value : Value) (out after all : List ℕ) →
     es ≡ (key, value) ∷ rest →
@@ -69,13 +59,6 @@ members_lines-next path es rest key value out after all split before step =
     let mine = node_lines (path ++ key_segment (cow_str_bytes key.name)) (view value) in
     let opened : out ++ (mine ++ later) ≡ all = ap (λ l. out ++ members_lines path (members_view l)) (sym split) ∙ before in
     ap (λ o. o ++ later) step ∙ append_assoc out mine later ∙ opened
-
-pub members_size-next : (es rest : List (Key × Value)) (key : Key) (value : Value) (all : ℕ) →
-    es ≡ (key, value) ∷ rest → members_size (members_view es) ≤ all → members_size (members_view rest) ≤ all
-members_size-next es rest key value all split before =
-    let more : members_size (members_view es) ≡ node_size (view value) + members_size (members_view rest) =
-    ap (λ l. members_size (members_view l)) split in
-    omega arith
 
 -- a path that is cut back to where a segment was added
 pub take-segment : (path with cut : List ℕ) (segment : List ℕ) (n : ℕ) → n ≡ length path → with ≡ path ++ segment → cut ≡ take n with → cut ≡ path

@@ -55,3 +55,12 @@ ParsesAll gives output value (Ok x) = Parses gives output value (Ok x)
 ParsesAll gives output value (Err (stop.Fault faults)) =
     (error : Error) × Parses gives output value (Err (stop.Fault error)) × (faults ≡ one (fault_of error))
 ParsesAll gives output value (Err (stop.Memory e)) = Parses gives output value (Err (stop.Memory e))
+
+-- the answer, if memory was there, as `parsed` gives it
+abbrev pub AsParsed : {T E : Type 0} → (List ℕ → Result T E → Type 0) → (E → Option (List ℕ)) → Node → Result T Faults → Type 0
+AsParsed gives output value (Ok x) = ParsesAll gives output value (Ok x)
+AsParsed gives output value (Err faults) = ParsesAll gives output value (Err (stop.Fault faults))
+
+-- an element was read, and let go
+abbrev pub AsRead : {T : Type 0} → (Node → Result T Faults → Node → Type 0) → Node → Node → Type 0
+AsRead reads before after = (x : _) × reads before (Ok x) after

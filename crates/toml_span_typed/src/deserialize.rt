@@ -6,6 +6,7 @@ ghost use Rattle.toml_span_typed.specs.Faults.{Faults};
 ghost use Rattle.toml_span_typed.specs.Reads.{Answers};
 
 mod arrays;
+mod holders;
 mod integers;
 mod scalars;
 mod spanned;

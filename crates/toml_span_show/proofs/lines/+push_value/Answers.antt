@@ -3,7 +3,8 @@ use Rattle.std.proofs.lemmas.List.{append-nil, drop_all}
 use Rattle.std.specs.Cow.{cow_str_bytes}
 use Rattle.toml_span_tree.specs.Value.{view, items_view, members_view}
 use Rattle.toml_span_show.specs.Lines.{node_lines, items_lines, members_lines, position_segment, key_segment}
-use Rattle.toml_span_show.proofs.Walks.{node_lines-taken, items_lines-next, items_size-next, members_lines-next, members_size-next, take-segment}
+use Rattle.toml_span_show.proofs.Walks.{node_lines-taken, items_lines-next, members_lines-next, take-segment}
+use Rattle.toml_span_tree.proofs.Sizes.{items_size-next, members_size-next}
 use Rattle.toml_span_show.proofs.lines.+push_value.Goals as goal
 
 pub push_elements-loop-position-preserved : goal.push_elements-loop-position-preserved

@@ -1,7 +1,7 @@
 use Rattle.std.proofs.Common.{◌≡◌, ◌≤◌, suc, ◌++◌, drop, length}
 use Rattle.toml_span_tree.specs.Value.{view, items_view, members_view}
 use Rattle.toml_span_show.specs.Lines.{items_lines, members_lines}
-use Rattle.toml_span_show.proofs.Sizes.{node_size, items_size, members_size}
+use Rattle.toml_span_tree.proofs.Sizes.{node_size, items_size, members_size}
 use Rattle.toml_span_show.proofs.lines.+push_value.Given as goal
 
 abbrev pub decreases-push_value : goal.decreases-push_value

@@ -1,0 +1,105 @@
+//! All values of a tree with the paths that lead to them.
+#![tactic(auto)]
+
+ghost use Rattle.std.specs.Prelude.{◌≡◌, ◌++◌, ◌∷◌, [], IfOk, OnOk, map};
+ghost use Rattle.toml_span_tree.specs.Value.{items_view, members_view, view};
+ghost use Rattle.toml_span_walk.specs.Nodes.{items_nodes, members_nodes, nodes_from, seen, step_of};
+
+use std::alloc::{AllocError, Global};
+use toml_span_tree::{Table, Value, ValueInner};
+
+/// A step down: to the entry of a table with a name, or to the element of an array at a position,
+/// counted from 0.
+#[derive(Clone, Copy, Debug, PartialEq, Eq)]
+pub enum Step<'t> {
+    Key(&'t str),
+    Position(usize),
+}
+
+/// A value of a tree, with the steps that lead to it.
+#[derive(Drop)]
+pub struct Visited<'t, 'de> {
+    pub path: Vec<Step<'t>>,
+    pub value: &'t Value<'de>,
+}
+
+/// All values of a tree, each before those in it: an array's elements in order, a table's entries in the
+/// order of their names. The first is the value itself, with no steps. One that is taken is listed, and
+/// nothing below it.
+///
+/// Takes memory for the list and for the steps of each value.
+pub fn nodes<'t, 'de>(
+    alloc: Global,
+    value: &'t Value<'de>,
+) -> Result<Vec<Visited<'t, 'de>>, AllocError>
+    ensures { IfOk result (λ list. map seen list.items ≡ nodes_from [] (view value.now)) }
+{
+    let mut list = Vec::new(alloc);
+    push_node(alloc, value, &[], &mut list)?;
+    Ok(list)
+}
+
+/// A path with one more step.
+fn below<'t>(alloc: Global, path: &[Step<'t>], step: Step<'t>) -> Result<Vec<Step<'t>>, AllocError>
+    ensures { IfOk result (λ steps. map step_of steps.items ≡ map step_of path.now ++ step_of step.entry ∷ []) }
+{
+    let mut steps = Vec::from_slice(alloc, path)?;
+    steps.push(step)?;
+    Ok(steps)
+}
+
+/// Adds a value and those in it.
+#[cycle(push_node)]
+fn push_node<'t, 'de>(
+    alloc: Global,
+    value: &'t Value<'de>,
+    path: &[Step<'t>],
+    list: &mut Vec<Visited<'t, 'de>>,
+) -> Result<(), AllocError>
+    ensures { OnOk result (map seen list.new.items ≡ map seen list.old.items ++ nodes_from (map step_of path.now) (view value.now)) }
+{
+    let steps = Vec::from_slice(alloc, path)?;
+    list.push(Visited { path: steps, value })?;
+    if value.is_taken() {
+        return Ok(());
+    }
+    match value.as_ref() {
+        ValueInner::Array(elements) => push_elements(alloc, elements.as_slice(), path, list),
+        ValueInner::Table(table) => push_entries(alloc, table, path, list),
+        _ => Ok(()),
+    }
+}
+
+/// Adds the values in an array.
+#[cycle(push_node)]
+fn push_elements<'t, 'de>(
+    alloc: Global,
+    elements: &'t [Value<'de>],
+    path: &[Step<'t>],
+    list: &mut Vec<Visited<'t, 'de>>,
+) -> Result<(), AllocError>
+    ensures { OnOk result (map seen list.new.items ≡ map seen list.old.items ++ items_nodes (map step_of path.now) 0 (items_view elements.now)) }
+{
+    for (position, element) in elements.iter().enumerate() {
+        let steps = below(alloc, path, Step::Position(position))?;
+        push_node(alloc, element, steps.as_slice(), list)?;
+    }
+    Ok(())
+}
+
+/// Adds the values in a table.
+#[cycle(push_node)]
+fn push_entries<'t, 'de>(
+    alloc: Global,
+    table: &'t Table<'de>,
+    path: &[Step<'t>],
+    list: &mut Vec<Visited<'t, 'de>>,
+) -> Result<(), AllocError>
+    ensures { OnOk result (map seen list.new.items ≡ map seen list.old.items ++ members_nodes (map step_of path.now) (members_view table.now.entries)) }
+{
+    for (key, value) in table.iter() {
+        let steps = below(alloc, path, Step::Key(key.name.as_ref()))?;
+        push_node(alloc, value, steps.as_slice(), list)?;
+    }
+    Ok(())
+}
