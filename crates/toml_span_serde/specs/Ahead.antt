@@ -1,0 +1,8 @@
+-- What a reader has before it.
+use Rattle.std.specs.Prelude.{List, map, drop}
+use Rattle.toml_span_serde.specs.Pieces.{Piece}
+use Rattle.toml_span_serde.specs.Tasks.{piece_of}
+use Rattle.toml_span_serde.specs.declared.reader.Reader.{Reader}
+
+abbrev pub ahead : Reader → List Piece
+ahead r = map piece_of (drop r.next r.pieces.items)

@@ -1,0 +1,4 @@
+pub mod Pieces
+pub mod Tasks
+pub mod Reads
+pub mod Ahead
