@@ -55,4 +55,4 @@ members_pieces-next es rest k v out mid after all split before first second =
 
 -- a reader that has only looked
 pub ahead-same : (old new : Reader) → new.next ≡ old.next → new.pieces ≡ old.pieces → ahead new ≡ ahead old
-ahead-same old new next all = ap (λ n. map piece_of (drop n new.pieces.items)) next ∙ ap (λ ps. map piece_of (drop old.next ps.items)) all
+ahead-same old new next all = ap (λ n. map piece_of (drop n new.pieces.now)) next ∙ ap (λ ps. map piece_of (drop old.next ps.now)) all

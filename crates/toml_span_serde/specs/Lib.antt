@@ -2,3 +2,5 @@ pub mod Pieces
 pub mod Tasks
 pub mod Reads
 pub mod Ahead
+pub mod Misfits
+pub mod Walk

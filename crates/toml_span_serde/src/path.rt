@@ -1,4 +1,9 @@
 //! Paths from the root of a tree.
+ghost use Rattle.std.specs.Prelude.{◌≡◌, [], IfOk, OnOk, map, reverse};
+ghost use Rattle.toml_span_serde.specs.Misfits.{path_of, step_of};
+ghost use Rattle.toml_span_serde.specs.Tasks.{content_of, piece_of};
+ghost use Rattle.toml_span_serde.specs.Walk.{behind, down_of, ended, outer, walked, way_at, way_of};
+
 use crate::pieces::{Content, Piece};
 use std::alloc::{AllocError, Global};
 use std::fmt;
@@ -27,38 +32,32 @@ enum Down<'v> {
     Position(usize),
 }
 
-/// The path to the last of these pieces.
-pub(crate) fn path_to(alloc: Global, pieces: &[Piece<'_>]) -> Result<Vec<Step>, AllocError> {
+/// The path to the value of a piece, or to that of its key, from all pieces before it.
+pub(crate) fn path_to(
+    alloc: Global,
+    before: &[Piece<'_>],
+    content: Content<'_>,
+) -> Result<Vec<Step>, AllocError>
+    ensures { IfOk result (λ path. path_of path.items ≡ reverse (way_at (content_of content.entry) (walked (map piece_of before.now) []))) }
+{
     let mut downs = Vec::new(alloc);
-    let Some((last, before)) = pieces.split_last() else {
-        return Ok(Vec::new(alloc));
-    };
     for piece in before {
         pass(&mut downs, piece.content)?;
     }
-    match last.content {
-        Content::Key(name) => downs.push(Down::Key(name))?,
-        Content::ArrayEnds => drop(downs.pop()),
-        _ => {}
-    }
-    let mut path = Vec::with_capacity(alloc, downs.len())?;
-    for down in &downs {
-        path.push(match down {
-            Down::Key(name) => Step::Key(String::from_str(alloc, name)?),
-            Down::Position(position) => Step::Position(*position),
-        })?;
-    }
-    Ok(path)
+    turn_to(&mut downs, content)?;
+    steps_of(alloc, downs.as_slice())
 }
 
-/// The way to what stands behind a piece, from the way to the piece.
-fn pass<'v>(downs: &mut Vec<Down<'v>>, content: Content<'v>) -> Result<(), AllocError> {
+/// The way to what stands behind a piece, from the way that leads there.
+fn pass<'v>(downs: &mut Vec<Down<'v>>, content: Content<'v>) -> Result<(), AllocError>
+    ensures { OnOk result (way_of downs.new.items ≡ behind (content_of content.entry) (way_of downs.old.items)) }
+{
     match content {
         Content::Key(name) => downs.push(Down::Key(name))?,
         Content::ArrayBegins => downs.push(Down::Position(0))?,
         Content::TableBegins => {}
         Content::ArrayEnds => {
-            downs.pop();
+            leave(downs);
             end_value(downs)?;
         }
         _ => end_value(downs)?,
@@ -66,10 +65,54 @@ fn pass<'v>(downs: &mut Vec<Down<'v>>, content: Content<'v>) -> Result<(), Alloc
     Ok(())
 }
 
-/// The way to what stands behind a value.
-fn end_value(downs: &mut Vec<Down<'_>>) -> Result<(), AllocError> {
-    if let Some(Down::Position(position)) = downs.pop() {
-        downs.push(Down::Position(position.saturating_add(1)))?;
+/// The way to the value of a piece, or to that of its key.
+fn turn_to<'v>(downs: &mut Vec<Down<'v>>, content: Content<'v>) -> Result<(), AllocError>
+    ensures { OnOk result (way_of downs.new.items ≡ way_at (content_of content.entry) (way_of downs.old.items)) }
+{
+    match content {
+        Content::Key(name) => downs.push(Down::Key(name))?,
+        Content::ArrayEnds => leave(downs),
+        _ => {}
     }
     Ok(())
+}
+
+/// The way without its last step.
+fn leave(downs: &mut Vec<Down<'_>>)
+    ensures { way_of downs.new.items ≡ outer (way_of downs.old.items) }
+{
+    downs.pop();
+}
+
+/// The way to what stands behind a value. A position is less than the number of pieces, so it has a next one.
+fn end_value(downs: &mut Vec<Down<'_>>) -> Result<(), AllocError>
+    ensures { OnOk result (way_of downs.new.items ≡ ended (way_of downs.old.items)) }
+{
+    if let Some(Down::Position(position)) = downs.pop() {
+        let Some(next) = position.checked_add(1) else {
+            return Err(AllocError);
+        };
+        downs.push(Down::Position(next))?;
+    }
+    Ok(())
+}
+
+/// The steps with names of their own.
+fn steps_of(alloc: Global, downs: &[Down<'_>]) -> Result<Vec<Step>, AllocError>
+    ensures { IfOk result (λ path. path_of path.items ≡ map down_of downs.now) }
+{
+    let mut path = Vec::with_capacity(alloc, downs.len())?;
+    for down in downs {
+        path.push(own(alloc, *down)?)?;
+    }
+    Ok(path)
+}
+
+fn own(alloc: Global, down: Down<'_>) -> Result<Step, AllocError>
+    ensures { IfOk result (λ step. step_of step ≡ down_of down.entry) }
+{
+    match down {
+        Down::Key(name) => Ok(Step::Key(String::from_str(alloc, name)?)),
+        Down::Position(position) => Ok(Step::Position(position)),
+    }
 }

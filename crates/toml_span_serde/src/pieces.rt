@@ -4,6 +4,7 @@ ghost use Rattle.toml_span_tree.specs.Value.{items_view, members_view, view};
 ghost use Rattle.toml_span_serde.specs.Pieces.{array_begins, items_pieces, members_pieces, piece, pieces, table_begins};
 ghost use Rattle.toml_span_serde.specs.Tasks.{all_pieces, piece_of, task_pieces, turned};
 
+use crate::misfit::Found;
 use std::alloc::{AllocError, Global};
 use toml_span_lex::span::Span;
 use toml_span_tree::{Array, FloatText, Table, Value, ValueInner};
@@ -32,18 +33,18 @@ pub(crate) struct Piece<'v> {
 }
 
 impl Content<'_> {
-    /// The name of the kind.
-    pub(crate) fn kind(&self) -> &'static str {
+    /// The kind of what stands there.
+    pub(crate) fn kind(&self) -> Found {
         match self {
-            Content::Text(_) => "string",
-            Content::Integer(_) => "integer",
-            Content::Float(_) => "float",
-            Content::Boolean(_) => "boolean",
-            Content::Datetime(_) => "datetime",
-            Content::Taken => "nothing",
-            Content::ArrayBegins | Content::ArrayEnds => "array",
-            Content::TableBegins | Content::TableEnds => "table",
-            Content::Key(_) => "key",
+            Content::Text(_) => Found::String,
+            Content::Integer(_) => Found::Integer,
+            Content::Float(_) => Found::Float,
+            Content::Boolean(_) => Found::Boolean,
+            Content::Datetime(_) => Found::Datetime,
+            Content::Taken => Found::Nothing,
+            Content::ArrayBegins | Content::ArrayEnds => Found::Array,
+            Content::TableBegins | Content::TableEnds => Found::Table,
+            Content::Key(_) => Found::Key,
         }
     }
 }

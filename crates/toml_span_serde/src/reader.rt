@@ -1,27 +1,24 @@
 //! A tree as a `Format` of serde's.
 ghost use Rattle.std.specs.Prelude.{◌≡◌, ◌+◌, ◌-◌, ◌<◌, ◌^◌, ◌∷◌, IfOk, OnOk, drop, map};
 ghost use Rattle.toml_span_tree.specs.Node.{integer};
-ghost use Rattle.toml_span_tree.specs.Value.{view};
-ghost use Rattle.toml_span_serde.specs.Pieces.{pieces, value};
+ghost use Rattle.toml_span_serde.specs.Pieces.{value};
 ghost use Rattle.toml_span_serde.specs.Tasks.{piece_of};
 ghost use Rattle.toml_span_serde.specs.Reads.{IsText, Picks, Reads, Takes};
 ghost use Rattle.toml_span_serde.specs.Ahead.{ahead};
 
-use crate::misfit::{Misfit, Reason};
-use crate::path::path_to;
-use crate::pieces::{Content, Piece, pieces_of};
+use crate::misfit::{Expected, Reason};
+use crate::pieces::{Content, Piece};
 use serde::{Format, Kind, Name, find};
 use std::alloc::{AllocError, Global};
 use std::num::{nearest_i64_to_f32, nearest_i64_to_f64};
 use toml_span_lex::span::Span;
 use toml_span_lex::stop::Stop;
-use toml_span_tree::Value;
 
 /// Why a step did not read what it was asked for, and at which piece.
 #[derive(Debug, Drop)]
 pub struct Misread {
-    reason: Reason,
-    at: usize,
+    pub(crate) reason: Reason,
+    pub(crate) at: usize,
 }
 
 /// The reasons that have a text.
@@ -48,31 +45,31 @@ impl Told {
 
 /// Goes through a tree step by step.
 #[derive(Drop)]
-pub struct Reader<'v> {
+pub struct Reader<'p, 'v> {
     alloc: Global,
-    pieces: Vec<Piece<'v>>,
+    pieces: &'p [Piece<'v>],
     /// The piece that is read next.
     next: usize,
     /// The piece that was looked at last.
     at: usize,
 }
 
-impl<'v> Reader<'v> {
-    /// A reader that stands before a tree.
-    pub fn new(alloc: Global, root: &'v Value<'_>) -> Result<Reader<'v>, AllocError>
-        ensures { IfOk result (λ reader. ahead reader ≡ pieces (view root.now)) }
+impl<'p, 'v> Reader<'p, 'v> {
+    /// A reader that stands before these pieces.
+    pub(crate) fn new(alloc: Global, pieces: &'p [Piece<'v>]) -> Reader<'p, 'v>
+        ensures { ahead result ≡ map piece_of pieces.now }
     {
-        Ok(Reader {
+        Reader {
             alloc,
-            pieces: pieces_of(alloc, root)?,
+            pieces,
             next: 0,
             at: 0,
-        })
+        }
     }
 
     /// What comes next, which is not passed.
     fn look(&mut self) -> Result<Piece<'v>, Stop<Misread>>
-        ensures next { IfOk result (λ p. ahead self.old ≡ piece_of p ∷ map piece_of (drop (self.old.next + 1) self.old.pieces.items)) }
+        ensures next { IfOk result (λ p. ahead self.old ≡ piece_of p ∷ map piece_of (drop (self.old.next + 1) self.old.pieces.now)) }
         ensures small { OnOk result (self.old.next < 2 ^ 64 - 1) }
         ensures stays { (self.new.next ≡ self.old.next) × (self.new.pieces ≡ self.old.pieces) }
     {
@@ -107,7 +104,7 @@ impl<'v> Reader<'v> {
         }
     }
 
-    fn wanted(&self, expected: &'static str, found: Content<'_>) -> Stop<Misread> {
+    fn wanted(&self, expected: Expected, found: Content<'_>) -> Stop<Misread> {
         self.misread(Reason::Wanted {
             expected,
             found: found.kind(),
@@ -115,7 +112,7 @@ impl<'v> Reader<'v> {
     }
 
     /// The text of a string or of a key.
-    fn text(&mut self, expected: &'static str) -> Result<&'v str, Stop<Misread>>
+    fn text(&mut self, expected: Expected) -> Result<&'v str, Stop<Misread>>
         ensures { IfOk result (λ text. Takes (IsText text.now) (ahead self.old) (ahead self.new)) }
     {
         match self.take()?.content {
@@ -129,7 +126,7 @@ impl<'v> Reader<'v> {
     {
         match self.take()?.content {
             Content::Integer(number) => Ok(number),
-            found => Err(self.wanted("an integer", found)),
+            found => Err(self.wanted(Expected::Integer, found)),
         }
     }
 
@@ -145,33 +142,9 @@ impl<'v> Reader<'v> {
             _ => "",
         }
     }
-
-    /// Where a read stopped, and why.
-    pub(crate) fn stopped(&self, stop: Stop<Misread>) -> Stop<Misfit> {
-        match stop {
-            Stop::Memory(e) => Stop::Memory(e),
-            Stop::Fault(misread) => match self.placed(misread) {
-                Ok(misfit) => Stop::Fault(misfit),
-                Err(e) => Stop::Memory(e),
-            },
-        }
-    }
-
-    /// A misread with the place and the path of its piece.
-    fn placed(&self, misread: Misread) -> Result<Misfit, AllocError> {
-        let Some(piece) = self.pieces.get(misread.at) else {
-            return Err(AllocError);
-        };
-        Ok(Misfit {
-            reason: misread.reason,
-            span: piece.span,
-            line_info: None,
-            path: path_to(self.alloc, &self.pieces[..misread.at + 1])?,
-        })
-    }
 }
 
-impl Format for Reader<'_> {
+impl Format for Reader<'_, '_> {
     type Error = Stop<Misread>;
 
     type Mark = usize;
@@ -185,7 +158,7 @@ impl Format for Reader<'_> {
     fn bool(&mut self, _input: &[u8]) -> Result<bool, Stop<Misread>> {
         match self.take()?.content {
             Content::Boolean(truth) => Ok(truth),
-            found => Err(self.wanted("a boolean", found)),
+            found => Err(self.wanted(Expected::Boolean, found)),
         }
     }
 
@@ -220,7 +193,7 @@ impl Format for Reader<'_> {
                 Err(_) => Err(self.invalid()),
             },
             Content::Integer(number) => Ok(nearest_i64_to_f32(number)),
-            found => Err(self.wanted("a float", found)),
+            found => Err(self.wanted(Expected::Float, found)),
         }
     }
 
@@ -231,12 +204,12 @@ impl Format for Reader<'_> {
                 Err(_) => Err(self.invalid()),
             },
             Content::Integer(number) => Ok(nearest_i64_to_f64(number)),
-            found => Err(self.wanted("a float", found)),
+            found => Err(self.wanted(Expected::Float, found)),
         }
     }
 
     fn char(&mut self, _input: &[u8]) -> Result<char, Stop<Misread>> {
-        match self.text("a character")?.parse::<char>() {
+        match self.text(Expected::Character)?.parse::<char>() {
             Ok(c) => Ok(c),
             Err(_) => Err(self.invalid()),
         }
@@ -245,17 +218,14 @@ impl Format for Reader<'_> {
     /// A string is borrowed where it equals the text at its span.
     fn plain_str(&mut self, input: &[u8]) -> Result<(usize, usize), Stop<Misread>> {
         let Span { start, end } = self.look()?.span;
-        let text = self.text("a string")?;
+        let text = self.text(Expected::String)?;
         if text.is_empty() {
             return Ok((0, 0));
         }
         if input.get(start..end) == Some(text.as_bytes()) {
             return Ok((start, end));
         }
-        Err(self.misread(Reason::Wanted {
-            expected: "a string that equals the text at its span",
-            found: "string",
-        }))
+        Err(self.wanted(Expected::PlainString, Content::Text(text)))
     }
 
     fn plain_bytes(&mut self, input: &[u8]) -> Result<(usize, usize), Stop<Misread>> {
@@ -265,7 +235,7 @@ impl Format for Reader<'_> {
     fn string(&mut self, alloc: Global, _input: &[u8]) -> Result<String, Stop<Misread>> {
         let text = match self.take()?.content {
             Content::Text(text) | Content::Key(text) | Content::Datetime(text) => text,
-            found => return Err(self.wanted("a string", found)),
+            found => return Err(self.wanted(Expected::String, found)),
         };
         match String::from_str(alloc, text) {
             Ok(text) => Ok(text),
@@ -305,7 +275,7 @@ impl Format for Reader<'_> {
     fn begin_seq(&mut self, _input: &[u8]) -> Result<(), Stop<Misread>> {
         match self.take()?.content {
             Content::ArrayBegins => Ok(()),
-            found => Err(self.wanted("an array", found)),
+            found => Err(self.wanted(Expected::Array, found)),
         }
     }
 
@@ -320,7 +290,7 @@ impl Format for Reader<'_> {
     fn begin_map(&mut self, _input: &[u8]) -> Result<(), Stop<Misread>> {
         match self.take()?.content {
             Content::TableBegins => Ok(()),
-            found => Err(self.wanted("a table", found)),
+            found => Err(self.wanted(Expected::Table, found)),
         }
     }
 
@@ -332,7 +302,7 @@ impl Format for Reader<'_> {
         match self.take()?.content {
             Content::Key(key) => Ok(Some(find(names, key))),
             Content::TableEnds => Ok(None),
-            found => Err(self.wanted("a key", found)),
+            found => Err(self.wanted(Expected::Key, found)),
         }
     }
 
@@ -343,12 +313,12 @@ impl Format for Reader<'_> {
                 self.next += 1;
                 Ok(false)
             }
-            found => Err(self.wanted("a key", found)),
+            found => Err(self.wanted(Expected::Key, found)),
         }
     }
 
     fn variant(&mut self, _input: &[u8], names: &[Name<'_>]) -> Result<usize, Stop<Misread>> {
-        let text = self.text("the name of a variant")?;
+        let text = self.text(Expected::Variant)?;
         Ok(find(names, text))
     }
 
@@ -412,10 +382,10 @@ impl Format for Reader<'_> {
         match self.pieces.get(self.at) {
             Some(
                 Piece {
-                    content: Content::Integer(number),
+                    content: Content::Integer(_),
                     ..
                 },
-            ) => self.misread(Reason::OutOfRange(*number)),
+            ) => self.misread(Reason::OutOfRange),
             _ => self.misread(Reason::Invalid),
         }
     }
