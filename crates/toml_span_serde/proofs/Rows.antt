@@ -1,0 +1,58 @@
+-- One more step from a tree to the row of its pieces.
+use Rattle.std.proofs.Common.{ℕ, ◌+◌, ◌<◌, ◌≡◌, refl, List, [], ◌∷◌, ◌++◌, drop, map, length, get_or, sym, ap, ◌∙◌, append_assoc}
+use Rattle.std.proofs.lemmas.List.{drop_more, append-nil}
+use Rattle.std.specs.Cow.{cow_str_bytes}
+use Rattle.toml_span_lex.specs.declared.key.Key.{Key}
+use Rattle.toml_span_tree.specs.declared.value.Value.{Value}
+use Rattle.toml_span_tree.specs.Value.{view, items_view, members_view}
+use Rattle.toml_span_tree.proofs.Values.{Entry}
+use Rattle.toml_span_serde.specs.declared.pieces.Task.{Task}
+use Rattle.toml_span_serde.specs.Pieces.{Piece, piece, pieces, key, items_pieces, members_pieces}
+use Rattle.toml_span_serde.specs.Tasks.{piece_of, task_pieces, all_pieces}
+use Rattle.toml_span_serde.specs.Ahead.{ahead}
+use Rattle.toml_span_serde.specs.declared.reader.Reader.{Reader}
+
+all_pieces-append : (ts us : List Task) → all_pieces (ts ++ us) ≡ all_pieces ts ++ all_pieces us
+all_pieces-append [] us = refl
+all_pieces-append (t ∷ ts) us = ap (λ ps. task_pieces t ++ ps) (all_pieces-append ts us) ∙ sym (append_assoc (task_pieces t) (all_pieces ts) (all_pieces us))
+
+-- one more task
+pub all_pieces-push : (ts us : List Task) (t : Task) → us ≡ ts ++ (t ∷ []) → all_pieces us ≡ all_pieces ts ++ task_pieces t
+all_pieces-push ts us t e = ap all_pieces e ∙ all_pieces-append ts (t ∷ []) ∙ ap (λ ps. all_pieces ts ++ ps) (append-nil (task_pieces t))
+
+-- the last task is carried out
+pub carried_out : (ts us : List Task) (t : Task) (made after all : List Piece) → ts ≡ us ++ (t ∷ []) →
+    after ≡ all_pieces us ++ (task_pieces t ++ made) → all_pieces ts ++ made ≡ all → after ≡ all
+carried_out ts us t made after all last step before =
+    step ∙ sym (append_assoc (all_pieces us) (task_pieces t) made) ∙ ap (λ ps. ps ++ made) (sym (all_pieces-push us ts t last)) ∙ before
+
+-- the pieces of the elements from one on
+pub items_pieces-next : (i : ℕ) (es : List Value) (e : Value) (out after all : List Piece) →
+    i < length es → get_or es i e ≡ e →
+    out ++ items_pieces (items_view (drop i es)) ≡ all →
+    after ≡ out ++ pieces (view e) →
+    after ++ items_pieces (items_view (drop (i + 1) es)) ≡ all
+items_pieces-next i es e out after all below here before step =
+    let split : drop i es ≡ e ∷ drop (i + 1) es = drop_more es i e below ∙ ap (λ x. x ∷ drop (i + 1) es) here in
+    let later = items_pieces (items_view (drop (i + 1) es)) in
+    ap (λ o. o ++ later) step ∙ append_assoc out (pieces (view e)) later
+    ∙ ap (λ l. out ++ items_pieces (items_view l)) (sym split) ∙ before
+
+-- the pieces of the entries from one on
+pub members_pieces-next : (es rest : List Entry) (k : Key) (v : Value) (out mid after all : List Piece) →
+    es ≡ (k, v) ∷ rest →
+    out ++ members_pieces (members_view es) ≡ all →
+    mid ≡ out ++ (piece (key (cow_str_bytes k.name)) k.span ∷ []) →
+    after ≡ mid ++ pieces (view v) →
+    after ++ members_pieces (members_view rest) ≡ all
+members_pieces-next es rest k v out mid after all split before first second =
+    let later = members_pieces (members_view rest) in
+    let head = piece (key (cow_str_bytes k.name)) k.span in
+    ap (λ o. o ++ later) (second ∙ ap (λ o. o ++ pieces (view v)) first)
+    ∙ append_assoc (out ++ (head ∷ [])) (pieces (view v)) later
+    ∙ append_assoc out (head ∷ []) (pieces (view v) ++ later)
+    ∙ ap (λ l. out ++ members_pieces (members_view l)) (sym split) ∙ before
+
+-- a reader that has only looked
+pub ahead-same : (old new : Reader) → new.next ≡ old.next → new.pieces ≡ old.pieces → ahead new ≡ ahead old
+ahead-same old new next all = ap (λ n. map piece_of (drop n new.pieces.now)) next ∙ ap (λ ps. map piece_of (drop old.next ps.now)) all

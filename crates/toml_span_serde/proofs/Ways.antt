@@ -1,0 +1,168 @@
+-- Each piece of a tree's row stands where the way to it leads.
+use Rattle.std.proofs.Common.{◌≡◌, ℕ, zero, suc, ◌+◌, ◌<◌, List, [], ◌∷◌, ◌++◌, map, take, drop, reverse, length, get_or, Option, Some, None, option_map, option_and_then, inl, inr, refl, sym, ap, ◌∙◌, subst, arith}
+use Rattle.std.proofs.lemmas.List.{drop_more, reverse-append, map-append}
+use Rattle.std.proofs.lemmas.Bool.{cases_Bool}
+use Rattle.std.specs.Str.{bytes_eq}
+use Rattle.toml_span_lex.specs.declared.span.Span.{Span}
+use Rattle.toml_span_tree.specs.Node.{Node, node, Inner, taken, scalar, array, table, Items, no_items, item, Members, no_members, member, entry_at, element_at}
+use Rattle.toml_span_tree.specs.Value.{inner_of}
+use Rattle.toml_span_tree.specs.Path.{Step, key, position, Path, below, reached, place_of}
+use Rattle.toml_span_claims.specs.OneEach.{HasOneEach, InnerHasOneEach, ItemsHaveOneEach, MembersHaveOneEach}
+use Rattle.toml_span.proofs.OneTree.{same-name, first-entry, later-entry}
+use Rattle.toml_span_serde.specs.Misfits.{Names}
+use Rattle.toml_span_serde.specs.Pieces.{Piece, piece, pieces, held_pieces, items_pieces, members_pieces, array_ends, table_ends}
+use Rattle.toml_span_serde.specs.Tasks.{content_of, piece_of}
+use Rattle.toml_span_serde.specs.Walk.{Way, outer, ended, behind, walked, way_at, AllNamed, down_of, way_of}
+use Rattle.toml_span_serde.specs.declared.path.Down.{Down}
+use Rattle.toml_span_serde.specs.declared.pieces.Piece.{Piece as Made}
+
+abbrev pub Found : Type 0
+Found = Option Span × Node
+
+-- ---- a walk
+
+-- one more step
+pub way_of-push : (ds es : List Down) (d : Down) → es ≡ ds ++ (d ∷ []) → way_of es ≡ down_of d ∷ way_of ds
+way_of-push ds es d e =
+    ap way_of e ∙ ap reverse (map-append down_of ds (d ∷ [])) ∙ reverse-append (map down_of ds) (down_of d ∷ [])
+
+-- one more piece
+pub walked-next : (i : ℕ) (ps : List Made) (p : Made) (way after all : Way) → i < length ps → get_or ps i p ≡ p →
+    walked (map piece_of (drop i ps)) way ≡ all → after ≡ behind (content_of p.content) way →
+    walked (map piece_of (drop (i + 1) ps)) after ≡ all
+walked-next i ps p way after all below here before step =
+    let split : drop i ps ≡ p ∷ drop (i + 1) ps = drop_more ps i p below ∙ ap (λ x. x ∷ drop (i + 1) ps) here in
+    ap (walked (map piece_of (drop (i + 1) ps))) step ∙ ap (λ l. walked (map piece_of l) way) (sym split) ∙ before
+
+walked-append : (xs ys : List Piece) (way : Way) → walked (xs ++ ys) way ≡ walked ys (walked xs way)
+walked-append [] ys way = refl
+walked-append (x ∷ xs) ys way = walked-append xs ys (behind x.content way)
+
+abbrev counted : ℕ → Items → ℕ
+counted i no_items = i
+counted i (item n ns) = counted (i + 1) ns
+
+-- ---- behind a value
+
+mutual
+  walked-node : (n : Node) (way : Way) → walked (pieces n) way ≡ ended way
+  walked-node (node i span) way = walked-held i span way
+
+  walked-held : (i : Inner) (span : Span) (way : Way) → walked (held_pieces span i) way ≡ ended way
+  walked-held taken span way = refl
+  walked-held (scalar s) span way = refl
+  walked-held (array ns) span way =
+      walked-append (items_pieces ns) (piece array_ends span ∷ []) (position 0 ∷ way) ∙ ap (λ w. ended (outer w)) (walked-items ns 0 way)
+  walked-held (table ms) span way =
+      walked-append (members_pieces ms) (piece table_ends span ∷ []) way ∙ ap ended (walked-members ms way)
+
+  walked-items : (ns : Items) (i : ℕ) (way : Way) → walked (items_pieces ns) (position i ∷ way) ≡ position (counted i ns) ∷ way
+  walked-items no_items i way = refl
+  walked-items (item n ns) i way =
+      walked-append (pieces n) (items_pieces ns) (position i ∷ way)
+      ∙ ap (walked (items_pieces ns)) (walked-node n (position i ∷ way)) ∙ walked-items ns (i + 1) way
+
+  walked-members : (ms : Members) (way : Way) → walked (members_pieces ms) way ≡ way
+  walked-members no_members way = refl
+  walked-members (member name span n ms) way =
+      walked-append (pieces n) (members_pieces ms) (key name ∷ way)
+      ∙ ap (walked (members_pieces ms)) (walked-node n (key name ∷ way)) ∙ walked-members ms way
+
+-- ---- one step down
+
+none-some : {A : Type 0} {x : A} → None ≡ Some x → ⊥
+none-some e = cc
+
+further : (p q : Path) (o : Option Found) → ((x : Found) → reached (p ++ q) x ≡ option_and_then (reached q) (reached p x))
+    → option_and_then (reached (p ++ q)) o ≡ option_and_then (reached q) (option_and_then (reached p) o)
+further p q None on = refl
+further p q (Some x) on = on x
+
+reached-on : (p q : Path) (x : Found) → reached (p ++ q) x ≡ option_and_then (reached q) (reached p x)
+reached-on [] q x = refl
+reached-on (s ∷ p) q x = further p q (below s (inner_of x.1)) (λ y. reached-on p q y)
+
+-- a later entry stands where it stood, behind one more of another name
+later : (other name : List ℕ) (span : Span) (n : Node) (ms : Members) (x : Found) → entry_at name ms ≡ None → entry_at other ms ≡ Some x → entry_at other (member name span n ms) ≡ Some x
+later other name span n ms x once is = elim (cases_Bool (bytes_eq other name)) [
+  | inl same ↦ absurd (none-some (sym once ∙ ap (λ a. entry_at a ms) (sym (same-name other name same)) ∙ is))
+  | inr off ↦ later-entry other name span n ms off ∙ is
+]
+
+module _ (root : Node) where
+  abbrev Leads : Way → Found → Type 0
+  Leads way x = reached (reverse way) (None, root) ≡ Some x
+
+  step-down : (s : Step) (way : Way) (k : Option Span) (i : Inner) (span : Span) (x : Found) → Leads way (k, node i span) → below s i ≡ Some x → Leads (s ∷ way) x
+  step-down s way k i span x there is =
+      ap (λ p. reached p (None, root)) (reverse-append (s ∷ []) way)
+      ∙ reached-on (reverse way) (s ∷ []) (None, root)
+      ∙ ap (option_and_then (reached (s ∷ []))) there
+      ∙ ap (option_and_then (reached [])) is
+
+  moved : (way : Way) (i j : ℕ) (x : Found) → i ≡ j → Leads (position j ∷ way) x → Leads (position i ∷ way) x
+  moved way i j x e there = ap (λ p. reached (reverse (position p ∷ way)) (None, root)) e ∙ there
+
+  append-named : (way : Way) (xs ys : List Piece) → AllNamed root way xs → AllNamed root (walked xs way) ys → AllNamed root way (xs ++ ys)
+  append-named way [] ys a b = b
+  append-named way (x ∷ xs) ys a b = (a.0, append-named (behind x.content way) xs ys a.1 b)
+
+  here : (way : Way) (k : Option Span) (i : Inner) (span : Span) → Leads way (k, node i span) → Names (reverse way) span root
+  here way k i span there = (place_of (k, node i span), ap (option_map place_of) there, inl refl)
+
+  mutual
+    named-node : (n : Node) (way : Way) (k : Option Span) → HasOneEach n → Leads way (k, n) → AllNamed root way (pieces n)
+    named-node (node i span) way k one there = named-held i span way k one there
+
+    named-held : (i : Inner) (span : Span) (way : Way) (k : Option Span) → InnerHasOneEach i → Leads way (k, node i span) → AllNamed root way (held_pieces span i)
+    named-held taken span way k one there = (here way k taken span there, tt)
+    named-held (scalar s) span way k one there = (here way k (scalar s) span there, tt)
+    named-held (array ns) span way k one there =
+        let end : AllNamed root (position (counted 0 ns) ∷ way) (piece array_ends span ∷ []) = (here way k (array ns) span there, tt) in (
+          here way k (array ns) span there,
+          append-named (position 0 ∷ way) (items_pieces ns) _
+              (named-items ns 0 way one (λ j m e. moved way (0 + j) j (None, m) (omega arith) (step-down (position j) way k (array ns) span (None, m) there e)))
+              (subst (λ w. AllNamed root w (piece array_ends span ∷ [])) (sym (walked-items ns 0 way)) end),
+        )
+    named-held (table ms) span way k one there =
+        let end : AllNamed root way (piece table_ends span ∷ []) = (here way k (table ms) span there, tt) in (
+          here way k (table ms) span there,
+          append-named way (members_pieces ms) _
+              (named-members ms way one (λ name x e. step-down (key name) way k (table ms) span x there e))
+              (subst (λ w. AllNamed root w (piece table_ends span ∷ [])) (sym (walked-members ms way)) end),
+        )
+
+    named-items : (ns : Items) (i : ℕ) (way : Way) → ItemsHaveOneEach ns → ((j : ℕ) (m : Node) → element_at j ns ≡ Some (None, m) → Leads (position (i + j) ∷ way) (None, m))
+        → AllNamed root (position i ∷ way) (items_pieces ns)
+    named-items no_items i way one there = tt
+    named-items (item n ns) i way one there =
+        let first : Leads (position i ∷ way) (None, n) = moved way i (i + 0) (None, n) (omega arith) (there 0 n refl) in
+        append-named (position i ∷ way) (pieces n) (items_pieces ns) (named-node n (position i ∷ way) None one.0 first)
+        (subst (λ w. AllNamed root w (items_pieces ns)) (sym (walked-node n (position i ∷ way)))
+        (named-items ns (i + 1) way one.1 (λ j m e. moved way (i + 1 + j) (i + suc j) (None, m) (omega arith) (there (suc j) m e))))
+
+    named-members : (ms : Members) (way : Way) → MembersHaveOneEach ms → ((name : List ℕ) (x : Found) → entry_at name ms ≡ Some x → Leads (key name ∷ way) x)
+        → AllNamed root way (members_pieces ms)
+    named-members no_members way one there = tt
+    named-members (member name span n ms) way one there =
+        let found : Leads (key name ∷ way) (Some span, n) = there name (Some span, n) (first-entry name span n ms) in
+        let by_key : Names (reverse (key name ∷ way)) span root = (place_of (Some span, n), ap (option_map place_of) found, inr refl) in (
+          by_key,
+          append-named (key name ∷ way) (pieces n) (members_pieces ms) (named-node n (key name ∷ way) (Some span) one.1 found)
+              (subst (λ w. AllNamed root w (members_pieces ms)) (sym (walked-node n (key name ∷ way)))
+              (named-members ms way one.2 (λ other x e. there other x (later other name span n ms x one.0 e)))),
+        )
+
+-- each piece of a row stands where the way to it leads
+pub named-at : (root : Node) (k : ℕ) (ps : List Made) (p : Made) (way : Way) → k < length ps → get_or ps k p ≡ p → AllNamed root way (map piece_of ps)
+    → Names (reverse (way_at (content_of p.content) (walked (map piece_of (take k ps)) way))) p.span root
+named-at root k [] p way inside is named = absurd (omega (arith, inside))
+named-at root zero (q ∷ ps) p way inside is named =
+    subst (λ (p : Made). Names (reverse (way_at (content_of p.content) way)) p.span root) is named.0
+named-at root (suc k) (q ∷ ps) p way inside is named = named-at root k ps p (behind (content_of q.content) way) (omega arith) is named.1
+
+-- so does each piece of a tree's row
+pub named : (root : Node) (k : ℕ) (ps : List Made) (p : Made) → map piece_of ps ≡ pieces root → HasOneEach root → k < length ps → get_or ps k p ≡ p
+    → Names (reverse (way_at (content_of p.content) (walked (map piece_of (take k ps)) []))) p.span root
+named root k ps p is one inside here =
+    named-at root k ps p [] inside here (subst (AllNamed root []) (sym is) (named-node root root [] None one refl))

@@ -1,0 +1,8 @@
+use Rattle.std.proofs.Common.{◌≡◌, ◌++◌}
+use Rattle.toml_span_tree.specs.Value.{view}
+use Rattle.toml_span_serde.specs.Pieces.{pieces}
+use Rattle.toml_span_serde.specs.Tasks.{all_pieces, turned}
+use Rattle.toml_span_serde.proofs.pieces.pieces_of.Given as goal
+
+abbrev pub invariant-loop : goal.invariant-loop
+invariant-loop l = all_pieces l.tasks.items ++ turned l.turned.items ≡ pieces (view l.fn.root)

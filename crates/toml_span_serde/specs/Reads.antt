@@ -1,0 +1,55 @@
+-- What each step of a reader takes of the pieces that are ahead.
+use Rattle.std.specs.Prelude.{◌≡◌, ℕ, ℤ, pos, List, ◌∷◌, ◌⊎◌, Bool, true, false, encode_utf8, Some}
+use Rattle.std.specs.Float.{Float, Format, binary32, binary64}
+use lib.Ieee as Ieee
+use Rattle.fast_float.specs.Parse.{parse_float}
+use Rattle.serde.specs.Event as event
+use Rattle.serde.specs.Names.{Finds}
+use Rattle.serde.specs.declared.name.Name.{Name}
+use Rattle.toml_span_tree.specs.Node as tree
+use Rattle.toml_span_tree.specs.Float.{decimal_text}
+use Rattle.toml_span_serde.specs.Pieces.{Content, Piece, value, array_begins, array_ends, table_begins, table_ends, key}
+
+-- one piece is taken, of which P holds
+abbrev pub Takes : (Content → Type 0) → List Piece → List Piece → Type 0
+Takes P old new = (p : Piece) × (old ≡ p ∷ new) × P p.content
+
+-- a string or a key of these bytes
+abbrev pub IsText : List ℕ → Content → Type 0
+IsText s c = (c ≡ value (tree.text s)) ⊎ (c ≡ key s)
+
+-- a string, a key or a date of these bytes
+abbrev pub IsWritten : List ℕ → Content → Type 0
+IsWritten s c = IsText s c ⊎ (c ≡ value (tree.datetime s))
+
+-- the float whose text is read as this number, or the integer to which it is nearest
+abbrev pub IsNumber : Format → Float → Content → Type 0
+IsNumber format x c =
+    ((d : tree.Decimal) × (c ≡ value (tree.float d)) × (parse_float format (decimal_text d) ≡ Some x))
+    ⊎ ((z : ℤ) × (c ≡ value (tree.integer z)) × (x ≡ Ieee.of_int format z))
+
+abbrev pub Reads : List Piece → event.Event → List Piece → Type 0
+Reads old (event.boolean b) new = Takes (λ c. c ≡ value (tree.boolean b)) old new
+Reads old (event.signed z) new = Takes (λ c. c ≡ value (tree.integer z)) old new
+Reads old (event.unsigned n) new = Takes (λ c. c ≡ value (tree.integer (pos n))) old new
+Reads old (event.single x) new = Takes (IsNumber binary32 x) old new
+Reads old (event.double x) new = Takes (IsNumber binary64 x) old new
+Reads old (event.character c) new = Takes (IsText (encode_utf8 c)) old new
+Reads old (event.text s) new = Takes (IsWritten s) old new
+Reads old (event.octets s) new = Takes (IsWritten s) old new
+Reads old event.nothing new = ⊥
+Reads old (event.unit_variant name case) new = ⊥
+Reads old (event.seq_begins n) new = Takes (λ c. c ≡ array_begins) old new
+Reads old event.seq_ends new = Takes (λ c. c ≡ array_ends) old new
+Reads old (event.map_begins n) new = Takes (λ c. c ≡ table_begins) old new
+Reads old event.map_ends new = Takes (λ c. c ≡ table_ends) old new
+Reads old (event.field_key name case) new = ⊥
+Reads old (event.variant_key name case) new = ⊥
+Reads old event.key_begins new = (new ≡ old) × ((s : List ℕ) × (rest : List Piece) × Takes (λ c. c ≡ key s) old rest)
+Reads old event.key_ends new = ⊥
+Reads old event.flattens new = ⊥
+
+-- a key of a table, or a text, and the name that it stands for
+abbrev pub Picks : List Piece → Bool → List Name → ℕ → List Piece → Type 0
+Picks old true names at new = (s : List ℕ) × Takes (λ c. c ≡ key s) old new × Finds names s at
+Picks old false names at new = (s : List ℕ) × Takes (IsText s) old new × Finds names s at

@@ -1,0 +1,59 @@
+-- The way to each piece of a row; for private clauses. A way is a path from its last step to its first.
+use Rattle.std.specs.Prelude.{⊤, ◌+◌, List, [], ◌∷◌, map, reverse}
+use Rattle.toml_span_tree.specs.Node.{Node}
+use Rattle.toml_span_tree.specs.Path.{Step, key, position}
+use Rattle.toml_span_serde.specs.Misfits.{Names}
+use Rattle.toml_span_serde.specs.Pieces as row
+use Rattle.toml_span_serde.specs.declared.path.Down.{Down}
+use Rattle.toml_span_serde.specs.declared.path.Down.TheVariants as down
+
+abbrev pub Way : Type 0
+Way = List Step
+
+-- without the last step
+abbrev pub outer : Way → Way
+outer [] = []
+outer (s ∷ way) = way
+
+-- behind a value: to the next element, or out of the entry
+abbrev pub ended : Way → Way
+ended [] = []
+ended (key name ∷ way) = way
+ended (position i ∷ way) = position (i + 1) ∷ way
+
+-- behind a piece
+abbrev pub behind : row.Content → Way → Way
+behind (row.value s) way = ended way
+behind row.nothing way = ended way
+behind row.array_begins way = position 0 ∷ way
+behind row.array_ends way = ended (outer way)
+behind row.table_begins way = way
+behind row.table_ends way = ended way
+behind (row.key name) way = key name ∷ way
+
+-- behind all of them
+abbrev pub walked : List row.Piece → Way → Way
+walked [] way = way
+walked (p ∷ ps) way = walked ps (behind p.content way)
+
+-- the way to the value of a piece, or to that of its key
+abbrev pub way_at : row.Content → Way → Way
+way_at (row.value s) way = way
+way_at row.nothing way = way
+way_at row.array_begins way = way
+way_at row.array_ends way = outer way
+way_at row.table_begins way = way
+way_at row.table_ends way = way
+way_at (row.key name) way = key name ∷ way
+
+-- each of the pieces, from that way on, stands where the way to it leads
+abbrev pub AllNamed : Node → Way → List row.Piece → Type 0
+AllNamed root way [] = ⊤
+AllNamed root way (p ∷ ps) = Names (reverse (way_at p.content way)) p.span root × AllNamed root (behind p.content way) ps
+
+abbrev pub down_of : Down → Step
+down_of (down.Key name) = key name.now
+down_of (down.Position i) = position i
+
+abbrev pub way_of : List Down → Way
+way_of downs = reverse (map down_of downs)

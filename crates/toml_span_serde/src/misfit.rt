@@ -1,0 +1,244 @@
+//! Why a value is not read as a type.
+ghost use Rattle.std.specs.Prelude.{◌≡◌, IfOk, Some, map, string_bytes};
+ghost use Rattle.toml_span_tree.specs.Error.{fault_of, kind_of};
+ghost use Rattle.toml_span_tree.specs.Diagnostic.{labels_of, mark_of, message_of};
+ghost use Rattle.toml_span_tree.specs.Message.{code_of};
+ghost use Rattle.toml_span_serde.specs.Misfits.{fault_told, kind_told, name_of, reason_text, told, words_of};
+
+use crate::path::Step;
+use std::alloc::{AllocError, Global};
+use std::borrow::CowStr;
+use std::fmt;
+use std::fmt::{Display, Formatter, Write};
+use toml_span_lex::span::Span;
+use toml_span_tree::{Diagnostic, ErrorKind};
+
+/// What a type asks for.
+#[derive(Clone, Copy, PartialEq, Eq, Debug)]
+pub enum Expected {
+    Boolean,
+    Integer,
+    Float,
+    Character,
+    String,
+    /// A string that is borrowed, so that it has to equal the text at its span.
+    PlainString,
+    Array,
+    Table,
+    Key,
+    Variant,
+}
+
+/// The kind of what stands in a tree.
+#[derive(Clone, Copy, PartialEq, Eq, Debug)]
+pub enum Found {
+    String,
+    Integer,
+    Float,
+    Boolean,
+    Datetime,
+    Array,
+    Table,
+    Key,
+    /// A value that is taken.
+    Nothing,
+}
+
+impl Expected {
+    /// The words for it.
+    pub fn words(self) -> &'static str
+        ensures { result.now ≡ words_of self }
+    {
+        match self {
+            Expected::Boolean => "a boolean",
+            Expected::Integer => "an integer",
+            Expected::Float => "a float",
+            Expected::Character => "a character",
+            Expected::String => "a string",
+            Expected::PlainString => "a string that equals the text at its span",
+            Expected::Array => "an array",
+            Expected::Table => "a table",
+            Expected::Key => "a key",
+            Expected::Variant => "the name of a variant",
+        }
+    }
+}
+
+impl Found {
+    /// The name of the kind.
+    pub fn name(self) -> &'static str
+        ensures { result.now ≡ name_of self }
+    {
+        match self {
+            Found::String => "string",
+            Found::Integer => "integer",
+            Found::Float => "float",
+            Found::Boolean => "boolean",
+            Found::Datetime => "datetime",
+            Found::Array => "array",
+            Found::Table => "table",
+            Found::Key => "key",
+            Found::Nothing => "nothing",
+        }
+    }
+}
+
+/// What is wrong with a value.
+#[derive(Debug, Drop)]
+pub enum Reason {
+    /// A value of another kind was expected.
+    Wanted { expected: Expected, found: Found },
+    /// A table has no key for this field.
+    MissingField(String),
+    /// Two keys of a table name this field.
+    DuplicateField(String),
+    /// A table has this key, which names no field.
+    UnknownField(String),
+    /// This text names no variant.
+    UnknownVariant(String),
+    /// An array has too many or too few elements.
+    Length,
+    /// The type does not hold this number.
+    OutOfRange,
+    /// The type refuses the value.
+    Invalid,
+    /// The type refuses the value with a message of its own.
+    Custom(String),
+}
+
+impl Display for Reason {
+    ghost output = { λ reason. Some (reason_text reason) };
+
+    fn fmt<W: Write>(&self, f: &mut Formatter<W>) -> fmt::Result {
+        match self {
+            Reason::Wanted { expected, found } => {
+                let (expected, found) = (expected.words(), found.name());
+                write!(f, "expected {expected}, found {found}")
+            }
+            Reason::MissingField(name) => write!(f, "missing field '{name}'"),
+            Reason::DuplicateField(name) => write!(f, "duplicate field '{name}'"),
+            Reason::UnknownField(name) => write!(f, "unknown field '{name}'"),
+            Reason::UnknownVariant(name) => write!(f, "unknown variant '{name}'"),
+            Reason::Length => f.write_str("wrong number of elements"),
+            Reason::OutOfRange => f.write_str("number is out of range"),
+            Reason::Invalid => f.write_str("invalid value"),
+            Reason::Custom(message) => f.write_str(message.as_str()),
+        }
+    }
+}
+
+impl Reason {
+    /// The kind of error that tells the reason.
+    fn kind(&self, alloc: Global) -> Result<ErrorKind<'_>, AllocError>
+        ensures { IfOk result (λ kind. kind_of kind ≡ kind_told self.now) }
+    {
+        Ok(match self {
+            Reason::Wanted { expected, found } => ErrorKind::Wanted {
+                expected: expected.words(),
+                found: found.name(),
+            },
+            Reason::MissingField(name) => ErrorKind::MissingField(name.as_str()),
+            _ => ErrorKind::Custom(CowStr::Owned(self.to_string(alloc)?)),
+        })
+    }
+}
+
+/// Why a value is not read as a type, and where.
+#[derive(Debug, Drop)]
+pub struct Misfit {
+    pub reason: Reason,
+    /// The bytes of the value at which the read stopped, or of its key.
+    pub span: Span,
+    /// The line and the column at which the span starts, both counted from 0, if they are known.
+    pub line_info: Option<(usize, usize)>,
+    /// The steps from the root to the value.
+    pub path: Vec<Step>,
+}
+
+impl Misfit {
+    /// The misfit as an error of a document.
+    pub fn to_error(&self, alloc: Global) -> Result<toml_span_tree::Error<'_>, AllocError>
+        ensures { IfOk result (λ error. fault_of error ≡ fault_told self.now) }
+    {
+        Ok(toml_span_tree::Error {
+            kind: self.reason.kind(alloc)?,
+            span: self.span,
+            line_info: self.line_info,
+        })
+    }
+}
+
+/// Why a text is not read as a type.
+#[derive(Debug, Drop)]
+pub enum Error<'s> {
+    /// The text is no document.
+    Refused(toml_span_tree::Error<'s>),
+    /// A value of the document is not what the type asks for.
+    Misfit(Misfit),
+}
+
+impl Display for Misfit {
+    /// The path, as `servers[1].port`, and the reason.
+    fn fmt<W: Write>(&self, f: &mut Formatter<W>) -> fmt::Result {
+        for (i, step) in self.path.iter().enumerate() {
+            if i > 0 && matches!(step, Step::Key(_)) {
+                f.write_str(".")?;
+            }
+            write!(f, "{step}")?;
+        }
+        if !self.path.is_empty() {
+            f.write_str(": ")?;
+        }
+        let reason = &self.reason;
+        write!(f, "{reason}")
+    }
+}
+
+impl Display for Error<'_> {
+    fn fmt<W: Write>(&self, f: &mut Formatter<W>) -> fmt::Result {
+        match self {
+            Error::Refused(error) => write!(f, "{error}"),
+            Error::Misfit(misfit) => write!(f, "{misfit}"),
+        }
+    }
+}
+
+impl std::error::Error for Error<'_> {}
+
+impl Error<'_> {
+    /// The bytes that the error is about.
+    pub fn span(&self) -> Span
+        ensures { result ≡ (told self.now).span }
+    {
+        match self {
+            Error::Refused(error) => error.span,
+            Error::Misfit(misfit) => misfit.span,
+        }
+    }
+
+    /// The line and the column at which the span starts, both counted from 0, if they are known.
+    pub fn line_info(&self) -> Option<(usize, usize)>
+        ensures { result ≡ (told self.now).line_info }
+    {
+        match self {
+            Error::Refused(error) => error.line_info,
+            Error::Misfit(misfit) => misfit.line_info,
+        }
+    }
+
+    /// The error with its places, for an editor or a terminal to show. `fid` names the file.
+    pub fn to_diagnostic<F: Copy + PartialEq>(
+        &self,
+        alloc: Global,
+        fid: F,
+    ) -> Result<Diagnostic<F>, AllocError>
+        ensures code { IfOk result (λ shown. string_bytes shown.code ≡ code_of (told self.now).kind) }
+        ensures message { IfOk result (λ shown. string_bytes shown.message ≡ message_of (told self.now).kind) }
+        ensures labels { IfOk result (λ shown. map mark_of shown.labels.items ≡ labels_of fid (told self.now).span (told self.now).kind) }
+    {
+        match self {
+            Error::Refused(error) => error.to_diagnostic(alloc, fid),
+            Error::Misfit(misfit) => misfit.to_error(alloc)?.to_diagnostic(alloc, fid),
+        }
+    }
+}

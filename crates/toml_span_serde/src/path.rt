@@ -1,0 +1,118 @@
+//! Paths from the root of a tree.
+ghost use Rattle.std.specs.Prelude.{◌≡◌, [], IfOk, OnOk, map, reverse};
+ghost use Rattle.toml_span_serde.specs.Misfits.{path_of, step_of};
+ghost use Rattle.toml_span_serde.specs.Tasks.{content_of, piece_of};
+ghost use Rattle.toml_span_serde.specs.Walk.{behind, down_of, ended, outer, walked, way_at, way_of};
+
+use crate::pieces::{Content, Piece};
+use std::alloc::{AllocError, Global};
+use std::fmt;
+use std::fmt::{Display, Formatter, Write};
+
+/// A step down: to the entry of that name, or to the element at that position, counted from 0.
+#[derive(Debug, Drop)]
+pub enum Step {
+    Key(String),
+    Position(usize),
+}
+
+impl Display for Step {
+    fn fmt<W: Write>(&self, f: &mut Formatter<W>) -> fmt::Result {
+        match self {
+            Step::Key(name) => f.write_str(name.as_str()),
+            Step::Position(position) => write!(f, "[{position}]"),
+        }
+    }
+}
+
+/// A step down, lent by a tree.
+#[derive(Clone, Copy, Drop)]
+enum Down<'v> {
+    Key(&'v str),
+    Position(usize),
+}
+
+/// The path to the value of a piece, or to that of its key, from all pieces before it.
+pub(crate) fn path_to(
+    alloc: Global,
+    before: &[Piece<'_>],
+    content: Content<'_>,
+) -> Result<Vec<Step>, AllocError>
+    ensures { IfOk result (λ path. path_of path.items ≡ reverse (way_at (content_of content.entry) (walked (map piece_of before.now) []))) }
+{
+    let mut downs = Vec::new(alloc);
+    for piece in before {
+        pass(&mut downs, piece.content)?;
+    }
+    turn_to(&mut downs, content)?;
+    steps_of(alloc, downs.as_slice())
+}
+
+/// The way to what stands behind a piece, from the way that leads there.
+fn pass<'v>(downs: &mut Vec<Down<'v>>, content: Content<'v>) -> Result<(), AllocError>
+    ensures { OnOk result (way_of downs.new.items ≡ behind (content_of content.entry) (way_of downs.old.items)) }
+{
+    match content {
+        Content::Key(name) => downs.push(Down::Key(name))?,
+        Content::ArrayBegins => downs.push(Down::Position(0))?,
+        Content::TableBegins => {}
+        Content::ArrayEnds => {
+            leave(downs);
+            end_value(downs)?;
+        }
+        _ => end_value(downs)?,
+    }
+    Ok(())
+}
+
+/// The way to the value of a piece, or to that of its key.
+fn turn_to<'v>(downs: &mut Vec<Down<'v>>, content: Content<'v>) -> Result<(), AllocError>
+    ensures { OnOk result (way_of downs.new.items ≡ way_at (content_of content.entry) (way_of downs.old.items)) }
+{
+    match content {
+        Content::Key(name) => downs.push(Down::Key(name))?,
+        Content::ArrayEnds => leave(downs),
+        _ => {}
+    }
+    Ok(())
+}
+
+/// The way without its last step.
+fn leave(downs: &mut Vec<Down<'_>>)
+    ensures { way_of downs.new.items ≡ outer (way_of downs.old.items) }
+{
+    downs.pop();
+}
+
+/// The way to what stands behind a value. A position is less than the number of pieces, so it has a next one.
+fn end_value(downs: &mut Vec<Down<'_>>) -> Result<(), AllocError>
+    ensures { OnOk result (way_of downs.new.items ≡ ended (way_of downs.old.items)) }
+{
+    if let Some(Down::Position(position)) = downs.pop() {
+        let Some(next) = position.checked_add(1) else {
+            return Err(AllocError);
+        };
+        downs.push(Down::Position(next))?;
+    }
+    Ok(())
+}
+
+/// The steps with names of their own.
+fn steps_of(alloc: Global, downs: &[Down<'_>]) -> Result<Vec<Step>, AllocError>
+    ensures { IfOk result (λ path. path_of path.items ≡ map down_of downs.now) }
+{
+    let mut path = Vec::with_capacity(alloc, downs.len())?;
+    for down in downs {
+        path.push(own(alloc, *down)?)?;
+    }
+    Ok(path)
+}
+
+fn own(alloc: Global, down: Down<'_>) -> Result<Step, AllocError>
+    ensures { IfOk result (λ step. step_of step ≡ down_of down.entry) }
+{
+    match down {
+        Down::Key(name) => Ok(Step::Key(String::from_str(alloc, name)?)),
+        Down::Position(position) => Ok(Step::Position(position)),
+    }
+}

@@ -1,0 +1,169 @@
+//! A tree as a row of pieces, in the order in which a reader goes through it.
+ghost use Rattle.std.specs.Prelude.{◌≡◌, ◌++◌, ◌∷◌, IfOk, OnOk, map};
+ghost use Rattle.toml_span_tree.specs.Value.{items_view, members_view, view};
+ghost use Rattle.toml_span_serde.specs.Pieces.{array_begins, items_pieces, members_pieces, piece, pieces, table_begins};
+ghost use Rattle.toml_span_serde.specs.Tasks.{all_pieces, piece_of, task_pieces, turned};
+
+use crate::misfit::Found;
+use std::alloc::{AllocError, Global};
+use toml_span_lex::span::Span;
+use toml_span_tree::{Array, FloatText, Table, Value, ValueInner};
+
+/// What stands at one place of a tree.
+#[derive(Clone, Copy, Drop)]
+pub(crate) enum Content<'v> {
+    Text(&'v str),
+    Integer(i64),
+    Float(&'v FloatText),
+    Boolean(bool),
+    Datetime(&'v str),
+    Taken,
+    ArrayBegins,
+    ArrayEnds,
+    TableBegins,
+    TableEnds,
+    Key(&'v str),
+}
+
+/// What stands at one place of a tree, and the bytes of the value or of the key.
+#[derive(Clone, Copy, Drop)]
+pub(crate) struct Piece<'v> {
+    pub content: Content<'v>,
+    pub span: Span,
+}
+
+impl Content<'_> {
+    /// The kind of what stands there.
+    pub(crate) fn kind(&self) -> Found {
+        match self {
+            Content::Text(_) => Found::String,
+            Content::Integer(_) => Found::Integer,
+            Content::Float(_) => Found::Float,
+            Content::Boolean(_) => Found::Boolean,
+            Content::Datetime(_) => Found::Datetime,
+            Content::Taken => Found::Nothing,
+            Content::ArrayBegins | Content::ArrayEnds => Found::Array,
+            Content::TableBegins | Content::TableEnds => Found::Table,
+            Content::Key(_) => Found::Key,
+        }
+    }
+}
+
+/// What is left to go through, from the last to the first.
+#[derive(Clone, Copy, Drop)]
+enum Task<'v, 'de> {
+    Value(&'v Value<'de>),
+    Piece(Piece<'v>),
+}
+
+/// The pieces of a tree.
+pub(crate) fn pieces_of<'v>(
+    alloc: Global,
+    root: &'v Value<'_>,
+) -> Result<Vec<Piece<'v>>, AllocError>
+    ensures { IfOk result (λ made. map piece_of made.items ≡ pieces (view root.now)) }
+{
+    let mut tasks = Vec::new(alloc);
+    let mut turned = Vec::new(alloc);
+    tasks.push(Task::Value(root))?;
+    for _ in 0..u64::MAX {
+        let Some(task) = tasks.pop() else {
+            turned.reverse();
+            return Ok(turned);
+        };
+        carry_out(task, &mut tasks, &mut turned)?;
+    }
+    Err(AllocError)
+}
+
+/// Does what is to be done next.
+fn carry_out<'v, 'de>(
+    task: Task<'v, 'de>,
+    tasks: &mut Vec<Task<'v, 'de>>,
+    made: &mut Vec<Piece<'v>>,
+) -> Result<(), AllocError>
+    ensures { OnOk result (all_pieces tasks.new.items ++ turned made.new.items ≡ all_pieces tasks.old.items ++ (task_pieces task.entry ++ turned made.old.items)) }
+{
+    match task {
+        Task::Value(value) => take_apart(value, tasks, made),
+        Task::Piece(piece) => {
+            made.push(piece)?;
+            Ok(())
+        }
+    }
+}
+
+/// Puts down the last piece of a value, and leaves what else it has to be done.
+fn take_apart<'v, 'de>(
+    value: &'v Value<'de>,
+    tasks: &mut Vec<Task<'v, 'de>>,
+    made: &mut Vec<Piece<'v>>,
+) -> Result<(), AllocError>
+    ensures { OnOk result (all_pieces tasks.new.items ++ turned made.new.items ≡ all_pieces tasks.old.items ++ (pieces (view value.now) ++ turned made.old.items)) }
+{
+    let span = value.span;
+    if value.is_taken() {
+        made.push(Piece {
+            content: Content::Taken,
+            span,
+        })?;
+        return Ok(());
+    }
+    let content = match value.as_ref() {
+        ValueInner::String(text) => Content::Text(text.as_ref()),
+        ValueInner::Integer(number) => Content::Integer(*number),
+        ValueInner::Float(float) => Content::Float(float),
+        ValueInner::Boolean(truth) => Content::Boolean(*truth),
+        ValueInner::Datetime(date) => Content::Datetime(date.text()),
+        ValueInner::Array(array) => {
+            push_elements(array, span, tasks)?;
+            Content::ArrayEnds
+        }
+        ValueInner::Table(table) => {
+            push_entries(table, span, tasks)?;
+            Content::TableEnds
+        }
+    };
+    made.push(Piece { content, span })?;
+    Ok(())
+}
+
+/// Leaves the beginning of an array and its elements to be done.
+fn push_elements<'v, 'de>(
+    array: &'v Array<'de>,
+    span: Span,
+    tasks: &mut Vec<Task<'v, 'de>>,
+) -> Result<(), AllocError>
+    ensures { OnOk result (all_pieces tasks.new.items ≡ all_pieces tasks.old.items ++ (piece array_begins span ∷ items_pieces (items_view array.now.items))) }
+{
+    tasks.push(Task::Piece(Piece {
+        content: Content::ArrayBegins,
+        span,
+    }))?;
+    for element in array {
+        tasks.push(Task::Value(element))?;
+    }
+    Ok(())
+}
+
+/// Leaves the beginning of a table and its entries to be done.
+fn push_entries<'v, 'de>(
+    table: &'v Table<'de>,
+    span: Span,
+    tasks: &mut Vec<Task<'v, 'de>>,
+) -> Result<(), AllocError>
+    ensures { OnOk result (all_pieces tasks.new.items ≡ all_pieces tasks.old.items ++ (piece table_begins span ∷ members_pieces (members_view table.now.entries))) }
+{
+    tasks.push(Task::Piece(Piece {
+        content: Content::TableBegins,
+        span,
+    }))?;
+    for (key, element) in table.iter() {
+        tasks.push(Task::Piece(Piece {
+            content: Content::Key(key.name.as_ref()),
+            span: key.span,
+        }))?;
+        tasks.push(Task::Value(element))?;
+    }
+    Ok(())
+}

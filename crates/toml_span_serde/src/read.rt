@@ -1,0 +1,98 @@
+//! Reads of texts and of values.
+ghost use Rattle.std.specs.Prelude.{◌≡◌, ⊤, IfErr, OnOk};
+ghost use Rattle.toml_span_claims.specs.OneEach.{HasOneEach};
+ghost use Rattle.toml_span_tree.specs.Value.{view};
+ghost use Rattle.toml_span_serde.specs.Misfits.{HasLine, HasTree, IsAt, IsRefused};
+
+use crate::misfit::{Error, Misfit};
+use crate::reader::{Misread, Reader};
+use crate::row::Row;
+use serde::{Deserialize, DeserializeOwned, Deserializer};
+use std::alloc::Global;
+use toml_span::parse;
+use toml_span_lex::stop::Stop;
+use toml_span_read::fault::line_info;
+use toml_span_tree::Value;
+
+/// The document that the text spells, as a type that derives `Deserialize`.
+///
+/// What the type borrows, as a `&str`, it borrows from the text: a string that does not equal the text at
+/// its span is refused there. `Memory` comes where the allocator refused a request.
+pub fn from_str<'de, T: Deserialize<'de>>(
+    alloc: Global,
+    text: &'de str,
+) -> Result<T, Stop<Error<'de>>>
+    ensures ok { OnOk result (HasTree text.now (λ _. ⊤)) }
+    ensures refused { IfErr result (IsRefused text.now) }
+{
+    let root = match parse(alloc, text) {
+        Ok(root) => root,
+        Err(Stop::Memory(e)) => return Err(Stop::Memory(e)),
+        Err(Stop::Fault(error)) => return Err(Stop::Fault(Error::Refused(error))),
+    };
+    match read_lent(alloc, text, &root) {
+        Ok(read) => Ok(read),
+        Err(Stop::Memory(e)) => Err(Stop::Memory(e)),
+        Err(Stop::Fault(misfit)) => Err(Stop::Fault(Error::Misfit(lined(text, misfit)))),
+    }
+}
+
+/// The value as a type that derives `Deserialize` and borrows nothing. A misfit has no line.
+pub fn from_value<T: DeserializeOwned>(alloc: Global, value: &Value<'_>) -> Result<T, Stop<Misfit>>
+    ensures { HasOneEach (view value.now) → IfErr result (IsAt (view value.now)) }
+{
+    let row = match Row::new(alloc, value) {
+        Ok(row) => row,
+        Err(e) => return Err(Stop::Memory(e)),
+    };
+    match read_owned(alloc, &mut row.reader(alloc)) {
+        Ok(read) => Ok(read),
+        Err(stop) => Err(row.stopped(alloc, stop)),
+    }
+}
+
+/// The tree of the text, as a type that may borrow from the text.
+fn read_lent<'de, T: Deserialize<'de>>(
+    alloc: Global,
+    text: &'de str,
+    root: &Value<'_>,
+) -> Result<T, Stop<Misfit>>
+    ensures { HasOneEach (view root.now) → IfErr result (IsAt (view root.now)) }
+{
+    let row = match Row::new(alloc, root) {
+        Ok(row) => row,
+        Err(e) => return Err(Stop::Memory(e)),
+    };
+    match read_by(alloc, text.as_bytes(), &mut row.reader(alloc)) {
+        Ok(read) => Ok(read),
+        Err(stop) => Err(row.stopped(alloc, stop)),
+    }
+}
+
+/// What the reader has next, as a type that may borrow from the input.
+fn read_by<'de, T: Deserialize<'de>>(
+    alloc: Global,
+    input: &'de [u8],
+    reader: &mut Reader<'_, '_>,
+) -> Result<T, Stop<Misread>> {
+    T::deserialize(alloc, &mut Deserializer::new(input, reader))
+}
+
+/// What the reader has next, as a type that borrows nothing.
+fn read_owned<T: DeserializeOwned>(
+    alloc: Global,
+    reader: &mut Reader<'_, '_>,
+) -> Result<T, Stop<Misread>> {
+    T::deserialize_owned(alloc, &mut Deserializer::new(&[], reader))
+}
+
+/// The misfit with its line and its column.
+fn lined(text: &str, mut misfit: Misfit) -> Misfit
+    ensures place { (result.span ≡ misfit.span) × (result.path ≡ misfit.path) }
+    ensures line { HasLine text.now result }
+{
+    if misfit.span.start <= text.len() {
+        misfit.line_info = Some(line_info(text, misfit.span.start));
+    }
+    misfit
+}

@@ -1,0 +1,82 @@
+//! A tree that is to be read.
+ghost use Rattle.std.specs.Prelude.{◌≡◌, ◌<◌, IfOk, length};
+ghost use Rattle.toml_span_claims.specs.OneEach.{HasOneEach};
+ghost use Rattle.toml_span_tree.specs.Node.{Node};
+ghost use Rattle.toml_span_tree.specs.Value.{view};
+ghost use Rattle.toml_span_serde.specs.Ahead.{ahead, pieces_in};
+ghost use Rattle.toml_span_serde.specs.Misfits.{IsAt, Names, path_of};
+ghost use Rattle.toml_span_serde.specs.Pieces.{pieces};
+
+use crate::misfit::{Misfit, Reason};
+use crate::path::path_to;
+use crate::pieces::{Piece, pieces_of};
+use crate::reader::{Misread, Reader};
+use std::alloc::{AllocError, Global};
+use toml_span_lex::stop::Stop;
+use toml_span_tree::Value;
+
+/// A tree as the row of its pieces, which a `Reader` goes through.
+#[derive(Drop)]
+pub struct Row<'v> {
+    pieces: Vec<Piece<'v>>,
+}
+
+impl<'v> Row<'v> {
+    /// The pieces of a tree.
+    pub fn new(alloc: Global, root: &'v Value<'_>) -> Result<Row<'v>, AllocError>
+        ensures { IfOk result (λ row. pieces_in row ≡ pieces (view root.now)) }
+    {
+        Ok(Row {
+            pieces: pieces_of(alloc, root)?,
+        })
+    }
+
+    /// A reader that stands before the first piece.
+    pub fn reader(&self, alloc: Global) -> Reader<'_, 'v>
+        ensures { ahead result ≡ pieces_in self.now }
+    {
+        Reader::new(alloc, self.pieces.as_slice())
+    }
+
+    /// Where in the tree a read stopped, and why. A read that goes on behind the end of the tree is told at the root.
+    pub fn stopped(&self, alloc: Global, stop: Stop<Misread>) -> Stop<Misfit>
+        ensures { (n : Node) → pieces_in self.now ≡ pieces n → HasOneEach n → IsAt n result }
+    {
+        match stop {
+            Stop::Memory(e) => Stop::Memory(e),
+            Stop::Fault(misread) => match self.placed(alloc, misread) {
+                Ok(misfit) => Stop::Fault(misfit),
+                Err(e) => Stop::Memory(e),
+            },
+        }
+    }
+
+    /// A misread with the place of its piece, or of the first. A row has one at least.
+    fn placed(&self, alloc: Global, misread: Misread) -> Result<Misfit, AllocError>
+        ensures { IfOk result (λ m. (n : Node) → pieces_in self.now ≡ pieces n → HasOneEach n → Names (path_of m.path.items) m.span n) }
+    {
+        if misread.at < self.pieces.len() {
+            return self.misfit_at(alloc, misread.reason, misread.at);
+        }
+        if self.pieces.is_empty() {
+            return Err(AllocError);
+        }
+        self.misfit_at(alloc, misread.reason, 0)
+    }
+
+    /// A misfit at this piece.
+    fn misfit_at(&self, alloc: Global, reason: Reason, at: usize) -> Result<Misfit, AllocError>
+        requires { at < length self.now.pieces.items }
+        ensures { IfOk result (λ m. (n : Node) → pieces_in self.now ≡ pieces n → HasOneEach n → Names (path_of m.path.items) m.span n) }
+    {
+        let pieces = self.pieces.as_slice();
+        let piece = pieces[at];
+        let path = path_to(alloc, &pieces[..at], piece.content)?;
+        Ok(Misfit {
+            reason,
+            span: piece.span,
+            line_info: None,
+            path,
+        })
+    }
+}
