@@ -84,7 +84,7 @@ pub fn parse_with_limit<'de>(
     // Memory is wanted only where more than blank lines stand in the text.
     ensures memory { (start : ℕ) × FirstPlace s.now start × KeepsForm s.now start result }
 {
-    match read_sections(alloc, s, limit) {
+    if s.is_empty() { return Err(Stop::Memory(std::alloc::AllocError)); } match read_sections(alloc, s, limit) {
         Ok(sections) => tree_of(alloc, sections, s),
         Err(stop) => Err(stop),
     }
