@@ -1,17 +1,15 @@
 -- What the reader and the assembly give is what `parse` gives.
-use Rattle.std.proofs.Common.{◌≡◌, ℕ, Bool, false, List, [], ◌∷◌, ◌++◌, length, inl, inr, refl, ap, sym, ◌∙◌, subst, Result, Ok, Err}
+use Rattle.std.proofs.Common.{◌≡◌, ℕ, Bool, false, List, [], length, inl, inr, Result, Ok, Err}
 use Rattle.std.specs.Result.{IfErr, IfOk}
 use Rattle.toml_span_lex.specs.declared.stop.Stop.{Stop}
 use Rattle.toml_span_lex.specs.declared.stop.Stop.TheVariants as stops
 use Rattle.toml_span_tree.specs.declared.error.Error.{Error}
 use Rattle.toml_span_tree.specs.declared.value.Value.{Value}
 use Rattle.toml_span_read.specs.declared.fault.Fault.{Fault}
-use Rattle.toml_span_read.specs.Data.{Event}
 use Rattle.toml_span_tree.specs.Error.{fault_of}
 use Rattle.toml_span_read.specs.Faults.{IsPlacedStop, Tells}
 use Rattle.toml_span_read.specs.Keys.{Part, Dotted}
-use Rattle.toml_span_read.specs.Limits.{Reads}
-use Rattle.toml_span_read.specs.Lines.{Block, SpellsDocument, SpellsSections, first_block, ReadsDocument}
+use Rattle.toml_span_read.specs.Lines.{Block, SpellsDocument}
 use Rattle.toml_span_claims.specs.declared.claims.Clash.{Clash}
 use Rattle.toml_span_claims.specs.declared.claims.Halt.{Halt}
 use Rattle.toml_span_claims.specs.declared.claims.Halt.TheVariants as halts
@@ -20,7 +18,7 @@ use Rattle.toml_span_claims.specs.Clashes.{TellsFirst}
 use Rattle.toml_span_claims.specs.Machine.{told_by}
 use Rattle.toml_span_assembly.specs.Growing.{GrownGives}
 use Rattle.toml_span_assembly.specs.Parsing.{IsTreeOf, IsTree, IsClashStop, IsRefusal}
-use Rattle.toml_span_claims.specs.Placing.{AreSections, Assembles}
+use Rattle.toml_span_claims.specs.Placing.{Assembles}
 
 -- a fault of reading is told as an error
 pub refusal-fault : (text : List ℕ) (limit : ℕ) (stop : Stop Fault) (fault : Fault) (error : Error) → stop ≡ stops.Fault fault → GrownGives text limit (Err stop) → IsPlacedStop text stop
