@@ -1,5 +1,5 @@
 -- What sections make, one after another.
-use Rattle.std.proofs.Common.{◌≡◌, ℕ, ◌<◌, ◌≤◌, ◌⊎◌, List, [], ◌∷◌, ◌++◌, map, length, true, false, Option, Some, None, Result, Ok, Err, refl, sym, ap, ◌∙◌, subst, append_assoc, append-nil, inl, inr}
+use Rattle.std.proofs.Common.{◌≡◌, ℕ, List, [], ◌∷◌, ◌++◌, map, length, false, Option, Some, None, Ok, Err, refl, sym, ap, subst, append_assoc, append-nil}
 use Rattle.std.specs.Prelude.{IfSome, IfNone, is_some}
 use Rattle.std.specs.BTreeMap.{BTreeMap}
 use Rattle.std.proofs.lemmas.Bool.{false≢true}
@@ -37,7 +37,7 @@ use Rattle.toml_span_claims.specs.Placing.{AreSections, Assembles, ShowsBelow}
 use Rattle.toml_span_claims.specs.Tree.{cells, IsFresh, IsScope}
 use Rattle.toml_span_assembly.specs.declared.sections.Grown.{Grown}
 use Rattle.toml_span_assembly.specs.Growing.{GrownGives, GrownRight, Grows, IsBare, IsGrown, GrowsTo, IsGrownInside, Placed, Remaining}
-use Rattle.toml_span_assembly.proofs.Refusals.{some_part}
+use Rattle.toml_span_assembly.proofs.Refusals.{first-headed, some_part}
 use Rattle.toml_span_assembly.proofs.Assembly.{remaining-first, remaining-next, assembles-err, assembles-ok}
 
 pub grows-none : (root : Node) → IsFresh root → GrowsTo [] root None
@@ -85,10 +85,6 @@ pub record Growing (text : List ℕ) (limit at : ℕ) (g : Grown) : Type 0 where
   pub read : AreRightRead text (sections_written sections)
   pub borrows : (ps : List Part) → AreFrom text ps (sections_written sections) → GrownRight text ps g
 
-begins-headed : (evs : List Event) → AreSections (first_block evs)
-begins-headed [] = tt
-begins-headed (ev ∷ evs) = (λ none. refl, tt)
-
 pub growing-first : (text : List ℕ) (limit at : ℕ) (o : Option Section) (g : Grown) → IsReadFirst text limit o → FirstGives text limit (Ok (o, at))
     → (AreSections (first_blocks o) → Grows (first_blocks o) g) → ((n : ℕ) → IfSome o (SectionInside n) → IsGrownInside n g)
     → ((t : List ℕ) (ps : List Part) → IfSome o (λ s. AreFrom t ps (section_written s)) → GrownRight t ps g) → (o ≡ None → IsBare g)
@@ -101,7 +97,7 @@ growing-first text limit at (Some s) g read (start, evs, begins, lines, same) gr
       record {
         sections = s ∷ [];
         whole = b.0;
-        grows = grows (subst AreSections (sym same) (begins-headed evs));
+        grows = grows (subst AreSections (sym same) (subst AreSections (append-nil (first_block evs)) (first-headed evs [] tt)));
         inside = inside (length text) read.inside;
         bare = λ none. cc;
         read = all_append (IsRightRead text) (section_written s) [] read.borrows tt;

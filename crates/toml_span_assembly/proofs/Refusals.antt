@@ -1,17 +1,16 @@
 -- What the reader and the assembly give is what `parse` gives.
-use Rattle.std.proofs.Common.{◌≡◌, ℕ, Bool, false, List, [], ◌∷◌, ◌++◌, length, inl, inr, refl, ap, sym, ◌∙◌, subst, Result, Ok, Err}
+use Rattle.std.proofs.Common.{◌≡◌, ℕ, Bool, false, List, [], ◌∷◌, ◌++◌, length, inl, inr, refl, sym, subst, Result, Ok, Err}
 use Rattle.std.specs.Result.{IfErr, IfOk}
 use Rattle.toml_span_lex.specs.declared.stop.Stop.{Stop}
 use Rattle.toml_span_lex.specs.declared.stop.Stop.TheVariants as stops
 use Rattle.toml_span_tree.specs.declared.error.Error.{Error}
 use Rattle.toml_span_tree.specs.declared.value.Value.{Value}
 use Rattle.toml_span_read.specs.declared.fault.Fault.{Fault}
-use Rattle.toml_span_read.specs.Data.{Event}
 use Rattle.toml_span_tree.specs.Error.{fault_of}
+use Rattle.toml_span_read.specs.Data.{Event}
 use Rattle.toml_span_read.specs.Faults.{IsPlacedStop, Tells}
 use Rattle.toml_span_read.specs.Keys.{Part, Dotted}
-use Rattle.toml_span_read.specs.Limits.{Reads}
-use Rattle.toml_span_read.specs.Lines.{Block, SpellsDocument, SpellsSections, first_block, ReadsDocument}
+use Rattle.toml_span_read.specs.Lines.{Block, SpellsDocument, SpellsSections, first_block}
 use Rattle.toml_span_claims.specs.declared.claims.Clash.{Clash}
 use Rattle.toml_span_claims.specs.declared.claims.Halt.{Halt}
 use Rattle.toml_span_claims.specs.declared.claims.Halt.TheVariants as halts
@@ -32,6 +31,20 @@ refusal-fault text limit stop fault error is stuck placed tells = inl (fault, (r
 -- a dotted key has a part
 pub some_part : (array : Bool) (text : List ℕ) (i j : ℕ) (ps : List Part) → Dotted ps text i j → ps ≡ [] → array ≡ false
 some_part array text i j ps key none = absurd (rw none at key)
+
+sections-headed : (bs : List Block) (text : List ℕ) (limit i : ℕ) → SpellsSections bs text limit i → AreSections bs
+sections-headed [] text limit i h = tt
+sections-headed (b ∷ bs) text limit i (j, here, rest) =
+    (some_part b.array text _ _ b.header here.header.front.key, sections-headed bs text limit j rest)
+
+pub first-headed : (evs : List Event) (bs : List Block) → AreSections bs → AreSections (first_block evs ++ bs)
+first-headed [] bs h = h
+first-headed (ev ∷ evs) bs h = (λ none. refl, h)
+
+-- only a section without a header has no parts, and that is no array of tables
+pub spelled-headed : (bs : List Block) (text : List ℕ) (limit : ℕ) → SpellsDocument bs text limit → AreSections bs
+spelled-headed bs text limit h =
+    subst AreSections (sym h.all) (first-headed h.first h.rest (sections-headed h.rest text limit h.end h.sections))
 
 -- ---- their tree, or their first clash
 

@@ -1,5 +1,5 @@
 -- What the sections that are read so far make, whatever sections follow.
-use Rattle.std.specs.Prelude.{◌≡◌, ⊤, ℕ, List, [], ◌∷◌, ◌++◌, map, length, IfSome, IfNone, Option, Some, None, Result, Ok, Err}
+use Rattle.std.specs.Prelude.{◌≡◌, ℕ, List, [], ◌++◌, map, length, IfSome, IfNone, Option, Some, None, Result, Ok, Err}
 use Rattle.toml_span_lex.specs.declared.stop.Stop.{Stop}
 use Rattle.toml_span_lex.specs.declared.stop.Stop.TheVariants as stops
 use Rattle.toml_span_read.specs.Borrowed.{AreRight as AreRightRead, sections_written}
