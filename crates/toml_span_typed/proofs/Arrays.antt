@@ -20,7 +20,7 @@ elements_push [] a = refl
 elements_push (Ok x ∷ answers) a = ap (λ ys. x ∷ ys) (elements_push answers a)
 elements_push (Err e ∷ answers) a = elements_push answers a
 
-errors_push : {T : Type 0} → (answers : List (Result T Faults)) (a : Result T Faults) → errors (answers ++ a ∷ []) ≡ errors answers ++ errors (a ∷ [])
+pub errors_push : {T : Type 0} → (answers : List (Result T Faults)) (a : Result T Faults) → errors (answers ++ a ∷ []) ≡ errors answers ++ errors (a ∷ [])
 errors_push [] a = refl
 errors_push (Ok x ∷ answers) a = errors_push answers a
 errors_push (Err e ∷ answers) a = ap (λ ys. all e ++ ys) (errors_push answers a) ∙ sym (append_assoc (all e) (errors answers) (errors (a ∷ [])))

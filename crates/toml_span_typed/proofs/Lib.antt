@@ -1,3 +1,4 @@
 pub mod Arrays
 pub mod Tables
 pub mod Whole
+pub mod Maps

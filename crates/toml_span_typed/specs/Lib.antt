@@ -4,3 +4,4 @@ pub mod Arrays
 pub mod TableHelper
 pub mod Parse
 pub mod Fields
+pub mod Maps

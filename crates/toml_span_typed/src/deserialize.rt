@@ -8,6 +8,7 @@ ghost use Rattle.toml_span_typed.specs.Reads.{Answers};
 mod arrays;
 mod holders;
 mod integers;
+mod maps;
 mod scalars;
 mod spanned;
 

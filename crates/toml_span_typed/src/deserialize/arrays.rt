@@ -67,7 +67,7 @@ fn read_next<'de, T: Deserialize<'de>>(
 }
 
 /// Puts errors behind those that there may be.
-fn add<'s>(
+pub(crate) fn add<'s>(
     faults: &mut Option<DeserError<'s>>,
     alloc: Global,
     more: DeserError<'s>,

@@ -1,0 +1,93 @@
+//! Reads of tables whose keys are not known beforehand.
+ghost use Rattle.std.specs.Prelude.{◌≡◌, IsTrue, OnOk, map};
+ghost use Rattle.std.specs.Cow.{cow_str_bytes};
+ghost use Rattle.toml_span_tree.specs.Value.{all_members_whole, is_whole, members_view, view};
+ghost use Rattle.toml_span_typed.specs.Arrays.{Answered};
+ghost use Rattle.toml_span_typed.specs.Faults.{all_of_option};
+ghost use Rattle.toml_span_typed.specs.Maps.{AddsEntry, ReadsEntries, holding, shown_pair, table_reads};
+ghost use Rattle.toml_span_typed.specs.Reads.{Taken, result_map};
+
+use crate::de_helpers::expected;
+use crate::deser_error::DeserError;
+use crate::deserialize::Deserialize;
+use crate::deserialize::arrays::add;
+use std::alloc::{AllocError, Global};
+use std::collections::BTreeMap;
+use toml_span_lex::key::Key;
+use toml_span_lex::stop::Stop;
+use toml_span_tree::{Table, Value, ValueInner};
+
+impl<'de, T: Deserialize<'de>> Deserialize<'de> for BTreeMap<String, T> {
+    ghost reads = { λ v r w. table_reads T.reads v (result_map (λ m. map shown_pair m.entries) r) w };
+
+    ghost starved = { Taken };
+
+    fn deserialize(
+        alloc: Global,
+        value: &mut Value<'de>,
+    ) -> Result<BTreeMap<String, T>, Stop<DeserError<'de>>> {
+        match value.take() {
+            ValueInner::Table(table) => read_entries(alloc, table),
+            other => Err(Stop::Fault(expected("a table", other, value.span).into())),
+        }
+    }
+}
+
+/// Reads the value of each entry.
+fn read_entries<'de, T: Deserialize<'de>>(
+    alloc: Global,
+    table: Table<'de>,
+) -> Result<BTreeMap<String, T>, Stop<DeserError<'de>>>
+    requires { IsTrue (all_members_whole (members_view table.entries)) }
+    ensures { Answered result (λ r. ReadsEntries T.reads (members_view table.entry.entries) (result_map (λ m. map shown_pair m.entries) r)) }
+{
+    let mut read = BTreeMap::new(alloc);
+    let mut faults = None;
+    for (key, item) in table {
+        if let Err(e) = read_entry(alloc, key, item, &mut read, &mut faults) {
+            return Err(Stop::Memory(e));
+        }
+    }
+    match faults {
+        None => Ok(read),
+        Some(faults) => Err(Stop::Fault(faults)),
+    }
+}
+
+/// Reads one more value.
+fn read_entry<'de, T: Deserialize<'de>>(
+    alloc: Global,
+    key: Key<'de>,
+    mut item: Value<'de>,
+    read: &mut BTreeMap<String, T>,
+    faults: &mut Option<DeserError<'de>>,
+) -> Result<(), AllocError>
+    requires { IsTrue (is_whole (view item)) }
+    ensures { OnOk result (AddsEntry T.reads (cow_str_bytes key.entry.name) (view item.entry) (map shown_pair read.old.entries) (all_of_option faults.old) (map shown_pair read.new.entries) (all_of_option faults.new)) }
+{
+    match T::deserialize(alloc, &mut item) {
+        Ok(element) => put(alloc, read, key, element),
+        Err(Stop::Fault(more)) => add(faults, alloc, more),
+        Err(Stop::Memory(e)) => Err(e),
+    }
+}
+
+/// Puts an element under a name.
+#[tactic(auto, using(crate::proofs::Maps::shown_insert))]
+fn put<T: Drop>(
+    alloc: Global,
+    read: &mut BTreeMap<String, T>,
+    key: Key<'_>,
+    element: T,
+) -> Result<(), AllocError>
+    ensures { OnOk result (map shown_pair read.new.entries ≡ holding (map shown_pair read.old.entries) (cow_str_bytes key.entry.name) element) }
+{
+    let name = String::from_str(alloc, key.name.as_str())?;
+    match read.insert(name, element) {
+        Ok(old) => {
+            drop(old);
+            Ok(())
+        }
+        Err(_) => Err(AllocError),
+    }
+}
