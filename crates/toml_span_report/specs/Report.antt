@@ -91,3 +91,11 @@ report_of code message name parts =
 
 abbrev pub report : {F : Type 0} → List ℕ → List ℕ → List (Mark F) → List ℕ → List ℕ → List ℕ
 report code message marks name text = report_of code message name (all_parts text marks)
+
+-- one line: `name:line:column: code: message`
+abbrev pub brief_of : List ℕ → List ℕ → List ℕ → List Part → List ℕ
+brief_of code message name parts =
+    shown name ++ shown_place (main_part parts) ++ codes ": " ++ shown code ++ codes ": " ++ shown message ++ codes "\n"
+
+abbrev pub brief : {F : Type 0} → List ℕ → List ℕ → List (Mark F) → List ℕ → List ℕ → List ℕ
+brief code message marks name text = brief_of code message name (all_parts text marks)

@@ -6,4 +6,5 @@ mod places;
 mod report;
 mod strips;
 
-pub use report::{render, render_error};
+pub use places::line_column;
+pub use report::{render, render_error, render_line};

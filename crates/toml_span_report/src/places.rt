@@ -145,3 +145,13 @@ pub(crate) fn window_end(text: &str, at: usize, end: usize) -> usize
         place(text, at + 160)
     }
 }
+
+/// The line and the column of an offset in a text, both counted from 1, and the column in characters. An offset within
+/// a character or past the text is moved to the nearest place before it.
+pub fn line_column(text: &str, at: usize) -> (usize, usize)
+    ensures line { result.0 ≡ spec.line_number text.now (spec.place text.now at) }
+    ensures column { result.1 ≡ spec.column text.now (spec.place text.now at) }
+{
+    let at = place(text, at);
+    (line_number(text, at), column(text, at))
+}

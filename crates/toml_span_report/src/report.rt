@@ -239,6 +239,48 @@ pub fn render<F>(
     )
 }
 
+/// The line of brief for a code, a message and strips.
+fn brief(
+    alloc: Global,
+    code: &str,
+    message: &str,
+    name: &str,
+    strips: &[Strip<'_>],
+) -> Result<String, AllocError>
+    ensures { IfOk result (λ out. string_bytes out ≡ spec.brief_of code.now message.now name.now (map part_of strips.now)) }
+{
+    let mut out = String::new(alloc);
+    push_shown(&mut out, name)?;
+    push_place(&mut out, main_strip(strips))?;
+    out.push_str(": ")?;
+    push_shown(&mut out, code)?;
+    out.push_str(": ")?;
+    push_shown(&mut out, message)?;
+    out.push_str("\n")?;
+    Ok(out)
+}
+
+/// The one line `name:line:column: code: message` that tells a diagnostic of a text, which editors read. The place is
+/// that of `render`, and is left out where there is no label.
+pub fn render_line<F>(
+    alloc: Global,
+    diagnostic: &Diagnostic<F>,
+    name: &str,
+    text: &str,
+) -> Result<String, AllocError>
+    ensures { IfOk result (λ out. string_bytes out ≡ spec.brief (string_bytes diagnostic.now.code) (string_bytes diagnostic.now.message)
+        (map mark_of diagnostic.now.labels.items) name.now text.now) }
+{
+    let strips = all_strips(alloc, text, diagnostic.labels.as_slice())?;
+    brief(
+        alloc,
+        diagnostic.code.as_str(),
+        diagnostic.message.as_str(),
+        name,
+        strips.as_slice(),
+    )
+}
+
 /// The text that shows an error, as `render` shows its diagnostic, with the error's own text as the message.
 pub fn render_error(
     alloc: Global,
