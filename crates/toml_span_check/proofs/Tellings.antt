@@ -4,7 +4,7 @@ use Rattle.std.proofs.lemmas.List.{take_more, map-append, append-nil}
 use Rattle.toml_span_check.specs.declared.answer.Task.{Task}
 use Rattle.toml_span_check.specs.declared.faults.Format.{Format}
 use Rattle.toml_span_check.specs.declared.input.Unread.{Unread}
-use Rattle.toml_span_check.specs.Run.{Reading, Logs, Tells, Told, nothing, answered, unread, Adds}
+use Rattle.toml_span_check.specs.Run.{Reading, Logs, Tells, nothing, answered, unread, Adds}
 
 logs-none : (log : Option (List Reading)) → Logs log log []
 logs-none None = tt

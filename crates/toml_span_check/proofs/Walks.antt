@@ -1,16 +1,15 @@
 -- One more element, entry or label of a walk.
-use Rattle.std.proofs.Common.{ℕ, suc, ◌+◌, ◌≤◌, ◌<◌, ◌≡◌, refl, List, [], ◌∷◌, ◌++◌, codes, map, arith, drop, length, get_or, sym, ap, ◌∙◌, append_assoc, Bool, true, false}
-use Rattle.std.proofs.lemmas.List.{drop_more, append-nil}
+use Rattle.std.proofs.Common.{ℕ, ◌+◌, ◌≤◌, ◌<◌, ◌≡◌, refl, List, ◌∷◌, ◌++◌, codes, map, arith, drop, length, get_or, sym, ap, ◌∙◌, append_assoc, Bool, true}
+use Rattle.std.proofs.lemmas.List.{drop_more}
 use Rattle.std.specs.Cow.{cow_str_bytes}
 use Rattle.json.specs.Print.{quoted}
 use Rattle.toml_span_lex.specs.declared.key.Key.{Key}
-use Rattle.toml_span_lex.specs.declared.span.Span.{Span}
 use Rattle.toml_span_tree.specs.declared.value.Value.{Value}
 use Rattle.toml_span_tree.specs.Diagnostic.{Mark}
-use Rattle.toml_span_tree.specs.Node.{Node, node, Inner, taken, scalar, array, table}
+use Rattle.toml_span_tree.specs.Node.{Node, node, taken, scalar, array, table}
 use Rattle.toml_span_tree.specs.Value.{view, items_view, members_view, is_taken}
 use Rattle.toml_span_check.specs.Faults.{label_json, labels_json}
-use Rattle.toml_span_check.specs.Shown.{shown, items_shown, members_shown, comma_if, own_text}
+use Rattle.toml_span_check.specs.Shown.{shown, items_shown, members_shown, comma_if}
 use Rattle.toml_span_check.proofs.Sizes.{node_size, items_size, members_size}
 
 -- a value that is taken

@@ -1,5 +1,5 @@
 -- What the program writes for the files that it reads.
-use Rattle.std.specs.Prelude.{◌≡◌, ◌≤◌, ⊤, ℕ, max, List, [], ◌∷◌, ◌++◌, map, codes, Option, Some, None, Result, Ok, Err, Vec}
+use Rattle.std.specs.Prelude.{◌≡◌, ⊤, ℕ, max, List, [], ◌∷◌, ◌++◌, map, codes, Option, Some, None, Result, Ok, Err, Vec}
 use Rattle.std.specs.Global.{Global}
 use Rattle.std.specs.Io.KnownBytes.{Appends}
 use Rattle.toml_span_check.specs.Answer.{IsAnswer}

@@ -1,5 +1,5 @@
 -- The text that shows a diagnostic.
-use Rattle.std.specs.Prelude.{ℕ, zero, ◌+◌, ◌-◌, max, Bool, true, false, ◌==◌, nat_lt, nat_le, List, [], ◌∷◌, ◌++◌, codes, length, Option, Some, None, if◌then◌else◌, replicate}
+use Rattle.std.specs.Prelude.{ℕ, ◌-◌, max, Bool, true, false, ◌==◌, List, [], ◌∷◌, ◌++◌, codes, length, Option, Some, None, if◌then◌else◌, replicate}
 use Rattle.std.specs.Fmt.{decimal}
 use Rattle.std.specs.List.{fold}
 use Rattle.toml_span_tree.specs.Diagnostic.{Mark}

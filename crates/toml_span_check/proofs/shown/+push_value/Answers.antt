@@ -1,9 +1,8 @@
-use Rattle.std.proofs.Common.{◌≡◌, ◌++◌, sym, ap, ◌∙◌, append_assoc, codes, string_bytes}
+use Rattle.std.proofs.Common.{◌++◌, sym, ap, ◌∙◌, append_assoc, codes, string_bytes}
 use Rattle.std.proofs.lemmas.List.{drop_all}
-use Rattle.std.specs.Cow.{cow_str_bytes}
 use Rattle.json.specs.Print.{quoted}
 use Rattle.toml_span_tree.specs.Value.{view, items_view, members_view}
-use Rattle.toml_span_check.specs.Shown.{shown, items_shown, members_shown}
+use Rattle.toml_span_check.specs.Shown.{items_shown, members_shown}
 use Rattle.toml_span_check.proofs.Walks.{shown-taken, items_shown-next, items_size-next, members_shown-next, members_size-next}
 use Rattle.toml_span_check.proofs.shown.+push_value.Goals as goal
 

@@ -1,6 +1,5 @@
-use Rattle.std.proofs.Common.{◌≡◌, ◌≤◌, ℕ, ◌<◌, List, false, arith, sym, length, eq-eqb, get_or}
+use Rattle.std.proofs.Common.{arith, sym, length, eq-eqb}
 use Rattle.std.proofs.lemmas.List.Sums.{position_or_len_is}
-use Rattle.std.specs.List.{position_or_len}
 use Rattle.toml_span_report.specs.Places.{is_line_feed}
 use Rattle.toml_span_report.proofs.places.line_feed.Goals as goal
 

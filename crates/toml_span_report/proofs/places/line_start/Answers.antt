@@ -1,4 +1,4 @@
-use Rattle.std.proofs.Common.{◌≡◌, ◌≤◌, ◌<◌, ◌-◌, ℕ, List, arith, ◌∙◌, ap, length, get_or}
+use Rattle.std.proofs.Common.{◌≡◌, ◌≤◌, arith, ◌∙◌, ap, length}
 use Rattle.std.proofs.lemmas.Str.{IsCharBoundary-start}
 use Rattle.toml_span_report.specs.Places.{line_start}
 use Rattle.toml_span_report.proofs.PlaceLemmas.{line_start-back, line_start-behind, line_start-zero, behind_feed}

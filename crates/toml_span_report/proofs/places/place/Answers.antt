@@ -1,4 +1,3 @@
-use Rattle.std.proofs.Common.{◌≡◌}
 use Rattle.toml_span_report.proofs.PlaceLemmas.{place_is}
 use Rattle.toml_span_report.proofs.places.place.Goals as goal
 

@@ -1,4 +1,4 @@
-use Rattle.std.proofs.Common.{◌≡◌, ◌≤◌, ◌<◌, [], ◌∷◌, ◌∙◌, ap, sym, map, arith}
+use Rattle.std.proofs.Common.{◌∙◌, ap, sym, map}
 use Rattle.std.specs.List.{fold}
 use Rattle.toml_span_tree.specs.Diagnostic.{mark_of}
 use Rattle.toml_span_report.specs.Strips.{part, part_of, placed}

@@ -1,4 +1,4 @@
-use Rattle.std.proofs.Common.{◌≡◌, ◌≤◌, ◌∙◌, ap, map, length, arith}
+use Rattle.std.proofs.Common.{◌≤◌, ◌∙◌, ap, map, length, arith}
 use Rattle.toml_span_report.specs.Strips.{part_of, earlier}
 use Rattle.toml_span_report.proofs.StripLemmas.{earlier_within, placed_is}
 use Rattle.toml_span_report.proofs.strips.place_strip.Goals as goal
