@@ -36,6 +36,7 @@ if [ "$status" -ne 0 ] && [ "$failed" -eq 0 ]; then failed=1; fi
 
 run "no handles" grep -qx 'Handles allowed: none.' HANDLES
 run "stored runs of the program" bash scripts/runs.sh
+run "stored runs of the checker" bash scripts/check_runs.sh
 run "refusals of memory" bash scripts/refusals.sh
 run "the repository stands alone" bash scripts/stands_alone.sh
 run "each edit names its clause" python3 scripts/edits.py --check

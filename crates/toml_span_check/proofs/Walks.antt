@@ -1,0 +1,86 @@
+-- One more element, entry or label of a walk.
+use Rattle.std.proofs.Common.{ℕ, ◌+◌, ◌≤◌, ◌<◌, ◌≡◌, refl, List, ◌∷◌, ◌++◌, codes, map, arith, drop, length, get_or, sym, ap, ◌∙◌, append_assoc, Bool, true}
+use Rattle.std.proofs.lemmas.List.{drop_more}
+use Rattle.std.specs.Cow.{cow_str_bytes}
+use Rattle.json.specs.Print.{quoted}
+use Rattle.toml_span_lex.specs.declared.key.Key.{Key}
+use Rattle.toml_span_tree.specs.declared.value.Value.{Value}
+use Rattle.toml_span_tree.specs.Diagnostic.{Mark}
+use Rattle.toml_span_tree.specs.Node.{Node, node, taken, scalar, array, table}
+use Rattle.toml_span_tree.specs.Value.{view, items_view, members_view, is_taken}
+use Rattle.toml_span_check.specs.Faults.{label_json, labels_json}
+use Rattle.toml_span_check.specs.Shown.{shown, items_shown, members_shown, comma_if}
+use Rattle.toml_span_check.proofs.Sizes.{node_size, items_size, members_size}
+
+-- a value that is taken
+pub shown-taken : (is_tagged : Bool) (n : Node) → is_taken n ≡ true → codes "null" ≡ shown is_tagged n
+shown-taken is_tagged (node taken s) h = refl
+shown-taken is_tagged (node (scalar x) s) h = cc
+shown-taken is_tagged (node (array ns) s) h = cc
+shown-taken is_tagged (node (table ms) s) h = cc
+
+-- the text of the elements from one on
+pub items_shown-next : (t later : Bool) (i : ℕ) (es : List Value) (e : Value) (out comma after all : List ℕ) →
+    i < length es → get_or es i e ≡ e →
+    out ++ items_shown t later (items_view (drop i es)) ≡ all →
+    comma ≡ out ++ comma_if later →
+    after ≡ comma ++ shown t (view e) →
+    after ++ items_shown t true (items_view (drop (i + 1) es)) ≡ all
+items_shown-next t later i es e out comma after all below here before first step =
+    let split : drop i es ≡ e ∷ drop (i + 1) es = drop_more es i e below ∙ ap (λ x. x ∷ drop (i + 1) es) here in
+    let rest = items_shown t true (items_view (drop (i + 1) es)) in
+    let mine = shown t (view e) in
+    let opened : out ++ (comma_if later ++ mine ++ rest) ≡ all = ap (λ l. out ++ items_shown t later (items_view l)) (sym split) ∙ before in
+    let joined : after ++ rest ≡ (out ++ comma_if later ++ mine) ++ rest = ap (λ o. o ++ rest) (step ∙ ap (λ o. o ++ mine) first) in
+    joined ∙ (simp append_assoc) ∙ opened
+
+pub items_size-next : (i : ℕ) (es : List Value) (e : Value) (all : ℕ) →
+    i < length es → get_or es i e ≡ e → items_size (items_view (drop i es)) ≤ all →
+    items_size (items_view (drop (i + 1) es)) ≤ all
+items_size-next i es e all below here before =
+    let split : drop i es ≡ e ∷ drop (i + 1) es = drop_more es i e below ∙ ap (λ x. x ∷ drop (i + 1) es) here in
+    let more : items_size (items_view (drop i es)) ≡ node_size (view e) + items_size (items_view (drop (i + 1) es)) =
+    ap (λ l. items_size (items_view l)) split in
+    omega arith
+
+-- the text of the entries from one on
+pub members_shown-next : (t later : Bool) (es rest : List (Key × Value)) (key : Key) (value : Value) (out comma name colon after all : List ℕ) →
+    es ≡ (key, value) ∷ rest →
+    out ++ members_shown t later (members_view es) ≡ all →
+    comma ≡ out ++ comma_if later →
+    name ≡ comma ++ quoted (cow_str_bytes key.name) →
+    colon ≡ name ++ codes ":" →
+    after ≡ colon ++ shown t (view value) →
+    after ++ members_shown t true (members_view rest) ≡ all
+members_shown-next t later es rest key value out comma name colon after all split before first second third step =
+    let last = members_shown t true (members_view rest) in
+    let mine = shown t (view value) in
+    let title = quoted (cow_str_bytes key.name) in
+    let opened : out ++ (comma_if later ++ title ++ codes ":" ++ mine ++ last) ≡ all =
+    ap (λ l. out ++ members_shown t later (members_view l)) (sym split) ∙ before in
+    let whole : after ≡ out ++ comma_if later ++ title ++ codes ":" ++ mine =
+    step ∙ ap (λ o. o ++ mine) (third ∙ ap (λ o. o ++ codes ":") (second ∙ ap (λ o. o ++ title) first)) in
+    ap (λ o. o ++ last) whole ∙ (simp append_assoc) ∙ opened
+
+pub members_size-next : (es rest : List (Key × Value)) (key : Key) (value : Value) (all : ℕ) →
+    es ≡ (key, value) ∷ rest → members_size (members_view es) ≤ all → members_size (members_view rest) ≤ all
+members_size-next es rest key value all split before =
+    let more : members_size (members_view es) ≡ node_size (view value) + members_size (members_view rest) =
+    ap (λ l. members_size (members_view l)) split in
+    omega arith
+
+-- the text of the labels from one on
+pub labels_json-next : {X : Type 0} (f : X → Mark ℕ) (text : List ℕ) (later : Bool) (i : ℕ) (xs : List X) (x : X) (out comma after all : List ℕ) →
+    i < length xs → get_or xs i x ≡ x →
+    out ++ labels_json text later (map f (drop i xs)) ≡ all →
+    comma ≡ out ++ comma_if later →
+    after ≡ comma ++ label_json text (f x) →
+    after ++ labels_json text true (map f (drop (i + 1) xs)) ≡ all
+labels_json-next f text later i xs x out comma after all below here before first step =
+    let split : drop i xs ≡ x ∷ drop (i + 1) xs = drop_more xs i x below ∙ ap (λ y. y ∷ drop (i + 1) xs) here in
+    let rest = labels_json text true (map f (drop (i + 1) xs)) in
+    let mine = label_json text (f x) in
+    let opened : out ++ (comma_if later ++ mine ++ rest) ≡ all = ap (λ l. out ++ labels_json text later (map f l)) (sym split) ∙ before in
+    let joined : after ++ rest ≡ (out ++ comma_if later ++ mine) ++ rest = ap (λ o. o ++ rest) (step ∙ ap (λ o. o ++ mine) first) in
+    joined ∙ append_assoc (out ++ comma_if later) mine rest ∙ append_assoc out (comma_if later) (mine ++ rest)
+    ∙ ap (λ o. out ++ o) (sym (append_assoc (comma_if later) mine rest)) ∙ opened

@@ -1,0 +1,57 @@
+-- What is told of the bytes of a file.
+use Rattle.std.specs.Prelude.{◌≡◌, ◌<◌, ◌≤◌, ◌⊎◌, ℕ, Bool, true, false, IsUtf8, List, [], ◌++◌, length, codes, Option, Some, None}
+use Rattle.toml_span_tree.specs.declared.error.Error.{Error}
+use Rattle.toml_span_tree.specs.declared.value.Value.{Value}
+use Rattle.toml_span_tree.specs.Diagnostic.{labels_of}
+use Rattle.toml_span_tree.specs.Error.{kind_of}
+use Rattle.toml_span_tree.specs.Message.{code_of, text_of}
+use Rattle.toml_span_tree.specs.Node.{Node}
+use Rattle.toml_span_tree.specs.Pointer.{pointed}
+use Rattle.toml_span_tree.specs.Value.{view}
+use Rattle.toml_span_assembly.specs.Parsing.{IsTree, IsFault, IsClash}
+use Rattle.toml_span_check.specs.Faults.{fault_text}
+use Rattle.toml_span_check.specs.Shown.{shown}
+use Rattle.toml_span_check.specs.declared.faults.Format.{Format}
+use Rattle.toml_span_check.specs.declared.answer.Task.{Task}
+use Rattle.toml_span_check.specs.declared.answer.Task.TheVariants.{Check, Plain, Tagged}
+
+-- the most bytes that a document may have
+abbrev pub bound : ℕ
+bound = 16777216
+
+abbrev pub nothing_there : Format → List ℕ → List ℕ → ℕ × List ℕ
+nothing_there format pointer name =
+    (1, fault_text format (codes "nothing-there") (codes "nothing stands at `" ++ pointer ++ codes "`") [] name [])
+
+-- what a document gives: a status and a text
+abbrev pub found : Format → Bool → List ℕ → List ℕ → Option Node → ℕ × List ℕ
+found format is_tagged pointer name (Some n) = (0, shown is_tagged n ++ codes "\n")
+found format is_tagged pointer name None = nothing_there format pointer name
+
+abbrev pub given : Format → Task → List ℕ → List ℕ → Node → ℕ × List ℕ
+given format Check pointer name n = (0, [])
+given format Plain pointer name n = found format false pointer name (pointed pointer n)
+given format Tagged pointer name n = found format true pointer name (pointed pointer n)
+
+-- the text of an error
+abbrev pub error_text : Format → Error → List ℕ → List ℕ → List ℕ
+error_text format error name text =
+    fault_text format (code_of (kind_of error.kind)) (text_of (kind_of error.kind)) (labels_of 0 error.span (kind_of error.kind)) name text
+
+-- a document, and what it gives; or none, and status 1 with the fault or the first clash
+abbrev pub IsRead : Format → Task → List ℕ → List ℕ → List ℕ → ℕ × List ℕ → Type 0
+IsRead format task pointer name text answer =
+    ((root : Value) × IsTree text 128 root × (answer ≡ given format task pointer name (view root)))
+    ⊎ ((error : Error) × (IsFault text 128 error ⊎ IsClash text 128 error) × (answer ≡ (1, error_text format error name text)))
+
+abbrev pub too_long : Format → List ℕ → ℕ × List ℕ
+too_long format name = (1, fault_text format (codes "too-long") (codes "the file has more than 16 MiB") [] name [])
+
+abbrev pub not_utf8 : Format → List ℕ → ℕ × List ℕ
+not_utf8 format name = (1, fault_text format (codes "not-utf-8") (codes "the file is no UTF-8") [] name [])
+
+-- The status and the text for the bytes of a file: more than the bound, no text, or a document or none.
+pub record IsAnswer (format : Format) (task : Task) (pointer : List ℕ) (name : List ℕ) (bytes : List ℕ) (answer : ℕ × List ℕ) : Type 0 where
+  pub long : bound < length bytes → answer ≡ too_long format name
+  pub no_text : length bytes ≤ bound → ¬ (IsUtf8 bytes) → answer ≡ not_utf8 format name
+  pub read : length bytes ≤ bound → IsUtf8 bytes → IsRead format task pointer name bytes answer

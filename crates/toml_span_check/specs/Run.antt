@@ -1,0 +1,62 @@
+-- What the program writes for the files that it reads.
+use Rattle.std.specs.Prelude.{◌≡◌, ⊤, ℕ, max, List, [], ◌∷◌, ◌++◌, map, codes, Option, Some, None, Result, Ok, Err, Vec}
+use Rattle.std.specs.Global.{Global}
+use Rattle.std.specs.Io.KnownBytes.{Appends}
+use Rattle.toml_span_check.specs.Answer.{IsAnswer}
+use Rattle.toml_span_check.specs.declared.answer.Task.{Task}
+use Rattle.toml_span_check.specs.declared.faults.Format.{Format}
+use Rattle.toml_span_check.specs.declared.input.Unread.{Unread}
+use Rattle.toml_span_check.specs.declared.input.Unread.TheVariants.{Missing, Forbidden, Folder, Failed}
+
+-- a file that was asked for: its name, and its bytes or why there are none
+abbrev pub Reading : Type 0
+Reading = List ℕ × Result (List ℕ) Unread
+
+abbrev pub read_of : Result (Vec ℕ Global) Unread → Result (List ℕ) Unread
+read_of (Ok bytes) = Ok bytes.items
+read_of (Err reason) = Err reason
+
+-- more readings, where they are known
+abbrev pub Logs : Option (List Reading) → Option (List Reading) → List Reading → Type 0
+Logs None new more = ⊤
+Logs (Some readings) new more = new ≡ Some (readings ++ more)
+
+abbrev pub why : Unread → List ℕ
+why Missing = codes "there is no such file"
+why Forbidden = codes "it may not be read"
+why Folder = codes "it is a folder"
+why Failed = codes "reading it failed"
+
+-- what is told of a file that can't be read
+abbrev pub complaint : List ℕ → Unread → List ℕ
+complaint name unread = codes "toml_span_check: " ++ name ++ codes ": " ++ why unread ++ codes "\n"
+
+-- What is told of files, one after another: what their bytes give, what is told of those that can't be read, and the
+-- greatest of their statuses, which is 2 for one that can't be read.
+pub data Told (format : Format) (task : Task) (pointer : List ℕ) : List Reading → List ℕ → List ℕ → ℕ → Type 0 where
+  nothing : Told format task pointer [] [] [] 0
+  answered : (rs : List Reading) (out errors : List ℕ) (status : ℕ) (name bytes : List ℕ) (answer : ℕ × List ℕ)
+      → Told format task pointer rs out errors status → IsAnswer format task pointer name bytes answer
+      → Told format task pointer (rs ++ (name, Ok bytes) ∷ []) (out ++ answer.1) errors (max status answer.0)
+  unread : (rs : List Reading) (out errors : List ℕ) (status : ℕ) (name : List ℕ) (reason : Unread)
+      → Told format task pointer rs out errors status
+      → Told format task pointer (rs ++ (name, Err reason) ∷ []) out (errors ++ complaint name reason) 2
+
+-- the files of these names were read in their order, and this is told of them
+pub record Tells (format : Format) (task : Task) (pointer : List ℕ) (names : List (List ℕ)) (old new : Option (List Reading)) (out errors : List ℕ) (status : ℕ) : Type 0 where
+  pub readings : List Reading
+  pub asked : map (λ r. r.0) readings ≡ names
+  pub logged : Logs old new readings
+  pub told : Told format task pointer readings out errors status
+
+-- A run: status 3 where a write fails, and 4 without memory. Else all files are looked at, and what is told is written.
+pub record Runs (format : Format) (task : Task) (pointer : List ℕ) (names : List (List ℕ)) (old new : Option (List Reading)) (told told' warned warned' : Option (List ℕ)) (status : ℕ) : Type 0 where
+  pub tells : ¬ (status ≡ 3) → ¬ (status ≡ 4) → (out errors : List ℕ) × Tells format task pointer names old new out errors status × Appends told told' out × Appends warned warned' errors
+
+-- for a private clause: what one more reading adds
+abbrev pub Adds : Format → Task → List ℕ → List ℕ → Result (List ℕ) Unread → List ℕ × List ℕ × ℕ → List ℕ × List ℕ × ℕ → Type 0
+Adds format task pointer name (Ok bytes) old new =
+    (answer : ℕ × List ℕ) × IsAnswer format task pointer name bytes answer
+    × (new.0 ≡ old.0 ++ answer.1) × (new.1 ≡ old.1) × (new.2 ≡ max old.2 answer.0)
+Adds format task pointer name (Err reason) old new =
+    (new.0 ≡ old.0) × (new.1 ≡ old.1 ++ complaint name reason) × (new.2 ≡ 2)

@@ -1,0 +1,75 @@
+-- The JSON text that is shown of a tree: as it is, or with the type of each scalar, as toml-test reads it.
+use Rattle.std.specs.Prelude.{ℕ, ◌==◌, ◌||◌, nat_lt, Bool, true, false, List, [], ◌++◌, codes, length, drop, slice_index, if◌then◌else◌}
+use Rattle.std.specs.Fmt.{signed_decimal}
+use Rattle.std.specs.List.{list_any}
+use Rattle.json.specs.Print.{quoted}
+use Rattle.toml_span_tree.specs.Float.{decimal_text}
+use Rattle.toml_span_tree.specs.Node.{Scalar, text, integer, float, boolean, datetime, Node, node, Inner, taken, scalar, array, table, Items, no_items, item, Members, no_members, member}
+
+-- ---- dates
+
+-- a sign that begins an offset
+abbrev pub begins_offset : ℕ → Bool
+begins_offset byte = (byte == 90 || byte == 122) || (byte == 43 || byte == 45)
+
+abbrev pub date_type : List ℕ → List ℕ
+date_type date =
+    if slice_index date 2 == 58 then codes "time-local"
+    else if nat_lt (length date) 11 then codes "date-local"
+    else if list_any begins_offset (drop 11 date) then codes "datetime"
+    else codes "datetime-local"
+
+-- ---- scalars
+
+abbrev pub truth : Bool → List ℕ
+truth true = codes "true"
+truth false = codes "false"
+
+-- `{"type":"integer","value":"42"}`
+abbrev pub tagged : List ℕ → List ℕ → List ℕ
+tagged type value = codes "{\"type\":" ++ quoted type ++ codes ",\"value\":" ++ quoted value ++ codes "}"
+
+abbrev pub scalar_text : Bool → Scalar → List ℕ
+scalar_text true (text s) = tagged (codes "string") s
+scalar_text true (integer z) = tagged (codes "integer") (signed_decimal z)
+scalar_text true (float x) = tagged (codes "float") (decimal_text x)
+scalar_text true (boolean b) = tagged (codes "bool") (truth b)
+scalar_text true (datetime d) = tagged (date_type d) d
+scalar_text false (text s) = quoted s
+scalar_text false (integer z) = signed_decimal z
+scalar_text false (float x) = quoted (decimal_text x)
+scalar_text false (boolean b) = truth b
+scalar_text false (datetime d) = quoted d
+
+-- the text of a scalar, and nothing of what is none
+abbrev pub own_text : Bool → Inner → List ℕ
+own_text is_tagged taken = []
+own_text is_tagged (scalar s) = scalar_text is_tagged s
+own_text is_tagged (array ns) = []
+own_text is_tagged (table ms) = []
+
+-- ---- trees
+
+abbrev pub comma_if : Bool → List ℕ
+comma_if later = if later then codes "," else []
+
+-- the text of a value, with no space; a value that is taken is `null`
+abbrev mutual
+  pub shown : Bool → Node → List ℕ
+  shown is_tagged (node i span) = inner_shown is_tagged i
+
+  pub inner_shown : Bool → Inner → List ℕ
+  inner_shown is_tagged taken = codes "null"
+  inner_shown is_tagged (scalar s) = scalar_text is_tagged s
+  inner_shown is_tagged (array ns) = codes "[" ++ items_shown is_tagged false ns
+  inner_shown is_tagged (table ms) = codes "{" ++ members_shown is_tagged false ms
+
+  -- with the closing bracket
+  pub items_shown : Bool → Bool → Items → List ℕ
+  items_shown is_tagged later no_items = codes "]"
+  items_shown is_tagged later (item n ns) = comma_if later ++ shown is_tagged n ++ items_shown is_tagged true ns
+
+  pub members_shown : Bool → Bool → Members → List ℕ
+  members_shown is_tagged later no_members = codes "}"
+  members_shown is_tagged later (member name key n ms) =
+      comma_if later ++ quoted name ++ codes ":" ++ shown is_tagged n ++ members_shown is_tagged true ms

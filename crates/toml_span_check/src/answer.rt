@@ -1,0 +1,179 @@
+//! What is told of the bytes of a file.
+ghost use Rattle.std.specs.Prelude.{◌≡◌, [], ◌++◌, IfOk, option_map, string_bytes};
+ghost use Rattle.toml_span_tree.specs.Value.{view};
+ghost use Rattle.toml_span_check.specs.Answer as spec;
+ghost use Rattle.toml_span_check.specs.Faults as faults;
+
+use crate::faults::{Format, fault_text};
+use crate::shown::shown;
+use std::alloc::{AllocError, Global};
+use toml_span::de::parse;
+use toml_span::{Diagnostic, Error, Stop, Value};
+
+/// The most bytes that a document may have.
+pub(crate) const BOUND: usize = 16_777_216;
+
+/// What is to be done with a document.
+#[derive(Clone, Copy, PartialEq, Eq)]
+pub(crate) enum Task {
+    /// To tell its fault.
+    Check,
+    /// To show it as JSON.
+    Plain,
+    /// To show it as JSON with the type of each scalar.
+    Tagged,
+}
+
+/// The text for a fault that has no place.
+fn plain_fault(
+    alloc: Global,
+    format: Format,
+    code: &str,
+    message: &str,
+    name: &str,
+) -> Result<String, AllocError>
+    ensures { IfOk result (λ out. string_bytes out ≡ faults.fault_text format code.now message.now [] name.now []) }
+{
+    let diagnostic = Diagnostic {
+        code: String::from_str(alloc, code)?,
+        message: String::from_str(alloc, message)?,
+        labels: Vec::new(alloc),
+    };
+    fault_text(alloc, format, &diagnostic, name, "")
+}
+
+/// The text for an error of a text.
+fn error_text(
+    alloc: Global,
+    format: Format,
+    error: &Error<'_>,
+    name: &str,
+    text: &str,
+) -> Result<String, AllocError>
+    ensures { IfOk result (λ out. string_bytes out ≡ spec.error_text format error.now name.now text.now) }
+{
+    let mut diagnostic = error.to_diagnostic(alloc, 0usize)?;
+    diagnostic.message = error.to_string(alloc)?;
+    fault_text(alloc, format, &diagnostic, name, text)
+}
+
+/// The status and the text where a pointer names nothing.
+fn nothing_there(
+    alloc: Global,
+    format: Format,
+    pointer: &str,
+    name: &str,
+) -> Result<(u8, String), AllocError>
+    ensures { IfOk result (λ a. (a.0, string_bytes a.1) ≡ spec.nothing_there format pointer.now name.now) }
+{
+    let mut message = String::from_str(alloc, "nothing stands at `")?;
+    message.push_str(pointer)?;
+    message.push_str("`")?;
+    let out = plain_fault(alloc, format, "nothing-there", message.as_str(), name)?;
+    Ok((1, out))
+}
+
+/// The status and the text for a file that is longer than the bound.
+fn too_long(alloc: Global, format: Format, name: &str) -> Result<(u8, String), AllocError>
+    ensures { IfOk result (λ a. (a.0, string_bytes a.1) ≡ spec.too_long format name.now) }
+{
+    let out = plain_fault(
+        alloc,
+        format,
+        "too-long",
+        "the file has more than 16 MiB",
+        name,
+    )?;
+    Ok((1, out))
+}
+
+/// The status and the text for a file that is no text.
+fn not_utf8(alloc: Global, format: Format, name: &str) -> Result<(u8, String), AllocError>
+    ensures { IfOk result (λ a. (a.0, string_bytes a.1) ≡ spec.not_utf8 format name.now) }
+{
+    let out = plain_fault(alloc, format, "not-utf-8", "the file is no UTF-8", name)?;
+    Ok((1, out))
+}
+
+/// The status and the text for what a pointer names, if it names something.
+fn found(
+    alloc: Global,
+    format: Format,
+    is_tagged: bool,
+    pointer: &str,
+    name: &str,
+    value: Option<&Value<'_>>,
+) -> Result<(u8, String), AllocError>
+    ensures { IfOk result (λ a. (a.0, string_bytes a.1) ≡ spec.found format is_tagged pointer.now name.now (option_map (λ v. view v.now) value.entry)) }
+{
+    match value {
+        Some(value) => {
+            let mut out = shown(alloc, value, is_tagged)?;
+            out.push_str("\n")?;
+            Ok((0, out))
+        }
+        None => nothing_there(alloc, format, pointer, name),
+    }
+}
+
+/// The status and the text for a document.
+fn given<'t>(
+    alloc: Global,
+    format: Format,
+    task: Task,
+    pointer: &'t str,
+    name: &str,
+    root: &Value<'t>,
+) -> Result<(u8, String), AllocError>
+    ensures { IfOk result (λ a. (a.0, string_bytes a.1) ≡ spec.given format task pointer.now name.now (view root.now)) }
+{
+    match task {
+        Task::Check => Ok((0, String::new(alloc))),
+        Task::Plain => found(alloc, format, false, pointer, name, root.pointer(pointer)),
+        Task::Tagged => found(alloc, format, true, pointer, name, root.pointer(pointer)),
+    }
+}
+
+/// The status and the text for a text.
+fn answer_text<'t>(
+    alloc: Global,
+    format: Format,
+    task: Task,
+    pointer: &'t str,
+    name: &str,
+    text: &'t str,
+) -> Result<(u8, String), AllocError>
+    ensures { IfOk result (λ a. spec.IsRead format task pointer.now name.now text.now (a.0, string_bytes a.1)) }
+{
+    match parse(alloc, text) {
+        Ok(root) => {
+            let answer = given(alloc, format, task, pointer, name, &root)?;
+            Ok(answer)
+        }
+        Err(Stop::Fault(error)) => {
+            let out = error_text(alloc, format, &error, name, text)?;
+            Ok((1, out))
+        }
+        Err(Stop::Memory(error)) => Err(error),
+    }
+}
+
+/// The status and the text for the bytes of a file.
+pub(crate) fn answer<'t>(
+    alloc: Global,
+    format: Format,
+    task: Task,
+    pointer: &'t str,
+    name: &str,
+    bytes: &'t [u8],
+) -> Result<(u8, String), AllocError>
+    ensures { IfOk result (λ a. spec.IsAnswer format task pointer.now name.now bytes.now (a.0, string_bytes a.1)) }
+{
+    if bytes.len() > BOUND {
+        return too_long(alloc, format, name);
+    }
+    match str::from_utf8(bytes) {
+        Ok(text) => answer_text(alloc, format, task, pointer, name, text),
+        Err(_) => not_utf8(alloc, format, name),
+    }
+}

@@ -1,0 +1,150 @@
+//! What is told of a file that is not read.
+ghost use Rattle.std.specs.Prelude.{◌≡◌, ◌++◌, false, OnOk, IfOk, map, string_bytes};
+ghost use Rattle.std.specs.Fmt.{decimal};
+ghost use Rattle.toml_span_tree.specs.Diagnostic.{mark_of};
+ghost use Rattle.toml_span_check.specs.Faults as spec;
+
+use crate::shown::{push_comma, push_quoted, truth};
+use std::alloc::{AllocError, Global};
+use std::fmt::Write;
+use toml_span::{Diagnostic, Label, Span};
+use toml_span_report::{line_column, render, render_line};
+
+/// How a fault is told.
+#[derive(Clone, Copy, PartialEq, Eq)]
+pub(crate) enum Format {
+    /// In lines, with marks.
+    Text,
+    /// In one line.
+    Short,
+    /// As one line of JSON.
+    Json,
+}
+
+/// Adds a title and a number.
+fn push_number(out: &mut String, title: &str, number: usize) -> Result<(), AllocError>
+    ensures { OnOk result (string_bytes out.new ≡ string_bytes out.old ++ title.now ++ decimal number) }
+{
+    out.push_str(title)?;
+    write!(out, "{number}")
+}
+
+/// Adds the bytes of a label.
+#[tactic(auto, unfolding(crate::specs::Faults::span_json))]
+fn push_span(out: &mut String, span: Span) -> Result<(), AllocError>
+    ensures { OnOk result (string_bytes out.new ≡ string_bytes out.old ++ spec.span_json span) }
+{
+    push_number(out, ",\"start\":", span.start)?;
+    push_number(out, ",\"end\":", span.end)
+}
+
+/// Adds the line and the column of an offset.
+#[tactic(auto, unfolding(crate::specs::Faults::place_json))]
+fn push_place(out: &mut String, text: &str, at: usize) -> Result<(), AllocError>
+    ensures { OnOk result (string_bytes out.new ≡ string_bytes out.old ++ spec.place_json text.now at) }
+{
+    let (line, column) = line_column(text, at);
+    push_number(out, ",\"line\":", line)?;
+    push_number(out, ",\"column\":", column)
+}
+
+/// Adds the front of a label, up to its message.
+fn push_label_head(out: &mut String, text: &str, label: &Label<usize>) -> Result<(), AllocError>
+    ensures { OnOk result (string_bytes out.new ≡ string_bytes out.old ++ spec.label_head text.now (mark_of label.now)) }
+{
+    out.push_str("{\"primary\":")?;
+    out.push_str(truth(label.primary))?;
+    push_span(out, label.span)?;
+    push_place(out, text, label.span.start)?;
+    Ok(())
+}
+
+/// Adds a label as a JSON object.
+fn push_label(
+    alloc: Global,
+    out: &mut String,
+    text: &str,
+    label: &Label<usize>,
+) -> Result<(), AllocError>
+    ensures { OnOk result (string_bytes out.new ≡ string_bytes out.old ++ spec.label_json text.now (mark_of label.now)) }
+{
+    push_label_head(out, text, label)?;
+    out.push_str(",\"message\":")?;
+    push_quoted(alloc, out, label.message.as_str())?;
+    out.push_str("}")
+}
+
+/// Adds labels as JSON objects, and a bracket behind them.
+fn push_labels(
+    alloc: Global,
+    out: &mut String,
+    text: &str,
+    labels: &[Label<usize>],
+) -> Result<(), AllocError>
+    ensures { OnOk result (string_bytes out.new ≡ string_bytes out.old ++ spec.labels_json text.now false (map mark_of labels.now)) }
+{
+    let mut later = false;
+    for label in labels {
+        push_comma(out, later)?;
+        push_label(alloc, out, text, label)?;
+        later = true;
+    }
+    out.push_str("]")?;
+    Ok(())
+}
+
+/// Adds the name of the file, the code and the message.
+#[tactic(auto, unfolding(crate::specs::Faults::head_json))]
+fn push_head(
+    alloc: Global,
+    out: &mut String,
+    code: &str,
+    message: &str,
+    name: &str,
+) -> Result<(), AllocError>
+    ensures { OnOk result (string_bytes out.new ≡ string_bytes out.old ++ spec.head_json code.now message.now name.now) }
+{
+    out.push_str("{\"file\":")?;
+    push_quoted(alloc, out, name)?;
+    out.push_str(",\"code\":")?;
+    push_quoted(alloc, out, code)?;
+    out.push_str(",\"message\":")?;
+    push_quoted(alloc, out, message)
+}
+
+/// A diagnostic as one line of JSON.
+fn fault_json(
+    alloc: Global,
+    diagnostic: &Diagnostic<usize>,
+    name: &str,
+    text: &str,
+) -> Result<String, AllocError>
+    ensures { IfOk result (λ out. string_bytes out ≡ spec.fault_json (string_bytes diagnostic.now.code) (string_bytes diagnostic.now.message)
+        (map mark_of diagnostic.now.labels.items) name.now text.now) }
+{
+    let mut out = String::new(alloc);
+    let (code, message) = (diagnostic.code.as_str(), diagnostic.message.as_str());
+    push_head(alloc, &mut out, code, message, name)?;
+    out.push_str(",\"labels\":[")?;
+    push_labels(alloc, &mut out, text, diagnostic.labels.as_slice())?;
+    out.push_str("}\n")?;
+    Ok(out)
+}
+
+/// A diagnostic of a text, in a format.
+pub(crate) fn fault_text(
+    alloc: Global,
+    format: Format,
+    diagnostic: &Diagnostic<usize>,
+    name: &str,
+    text: &str,
+) -> Result<String, AllocError>
+    ensures { IfOk result (λ out. string_bytes out ≡ spec.fault_text format (string_bytes diagnostic.now.code) (string_bytes diagnostic.now.message)
+        (map mark_of diagnostic.now.labels.items) name.now text.now) }
+{
+    match format {
+        Format::Text => render(alloc, diagnostic, name, text),
+        Format::Short => render_line(alloc, diagnostic, name, text),
+        Format::Json => fault_json(alloc, diagnostic, name, text),
+    }
+}

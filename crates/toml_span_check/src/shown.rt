@@ -1,0 +1,195 @@
+//! The JSON text of a tree.
+ghost use Rattle.std.specs.Prelude.{◌≡◌, ◌++◌, false, true, OnOk, IfOk, string_bytes, codes};
+ghost use Rattle.std.specs.List.{list_any};
+ghost use Rattle.json.specs.Print as print;
+ghost use Rattle.toml_span_tree.specs.Value.{view, inner_view, items_view, members_view};
+ghost use Rattle.toml_span_check.specs.Shown as spec;
+
+use serde_json::Value as Json;
+use std::alloc::{AllocError, Global};
+use toml_span::value::{Table, Value, ValueInner};
+
+/// Adds a text in quotes, as JSON has it.
+pub(crate) fn push_quoted(alloc: Global, out: &mut String, text: &str) -> Result<(), AllocError>
+    ensures { OnOk result (string_bytes out.new ≡ string_bytes out.old ++ print.quoted text.now) }
+{
+    let json = Json::String(String::from_str(alloc, text)?);
+    let quoted = json.to_string(alloc)?;
+    out.push_str(quoted.as_str())
+}
+
+/// `true` or `false`.
+pub(crate) fn truth(is_true: bool) -> &'static str
+    ensures { result.now ≡ spec.truth is_true }
+{
+    if is_true { "true" } else { "false" }
+}
+
+/// Adds a comma, where something stands before.
+pub(crate) fn push_comma(out: &mut String, later: bool) -> Result<(), AllocError>
+    ensures { OnOk result (string_bytes out.new ≡ string_bytes out.old ++ spec.comma_if later) }
+{
+    if later {
+        out.push_str(",")?;
+    }
+    Ok(())
+}
+
+/// Whether a sign that begins an offset is among these bytes.
+fn has_offset(bytes: &[u8]) -> bool
+    ensures { result ≡ list_any spec.begins_offset bytes.now }
+{
+    for byte in bytes {
+        if matches!(*byte, b'Z' | b'z' | b'+' | b'-') {
+            return true;
+        }
+    }
+    false
+}
+
+/// The type of a date in the words of toml-test.
+fn date_type(date: &str) -> &'static str
+    ensures { result.now ≡ spec.date_type date.now }
+{
+    let bytes = date.as_bytes();
+    if bytes.get(2).copied() == Some(b':') {
+        return "time-local";
+    }
+    if bytes.len() < 11 {
+        return "date-local";
+    }
+    let (_, behind) = bytes.split_at(11);
+    if has_offset(behind) {
+        "datetime"
+    } else {
+        "datetime-local"
+    }
+}
+
+/// Adds a scalar with its type.
+fn push_tagged(
+    alloc: Global,
+    out: &mut String,
+    type_name: &str,
+    value: &str,
+) -> Result<(), AllocError>
+    ensures { OnOk result (string_bytes out.new ≡ string_bytes out.old ++ spec.tagged type_name.now value.now) }
+{
+    out.push_str("{\"type\":")?;
+    push_quoted(alloc, out, type_name)?;
+    out.push_str(",\"value\":")?;
+    push_quoted(alloc, out, value)?;
+    out.push_str("}")
+}
+
+/// Adds a scalar with its type, and nothing for an array or a table.
+fn push_typed(alloc: Global, out: &mut String, scalar: &ValueInner<'_>) -> Result<(), AllocError>
+    ensures { OnOk result (string_bytes out.new ≡ string_bytes out.old ++ spec.own_text true (inner_view scalar.now)) }
+{
+    match scalar {
+        ValueInner::String(text) => push_tagged(alloc, out, "string", text.as_ref()),
+        ValueInner::Integer(number) => {
+            let digits = number.to_string(alloc)?;
+            push_tagged(alloc, out, "integer", digits.as_str())
+        }
+        ValueInner::Float(float) => push_tagged(alloc, out, "float", float.text()),
+        ValueInner::Boolean(is_true) => push_tagged(alloc, out, "bool", truth(*is_true)),
+        ValueInner::Datetime(date) => {
+            push_tagged(alloc, out, date_type(date.text()), date.text())
+        }
+        ValueInner::Array(_) => Ok(()),
+        ValueInner::Table(_) => Ok(()),
+    }
+}
+
+/// Adds a scalar as it is, and nothing for an array or a table.
+fn push_plain(alloc: Global, out: &mut String, scalar: &ValueInner<'_>) -> Result<(), AllocError>
+    ensures { OnOk result (string_bytes out.new ≡ string_bytes out.old ++ spec.own_text false (inner_view scalar.now)) }
+{
+    match scalar {
+        ValueInner::String(text) => push_quoted(alloc, out, text.as_ref()),
+        ValueInner::Integer(number) => {
+            let digits = number.to_string(alloc)?;
+            out.push_str(digits.as_str())
+        }
+        ValueInner::Float(float) => push_quoted(alloc, out, float.text()),
+        ValueInner::Boolean(is_true) => out.push_str(truth(*is_true)),
+        ValueInner::Datetime(date) => push_quoted(alloc, out, date.text()),
+        ValueInner::Array(_) => Ok(()),
+        ValueInner::Table(_) => Ok(()),
+    }
+}
+
+/// How a tree is shown.
+#[derive(Clone, Copy)]
+pub(crate) struct Shape {
+    pub(crate) alloc: Global,
+    /// Whether scalars have their types.
+    pub(crate) is_tagged: bool,
+}
+
+/// Adds a value. One that is taken is `null`.
+#[cycle(push_value)]
+fn push_value(shape: Shape, out: &mut String, value: &Value<'_>) -> Result<(), AllocError>
+    ensures { OnOk result (string_bytes out.new ≡ string_bytes out.old ++ spec.shown shape.is_tagged (view value.now)) }
+{
+    if value.is_taken() {
+        out.push_str("null")?;
+        return Ok(());
+    }
+    let inner = value.as_ref();
+    match inner {
+        ValueInner::Array(elements) => push_elements(shape, out, elements.as_slice()),
+        ValueInner::Table(table) => push_entries(shape, out, table),
+        _ => {
+            if shape.is_tagged {
+                push_typed(shape.alloc, out, inner)
+            } else {
+                push_plain(shape.alloc, out, inner)
+            }
+        }
+    }
+}
+
+/// Adds the elements of an array, in brackets.
+#[cycle(push_value)]
+fn push_elements(shape: Shape, out: &mut String, elements: &[Value<'_>]) -> Result<(), AllocError>
+    ensures { OnOk result (string_bytes out.new ≡ string_bytes out.old ++ (codes "[" ++ spec.items_shown shape.is_tagged false (items_view elements.now))) }
+{
+    out.push_str("[")?;
+    let mut later = false;
+    for element in elements {
+        push_comma(out, later)?;
+        push_value(shape, out, element)?;
+        later = true;
+    }
+    out.push_str("]")?;
+    Ok(())
+}
+
+/// Adds the entries of a table, in braces.
+#[cycle(push_value)]
+fn push_entries(shape: Shape, out: &mut String, table: &Table<'_>) -> Result<(), AllocError>
+    ensures { OnOk result (string_bytes out.new ≡ string_bytes out.old ++ (codes "{" ++ spec.members_shown shape.is_tagged false (members_view table.now.entries))) }
+{
+    out.push_str("{")?;
+    let mut later = false;
+    for (key, value) in table.iter() {
+        push_comma(out, later)?;
+        push_quoted(shape.alloc, out, key.name.as_ref())?;
+        out.push_str(":")?;
+        push_value(shape, out, value)?;
+        later = true;
+    }
+    out.push_str("}")?;
+    Ok(())
+}
+
+/// The JSON text of a value.
+pub(crate) fn shown(alloc: Global, value: &Value<'_>, is_tagged: bool) -> Result<String, AllocError>
+    ensures { IfOk result (λ out. string_bytes out ≡ spec.shown is_tagged (view value.now)) }
+{
+    let mut out = String::new(alloc);
+    push_value(Shape { alloc, is_tagged }, &mut out, value)?;
+    Ok(out)
+}

@@ -1,0 +1,3 @@
+pub mod PlaceLemmas
+pub mod LineEndLemmas
+pub mod StripLemmas

@@ -1,0 +1,27 @@
+-- How the characters of a text are shown, and how many columns they take.
+use Rattle.std.specs.Prelude.{ℕ, ◌+◌, Bool, false, ◌==◌, ◌||◌, ◌&&◌, nat_lt, nat_le, List, codes, encode_utf8, if◌then◌else◌}
+use Rattle.std.specs.List.{flat_map}
+use Rattle.std.specs.Str.{chars}
+use Rattle.unicode_width.specs.Width.{str_width}
+
+-- a control character from U+0080 on, or one that turns the direction of the text
+abbrev pub is_hidden : ℕ → Bool
+is_hidden c = (nat_le 0x80 c && nat_lt c 0xA0) || (nat_le 0x202A c && nat_le c 0x202E) || (nat_le 0x2066 c && nat_le c 0x2069)
+
+-- A tab is four spaces, a control character of ASCII its picture, as U+2400 for the byte 0, and a hidden character U+FFFD.
+-- Any other stands for itself.
+abbrev pub shown_char : ℕ → List ℕ
+shown_char c =
+    if c == 9 then codes "    "
+    else if nat_lt c 32 then encode_utf8 (c + 0x2400)
+    else if c == 127 then encode_utf8 0x2421
+    else if is_hidden c then encode_utf8 0xFFFD
+    else encode_utf8 c
+
+-- a text as it is shown
+unfoldable pub shown : List ℕ → List ℕ
+shown text = flat_map shown_char (chars text)
+
+-- the columns of a text that is shown
+unfoldable pub columns : List ℕ → ℕ
+columns text = str_width false (chars text)

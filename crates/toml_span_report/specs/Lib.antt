@@ -1,0 +1,4 @@
+pub mod Characters
+pub mod Places
+pub mod Report
+pub mod Strips

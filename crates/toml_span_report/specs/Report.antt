@@ -1,0 +1,101 @@
+-- The text that shows a diagnostic.
+use Rattle.std.specs.Prelude.{ℕ, ◌-◌, max, Bool, true, false, ◌==◌, List, [], ◌∷◌, ◌++◌, codes, length, Option, Some, None, if◌then◌else◌, replicate}
+use Rattle.std.specs.Fmt.{decimal}
+use Rattle.std.specs.List.{fold}
+use Rattle.toml_span_tree.specs.Diagnostic.{Mark}
+use Rattle.toml_span_report.specs.Characters.{shown, columns}
+use Rattle.toml_span_report.specs.Strips.{Part, all_parts}
+
+-- a text that is not empty, behind something
+abbrev pub behind : List ℕ → List ℕ → List ℕ
+behind sign [] = []
+behind sign (x ∷ xs) = sign ++ x ∷ xs
+
+-- `error[code]: message`
+abbrev pub headline : List ℕ → List ℕ → List ℕ
+headline code message = codes "error[" ++ shown code ++ codes "]" ++ behind (codes ": ") (shown message) ++ codes "\n"
+
+-- the part at which the error stands: the first of a primary label, or else the first
+abbrev pub first_primary : List Part → Option Part
+first_primary [] = None
+first_primary (p ∷ ps) = if p.is_primary then Some p else first_primary ps
+
+abbrev pub first_of : List Part → Option Part
+first_of [] = None
+first_of (p ∷ ps) = Some p
+
+abbrev pub or_else : Option Part → Option Part → Option Part
+or_else (Some p) other = Some p
+or_else None other = other
+
+abbrev pub main_part : List Part → Option Part
+main_part parts = or_else (first_primary parts) (first_of parts)
+
+-- `:line:column`, both counted from 1
+abbrev pub shown_place : Option Part → List ℕ
+shown_place None = []
+shown_place (Some p) = codes ":" ++ decimal p.number ++ codes ":" ++ decimal p.column
+
+-- the columns that the greatest of the line numbers takes
+abbrev pub greatest : List Part → ℕ
+greatest parts = fold (λ n p. max p.number n) 0 parts
+
+abbrev pub width_of : List Part → ℕ
+width_of parts = length (decimal (greatest parts))
+
+-- what stands to the left of a line, and a bar
+abbrev pub gutter : ℕ → List ℕ → List ℕ
+gutter width number = replicate (width - length number) 32 ++ number ++ codes " |"
+
+-- a line is cut where dots stand
+abbrev pub dots : Bool → List ℕ
+dots true = codes "..."
+dots false = []
+
+-- what is shown of the line
+abbrev pub source : Part → List ℕ
+source p = dots p.is_cut_before ++ shown p.before ++ shown p.marked ++ shown p.behind ++ dots p.is_cut_behind
+
+abbrev pub source_line : ℕ → Part → List ℕ
+source_line width p = gutter width (decimal p.number) ++ behind (codes " ") (source p) ++ codes "\n"
+
+-- the marks under it, as many as the marked text takes columns, and one at least; and the message
+abbrev pub sign : Bool → ℕ
+sign true = 94
+sign false = 45
+
+abbrev pub marks : Part → List ℕ
+marks p = replicate (columns (dots p.is_cut_before ++ shown p.before)) 32 ++ replicate (max (columns (shown p.marked)) 1) (sign p.is_primary)
+
+abbrev pub marks_line : ℕ → Part → List ℕ
+marks_line width p = gutter width [] ++ codes " " ++ marks p ++ behind (codes " ") (shown p.message) ++ codes "\n"
+
+-- The first line has a bar above it. A line that was shown last is not shown again, and dots stand for lines between.
+abbrev pub opening : ℕ → Option ℕ → Part → List ℕ
+opening width None p = gutter width [] ++ codes "\n" ++ source_line width p
+opening width (Some above) p =
+    if above == p.number then []
+    else if p.number - above == 1 then source_line width p
+    else codes "...\n" ++ source_line width p
+
+abbrev pub drawn : ℕ → Option ℕ → List Part → List ℕ
+drawn width above [] = []
+drawn width above (p ∷ ps) = opening width above p ++ marks_line width p ++ drawn width (Some p.number) ps
+
+-- The whole text: the headline, the place of the error, and the lines of the labels with what they say.
+abbrev pub report_of : List ℕ → List ℕ → List ℕ → List Part → List ℕ
+report_of code message name parts =
+    headline code message
+    ++ replicate (width_of parts) 32 ++ codes "--> " ++ shown name ++ shown_place (main_part parts) ++ codes "\n"
+    ++ drawn (width_of parts) None parts
+
+abbrev pub report : {F : Type 0} → List ℕ → List ℕ → List (Mark F) → List ℕ → List ℕ → List ℕ
+report code message marks name text = report_of code message name (all_parts text marks)
+
+-- one line: `name:line:column: code: message`
+abbrev pub brief_of : List ℕ → List ℕ → List ℕ → List Part → List ℕ
+brief_of code message name parts =
+    shown name ++ shown_place (main_part parts) ++ codes ": " ++ shown code ++ codes ": " ++ shown message ++ codes "\n"
+
+abbrev pub brief : {F : Type 0} → List ℕ → List ℕ → List (Mark F) → List ℕ → List ℕ → List ℕ
+brief code message marks name text = brief_of code message name (all_parts text marks)

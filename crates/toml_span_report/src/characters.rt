@@ -1,0 +1,71 @@
+//! How the characters of a text are shown.
+ghost use Rattle.std.specs.Prelude.{◌≡◌, ◌++◌, ◌<◌, IfOk, OnOk, string_bytes, replicate};
+ghost use Rattle.toml_span_report.specs.Characters as spec;
+
+use std::alloc::{AllocError, Global};
+use unicode_width::UnicodeWidthStr;
+
+/// A control character from U+0080 on, or one that turns the direction of the text.
+fn is_hidden(c: char) -> bool
+    ensures { result ≡ spec.is_hidden c }
+{
+    matches!(c as u32, 0x80..=0x9F | 0x202A..=0x202E | 0x2066..=0x2069)
+}
+
+/// Adds a character as it is shown.
+fn push_char(out: &mut String, c: char) -> Result<(), AllocError>
+    ensures { OnOk result (string_bytes out.new ≡ string_bytes out.old ++ spec.shown_char c) }
+{
+    if c == '\t' {
+        return out.push_str("    ");
+    }
+    let code = c as u32;
+    if code < 32 {
+        return out.push(char::from_u32(code + 0x2400).unwrap_or(c));
+    }
+    if code == 127 {
+        out.push('\u{2421}')
+    } else if is_hidden(c) {
+        out.push('\u{FFFD}')
+    } else {
+        out.push(c)
+    }
+}
+
+/// Adds a text as it is shown.
+pub(crate) fn push_shown(out: &mut String, text: &str) -> Result<(), AllocError>
+    ensures { OnOk result (string_bytes out.new ≡ string_bytes out.old ++ spec.shown text.now) }
+{
+    for c in text.chars() {
+        push_char(out, c)?;
+    }
+    Ok(())
+}
+
+/// A text as it is shown.
+pub(crate) fn shown(alloc: Global, text: &str) -> Result<String, AllocError>
+    ensures { IfOk result (λ out. string_bytes out ≡ spec.shown text.now) }
+{
+    let mut out = String::new(alloc);
+    push_shown(&mut out, text)?;
+    Ok(out)
+}
+
+/// How many columns a text takes that is shown as it is.
+#[tactic(auto, unfolding(crate::specs::Characters::columns))]
+pub(crate) fn columns(text: &str) -> usize
+    ensures { result ≡ spec.columns text.now }
+{
+    text.width()
+}
+
+/// Adds a character some times.
+pub(crate) fn push_times(out: &mut String, times: usize, c: char) -> Result<(), AllocError>
+    requires { c < 128 }
+    ensures { OnOk result (string_bytes out.new ≡ string_bytes out.old ++ replicate times c) }
+{
+    for _count in 0..times {
+        out.push(c)?;
+    }
+    Ok(())
+}

@@ -1,0 +1,10 @@
+//! The text that shows an error of a TOML document to people: its message, its lines, and marks under them.
+#![tactic(auto)]
+
+mod characters;
+mod places;
+mod report;
+mod strips;
+
+pub use places::line_column;
+pub use report::{render, render_error, render_line};

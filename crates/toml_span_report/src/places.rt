@@ -1,0 +1,157 @@
+//! Places in a text, and the line of a place.
+ghost use Rattle.std.specs.Prelude.{◌≡◌, ℕ, ◌<◌, ◌≤◌, length, slice_index};
+ghost use Rattle.std.specs.List.{position_or_len};
+ghost use Rattle.std.specs.Str.{IsCharBoundary, chars};
+ghost use Rattle.toml_span_report.specs.Places as spec;
+
+use toml_span_lex::span::Span;
+
+/// An offset, or the nearest one before it that is between two characters of the text, or its end.
+pub(crate) fn place(text: &str, at: usize) -> usize
+    ensures value { result ≡ spec.place text.now at }
+    ensures boundary { IsCharBoundary text.now result }
+    ensures within { result ≤ at }
+    ensures nearest { (i : ℕ) → i ≤ at → IsCharBoundary text.now i → i ≤ result }
+{
+    text.floor_char_boundary(at)
+}
+
+/// Where the line of a place begins.
+pub(crate) fn line_start(text: &str, at: usize) -> usize
+    requires { IsCharBoundary text.now at }
+    ensures value { result ≡ spec.line_start text.now at }
+    ensures boundary { IsCharBoundary text.now result }
+    ensures within { result ≤ at }
+{
+    let bytes = text.as_bytes();
+    let mut start = at;
+    while start > 0 && bytes[start - 1] != b'\n' {
+        start -= 1;
+    }
+    start
+}
+
+/// Where the first line feed stands, or the text ends.
+fn line_feed(bytes: &[u8]) -> usize
+    ensures value { result ≡ position_or_len spec.is_line_feed bytes.now }
+    ensures within { result ≤ length bytes.now }
+    ensures feed { result < length bytes.now → slice_index bytes.now result ≡ 10 }
+{
+    for (i, byte) in bytes.iter().enumerate() {
+        if *byte == b'\n' {
+            return i;
+        }
+    }
+    bytes.len()
+}
+
+/// Where the line of a place ends: before its line feed, and the carriage return in front of that.
+pub(crate) fn line_end(text: &str, at: usize) -> usize
+    requires { IsCharBoundary text.now at }
+    ensures value { result ≡ spec.line_end text.now at }
+    ensures boundary { IsCharBoundary text.now result }
+    ensures within { at ≤ result }
+{
+    let bytes = text.as_bytes();
+    let (_, rest) = bytes.split_at(at);
+    let end = bytes.len() - (rest.len() - line_feed(rest));
+    if at < end && bytes[end - 1] == b'\r' {
+        end - 1
+    } else {
+        end
+    }
+}
+
+/// The number of the line of a place, counted from 1.
+#[tactic(auto, unfolding(crate::specs::Places::line_number))]
+pub(crate) fn line_number(text: &str, at: usize) -> usize
+    requires { at ≤ length text.now }
+    ensures { result ≡ spec.line_number text.now at }
+{
+    let before = &text.as_bytes()[..at];
+    before.iter().filter(|byte| **byte == b'\n').count() + 1
+}
+
+/// How many characters a text has.
+fn characters(text: &str) -> usize
+    ensures value { result ≡ length (chars text.now) }
+    ensures bound { result ≤ length text.now }
+{
+    text.chars().count()
+}
+
+/// The column of a place, in characters counted from 1.
+pub(crate) fn column(text: &str, at: usize) -> usize
+    requires { IsCharBoundary text.now at }
+    ensures { result ≡ spec.column text.now at }
+{
+    characters(&text[line_start(text, at)..at]) + 1
+}
+
+/// Where a span begins in a text.
+#[tactic(auto, unfolding(crate::specs::Places::span_start))]
+pub(crate) fn span_start(text: &str, span: Span) -> usize
+    ensures value { result ≡ spec.span_start text.now span }
+    ensures boundary { IsCharBoundary text.now result }
+{
+    place(text, span.start)
+}
+
+/// Where a span ends in a text. A line feed at its end is left out, and a reversed span is empty.
+#[tactic(auto, unfolding(crate::specs::Places::span_start, crate::specs::Places::span_end))]
+pub(crate) fn span_end(text: &str, span: Span) -> usize
+    ensures value { result ≡ spec.span_end text.now span }
+    ensures boundary { IsCharBoundary text.now result }
+    ensures forward { spec.span_start text.now span ≤ result }
+{
+    let from = place(text, span.start);
+    let to = place(text, span.start.max(span.end));
+    if from < to && text.as_bytes()[to - 1] == b'\n' {
+        to - 1
+    } else {
+        to
+    }
+}
+
+/// Where what is shown of a long line begins, before a place.
+#[tactic(auto, unfolding(crate::specs::Places::window_start))]
+pub(crate) fn window_start(text: &str, start: usize, at: usize) -> usize
+    requires start { IsCharBoundary text.now start }
+    requires forward { start ≤ at }
+    ensures value { result ≡ spec.window_start text.now start at }
+    ensures boundary { IsCharBoundary text.now result }
+    ensures within { result ≤ at }
+{
+    if at - start <= 80 {
+        start
+    } else {
+        place(text, at - 80)
+    }
+}
+
+/// Where what is shown of a long line ends, behind a place.
+#[tactic(auto, unfolding(crate::specs::Places::window_end))]
+pub(crate) fn window_end(text: &str, at: usize, end: usize) -> usize
+    requires at { IsCharBoundary text.now at }
+    requires end { IsCharBoundary text.now end }
+    requires forward { at ≤ end }
+    ensures value { result ≡ spec.window_end text.now at end }
+    ensures boundary { IsCharBoundary text.now result }
+    ensures within { at ≤ result }
+{
+    if end - at <= 160 {
+        end
+    } else {
+        place(text, at + 160)
+    }
+}
+
+/// The line and the column of an offset in a text, both counted from 1, and the column in characters. An offset within
+/// a character or past the text is moved to the nearest place before it.
+pub fn line_column(text: &str, at: usize) -> (usize, usize)
+    ensures line { result.0 ≡ spec.line_number text.now (spec.place text.now at) }
+    ensures column { result.1 ≡ spec.column text.now (spec.place text.now at) }
+{
+    let at = place(text, at);
+    (line_number(text, at), column(text, at))
+}

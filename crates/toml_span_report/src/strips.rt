@@ -1,0 +1,128 @@
+//! What labels mark of a text.
+ghost use Rattle.std.specs.Prelude.{◌≡◌, ◌≤◌, ◌<◌, [], IfOk, OnOk, map};
+ghost use Rattle.std.specs.List.{fold};
+ghost use Rattle.std.specs.Str.{IsCharBoundary};
+ghost use Rattle.toml_span_tree.specs.Diagnostic.{mark_of};
+ghost use Rattle.toml_span_report.specs.Strips as spec;
+ghost use Rattle.toml_span_report.specs.Strips.{part_of};
+
+use crate::places::{
+    column, line_end, line_number, line_start, span_end, span_start, window_end, window_start,
+};
+use std::alloc::{AllocError, Global};
+use toml_span_tree::Label;
+
+/// A part of a line that is marked, with what is shown of the line before and behind it.
+#[derive(Clone, Copy)]
+pub(crate) struct Strip<'a> {
+    /// The offset at which it begins.
+    pub(crate) at: usize,
+    /// The number of the line, counted from 1.
+    pub(crate) number: usize,
+    /// The column, in characters counted from 1.
+    pub(crate) column: usize,
+    pub(crate) is_cut_before: bool,
+    pub(crate) before: &'a str,
+    pub(crate) marked: &'a str,
+    pub(crate) behind: &'a str,
+    pub(crate) is_cut_behind: bool,
+    pub(crate) is_primary: bool,
+    /// What is to be said, or nothing.
+    pub(crate) message: &'a str,
+}
+
+/// What is marked from one place up to another, as far as the line of the first is shown.
+fn strip_at<'a>(
+    text: &'a str,
+    from: usize,
+    to: usize,
+    is_primary: bool,
+    message: &'a str,
+) -> Strip<'a>
+    requires from { IsCharBoundary text.now from }
+    requires to { IsCharBoundary text.now to }
+    requires forward { from ≤ to }
+    ensures { part_of result ≡ spec.part text.now from to is_primary message.now }
+{
+    let start = line_start(text, from);
+    let end = line_end(text, from);
+    let left = window_start(text, start, from);
+    let right = window_end(text, from, end);
+    let to = to.min(right);
+    Strip {
+        at: from,
+        number: line_number(text, from),
+        column: column(text, from),
+        is_cut_before: start < left,
+        before: &text[left..from],
+        marked: &text[from..to],
+        behind: &text[to..right],
+        is_cut_behind: right < end,
+        is_primary,
+        message,
+    }
+}
+
+/// How many strips stand before the first that begins later than an offset.
+fn earlier(strips: &[Strip<'_>], at: usize) -> usize
+    ensures { result ≡ spec.earlier (map part_of strips.now) at }
+{
+    for (i, strip) in strips.iter().enumerate() {
+        if at < strip.at {
+            return i;
+        }
+    }
+    strips.len()
+}
+
+/// Puts a strip before the first that begins later.
+fn place_strip<'a>(strips: &mut Vec<Strip<'a>>, strip: Strip<'a>) -> Result<(), AllocError>
+    ensures { OnOk result (map part_of strips.new.items ≡ spec.placed (map part_of strips.old.items) (part_of strip.entry)) }
+{
+    let at = earlier(strips.as_slice(), strip.at);
+    strips.insert(at, strip)?;
+    Ok(())
+}
+
+/// Puts the strips of a label among those of others.
+fn place_label<'a, F>(
+    strips: &mut Vec<Strip<'a>>,
+    text: &'a str,
+    label: &'a Label<F>,
+) -> Result<(), AllocError>
+    ensures { OnOk result (map part_of strips.new.items
+        ≡ fold spec.placed (map part_of strips.old.items) (spec.parts_of text.now (mark_of label.now))) }
+{
+    let from = span_start(text, label.span);
+    let to = span_end(text, label.span);
+    let again = line_start(text, to);
+    if again <= from {
+        place_strip(
+            strips,
+            strip_at(text, from, to, label.primary, label.message.as_str()),
+        )?;
+        return Ok(());
+    }
+    place_strip(strips, strip_at(text, from, to, label.primary, ""))?;
+    place_strip(
+        strips,
+        strip_at(text, again, to, label.primary, label.message.as_str()),
+    )?;
+    Ok(())
+}
+
+/// The strips of all labels, in the order of the text.
+#[tactic(auto, unfolding(crate::specs::Strips::all_parts))]
+pub(crate) fn all_strips<'a, F>(
+    alloc: Global,
+    text: &'a str,
+    labels: &'a [Label<F>],
+) -> Result<Vec<Strip<'a>>, AllocError>
+    ensures { IfOk result (λ strips. map part_of strips.items ≡ spec.all_parts text.now (map mark_of labels.now)) }
+{
+    let mut strips = Vec::with_capacity(alloc, labels.len())?;
+    for label in labels {
+        place_label(&mut strips, text, label)?;
+    }
+    Ok(strips)
+}

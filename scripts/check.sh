@@ -1,0 +1,12 @@
+#!/usr/bin/env bash
+# Checks TOML files: bash scripts/check.sh [--format text|json|short] [--get POINTER] [--tagged] [FILE..]
+#
+# The words are the program's: run it with a wrong one, as `--help`, for its usage. With no FILE, or for `-`, it reads
+# standard input. The status is the program's: 0 all are read, 1 one has a fault, 2 one can't be read or the words are
+# wrong, 3 a failed write, 4 no memory; and 5 where the program can't be built.
+#
+# What runs is a native build that is kept (scripts/native.sh): the proved one where it is no older than the sources;
+# else one without the proofs, which is made once, with a word on standard error.
+set -euo pipefail
+program=$(bash "$(dirname "$0")/native.sh" toml_span_check </dev/null)
+exec "$program" "$@"

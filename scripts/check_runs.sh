@@ -1,0 +1,80 @@
+#!/usr/bin/env bash
+# The checker on its stored runs: bash scripts/check_runs.sh [PROGRAM]
+#
+# A run is a file crates/toml_span_check/runs/NAME.args, a word a line, for the program in the folder data/. Beside it
+# stand NAME.stdout, what it has to write, and where they are wanted NAME.input, its standard input, NAME.stderr, what
+# it has to complain of, and NAME.status, how it has to end where that is not 0. A document runs/tagged/NAME.toml has
+# to be shown with types as NAME.json has it. PROGRAM is the proved build unless another is named.
+set -uo pipefail
+if [ $# -gt 0 ]; then named=$(realpath "$1"); fi
+cd "$(dirname "$0")/../crates/toml_span_check"
+program=${named-$PWD/out/toml_span_check}
+if [ ! -x "$program" ]; then
+    echo "check runs: there is no program $program"
+    exit 1
+fi
+work=$(mktemp -d)
+trap 'rm -rf "$work"' EXIT
+count=0
+wrong=0
+
+# told NAME STDOUT STATUS: compares what was written, and how the program ended
+told() {
+    count=$((count + 1))
+    if [ "$status" -ne "$3" ] || ! cmp -s "$work/written" "$2"; then
+        wrong=$((wrong + 1))
+        echo "check runs: $1 ended with status $status (wanted: $3) and wrote"
+        diff "$2" "$work/written" | head -n 10
+    fi
+}
+
+for list in runs/*.args; do
+    name=${list%.args}
+    mapfile -t words <"$list"
+    if [ -f "$name.input" ]; then input=$PWD/$name.input; else input=/dev/null; fi
+    wanted=0
+    if [ -f "$name.status" ]; then wanted=$(<"$name.status"); fi
+    (cd data && timeout 60 "$program" "${words[@]}" <"$input" >"$work/written" 2>"$work/complaint")
+    status=$?
+    told "$name" "$name.stdout" "$wanted"
+    if [ -f "$name.stderr" ] && ! cmp -s "$work/complaint" "$name.stderr"; then
+        wrong=$((wrong + 1))
+        echo "check runs: $name complains otherwise"
+        diff "$name.stderr" "$work/complaint" | head -n 10
+    fi
+done
+
+for document in runs/tagged/*.toml; do
+    timeout 60 "$program" --tagged - <"$document" >"$work/written"
+    status=$?
+    told "$document" "${document%.toml}.json" 0
+done
+
+# hostile texts: each cut of the worked documents ends with a status of 0 or 1, and is told in each format
+for document in runs/tagged/*.toml data/*.toml; do
+    size=$(stat -c %s "$document")
+    for ((at = 0; at < size; at += 7)); do
+        head -c "$at" "$document" >"$work/cut"
+        for format in text short json; do
+            count=$((count + 1))
+            timeout 60 "$program" --format "$format" "$work/cut" >"$work/written"
+            status=$?
+            if [ "$status" -gt 1 ]; then
+                wrong=$((wrong + 1))
+                echo "check runs: the first $at bytes of $document as $format ended with status $status"
+            fi
+        done
+    done
+done
+
+# an end that fails
+count=$((count + 1))
+timeout 60 "$program" data/settings.toml >/dev/full 2>"$work/complaint"
+status=$?
+if [ "$status" -ne 3 ]; then
+    wrong=$((wrong + 1))
+    echo "check runs: a write that fails ended with status $status (wanted: 3)"
+fi
+
+echo "check runs: $((count - wrong)) of $count right"
+[ "$wrong" -eq 0 ]
