@@ -3,6 +3,7 @@
 #
 # A run is a file crates/toml_span_show/runs/NAME, its standard input; beside it stand NAME.stdout, what it has to
 # write, and NAME.status, how it has to end where that is not 0. PROGRAM is the proved build unless another is named.
+# Where none is named, the runs of the example follow (crates/toml_span_example).
 set -uo pipefail
 cd "$(dirname "$0")/../crates/toml_span_show"
 program=${1-out/toml_span_show}
@@ -27,12 +28,17 @@ check() {
     fi
 }
 
-for input in runs/*; do
-    case $input in *.stdout | *.status) continue ;; esac
-    status=0
-    if [ -f "$input.status" ]; then status=$(<"$input.status"); fi
-    check "$input" "$input" "$input.stdout" "$status"
-done
+# stored FOLDER: each run that is stored in a folder
+stored() {
+    local input status
+    for input in "$1"/*; do
+        case $input in *.stdout | *.status) continue ;; esac
+        status=0
+        if [ -f "$input.status" ]; then status=$(<"$input.status"); fi
+        check "$input" "$input" "$input.stdout" "$status"
+    done
+}
+stored runs
 
 # as many bytes as are read, and one more; too many are told of before their encoding
 head -c 16777216 /dev/zero | tr '\0' ' ' >"$work/longest"
@@ -72,6 +78,11 @@ printf 'root table 0..20\n/a array 4..9\n/a/0 integer 5..6\n/a/1 integer 7..8\n/
     >"$work/pieces.stdout"
 check "a text that comes in pieces" "$work/pieces" "$work/pieces.stdout" 0
 wait
+
+if [ $# -eq 0 ]; then
+    program=../toml_span_example/out/toml_span_example
+    stored ../toml_span_example/runs
+fi
 
 echo "runs: $((count - wrong)) of $count right"
 [ "$wrong" -eq 0 ]
