@@ -6,7 +6,7 @@ ghost use Rattle.toml_span_serde.specs.Tasks.{piece_of};
 ghost use Rattle.toml_span_serde.specs.Reads.{IsText, Picks, Reads, Takes};
 ghost use Rattle.toml_span_serde.specs.Ahead.{ahead};
 
-use crate::misfit::{Expected, Reason};
+use crate::misfit::{Expected, Found, Reason};
 use crate::pieces::{Content, Piece};
 use serde::{Format, Kind, Name, find};
 use std::alloc::{AllocError, Global};
@@ -378,14 +378,12 @@ impl Format for Reader<'_, '_> {
         self.misread(Reason::Length)
     }
 
+    /// An integer that was read is out of the type's range. One that was only looked at is no unit.
     fn invalid(&self) -> Stop<Misread> {
         match self.pieces.get(self.at) {
-            Some(
-                Piece {
-                    content: Content::Integer(_),
-                    ..
-                },
-            ) => self.misread(Reason::OutOfRange),
+            Some(piece) if self.at < self.next && piece.content.kind() == Found::Integer => {
+                self.misread(Reason::OutOfRange)
+            }
             _ => self.misread(Reason::Invalid),
         }
     }

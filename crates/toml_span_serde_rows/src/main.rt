@@ -1,18 +1,19 @@
-//! Reads documents as settings by derive, a row each, and writes what each gives.
+//! Reads documents, a row each, and writes what each gives.
 //!
-//! A row is a word and a document on one line, with `;` for a line feed: `settings` is read as `Settings`, and `link`
-//! as a `Link`, which borrows from the text. The answer is the value, or the place, the line and the column of what is
-//! refused, the path to it, and why.
+//! A row is a word and a document on one line, with `;` for a line feed. `settings` is read as `Settings`, by derive;
+//! of `limits` the tree is read, as a map of numbers. The answer is the value, or the code, the place, the line and the
+//! column of what is refused, the path to it, and why.
 #![tactic(auto)]
 
 mod settings;
 
-use settings::{Link, Settings};
+use settings::Settings;
 use std::alloc::Global;
+use std::collections::BTreeMap;
 use std::fmt::Debug;
 use std::io;
-use toml_span::{Span, Stop};
-use toml_span_serde::{Error, from_str};
+use toml_span::{Span, Stop, parse};
+use toml_span_serde::{Error, from_str, from_value};
 
 /// Writes what was read, or why nothing was.
 fn tell<T: Debug + Drop>(
@@ -27,13 +28,27 @@ fn tell<T: Debug + Drop>(
     }
 }
 
-/// Writes the place of an error, and what its diagnostic says.
+/// Writes the code and the place of an error, and its text.
 fn tell_error(rt: &impl Print, alloc: Global, error: &Error<'_>) -> io::Result<()> {
     let Span { start, end } = error.span();
     let (line, column) = error.line_info().unwrap_or((0, 0));
     match error.to_diagnostic(alloc, ()) {
-        Ok(shown) => { println!(rt; "  {} {start}..{end} {line}:{column} {error}", shown.code) }
+        Ok(shown) => println!(rt; "  {} {start}..{end} {line}:{column} {error}", shown.code),
         Err(_) => println!(rt; "  no memory"),
+    }
+}
+
+/// The document's tree as a map of numbers.
+fn limits_of(alloc: Global, text: &str) -> Result<BTreeMap<String, i8>, Stop<Error<'_>>> {
+    let root = match parse(alloc, text) {
+        Ok(root) => root,
+        Err(Stop::Memory(e)) => return Err(Stop::Memory(e)),
+        Err(Stop::Fault(error)) => return Err(Stop::Fault(Error::Refused(error))),
+    };
+    match from_value(alloc, &root) {
+        Ok(limits) => Ok(limits),
+        Err(Stop::Memory(e)) => Err(Stop::Memory(e)),
+        Err(Stop::Fault(misfit)) => Err(Stop::Fault(Error::Misfit(misfit))),
     }
 }
 
@@ -42,15 +57,15 @@ fn main(rt: HostRuntime) -> io::Result<()> {
     for line in rt.lines(alloc) {
         let line = line?;
         println!(rt; "{line}")?;
-        let Some((kind, document)) = line.as_str().split_once(" ") else {
+        let Some((word, document)) = line.as_str().split_once(" ") else {
             continue;
         };
         let Ok(text) = document.replace(alloc, ";", "\n") else {
             continue;
         };
-        match kind {
-            "settings" => tell(&rt, alloc, from_str::<Settings>(alloc, text.as_str()))?,
-            "link" => tell(&rt, alloc, from_str::<Link<'_>>(alloc, text.as_str()))?,
+        match word {
+            "settings" => tell(&rt, alloc, from_str::<Settings<'_>>(alloc, text.as_str()))?,
+            "limits" => tell(&rt, alloc, limits_of(alloc, text.as_str()))?,
             _ => println!(rt; "  no such word")?,
         }
     }

@@ -1,11 +1,10 @@
 //! Settings that are read by derive.
 use serde::Deserialize;
-use std::collections::BTreeMap;
 
 #[derive(Debug, Drop, Deserialize)]
 #[serde(deny_unknown_fields)]
-pub struct Server {
-    pub host: String,
+pub struct Server<'a> {
+    pub host: &'a str,
     pub port: u16,
     #[serde(default)]
     pub tls: bool,
@@ -13,25 +12,17 @@ pub struct Server {
 
 #[derive(Debug, Drop, Deserialize)]
 #[serde(rename_all = "lowercase")]
-pub enum Level {
+pub enum Level<'a> {
     Low,
-    High(u8),
+    High(&'a str),
 }
 
 #[derive(Debug, Drop, Deserialize)]
-pub struct Settings {
-    pub name: String,
+pub struct Settings<'a> {
+    pub name: &'a str,
     pub weight: Option<f64>,
-    pub level: Option<Level>,
+    pub level: Option<Level<'a>>,
     pub since: Option<String>,
     #[serde(default)]
-    pub servers: Vec<Server>,
-    #[serde(default)]
-    pub limits: BTreeMap<String, i8>,
-}
-
-/// A struct that borrows its text from the document.
-#[derive(Debug, Drop, Deserialize)]
-pub struct Link<'a> {
-    pub url: &'a str,
+    pub servers: Vec<Server<'a>>,
 }
