@@ -5,7 +5,8 @@
 # before it as make one of the call's own its hundredth. It is run for each call with a request refused that
 # it never makes, which tells how many it does make, and then with the hundredth refused, once for each of
 # them. Each run has to print `right`, and to tell of the refusal (status 3). Of three calls the last requests
-# are those of the test, which prints what the call gave: there the first requests have to be told of.
+# are those of the test, which prints what the call gave: there the first requests have to be told of. Calls
+# that promise to take no memory have to make no request, so they give their answers whatever is refused.
 #
 # Then the whole program, toml_span_show, is run with its third request refused, over documents of which that
 # one falls into the reading, into the parsing and into the lines: each time it has to end with status 4, and
@@ -33,6 +34,8 @@ done
 for reads in "all errors" "rest back" absent "asked twice" entries elements; do
     calls+=("fields $reads")
 done
+taking=${#calls[@]}
+for free in tokens values reads ends; do calls+=("free $free"); done
 
 # fail REPORT MESSAGE: shows what went wrong
 fail() {
@@ -59,6 +62,10 @@ right=$(grep -c '^case=.* status=0 .*output=expected' "$report" || true)
 
 count=0
 while read -r index made; do
+    if [ "$index" -ge "$taking" ]; then
+        [ "$made" -eq 0 ] || fail "$report" "${calls[$index]} makes $made requests"
+        continue
+    fi
     [ "$made" -ge 1 ] && [ "$made" -lt 100 ] || fail "$report" "${calls[$index]} makes $made requests"
     for request in $(seq 1 "$made"); do
         count=$((count + 1))
@@ -82,7 +89,8 @@ while read -r index request status; do
     *) fail "$report" "$untold" ;;
     esac
 done < <(sed -n 's/^case=\([0-9]*\)_\([0-9]*\) .* status=\([03]\) .*/\1 \2 \3/p' "$report" | sort -k1n -k2n)
-echo "refusals: ${#calls[@]} calls right, with each of their $count requests refused in turn"
+echo "refusals: $taking calls right, with each of their $count requests refused in turn"
+echo "refusals: $((${#calls[@]} - taking)) cases of calls that take no memory make no request"
 
 mkdir "$work/shown"
 printf '%40000s\n' '#' >"$work/shown/reading"

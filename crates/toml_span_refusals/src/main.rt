@@ -1,4 +1,5 @@
-//! Makes one call that takes memory, which standard input names, and looks at what it leaves.
+//! Makes one call, which standard input names, and looks at what it leaves: one that takes memory, or several that
+//! promise to take none.
 //!
 //! In front of the name stands the number of one of the call's requests for memory. The program makes as
 //! many requests before the call as make that one its hundredth. A script has the hundredth request
@@ -10,6 +11,7 @@
 
 mod documents;
 mod fields;
+mod free;
 mod lexer;
 mod outcome;
 mod tree;
@@ -27,6 +29,9 @@ fn case(alloc: Global, name: &str) -> Option<Outcome> {
         return Some(outcome);
     }
     if let Some(outcome) = fields::case(alloc, name) {
+        return Some(outcome);
+    }
+    if let Some(outcome) = free::case(alloc, name) {
         return Some(outcome);
     }
     if let Some(outcome) = typed::case(alloc, name) {
