@@ -8,6 +8,7 @@ pub mod EntryDecides
 pub mod OneScope
 pub mod SpelledClaims
 pub mod ReadAgain
+pub mod ClaimedValues
 pub mod ReadStrings
 pub mod OneTree
 pub mod Pointed

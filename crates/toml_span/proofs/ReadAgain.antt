@@ -23,10 +23,10 @@ use Rattle.toml_span.proofs.SpelledClaims.{Spelled, OfText, document-of_text}
 -- ---- values
 
 -- a value whose span is from where it begins to where it ends
-at-span : (v : Node) (text : List ℕ) (limit d i j : ℕ) → 1 ≤ d → Spells v text limit d i j → span_of v ≡ from_to i j → ReadsAgain text limit v
+pub at-span : (v : Node) (text : List ℕ) (limit d i j : ℕ) → 1 ≤ d → Spells v text limit d i j → span_of v ≡ from_to i j → ReadsAgain text limit v
 at-span v text limit d i j deep h e = subst (λ (s : Span). SpellsAgain v text limit s.start s.end) (sym e) (document_spelled v text limit d i j deep h)
 
-scalar-again : (s : Scalar) (span : Span) (text : List ℕ) (limit d i j : ℕ) → 1 ≤ d → Spells (node (scalar s) span) text limit d i j → ScalarReadsAgain text limit s span
+pub scalar-again : (s : Scalar) (span : Span) (text : List ℕ) (limit d i j : ℕ) → 1 ≤ d → Spells (node (scalar s) span) text limit d i j → ScalarReadsAgain text limit s span
 scalar-again (text_scalar v) span text limit d i j deep h = tt
 scalar-again (integer n) span text limit d i j deep h = at-span (node (scalar (integer n)) span) text limit d i j deep h h.1.2
 scalar-again (float x) span text limit d i j deep h = at-span (node (scalar (float x)) span) text limit d i j deep h h.1.2

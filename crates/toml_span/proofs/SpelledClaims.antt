@@ -103,7 +103,7 @@ mutual
 
 -- ---- sections
 
-some-part : (parts : List Part) (text : List ℕ) (i j : ℕ) → Dotted parts text i j → 1 ≤ length parts
+pub some-part : (parts : List Part) (text : List ℕ) (i j : ℕ) → Dotted parts text i j → 1 ≤ length parts
 some-part [] text i j h = absurd h
 some-part (k ∷ parts) text i j h = omega arith
 

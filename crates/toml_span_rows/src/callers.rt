@@ -5,12 +5,18 @@
 //! - `port_of`: the port of the document, if it has one.
 //! - `settings_of`: the settings of the document, or all their errors.
 //! - `port_told`: where the port of the document's server stands, or what is wrong.
+//! - `servers_of`: the ports of the servers of the document, or all their errors.
+//! - `with_value POINTER`: the tree with the number 7 where the pointer leads, if it leads anywhere.
 use crate::tokens::push_span;
+use crate::trees::shown::push_lines;
 use std::alloc::{AllocError, Global};
 use std::fmt::Write;
-use toml_span::Stop;
+use toml_span::value::ValueInner;
+use toml_span::{Stop, Value};
 use toml_span_uses::first::port_told;
+use toml_span_uses::servers::servers_of;
 use toml_span_uses::settings::settings_of;
+use toml_span_uses::writes::with_value;
 use toml_span_uses::{integer_at, port_of, refused_at, span_at};
 
 /// Writes the answer of a row, one line each, or says that there is no such call.
@@ -28,6 +34,8 @@ pub fn answer(
         "port_of" => port_row(alloc, text, out)?,
         "settings_of" => settings_row(alloc, text, out)?,
         "port_told" => writeln!(out, "{}", port_told(alloc, text)?)?,
+        "servers_of" => servers_row(alloc, text, out)?,
+        "with_value" => value_row(alloc, words, text, out)?,
         _ => return Ok(false),
     }
     Ok(true)
@@ -91,6 +99,30 @@ fn settings_row(alloc: Global, text: &str, out: &mut String) -> Result<(), Alloc
             }
         }
         Err(Stop::Fault(faults)) => write!(out, "{faults}"),
+        Err(Stop::Memory(error)) => Err(error),
+    }
+}
+
+/// Answers `servers_of`: a port each, or the errors, a line each.
+fn servers_row(alloc: Global, text: &str, out: &mut String) -> Result<(), AllocError> {
+    match servers_of(alloc, text) {
+        Ok(servers) => {
+            for server in &servers {
+                write!(out, "{} ", server.port)?;
+            }
+            writeln!(out, "of {}", servers.len())
+        }
+        Err(Stop::Fault(faults)) => write!(out, "{faults}"),
+        Err(Stop::Memory(error)) => Err(error),
+    }
+}
+
+/// Answers `with_value`.
+fn value_row(alloc: Global, pointer: &str, text: &str, out: &mut String) -> Result<(), AllocError> {
+    match with_value(alloc, text, pointer, Value::new(ValueInner::Integer(7))) {
+        Ok(Some(root)) => push_lines(alloc, &root, 0, out),
+        Ok(None) => out.push_str("none\n"),
+        Err(Stop::Fault(_error)) => out.push_str("refused\n"),
         Err(Stop::Memory(error)) => Err(error),
     }
 }

@@ -1,5 +1,6 @@
+use Rattle.toml_span.proofs.ClaimedValues.{document-again}
 use Rattle.toml_span.proofs.ReadAgain.{claims-again}
 use Rattle.toml_span.proofs.laws.brackets_read_again.Goals as goal
 
 pub returns : goal.returns
-returns c = claims-again
+returns c = record { values = λ text limit blocks h. document-again blocks text limit h; spans = claims-again }
