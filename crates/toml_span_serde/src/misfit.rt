@@ -46,7 +46,7 @@ pub enum Found {
 
 impl Expected {
     /// The words for it.
-    pub fn words(self) -> &'static str
+    pub(crate) fn words(self) -> &'static str
         ensures { result.now ≡ words_of self }
     {
         match self {
@@ -66,7 +66,7 @@ impl Expected {
 
 impl Found {
     /// The name of the kind.
-    pub fn name(self) -> &'static str
+    pub(crate) fn name(self) -> &'static str
         ensures { result.now ≡ name_of self }
     {
         match self {
