@@ -1,5 +1,5 @@
-//! Reads the settings of a server from standard input. Prints them, or all their errors with line and
-//! column.
+//! Reads the settings of a server from standard input. Prints them, or all their errors with the lines
+//! at which they stand.
 #![tactic(auto)]
 
 use std::alloc::Global;
@@ -8,7 +8,8 @@ use std::process::ExitCode;
 use std::str::FromStr;
 use std::{fmt, io};
 use toml_span::de_helpers::parsed;
-use toml_span::{DeserError, Deserialize, Stop, Value, from_str, line_and_column};
+use toml_span::{DeserError, Deserialize, Stop, Value, from_str};
+use toml_span_report::render_error;
 use toml_span_typed::read_table;
 
 /// The settings. Other keys are refused.
@@ -104,8 +105,8 @@ fn main(rt: HostRuntime) -> io::Result<ExitCode> {
         }
         Err(Stop::Fault(errors)) => {
             for error in errors.iter() {
-                let (line, column) = line_and_column(text.as_str(), error.span);
-                println!(rt; "{line}:{column}: {error}")?;
+                let shown = render_error(alloc, error, "settings.toml", text.as_str())?;
+                print!(rt; "{shown}")?;
             }
             Ok(ExitCode::FAILURE)
         }
