@@ -5,8 +5,9 @@
 # Each crate with `#[test]` functions by `rt try --test`; each program by `rt try` on its file stdin and on the files of
 # its folder runs, its output and status compared with those that stand beside them (stdout and status, NAME.stdout and
 # NAME.status). So it sees a wrong answer, an index out of range, an overflow or a bad access on these inputs, and no
-# more: what holds on all inputs is for the whole test (scripts/test.sh). As many side by side as there are processors,
-# or as QUICK_JOBS says. The last line counts.
+# more: what holds on all inputs is for the whole test (scripts/test.sh). The runs of the checker, which have words and
+# files, are made with a native build (scripts/check_runs.sh). As many side by side as there are processors, or as
+# QUICK_JOBS says. The last line counts.
 set -uo pipefail
 cd "$(dirname "$0")/.."
 
@@ -24,6 +25,10 @@ store() {
 program() {
     local words=() input name wanted wrong=0
     cd "crates/$1" || return
+    if compgen -G 'runs/*.args' >/dev/null; then
+        bash ../../scripts/check_runs.sh "$(bash ../../scripts/native.sh "$1")"
+        return
+    fi
     mkdir "$work/cases"
     if [ -f args ]; then mapfile -t words <args; fi
     store "$([ -f stdin ] && echo stdin || echo /dev/null)" stdout status stdin
