@@ -43,13 +43,16 @@ AssignedReadAgain text limit (c ∷ cs) = (c.mark.sort ≡ Assigned → ShapeRea
 -- the text at the value's span is read again as that value; of a string nothing is said
 abbrev pub ValueReadsAgain : List ℕ → ℕ → read.Node → Type 0
 ValueReadsAgain text limit (read.node (read.scalar s) span) = ScalarReadsAgain text limit s span
-ValueReadsAgain text limit (read.node (read.array items) span) = ReadsAgain text limit (read.node (read.array items) span)
-ValueReadsAgain text limit (read.node (read.inline pairs) span) = ReadsAgain text limit (read.node (read.inline pairs) span)
+ValueReadsAgain text limit (read.node (read.array items) span) =
+    ReadsAgain text limit (read.node (read.array items) span)
+ValueReadsAgain text limit (read.node (read.inline pairs) span) =
+    ReadsAgain text limit (read.node (read.inline pairs) span)
 
 -- What a claim assigns is read again as a value, and the claims right behind it are what that value claims.
 abbrev pub AssignsAgain : List ℕ → ℕ → Claims → Type 0
 AssignsAgain text limit no_claims = ⊤
 AssignsAgain text limit (claimed c cs) =
-    (c.mark.sort ≡ Assigned → (v : read.Node) × (rest : Claims) × ValueReadsAgain text limit v × (c.place.shape ≡ value_shape (inner_of v))
+    (c.mark.sort ≡ Assigned → (v : read.Node) × (rest : Claims) × ValueReadsAgain text limit v
+    × (c.place.shape ≡ value_shape (inner_of v))
     × (c.place.span ≡ span_of v) × (cs ≡ followed (value_claims v c.path) rest)) × AssignsAgain text limit cs
 AssignsAgain text limit (scope inner cs) = AssignsAgain text limit inner × AssignsAgain text limit cs

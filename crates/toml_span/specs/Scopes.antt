@@ -13,7 +13,8 @@ own (scope inner cs) = own cs
 abbrev pub ShareInside : Claims → Claim → Claim → Type 0
 ShareInside no_claims c d = ⊥
 ShareInside (claimed x cs) c d = ShareInside cs c d
-ShareInside (scope inner cs) c d = (IsIn c (own inner) × IsIn d (own inner)) ⊎ ShareInside inner c d ⊎ ShareInside cs c d
+ShareInside (scope inner cs) c d = (IsIn c (own inner) × IsIn d (own inner)) ⊎ ShareInside inner c d
+    ⊎ ShareInside cs c d
 
 -- two claims of one scope, the outer one or one inside
 abbrev pub ShareScope : Claims → Claim → Claim → Type 0

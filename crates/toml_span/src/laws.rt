@@ -138,8 +138,10 @@ pub fn strings_show_the_text()
 /// Whatever a claim assigns, also an array or an inline table, is spelled again by the text at its span, but
 /// for strings; and what the value claims that is read there, stands right behind it.
 pub fn brackets_read_again()
-    ensures values { (text : List ℕ) (limit : ℕ) (blocks : List Block) → SpellsDocument blocks text limit → AssignsAgain text limit (claims blocks) }
-    ensures spans { (text : List ℕ) (limit : ℕ) (blocks : List Block) → SpellsDocument blocks text limit → AssignedReadAgain text limit (all_claims (claims blocks)) }
+    ensures values { (text : List ℕ) (limit : ℕ) (blocks : List Block) → SpellsDocument blocks text limit
+        → AssignsAgain text limit (claims blocks) }
+    ensures spans { (text : List ℕ) (limit : ℕ) (blocks : List Block) → SpellsDocument blocks text limit
+        → AssignedReadAgain text limit (all_claims (claims blocks)) }
 {}
 
 /// One value at most, whose tables are in order, shows given places: so all trees of a text are equal as

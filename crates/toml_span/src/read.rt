@@ -28,11 +28,12 @@ pub fn from_str<'de, T: Deserialize<'de>>(
     T::deserialize(alloc, &mut root)
 }
 
-/// The line and the column at which a span starts, both counted from 1 as editors do: how many line feeds
-/// stand before it, and how many bytes behind the last of them, one more of each. A span that starts past
+/// The line and the column at which a span starts, both counted from 1: how many line feeds stand
+/// before it, and how many bytes behind the last of them, one more of each. A span that starts past
 /// the text has those of the text's end.
 pub fn line_and_column(text: &str, span: Span) -> (usize, usize)
-    ensures { (line column : ℕ) × IsLineInfo text.now (min span.start (length text.now)) line column × (result ≡ (line + 1, column + 1)) }
+    ensures { (line column : ℕ) × IsLineInfo text.now (min span.start (length text.now)) line column
+        × (result ≡ (line + 1, column + 1)) }
 {
     let (line, column) = line_info(text, span.start.min(text.len()));
     (line + 1, column + 1)

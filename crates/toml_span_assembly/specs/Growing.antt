@@ -25,7 +25,8 @@ use Rattle.toml_span_assembly.specs.declared.sections.Grown.{Grown}
 -- a section placed from the root on
 abbrev pub Placed : Block → Node → Node → Result (Unit {0}) Halt → Type 0
 Placed b root new r =
-    Places root new r (section_at (counts root) (head_of b) b.header (event_claims b.events [])) (grown (counts root) (head_of b) b.header)
+    Places root new r (section_at (counts root) (head_of b) b.header (event_claims b.events []))
+    (grown (counts root) (head_of b) b.header)
 
 -- what is left to place behind some sections, into a tree of what they claim
 pub record Remaining (all rest : List Block) (root : Node) : Type 0 where

@@ -53,7 +53,8 @@ fn tree_of<'de>(grown: Grown<'de>, text: &'de str) -> Result<Value<'de>, Stop<Er
     ensures root { IfOk result (IsRoot (length text.now)) }
     ensures ordered { (bs : List Block) → Grows bs grown.entry → IfOk result (λ root. IsOrdered (view root)) }
     ensures whole { (bs : List Block) → Grows bs grown.entry → IfOk result (λ root. is_whole (view root) ≡ true) }
-    ensures borrows { (ps : List Part) → GrownRight text.now ps grown.entry → IfOk result (λ root. AreRight text.now ps (value_standing root)) }
+    ensures borrows { (ps : List Part) → GrownRight text.now ps grown.entry
+        → IfOk result (λ root. AreRight text.now ps (value_standing root)) }
     ensures refused { (bs : List Block) → Grows bs grown.entry → IfErr result (IsClashStop bs text.now) }
     ensures bare { IsBare grown.entry → IsOk result }
 {

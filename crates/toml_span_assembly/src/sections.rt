@@ -208,7 +208,8 @@ fn end_header<'de>(
 fn place<'de>(alloc: Global, root: &mut Node<'de>, section: Section<'de>) -> Result<(), Halt>
     ensures gives { Placed (block section.entry) root.old root.new result }
     ensures placed { (n : ℕ) → SectionInside n section.entry → IfErr result (IsHaltInside n) }
-    ensures borrows { (text : List ℕ) → (ps : List Part) → AreFrom text ps (section_written section.entry) → Keeps text ps root.old root.new result }
+    ensures borrows { (text : List ℕ) → (ps : List Part) → AreFrom text ps (section_written section.entry)
+        → Keeps text ps root.old root.new result }
 {
     let Section {
         header,
@@ -255,9 +256,12 @@ pub(crate) fn grow<'de>(
     grown: &mut Grown<'de>,
     section: Section<'de>,
 ) -> Result<(), AllocError>
-    ensures grows { (bs : List Block) → AreSections (block section.entry ∷ []) → Grows bs grown.old → OnOk result (Grows (bs ++ (block section.entry ∷ [])) grown.new) }
-    ensures inside { (n : ℕ) → SectionInside n section.entry → IsGrownInside n grown.old → OnOk result (IsGrownInside n grown.new) }
-    ensures borrows { (text : List ℕ) → (ps : List Part) → AreFrom text ps (section_written section.entry) → GrownRight text ps grown.old → OnOk result (GrownRight text ps grown.new) }
+    ensures grows { (bs : List Block) → AreSections (block section.entry ∷ []) → Grows bs grown.old
+        → OnOk result (Grows (bs ++ (block section.entry ∷ [])) grown.new) }
+    ensures inside { (n : ℕ) → SectionInside n section.entry → IsGrownInside n grown.old
+        → OnOk result (IsGrownInside n grown.new) }
+    ensures borrows { (text : List ℕ) → (ps : List Part) → AreFrom text ps (section_written section.entry)
+        → GrownRight text ps grown.old → OnOk result (GrownRight text ps grown.new) }
 {
     if grown.clash.is_some() {
         drop(section);
@@ -280,7 +284,9 @@ pub(crate) fn begin<'de>(
 ) -> Result<Grown<'de>, AllocError>
     ensures grows { AreSections (first_blocks first.entry) → IfOk result (Grows (first_blocks first.entry)) }
     ensures inside { (n : ℕ) → IfSome first.entry (SectionInside n) → IfOk result (IsGrownInside n) }
-    ensures borrows { (text : List ℕ) → (ps : List Part) → IfSome first.entry (λ section. AreFrom text ps (section_written section)) → IfOk result (GrownRight text ps) }
+    ensures borrows { (text : List ℕ) → (ps : List Part)
+        → IfSome first.entry (λ section. AreFrom text ps (section_written section))
+        → IfOk result (GrownRight text ps) }
     ensures bare { first.entry ≡ None → IsOkAnd result IsBare }
 {
     let mut grown = Grown::new(alloc);

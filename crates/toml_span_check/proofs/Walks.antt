@@ -10,7 +10,6 @@ use Rattle.toml_span_tree.specs.Node.{Node, node, taken, scalar, array, table}
 use Rattle.toml_span_tree.specs.Value.{view, items_view, members_view, is_taken}
 use Rattle.toml_span_check.specs.Faults.{label_json, labels_json}
 use Rattle.toml_span_check.specs.Shown.{shown, items_shown, members_shown, comma_if}
-use Rattle.toml_span_check.proofs.Sizes.{node_size, items_size, members_size}
 
 -- a value that is taken
 pub shown-taken : (is_tagged : Bool) (n : Node) → is_taken n ≡ true → codes "null" ≡ shown is_tagged n
@@ -34,15 +33,6 @@ items_shown-next t later i es e out comma after all below here before first step
     let joined : after ++ rest ≡ (out ++ comma_if later ++ mine) ++ rest = ap (λ o. o ++ rest) (step ∙ ap (λ o. o ++ mine) first) in
     joined ∙ (simp append_assoc) ∙ opened
 
-pub items_size-next : (i : ℕ) (es : List Value) (e : Value) (all : ℕ) →
-    i < length es → get_or es i e ≡ e → items_size (items_view (drop i es)) ≤ all →
-    items_size (items_view (drop (i + 1) es)) ≤ all
-items_size-next i es e all below here before =
-    let split : drop i es ≡ e ∷ drop (i + 1) es = drop_more es i e below ∙ ap (λ x. x ∷ drop (i + 1) es) here in
-    let more : items_size (items_view (drop i es)) ≡ node_size (view e) + items_size (items_view (drop (i + 1) es)) =
-    ap (λ l. items_size (items_view l)) split in
-    omega arith
-
 -- the text of the entries from one on
 pub members_shown-next : (t later : Bool) (es rest : List (Key × Value)) (key : Key) (value : Value) (out comma name colon after all : List ℕ) →
     es ≡ (key, value) ∷ rest →
@@ -61,13 +51,6 @@ members_shown-next t later es rest key value out comma name colon after all spli
     let whole : after ≡ out ++ comma_if later ++ title ++ codes ":" ++ mine =
     step ∙ ap (λ o. o ++ mine) (third ∙ ap (λ o. o ++ codes ":") (second ∙ ap (λ o. o ++ title) first)) in
     ap (λ o. o ++ last) whole ∙ (simp append_assoc) ∙ opened
-
-pub members_size-next : (es rest : List (Key × Value)) (key : Key) (value : Value) (all : ℕ) →
-    es ≡ (key, value) ∷ rest → members_size (members_view es) ≤ all → members_size (members_view rest) ≤ all
-members_size-next es rest key value all split before =
-    let more : members_size (members_view es) ≡ node_size (view value) + members_size (members_view rest) =
-    ap (λ l. members_size (members_view l)) split in
-    omega arith
 
 -- the text of the labels from one on
 pub labels_json-next : {X : Type 0} (f : X → Mark ℕ) (text : List ℕ) (later : Bool) (i : ℕ) (xs : List X) (x : X) (out comma after all : List ℕ) →

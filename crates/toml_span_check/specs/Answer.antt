@@ -36,13 +36,15 @@ given format Tagged pointer name n = found format true pointer name (pointed poi
 -- the text of an error
 abbrev pub error_text : Format → Error → List ℕ → List ℕ → List ℕ
 error_text format error name text =
-    fault_text format (code_of (kind_of error.kind)) (text_of (kind_of error.kind)) (labels_of 0 error.span (kind_of error.kind)) name text
+    fault_text format (code_of (kind_of error.kind)) (text_of (kind_of error.kind))
+    (labels_of 0 error.span (kind_of error.kind)) name text
 
 -- a document, and what it gives; or none, and status 1 with the fault or the first clash
 abbrev pub IsRead : Format → Task → List ℕ → List ℕ → List ℕ → ℕ × List ℕ → Type 0
 IsRead format task pointer name text answer =
     ((root : Value) × IsTree text 128 root × (answer ≡ given format task pointer name (view root)))
-    ⊎ ((error : Error) × (IsFault text 128 error ⊎ IsClash text 128 error) × (answer ≡ (1, error_text format error name text)))
+    ⊎ ((error : Error) × (IsFault text 128 error ⊎ IsClash text 128 error)
+    × (answer ≡ (1, error_text format error name text)))
 
 abbrev pub too_long : Format → List ℕ → ℕ × List ℕ
 too_long format name = (1, fault_text format (codes "too-long") (codes "the file has more than 16 MiB") [] name [])

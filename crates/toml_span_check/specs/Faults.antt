@@ -17,10 +17,12 @@ span_json span = codes ",\"start\":" ++ decimal span.start ++ codes ",\"end\":" 
 -- the line and the column at which it begins, both counted from 1
 unfoldable pub place_json : List ℕ → ℕ → List ℕ
 place_json text at =
-    codes ",\"line\":" ++ decimal (line_number text (place text at)) ++ codes ",\"column\":" ++ decimal (column text (place text at))
+    codes ",\"line\":" ++ decimal (line_number text (place text at)) ++ codes ",\"column\":"
+    ++ decimal (column text (place text at))
 
 unfoldable pub label_head : List ℕ → Mark ℕ → List ℕ
-label_head text mark = codes "{\"primary\":" ++ truth mark.primary ++ span_json mark.span ++ place_json text mark.span.start
+label_head text mark = codes "{\"primary\":" ++ truth mark.primary ++ span_json mark.span
+    ++ place_json text mark.span.start
 
 abbrev pub label_json : List ℕ → Mark ℕ → List ℕ
 label_json text mark = label_head text mark ++ codes ",\"message\":" ++ quoted mark.message ++ codes "}"

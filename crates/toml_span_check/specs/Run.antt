@@ -51,10 +51,13 @@ pub record Tells (format : Format) (task : Task) (pointer : List ℕ) (names : L
 
 -- A run: status 3 where a write fails, and 4 without memory. Else all files are looked at, and what is told is written.
 pub record Runs (format : Format) (task : Task) (pointer : List ℕ) (names : List (List ℕ)) (old new : Option (List Reading)) (told told' warned warned' : Option (List ℕ)) (status : ℕ) : Type 0 where
-  pub tells : ¬ (status ≡ 3) → ¬ (status ≡ 4) → (out errors : List ℕ) × Tells format task pointer names old new out errors status × Appends told told' out × Appends warned warned' errors
+  pub tells : ¬ (status ≡ 3) → ¬ (status ≡ 4) → (out errors : List ℕ)
+      × Tells format task pointer names old new out errors status × Appends told told' out
+      × Appends warned warned' errors
 
 -- for a private clause: what one more reading adds
-abbrev pub Adds : Format → Task → List ℕ → List ℕ → Result (List ℕ) Unread → List ℕ × List ℕ × ℕ → List ℕ × List ℕ × ℕ → Type 0
+abbrev pub Adds : Format → Task → List ℕ → List ℕ → Result (List ℕ) Unread → List ℕ × List ℕ × ℕ
+    → List ℕ × List ℕ × ℕ → Type 0
 Adds format task pointer name (Ok bytes) old new =
     (answer : ℕ × List ℕ) × IsAnswer format task pointer name bytes answer
     × (new.0 ≡ old.0 ++ answer.1) × (new.1 ≡ old.1) × (new.2 ≡ max old.2 answer.0)

@@ -104,7 +104,8 @@ fn found(
     name: &str,
     value: Option<&Value<'_>>,
 ) -> Result<(u8, String), AllocError>
-    ensures { IfOk result (λ a. (a.0, string_bytes a.1) ≡ spec.found format is_tagged pointer.now name.now (option_map (λ v. view v.now) value.entry)) }
+    ensures { IfOk result (λ a. (a.0, string_bytes a.1)
+        ≡ spec.found format is_tagged pointer.now name.now (option_map (λ v. view v.now) value.entry)) }
 {
     match value {
         Some(value) => {

@@ -50,7 +50,8 @@ fn push_place(out: &mut String, text: &str, at: usize) -> Result<(), AllocError>
 
 /// Adds the front of a label, up to its message.
 fn push_label_head(out: &mut String, text: &str, label: &Label<usize>) -> Result<(), AllocError>
-    ensures { OnOk result (string_bytes out.new ≡ string_bytes out.old ++ spec.label_head text.now (mark_of label.now)) }
+    ensures { OnOk result (string_bytes out.new ≡ string_bytes out.old
+        ++ spec.label_head text.now (mark_of label.now)) }
 {
     out.push_str("{\"primary\":")?;
     out.push_str(truth(label.primary))?;
@@ -66,7 +67,8 @@ fn push_label(
     text: &str,
     label: &Label<usize>,
 ) -> Result<(), AllocError>
-    ensures { OnOk result (string_bytes out.new ≡ string_bytes out.old ++ spec.label_json text.now (mark_of label.now)) }
+    ensures { OnOk result (string_bytes out.new ≡ string_bytes out.old
+        ++ spec.label_json text.now (mark_of label.now)) }
 {
     push_label_head(out, text, label)?;
     out.push_str(",\"message\":")?;
@@ -81,7 +83,8 @@ fn push_labels(
     text: &str,
     labels: &[Label<usize>],
 ) -> Result<(), AllocError>
-    ensures { OnOk result (string_bytes out.new ≡ string_bytes out.old ++ spec.labels_json text.now false (map mark_of labels.now)) }
+    ensures { OnOk result (string_bytes out.new ≡ string_bytes out.old
+        ++ spec.labels_json text.now false (map mark_of labels.now)) }
 {
     let mut later = false;
     for label in labels {
@@ -102,7 +105,8 @@ fn push_head(
     message: &str,
     name: &str,
 ) -> Result<(), AllocError>
-    ensures { OnOk result (string_bytes out.new ≡ string_bytes out.old ++ spec.head_json code.now message.now name.now) }
+    ensures { OnOk result (string_bytes out.new ≡ string_bytes out.old
+        ++ spec.head_json code.now message.now name.now) }
 {
     out.push_str("{\"file\":")?;
     push_quoted(alloc, out, name)?;
@@ -119,7 +123,8 @@ fn fault_json(
     name: &str,
     text: &str,
 ) -> Result<String, AllocError>
-    ensures { IfOk result (λ out. string_bytes out ≡ spec.fault_json (string_bytes diagnostic.now.code) (string_bytes diagnostic.now.message)
+    ensures { IfOk result (λ out. string_bytes out
+        ≡ spec.fault_json (string_bytes diagnostic.now.code) (string_bytes diagnostic.now.message)
         (map mark_of diagnostic.now.labels.items) name.now text.now) }
 {
     let mut out = String::new(alloc);
@@ -139,7 +144,8 @@ pub(crate) fn fault_text(
     name: &str,
     text: &str,
 ) -> Result<String, AllocError>
-    ensures { IfOk result (λ out. string_bytes out ≡ spec.fault_text format (string_bytes diagnostic.now.code) (string_bytes diagnostic.now.message)
+    ensures { IfOk result (λ out. string_bytes out
+        ≡ spec.fault_text format (string_bytes diagnostic.now.code) (string_bytes diagnostic.now.message)
         (map mark_of diagnostic.now.labels.items) name.now text.now) }
 {
     match format {

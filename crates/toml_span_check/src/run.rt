@@ -80,7 +80,8 @@ fn tell<I: Inputs>(
     names: &[&str],
     inputs: &mut I,
 ) -> Result<Telling, AllocError>
-    ensures { IfOk result (λ t. Tells format task pointer.now (map (λ name. name.now) names.now) (I.log inputs.old) (I.log inputs.new)
+    ensures { IfOk result (λ t. Tells format task pointer.now (map (λ name. name.now) names.now)
+        (I.log inputs.old) (I.log inputs.new)
         (string_bytes t.out) (string_bytes t.errors) t.status) }
 {
     let mut telling = Telling {

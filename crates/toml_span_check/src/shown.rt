@@ -154,7 +154,8 @@ fn push_value(shape: Shape, out: &mut String, value: &Value<'_>) -> Result<(), A
 /// Adds the elements of an array, in brackets.
 #[cycle(push_value)]
 fn push_elements(shape: Shape, out: &mut String, elements: &[Value<'_>]) -> Result<(), AllocError>
-    ensures { OnOk result (string_bytes out.new ≡ string_bytes out.old ++ (codes "[" ++ spec.items_shown shape.is_tagged false (items_view elements.now))) }
+    ensures { OnOk result (string_bytes out.new ≡ string_bytes out.old ++ (codes "["
+        ++ spec.items_shown shape.is_tagged false (items_view elements.now))) }
 {
     out.push_str("[")?;
     let mut later = false;
@@ -170,7 +171,8 @@ fn push_elements(shape: Shape, out: &mut String, elements: &[Value<'_>]) -> Resu
 /// Adds the entries of a table, in braces.
 #[cycle(push_value)]
 fn push_entries(shape: Shape, out: &mut String, table: &Table<'_>) -> Result<(), AllocError>
-    ensures { OnOk result (string_bytes out.new ≡ string_bytes out.old ++ (codes "{" ++ spec.members_shown shape.is_tagged false (members_view table.now.entries))) }
+    ensures { OnOk result (string_bytes out.new ≡ string_bytes out.old ++ (codes "{"
+        ++ spec.members_shown shape.is_tagged false (members_view table.now.entries))) }
 {
     out.push_str("{")?;
     let mut later = false;

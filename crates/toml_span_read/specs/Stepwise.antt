@@ -37,14 +37,16 @@ FirstReads text limit (Err stop) = IsPlacedStop text stop
 -- from the first place on stand these assignments, or the document is stuck in them
 abbrev pub FirstGives : List ℕ → ℕ → Result (Option Section × ℕ) (Stop Fault) → Type 0
 FirstGives text limit (Ok found) =
-    (start : ℕ) × (evs : List Event) × FirstPlace text start × SpellsLines evs text limit start found.1 × (first_blocks found.0 ≡ first_block evs)
+    (start : ℕ) × (evs : List Event) × FirstPlace text start × SpellsLines evs text limit start found.1
+    × (first_blocks found.0 ≡ first_block evs)
 FirstGives text limit (Err (stops.Memory e)) = Unit {0}
 FirstGives text limit (Err (stops.Fault e)) = StuckDocument text limit e
 
 -- ---- a section with its header
 
 abbrev pub SectionReads : List ℕ → ℕ → ℕ → Result (Section × ℕ) (Stop Fault) → Type 0
-SectionReads text limit i (Ok found) = IsReadSection text limit found.0 × Further text i found.1 × EndsSection text found.1
+SectionReads text limit i (Ok found) = IsReadSection text limit found.0 × Further text i found.1
+    × EndsSection text found.1
 SectionReads text limit i (Err stop) = IsPlacedStop text stop
 
 abbrev pub SectionGives : List ℕ → ℕ → ℕ → Result (Section × ℕ) (Stop Fault) → Type 0

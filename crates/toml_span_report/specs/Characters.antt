@@ -6,9 +6,11 @@ use Rattle.unicode_width.specs.Width.{str_width}
 
 -- a control character from U+0080 on, or one that turns the direction of the text
 abbrev pub is_hidden : ℕ → Bool
-is_hidden c = (nat_le 0x80 c && nat_lt c 0xA0) || (nat_le 0x202A c && nat_le c 0x202E) || (nat_le 0x2066 c && nat_le c 0x2069)
+is_hidden c = (nat_le 0x80 c && nat_lt c 0xA0) || (nat_le 0x202A c && nat_le c 0x202E)
+    || (nat_le 0x2066 c && nat_le c 0x2069)
 
--- A tab is four spaces, a control character of ASCII its picture, as U+2400 for the byte 0, and a hidden character U+FFFD.
+-- A tab is four spaces, a control character of ASCII its picture, as U+2400 for the byte 0, and a hidden character
+-- U+FFFD.
 -- Any other stands for itself.
 abbrev pub shown_char : ℕ → List ℕ
 shown_char c =

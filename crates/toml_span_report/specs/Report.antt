@@ -65,7 +65,8 @@ sign true = 94
 sign false = 45
 
 abbrev pub marks : Part → List ℕ
-marks p = replicate (columns (dots p.is_cut_before ++ shown p.before)) 32 ++ replicate (max (columns (shown p.marked)) 1) (sign p.is_primary)
+marks p = replicate (columns (dots p.is_cut_before ++ shown p.before)) 32
+    ++ replicate (max (columns (shown p.marked)) 1) (sign p.is_primary)
 
 abbrev pub marks_line : ℕ → Part → List ℕ
 marks_line width p = gutter width [] ++ codes " " ++ marks p ++ behind (codes " ") (shown p.message) ++ codes "\n"

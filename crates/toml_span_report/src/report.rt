@@ -54,7 +54,8 @@ fn main_strip<'a>(strips: &[Strip<'a>]) -> Option<Strip<'a>>
 
 /// Adds the line and the column of a strip.
 fn push_place(out: &mut String, strip: Option<Strip<'_>>) -> Result<(), AllocError>
-    ensures { OnOk result (string_bytes out.new ≡ string_bytes out.old ++ spec.shown_place (option_map part_of strip.entry)) }
+    ensures { OnOk result (string_bytes out.new ≡ string_bytes out.old
+        ++ spec.shown_place (option_map part_of strip.entry)) }
 {
     let Some(strip) = strip else {
         return Ok(());
@@ -152,7 +153,8 @@ fn push_opening(
     above: Option<usize>,
     strip: &Strip<'_>,
 ) -> Result<(), AllocError>
-    ensures { OnOk result (string_bytes out.new ≡ string_bytes out.old ++ spec.opening width above (part_of strip.now)) }
+    ensures { OnOk result (string_bytes out.new ≡ string_bytes out.old
+        ++ spec.opening width above (part_of strip.now)) }
 {
     match above {
         None => {
@@ -178,7 +180,8 @@ fn push_strips(
     width: usize,
     strips: &[Strip<'_>],
 ) -> Result<(), AllocError>
-    ensures { OnOk result (string_bytes out.new ≡ string_bytes out.old ++ spec.drawn width None (map part_of strips.now)) }
+    ensures { OnOk result (string_bytes out.new ≡ string_bytes out.old
+        ++ spec.drawn width None (map part_of strips.now)) }
 {
     let mut above = None;
     for strip in strips {
@@ -197,7 +200,8 @@ fn report(
     name: &str,
     strips: &[Strip<'_>],
 ) -> Result<String, AllocError>
-    ensures { IfOk result (λ out. string_bytes out ≡ spec.report_of code.now message.now name.now (map part_of strips.now)) }
+    ensures { IfOk result (λ out. string_bytes out
+        ≡ spec.report_of code.now message.now name.now (map part_of strips.now)) }
 {
     let width = width_of(alloc, strips)?;
     let mut out = String::new(alloc);
@@ -226,7 +230,8 @@ pub fn render<F>(
     name: &str,
     text: &str,
 ) -> Result<String, AllocError>
-    ensures { IfOk result (λ out. string_bytes out ≡ spec.report (string_bytes diagnostic.now.code) (string_bytes diagnostic.now.message)
+    ensures { IfOk result (λ out. string_bytes out
+        ≡ spec.report (string_bytes diagnostic.now.code) (string_bytes diagnostic.now.message)
         (map mark_of diagnostic.now.labels.items) name.now text.now) }
 {
     let strips = all_strips(alloc, text, diagnostic.labels.as_slice())?;
@@ -247,7 +252,8 @@ fn brief(
     name: &str,
     strips: &[Strip<'_>],
 ) -> Result<String, AllocError>
-    ensures { IfOk result (λ out. string_bytes out ≡ spec.brief_of code.now message.now name.now (map part_of strips.now)) }
+    ensures { IfOk result (λ out. string_bytes out
+        ≡ spec.brief_of code.now message.now name.now (map part_of strips.now)) }
 {
     let mut out = String::new(alloc);
     push_shown(&mut out, name)?;
@@ -268,7 +274,8 @@ pub fn render_line<F>(
     name: &str,
     text: &str,
 ) -> Result<String, AllocError>
-    ensures { IfOk result (λ out. string_bytes out ≡ spec.brief (string_bytes diagnostic.now.code) (string_bytes diagnostic.now.message)
+    ensures { IfOk result (λ out. string_bytes out
+        ≡ spec.brief (string_bytes diagnostic.now.code) (string_bytes diagnostic.now.message)
         (map mark_of diagnostic.now.labels.items) name.now text.now) }
 {
     let strips = all_strips(alloc, text, diagnostic.labels.as_slice())?;
@@ -288,7 +295,8 @@ pub fn render_error(
     name: &str,
     text: &str,
 ) -> Result<String, AllocError>
-    ensures { IfOk result (λ out. string_bytes out ≡ spec.report {F = ℕ} (code_of (kind_of error.now.kind)) (text_of (kind_of error.now.kind))
+    ensures { IfOk result (λ out. string_bytes out
+        ≡ spec.report {F = ℕ} (code_of (kind_of error.now.kind)) (text_of (kind_of error.now.kind))
         (labels_of 0 error.now.span (kind_of error.now.kind)) name.now text.now) }
 {
     let diagnostic = error.to_diagnostic(alloc, 0usize)?;

@@ -77,7 +77,8 @@ fn earlier(strips: &[Strip<'_>], at: usize) -> usize
 
 /// Puts a strip before the first that begins later.
 fn place_strip<'a>(strips: &mut Vec<Strip<'a>>, strip: Strip<'a>) -> Result<(), AllocError>
-    ensures { OnOk result (map part_of strips.new.items ≡ spec.placed (map part_of strips.old.items) (part_of strip.entry)) }
+    ensures { OnOk result (map part_of strips.new.items
+        ≡ spec.placed (map part_of strips.old.items) (part_of strip.entry)) }
 {
     let at = earlier(strips.as_slice(), strip.at);
     strips.insert(at, strip)?;

@@ -84,7 +84,8 @@ path_of steps = map step_of steps
 
 -- the path leads to a value of the tree, and the span is that of the value or of its key
 abbrev pub Names : tree.Path → Span → Node → Type 0
-Names path span root = (place : Place) × (place_at path root ≡ Some place) × ((span ≡ place.span) ⊎ (place.key_span ≡ Some span))
+Names path span root = (place : Place) × (place_at path root ≡ Some place)
+    × ((span ≡ place.span) ⊎ (place.key_span ≡ Some span))
 
 -- a place of the tree is told
 abbrev pub IsAt : Node → Stop Misfit → Type 0
@@ -93,7 +94,8 @@ IsAt root (stop.Fault m) = Names (path_of m.path.items) m.span root
 
 -- the line and the column of the span's start, where that is a place of the text
 abbrev pub HasLine : List ℕ → Misfit → Type 0
-HasLine text m = m.span.start ≤ length text → (line column : ℕ) × (m.line_info ≡ Some (line, column)) × IsLineInfo text m.span.start line column
+HasLine text m = m.span.start ≤ length text → (line column : ℕ) × (m.line_info ≡ Some (line, column))
+    × IsLineInfo text m.span.start line column
 
 -- the text spells a document, whose tree has this property
 abbrev pub HasTree : List ℕ → (Node → Type 0) → Type 0

@@ -1,4 +1,5 @@
--- A tree as a row of pieces: a scalar is one, an array and a table have one where they begin and one where they end, and so has each key.
+-- A tree as a row of pieces: a scalar is one, an array and a table have one where they begin and one where they
+-- end, and so has each key.
 use Rattle.std.specs.Prelude.{ℕ, List, [], ◌∷◌, ◌++◌}
 use Rattle.toml_span_lex.specs.declared.span.Span.{Span}
 use Rattle.toml_span_tree.specs.Node.{Scalar, Node, node, Inner, taken, scalar, array, table, Items, no_items, item, Members, no_members, member}

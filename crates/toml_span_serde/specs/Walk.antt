@@ -49,7 +49,8 @@ way_at (row.key name) way = key name ∷ way
 -- each of the pieces, from that way on, stands where the way to it leads
 abbrev pub AllNamed : Node → Way → List row.Piece → Type 0
 AllNamed root way [] = ⊤
-AllNamed root way (p ∷ ps) = Names (reverse (way_at p.content way)) p.span root × AllNamed root (behind p.content way) ps
+AllNamed root way (p ∷ ps) = Names (reverse (way_at p.content way)) p.span root
+    × AllNamed root (behind p.content way) ps
 
 abbrev pub down_of : Down → Step
 down_of (down.Key name) = key name.now

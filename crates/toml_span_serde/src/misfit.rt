@@ -234,7 +234,8 @@ impl Error<'_> {
     ) -> Result<Diagnostic<F>, AllocError>
         ensures code { IfOk result (λ shown. string_bytes shown.code ≡ code_of (told self.now).kind) }
         ensures message { IfOk result (λ shown. string_bytes shown.message ≡ message_of (told self.now).kind) }
-        ensures labels { IfOk result (λ shown. map mark_of shown.labels.items ≡ labels_of fid (told self.now).span (told self.now).kind) }
+        ensures labels { IfOk result (λ shown. map mark_of shown.labels.items
+            ≡ labels_of fid (told self.now).span (told self.now).kind) }
     {
         match self {
             Error::Refused(error) => error.to_diagnostic(alloc, fid),

@@ -38,7 +38,8 @@ pub(crate) fn path_to(
     before: &[Piece<'_>],
     content: Content<'_>,
 ) -> Result<Vec<Step>, AllocError>
-    ensures { IfOk result (λ path. path_of path.items ≡ reverse (way_at (content_of content.entry) (walked (map piece_of before.now) []))) }
+    ensures { IfOk result (λ path. path_of path.items
+        ≡ reverse (way_at (content_of content.entry) (walked (map piece_of before.now) []))) }
 {
     let mut downs = Vec::new(alloc);
     for piece in before {

@@ -82,7 +82,8 @@ fn carry_out<'v, 'de>(
     tasks: &mut Vec<Task<'v, 'de>>,
     made: &mut Vec<Piece<'v>>,
 ) -> Result<(), AllocError>
-    ensures { OnOk result (all_pieces tasks.new.items ++ turned made.new.items ≡ all_pieces tasks.old.items ++ (task_pieces task.entry ++ turned made.old.items)) }
+    ensures { OnOk result (all_pieces tasks.new.items ++ turned made.new.items ≡ all_pieces tasks.old.items
+        ++ (task_pieces task.entry ++ turned made.old.items)) }
 {
     match task {
         Task::Value(value) => take_apart(value, tasks, made),
@@ -99,7 +100,8 @@ fn take_apart<'v, 'de>(
     tasks: &mut Vec<Task<'v, 'de>>,
     made: &mut Vec<Piece<'v>>,
 ) -> Result<(), AllocError>
-    ensures { OnOk result (all_pieces tasks.new.items ++ turned made.new.items ≡ all_pieces tasks.old.items ++ (pieces (view value.now) ++ turned made.old.items)) }
+    ensures { OnOk result (all_pieces tasks.new.items ++ turned made.new.items ≡ all_pieces tasks.old.items
+        ++ (pieces (view value.now) ++ turned made.old.items)) }
 {
     let span = value.span;
     if value.is_taken() {
@@ -134,7 +136,8 @@ fn push_elements<'v, 'de>(
     span: Span,
     tasks: &mut Vec<Task<'v, 'de>>,
 ) -> Result<(), AllocError>
-    ensures { OnOk result (all_pieces tasks.new.items ≡ all_pieces tasks.old.items ++ (piece array_begins span ∷ items_pieces (items_view array.now.items))) }
+    ensures { OnOk result (all_pieces tasks.new.items ≡ all_pieces tasks.old.items
+        ++ (piece array_begins span ∷ items_pieces (items_view array.now.items))) }
 {
     tasks.push(Task::Piece(Piece {
         content: Content::ArrayBegins,
@@ -152,7 +155,8 @@ fn push_entries<'v, 'de>(
     span: Span,
     tasks: &mut Vec<Task<'v, 'de>>,
 ) -> Result<(), AllocError>
-    ensures { OnOk result (all_pieces tasks.new.items ≡ all_pieces tasks.old.items ++ (piece table_begins span ∷ members_pieces (members_view table.now.entries))) }
+    ensures { OnOk result (all_pieces tasks.new.items ≡ all_pieces tasks.old.items
+        ++ (piece table_begins span ∷ members_pieces (members_view table.now.entries))) }
 {
     tasks.push(Task::Piece(Piece {
         content: Content::TableBegins,

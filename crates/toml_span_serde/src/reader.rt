@@ -69,7 +69,8 @@ impl<'p, 'v> Reader<'p, 'v> {
 
     /// What comes next, which is not passed.
     fn look(&mut self) -> Result<Piece<'v>, Stop<Misread>>
-        ensures next { IfOk result (λ p. ahead self.old ≡ piece_of p ∷ map piece_of (drop (self.old.next + 1) self.old.pieces.now)) }
+        ensures next { IfOk result (λ p. ahead self.old
+            ≡ piece_of p ∷ map piece_of (drop (self.old.next + 1) self.old.pieces.now)) }
         ensures small { OnOk result (self.old.next < 2 ^ 64 - 1) }
         ensures stays { (self.new.next ≡ self.old.next) × (self.new.pieces ≡ self.old.pieces) }
     {

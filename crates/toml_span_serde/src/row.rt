@@ -53,7 +53,8 @@ impl<'v> Row<'v> {
 
     /// A misread with the place of its piece, or of the first. A row has one at least.
     fn placed(&self, alloc: Global, misread: Misread) -> Result<Misfit, AllocError>
-        ensures { IfOk result (λ m. (n : Node) → pieces_in self.now ≡ pieces n → HasOneEach n → Names (path_of m.path.items) m.span n) }
+        ensures { IfOk result (λ m. (n : Node) → pieces_in self.now ≡ pieces n → HasOneEach n
+            → Names (path_of m.path.items) m.span n) }
     {
         if misread.at < self.pieces.len() {
             return self.misfit_at(alloc, misread.reason, misread.at);
@@ -67,7 +68,8 @@ impl<'v> Row<'v> {
     /// A misfit at this piece.
     fn misfit_at(&self, alloc: Global, reason: Reason, at: usize) -> Result<Misfit, AllocError>
         requires { at < length self.now.pieces.items }
-        ensures { IfOk result (λ m. (n : Node) → pieces_in self.now ≡ pieces n → HasOneEach n → Names (path_of m.path.items) m.span n) }
+        ensures { IfOk result (λ m. (n : Node) → pieces_in self.now ≡ pieces n → HasOneEach n
+            → Names (path_of m.path.items) m.span n) }
     {
         let pieces = self.pieces.as_slice();
         let piece = pieces[at];

@@ -20,12 +20,15 @@ stop_of (unfinished.Memory helper) = stop.Memory (record {})
 
 -- `read`: the element; or None, and the error that nothing stands under the name, or all errors of the
 -- read, are kept
-abbrev pub Asks : {T : Type 0} → (Node → Result T Faults → Node → Type 0) → List ℕ → State → Result (Option T) AllocError → State → Type 0
+abbrev pub Asks : {T : Type 0} → (Node → Result T Faults → Node → Type 0) → List ℕ → State
+    → Result (Option T) AllocError → State → Type 0
 Asks reads name before (Ok (Some x)) after =
-    (value : Node) × (left : Node) × (found name before ≡ Some value) × reads value (Ok x) left × (after ≡ noted name before)
+    (value : Node) × (left : Node) × (found name before ≡ Some value) × reads value (Ok x) left
+    × (after ≡ noted name before)
 Asks reads name before (Ok None) after = MatchOption (found name before)
     (after ≡ keeping (missing name before ∷ []) (noted name before))
-    (λ value. (faults : Faults) × (left : Node) × reads value (Err faults) left × (after ≡ keeping (all faults) (noted name before)))
+    (λ value. (faults : Faults) × (left : Node) × reads value (Err faults) left
+    × (after ≡ keeping (all faults) (noted name before)))
 Asks reads name before (Err error) after = Starved name before after
 
 -- how many errors are kept
@@ -50,14 +53,16 @@ FinishesInto s (Err (stop.Fault faults)) = s.errors ≡ all faults
 FinishesInto s (Err (stop.Memory error)) = ⊥
 
 -- `parsed`: as `Parses`, with the error in a list
-abbrev pub ParsesAll : {T E : Type 0} → (List ℕ → Result T E → Type 0) → (E → Option (List ℕ)) → Node → Result T (Stop Faults) → Type 0
+abbrev pub ParsesAll : {T E : Type 0} → (List ℕ → Result T E → Type 0) → (E → Option (List ℕ)) → Node
+    → Result T (Stop Faults) → Type 0
 ParsesAll gives output value (Ok x) = Parses gives output value (Ok x)
 ParsesAll gives output value (Err (stop.Fault faults)) =
     (error : Error) × Parses gives output value (Err (stop.Fault error)) × (faults ≡ one (fault_of error))
 ParsesAll gives output value (Err (stop.Memory e)) = Parses gives output value (Err (stop.Memory e))
 
 -- the answer, if memory was there, as `parsed` gives it
-abbrev pub AsParsed : {T E : Type 0} → (List ℕ → Result T E → Type 0) → (E → Option (List ℕ)) → Node → Result T Faults → Type 0
+abbrev pub AsParsed : {T E : Type 0} → (List ℕ → Result T E → Type 0) → (E → Option (List ℕ)) → Node
+    → Result T Faults → Type 0
 AsParsed gives output value (Ok x) = ParsesAll gives output value (Ok x)
 AsParsed gives output value (Err faults) = ParsesAll gives output value (Err (stop.Fault faults))
 

@@ -33,22 +33,29 @@ values_of no_members = []
 values_of (member name span value rest) = value ∷ values_of rest
 
 -- the values were read: each element is in the map under its name, and these are the errors
-abbrev pub EntriesRead : {T : Type 0} → (Node → Result T Faults → Node → Type 0) → List (List ℕ) → List Node → List (List ℕ × T) → List Fault → Type 0
+abbrev pub EntriesRead : {T : Type 0} → (Node → Result T Faults → Node → Type 0) → List (List ℕ) → List Node
+    → List (List ℕ × T) → List Fault → Type 0
 EntriesRead reads names values entries faults =
-    (answers : List (Result _ Faults)) × EachReads reads values answers × (entries ≡ holding_read [] names answers) × (errors answers ≡ faults)
+    (answers : List (Result _ Faults)) × EachReads reads values answers
+    × (entries ≡ holding_read [] names answers) × (errors answers ≡ faults)
 
 -- one more value is read
-abbrev pub AddsEntry : {T : Type 0} → (Node → Result T Faults → Node → Type 0) → List ℕ → Node → List (List ℕ × T) → List Fault → List (List ℕ × T) → List Fault → Type 0
+abbrev pub AddsEntry : {T : Type 0} → (Node → Result T Faults → Node → Type 0) → List ℕ → Node
+    → List (List ℕ × T) → List Fault → List (List ℕ × T) → List Fault → Type 0
 AddsEntry reads name value entries faults more told =
     (answer : Result _ Faults) × ((after : Node) × reads value answer after)
     × (more ≡ holding_read entries (name ∷ []) (answer ∷ [])) × (told ≡ faults ++ errors (answer ∷ []))
 
 -- a map of the elements where no answer is an error, and else all the errors, in the order of the names
-abbrev pub ReadsEntries : {T : Type 0} → (Node → Result T Faults → Node → Type 0) → Members → Result (List (List ℕ × T)) Faults → Type 0
+abbrev pub ReadsEntries : {T : Type 0} → (Node → Result T Faults → Node → Type 0) → Members
+    → Result (List (List ℕ × T)) Faults → Type 0
 ReadsEntries reads ms (Ok entries) = EntriesRead reads (names_of ms) (values_of ms) entries []
-ReadsEntries {T} reads ms (Err faults) = (entries : List (List ℕ × T)) × EntriesRead reads (names_of ms) (values_of ms) entries (all faults)
+ReadsEntries {T} reads ms (Err faults) = (entries : List (List ℕ × T))
+    × EntriesRead reads (names_of ms) (values_of ms) entries (all faults)
 
 -- T's readings of a table's values, joined; the table is taken
-abbrev pub table_reads : {T : Type 0} → (Node → Result T Faults → Node → Type 0) → Node → Result (List (List ℕ × T)) Faults → Node → Type 0
-table_reads reads (node (table ms) span) answer after = ReadsEntries reads ms answer × Taken (node (table ms) span) after
+abbrev pub table_reads : {T : Type 0} → (Node → Result T Faults → Node → Type 0) → Node
+    → Result (List (List ℕ × T)) Faults → Node → Type 0
+table_reads reads (node (table ms) span) answer after = ReadsEntries reads ms answer
+    × Taken (node (table ms) span) after
 table_reads reads value answer after = (answer ≡ refused (codes "a table") value) × Taken value after

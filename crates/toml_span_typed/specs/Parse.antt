@@ -11,7 +11,11 @@ use Rattle.toml_span_tree.specs.Value.{inner_of, not_a, span_of, text_in}
 -- an error at the span whose message begins so and ends in a text: the refusal's, if that is stated
 abbrev pub TellsRefusal : Option (List ℕ) → Span → Fault → Type 0
 TellsRefusal shown span fault =
-    (text : List ℕ) × (fault ≡ record { kind = custom (codes "failed to parse string: " ++ text); span = span; line_info = None })
+    (text : List ℕ) × (fault ≡ record {
+      kind = custom (codes "failed to parse string: " ++ text);
+      span = span;
+      line_info = None;
+    })
     × IfSome shown (λ stated. text ≡ stated)
 
 -- the string is read as `from_str_gives` says; memory is wanted only where it refuses the string

@@ -28,7 +28,8 @@ number_or otherwise (Some n) = number n
 
 -- the port of a table that stands at the span
 abbrev pub port_in : Members → Span → Result ℕ Faults
-port_in ms span = number_or (one (lacks (codes "port") span)) (option_map (λ entry. entry.1) (entry_at (codes "port") ms))
+port_in ms span = number_or (one (lacks (codes "port") span)) (option_map (λ entry. entry.1) (entry_at
+    (codes "port") ms))
 
 -- the errors of its port, and behind them that of its other keys
 abbrev pub server_errors : Members → Span → List Fault
@@ -59,7 +60,8 @@ ListErrors span places errors = MatchOption (places (key (codes "servers") ∷ [
     (errors ≡ lacks (codes "servers") span ∷ [])
     (λ _. (answer : Result (List Server) Faults) × ReadsList places answer × (errors ≡ errors_in answer))
 
--- The text is refused, and the one error tells why; or it is read, and these are the errors of its list and, behind them, that of
+-- The text is refused, and the one error tells why; or it is read, and these are the errors of its list and,
+-- behind them, that of
 -- the other keys.
 abbrev pub NoServers : List ℕ → Stop Faults → Type 0
 NoServers text (stops.Memory e) = ⊤

@@ -11,4 +11,5 @@ use Rattle.toml_span.specs.Parts.{IsValueOf}
 abbrev pub IsChanged : List ℕ → Node → Option Value → (Path → Option Place) → Type 0
 IsChanged pointer new None places = (before : Node) × IsValueOf places before × (pointed pointer before ≡ None)
 IsChanged pointer new (Some root) places =
-    (before old : Node) × IsValueOf places before × (pointed pointer before ≡ Some old) × (view root ≡ put_pointed pointer new before)
+    (before old : Node) × IsValueOf places before × (pointed pointer before ≡ Some old)
+    × (view root ≡ put_pointed pointer new before)

@@ -56,7 +56,8 @@ fn push_node<'t, 'de>(
     path: &[Step<'t>],
     list: &mut Vec<Visited<'t, 'de>>,
 ) -> Result<(), AllocError>
-    ensures { OnOk result (map seen list.new.items ≡ map seen list.old.items ++ nodes_from (map step_of path.now) (view value.now)) }
+    ensures { OnOk result (map seen list.new.items ≡ map seen list.old.items
+        ++ nodes_from (map step_of path.now) (view value.now)) }
 {
     let steps = Vec::from_slice(alloc, path)?;
     list.push(Visited { path: steps, value })?;
@@ -78,7 +79,8 @@ fn push_elements<'t, 'de>(
     path: &[Step<'t>],
     list: &mut Vec<Visited<'t, 'de>>,
 ) -> Result<(), AllocError>
-    ensures { OnOk result (map seen list.new.items ≡ map seen list.old.items ++ items_nodes (map step_of path.now) 0 (items_view elements.now)) }
+    ensures { OnOk result (map seen list.new.items ≡ map seen list.old.items
+        ++ items_nodes (map step_of path.now) 0 (items_view elements.now)) }
 {
     for (position, element) in elements.iter().enumerate() {
         let steps = below(alloc, path, Step::Position(position))?;
@@ -95,7 +97,8 @@ fn push_entries<'t, 'de>(
     path: &[Step<'t>],
     list: &mut Vec<Visited<'t, 'de>>,
 ) -> Result<(), AllocError>
-    ensures { OnOk result (map seen list.new.items ≡ map seen list.old.items ++ members_nodes (map step_of path.now) (members_view table.now.entries)) }
+    ensures { OnOk result (map seen list.new.items ≡ map seen list.old.items
+        ++ members_nodes (map step_of path.now) (members_view table.now.entries)) }
 {
     for (key, value) in table.iter() {
         let steps = below(alloc, path, Step::Key(key.name.as_ref()))?;

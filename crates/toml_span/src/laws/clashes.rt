@@ -13,16 +13,23 @@ ghost use Rattle.toml_span.specs.Scopes.{ShareScope};
 /// other one of a document that clashes with an earlier one of its scope, and its partner before every
 /// other one that it clashes with.
 pub fn told_is_first_by_place()
-    ensures { (text : List ℕ) (limit : ℕ) (blocks : List Block) (told : Told) → SpellsDocument blocks text limit → TellsFirst [] (claims blocks) told ↔ ((c d : Claim) × IsFirstPair [] (claims blocks) c d × (clash c d ≡ Some told)) }
+    ensures { (text : List ℕ) (limit : ℕ) (blocks : List Block) (told : Told) → SpellsDocument blocks text limit
+        → TellsFirst [] (claims blocks) told ↔ ((c d : Claim) × IsFirstPair [] (claims blocks) c d
+        × (clash c d ≡ Some told)) }
 {}
 
 /// What stands at a position is never said by a header that passes through it: the claim of the entry, or of the
 /// array's element, decides there.
 pub fn no_header_through_an_entry_decides()
-    ensures { (text : List ℕ) (limit : ℕ) (blocks : List Block) (path : Path) (index : ℕ) (c : Claim) → SpellsDocument blocks text limit → decides (claims_at (path ++ (position index ∷ [])) (all_claims (claims blocks))) ≡ Some c → c.mark.sort ≢ Passed }
+    ensures { (text : List ℕ) (limit : ℕ) (blocks : List Block) (path : Path) (index : ℕ) (c : Claim)
+        → SpellsDocument blocks text limit
+        → decides (claims_at (path ++ (position index ∷ [])) (all_claims (claims blocks))) ≡ Some c
+        → c.mark.sort ≢ Passed }
 {}
 
 /// Where no two claims of a document clash, those on one path are of one scope.
 pub fn claims_on_one_path_are_of_one_scope()
-    ensures { (text : List ℕ) (limit : ℕ) (blocks : List Block) (c d : Claim) → SpellsDocument blocks text limit → Resolves [] (claims blocks) → IsIn c (all_claims (claims blocks)) → IsIn d (all_claims (claims blocks)) → c.path ≡ d.path → ShareScope (claims blocks) c d }
+    ensures { (text : List ℕ) (limit : ℕ) (blocks : List Block) (c d : Claim) → SpellsDocument blocks text limit
+        → Resolves [] (claims blocks) → IsIn c (all_claims (claims blocks)) → IsIn d (all_claims (claims blocks))
+        → c.path ≡ d.path → ShareScope (claims blocks) c d }
 {}

@@ -30,7 +30,8 @@ impl<'de, T: Deserialize<'de>> Deserialize<'de> for Box<T> {
 }
 
 impl<'de> Deserialize<'de> for char {
-    ghost reads = { λ v r w. AsParsed ⟦<char as FromStr>⟧.from_str_gives ⟦<ParseCharError as Display>⟧.output v r × Taken v w };
+    ghost reads = { λ v r w. AsParsed ⟦<char as FromStr>⟧.from_str_gives ⟦<ParseCharError as Display>⟧.output v r
+        × Taken v w };
 
     ghost starved = { Taken };
 

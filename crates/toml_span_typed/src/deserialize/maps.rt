@@ -39,7 +39,8 @@ fn read_entries<'de, T: Deserialize<'de>>(
     table: Table<'de>,
 ) -> Result<BTreeMap<String, T>, Stop<DeserError<'de>>>
     requires { IsTrue (all_members_whole (members_view table.entries)) }
-    ensures { Answered result (λ r. ReadsEntries T.reads (members_view table.entry.entries) (result_map (λ m. map shown_pair m.entries) r)) }
+    ensures { Answered result (λ r. ReadsEntries T.reads (members_view table.entry.entries)
+        (result_map (λ m. map shown_pair m.entries) r)) }
 {
     let mut read = BTreeMap::new(alloc);
     let mut faults = None;
@@ -63,7 +64,9 @@ fn read_entry<'de, T: Deserialize<'de>>(
     faults: &mut Option<DeserError<'de>>,
 ) -> Result<(), AllocError>
     requires { IsTrue (is_whole (view item)) }
-    ensures { OnOk result (AddsEntry T.reads (cow_str_bytes key.entry.name) (view item.entry) (map shown_pair read.old.entries) (all_of_option faults.old) (map shown_pair read.new.entries) (all_of_option faults.new)) }
+    ensures { OnOk result (AddsEntry T.reads (cow_str_bytes key.entry.name) (view item.entry)
+        (map shown_pair read.old.entries) (all_of_option faults.old) (map shown_pair read.new.entries)
+        (all_of_option faults.new)) }
 {
     match T::deserialize(alloc, &mut item) {
         Ok(element) => put(alloc, read, key, element),
@@ -80,7 +83,8 @@ fn put<T: Drop>(
     key: Key<'_>,
     element: T,
 ) -> Result<(), AllocError>
-    ensures { OnOk result (map shown_pair read.new.entries ≡ holding (map shown_pair read.old.entries) (cow_str_bytes key.entry.name) element) }
+    ensures { OnOk result (map shown_pair read.new.entries
+        ≡ holding (map shown_pair read.old.entries) (cow_str_bytes key.entry.name) element) }
 {
     let name = String::from_str(alloc, key.name.as_str())?;
     match read.insert(name, element) {

@@ -3,7 +3,8 @@ use Rattle.std.proofs.lemmas.List.{drop_all}
 use Rattle.json.specs.Print.{quoted}
 use Rattle.toml_span_tree.specs.Value.{view, items_view, members_view}
 use Rattle.toml_span_check.specs.Shown.{items_shown, members_shown}
-use Rattle.toml_span_check.proofs.Walks.{shown-taken, items_shown-next, items_size-next, members_shown-next, members_size-next}
+use Rattle.toml_span_tree.proofs.Sizes.{items_size-next, members_size-next}
+use Rattle.toml_span_check.proofs.Walks.{shown-taken, items_shown-next, members_shown-next}
 use Rattle.toml_span_check.proofs.shown.+push_value.Goals as goal
 
 pub push_elements-loop-element-preserved : goal.push_elements-loop-element-preserved

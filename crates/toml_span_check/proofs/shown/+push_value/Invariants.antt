@@ -1,7 +1,7 @@
 use Rattle.std.proofs.Common.{◌≡◌, ◌≤◌, suc, ◌++◌, drop, codes, string_bytes, false}
 use Rattle.toml_span_tree.specs.Value.{view, items_view, members_view}
 use Rattle.toml_span_check.specs.Shown.{items_shown, members_shown}
-use Rattle.toml_span_check.proofs.Sizes.{node_size, items_size, members_size}
+use Rattle.toml_span_tree.proofs.Sizes.{node_size, items_size, members_size}
 use Rattle.toml_span_check.proofs.shown.+push_value.Given as goal
 
 abbrev pub decreases-push_value : goal.decreases-push_value
