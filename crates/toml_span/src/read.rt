@@ -12,7 +12,7 @@ use toml_span_typed::{DeserError, Deserialize};
 
 /// Reads a document as a type: `parse`, and then `deserialize` of the root.
 ///
-/// The errors are the one for which the text is refused, or all errors of the type's read.
+/// The errors are the one for which the text is refused, or all errors of the type's read; or `Stop::Memory`.
 pub fn from_str<'de, T: Deserialize<'de>>(
     alloc: Global,
     text: &'de str,

@@ -71,7 +71,7 @@ fn tree_of<'de>(grown: Grown<'de>, text: &'de str) -> Result<Value<'de>, Stop<Er
 /// The tree of a document, with the limit of 128 levels.
 ///
 /// The error is the first fault of reading or, where the text is read, the first clash of two claims on
-/// one path; there is no tree then.
+/// one path; or `Stop::Memory`, where a request for memory was refused. There is no tree then.
 pub fn parse<'de>(alloc: Global, s: &'de str) -> Result<Value<'de>, Stop<Error<'de>>>
     ensures tree { IfOk result (IsTree s.now 128) }
     ensures root { IfOk result (IsRoot (length s.now)) }
@@ -86,7 +86,8 @@ pub fn parse<'de>(alloc: Global, s: &'de str) -> Result<Value<'de>, Stop<Error<'
 }
 
 /// The tree of a document. A value may be so many brackets, braces and key parts deep, and a header and
-/// a dotted key may have so many parts, as `limit` says, which is from 1 to 128.
+/// a dotted key may have so many parts, as `limit` says, which is from 1 to 128. The errors are those of
+/// `parse`, and `ExceededDepthLimit` comes at this limit.
 pub fn parse_with_limit<'de>(
     alloc: Global,
     s: &'de str,

@@ -34,6 +34,7 @@ pub struct Node<'de> {
 }
 
 impl<'de> Node<'de> {
+    /// A table on which nothing is claimed, and in which nothing stands.
     pub fn new(alloc: Global) -> Self
         ensures fresh { IsFresh result }
         ensures bare { standing result ≡ [] }

@@ -26,7 +26,7 @@ impl<T> Model for Rest<T> {
 }
 
 impl<T> Rest<T> {
-    /// All of a list.
+    /// The whole list, from its first item on.
     pub fn new(mut items: Vec<T>) -> Self
         ensures { result ≡ items.items }
     {

@@ -3,7 +3,8 @@ use std::alloc::AllocError;
 
 /// Why a call gave no value: memory ran out, or the call has a fault to tell.
 ///
-/// `Memory` is answered only where the allocator refused a request during the call.
+/// `Memory`: the allocator refused a request during the call. Tests show that nothing else is answered so;
+/// no contract can say it.
 #[derive(Debug, Drop)]
 pub enum Stop<E> {
     Memory(AllocError),

@@ -159,7 +159,7 @@ fn content_from(text: &str, multi: bool, at: usize) -> usize
     }
 }
 
-/// The string at a place, its span, and where it ends.
+/// The string at a place, its span, and where it ends. A fault comes with the place up to which the string was read.
 pub fn string_at(
     alloc: Global,
     text: &str,

@@ -243,7 +243,8 @@ impl<'a> Tokenizer<'a> {
 
     /// Eats the next token, which has to be the expected one, contents included.
     ///
-    /// Else it is `Wanted`, and the tokenizer stands behind the other token.
+    /// Else it is `Wanted`, and the tokenizer stands behind the other token. Where no token stands or memory is
+    /// wanted, it stands where `step` leaves it.
     pub fn expect(&mut self, alloc: Global, expected: Token<'a>) -> Result<(), Stop<Error>>
         ensures text { self.new.text ≡ self.old.text }
         ensures gives { spec.Expects self.old.text self.old.at result (lexeme expected.entry) self.new.at }
@@ -256,7 +257,8 @@ impl<'a> Tokenizer<'a> {
 
     /// Eats the next token, which has to be the expected one, and gives its span.
     ///
-    /// Else it is `Wanted`, and the tokenizer stands behind the other token.
+    /// Else it is `Wanted`, and the tokenizer stands behind the other token. Where no token stands or memory is
+    /// wanted, it stands where `step` leaves it.
     pub fn expect_spanned(
         &mut self,
         alloc: Global,

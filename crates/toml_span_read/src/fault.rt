@@ -126,7 +126,7 @@ pub fn fault_at(kind: FaultKind, at: usize) -> Fault
     Fault { kind, span }
 }
 
-/// A number that is none.
+/// The fault that these bytes are no number.
 pub fn invalid_number(start: usize, end: usize) -> Fault
     ensures { result ≡ spec.invalid_number start end }
 {

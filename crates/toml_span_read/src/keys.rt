@@ -58,7 +58,8 @@ fn quoted_key<'de>(
     Ok((key, token.end))
 }
 
-/// The key at a place, and where it ends.
+/// The key at a place, and where it ends. Where none stands, the fault is `Wanted`; of a string that is one of
+/// several lines `MultilineStringKey`; else that of the string.
 ///
 /// `simple-key = quoted-key / unquoted-key` (TOML 1.1, Keys)
 pub fn simple_key<'de>(
@@ -84,7 +85,8 @@ pub fn simple_key<'de>(
     }
 }
 
-/// The dotted key at a place, of `limit` parts at most, and where it ends.
+/// The dotted key at a place, of `limit` parts at most, and where it ends. The faults are those of `simple_key`,
+/// and `ExceededDepthLimit` at the part past the limit.
 ///
 /// `key = simple-key / dotted-key`, `dotted-key = simple-key 1*( dot-sep simple-key )` (TOML 1.1, Keys)
 pub fn dotted_key<'de>(
@@ -114,7 +116,7 @@ pub fn dotted_key<'de>(
     Ok((DottedKey { inner, last }, end))
 }
 
-/// The parts of a header at a place, at most `limit`, and where they end.
+/// The parts of a header at a place, at most `limit`, and where they end, with the faults of `dotted_key`.
 pub fn header_key<'de>(
     alloc: Global,
     text: &'de str,

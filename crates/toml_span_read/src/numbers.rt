@@ -133,7 +133,7 @@ fn integer(
     }
 }
 
-/// The radix that two bytes name.
+/// The radix that the two bytes at a place name: `0x`, `0o` or `0b`. None where others stand there.
 #[inline]
 pub fn radix_of(text: &str, run: usize) -> Option<u8>
     requires { run < usize.MAX }
@@ -409,7 +409,7 @@ fn cleaned(alloc: Global, literal: &str) -> Result<String, AllocError>
     Ok(text)
 }
 
-/// The float that a word of letters writes.
+/// The float that a word of letters writes: `inf` or `nan`, with a minus before it or not; None for other words.
 pub fn special_float(word: &[u8]) -> Option<FloatText>
     ensures { SpecialGives word.now result }
 {
@@ -422,7 +422,7 @@ pub fn special_float(word: &[u8]) -> Option<FloatText>
     }
 }
 
-/// The fault of a dot behind a float of letters.
+/// The fault of a dot behind `inf` or `nan`, as `inf.5`: no float of letters has a fraction.
 pub fn special_dot(text: &str, start: usize, first: Span) -> Fault
     requires start { start ≤ first.start }
     requires run { IsRun text.now first }

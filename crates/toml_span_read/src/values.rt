@@ -29,7 +29,8 @@ use toml_span_lex::span::Span;
 use toml_span_lex::stop::Stop;
 use toml_span_tree::DateText;
 
-/// The value at a place that `depth` brackets and key parts stand round, and where it ends.
+/// The value at a place that `depth` brackets and key parts stand round, and where it ends. Else the first fault
+/// of the value; `ExceededDepthLimit` where it is deeper than `limit`.
 ///
 /// `val = string / boolean / array / inline-table / date-time / float / integer` (TOML 1.1, Key/Value Pair)
 #[cycle(read)]

@@ -107,7 +107,8 @@ fn pieced_string<'de>(
     }
 }
 
-/// The string that begins at a place.
+/// The string that begins at a place: its content, its span, whether it is of several lines, and where it ends.
+/// The fault is that of the string as a token.
 #[inline]
 pub fn string<'de>(
     alloc: Global,

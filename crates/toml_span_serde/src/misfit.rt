@@ -156,7 +156,7 @@ pub struct Misfit {
 }
 
 impl Misfit {
-    /// The misfit as an error of a document.
+    /// The misfit as an error of a document, at the same span, line and column. It takes memory for its text.
     pub fn to_error(&self, alloc: Global) -> Result<toml_span_tree::Error<'_>, AllocError>
         ensures { IfOk result (λ error. fault_of error ≡ fault_told self.now) }
     {
@@ -226,7 +226,7 @@ impl Error<'_> {
         }
     }
 
-    /// The error with its places, for an editor or a terminal to show. `fid` names the file.
+    /// The error with its places, for an editor or a terminal to show. `fid` names the file. It takes memory.
     pub fn to_diagnostic<F: Copy + PartialEq>(
         &self,
         alloc: Global,

@@ -22,7 +22,7 @@ pub struct Row<'v> {
 }
 
 impl<'v> Row<'v> {
-    /// The pieces of a tree.
+    /// The pieces of a tree, in the order of its parts: each value before those in it. The error is want of memory.
     pub fn new(alloc: Global, root: &'v Value<'_>) -> Result<Row<'v>, AllocError>
         ensures { IfOk result (λ row. pieces_in row ≡ pieces (view root.now)) }
     {
@@ -38,7 +38,8 @@ impl<'v> Row<'v> {
         Reader::new(alloc, self.pieces.as_slice())
     }
 
-    /// Where in the tree a read stopped, and why. A read that goes on behind the end of the tree is told at the root.
+    /// Where in the tree a read stopped, and why: the span of its value, and the steps to it. A read that goes on
+    /// behind the end of the tree is told at the root; want of memory stays what it is.
     pub fn stopped(&self, alloc: Global, stop: Stop<Misread>) -> Stop<Misfit>
         ensures { (n : Node) → pieces_in self.now ≡ pieces n → HasOneEach n → IsAt n result }
     {

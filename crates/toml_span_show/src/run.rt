@@ -89,8 +89,10 @@ fn answer(alloc: Global, bytes: &[u8], limit: usize) -> Result<(u8, Vec<u8>), Al
     }
 }
 
-/// Reads a document, and writes its tree or its error and nothing else. Answers the status with which
-/// the program ends; the limit is that of `parse_with_limit`.
+/// Reads a document, and writes its tree or its error and nothing else. The limit is that of `parse_with_limit`.
+///
+/// Answers the status with which the program ends: 0 for a tree, 1 for an error of the text, 2 for bytes that are too
+/// many or no UTF-8, 3 where reading or writing broke off, 4 for want of memory, of which nothing is written.
 pub fn run_with_limit<R: Source, W: Sink>(
     alloc: Global,
     limit: usize,

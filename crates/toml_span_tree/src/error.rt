@@ -7,48 +7,72 @@ use std::alloc::{AllocError, Global};
 use std::borrow::CowStr;
 use toml_span_lex::span::Span;
 
-/// What is wrong.
+/// What is wrong. The first lines of a variant say of what it is told; texts of a document are told by
+/// `parse`, the others by typed reads of a tree.
 #[derive(Debug, Drop)]
 pub enum ErrorKind<'s> {
+    /// The end of the text in the place of a value.
     UnexpectedEof,
+    /// What is past the limit of depth.
     ExceededDepthLimit,
+    /// A character that a string does not hold.
     InvalidCharInString(char),
+    /// A character behind a backslash that begins no escape.
     InvalidEscape(char),
+    /// A character in the place of a hexadecimal digit.
     InvalidHexEscape(char),
+    /// Digits of an escape that give no character.
     InvalidEscapeValue(u32),
+    /// A character that begins no token.
     Unexpected(char),
+    /// A string in which the text ends.
     UnterminatedString,
+    /// What is due to be a number.
     InvalidNumber,
+    /// What is due to be a date or a time.
     InvalidDatetime,
+    /// An integer that the type of this name does not hold. Of a read.
     OutOfRange(&'s str),
+    /// Another token, or of a read another kind of value, than the one that is due.
     Wanted {
         expected: &'s str,
         found: &'s str,
     },
+    /// A table that a second header opens; `first` is the earlier header's line.
     DuplicateTable {
         name: String,
         first: Span,
     },
+    /// A key that is claimed a second time; `first` is the earlier key.
     DuplicateKey {
         key: String,
         first: Span,
     },
+    /// An array of tables where a table stands.
     RedefineAsArray,
+    /// A string of several lines as a key.
     MultilineStringKey,
+    /// An error with a text of its own. Of a read.
     Custom(CowStr<'s>),
+    /// A key that goes through an earlier value; `first` is the key of that value.
     DottedKeyInvalidType {
         first: Span,
     },
+    /// Keys of a table that no field has, with their bytes, and the names of the fields. Of a read.
     UnexpectedKeys {
         keys: Vec<(String, Span)>,
         expected: Vec<String>,
     },
+    /// A word in the place of a value.
     UnquotedString,
+    /// A field of this name that the table lacks. Of a read.
     MissingField(&'s str),
+    /// A field under its old name. Of a read; no call of the library tells it.
     Deprecated {
         old: &'s str,
         new: &'s str,
     },
+    /// A value that is none of these. Of a read; no call of the library tells it.
     UnexpectedValue {
         expected: &'s [&'s str],
         value: Option<String>,

@@ -109,7 +109,7 @@ impl<'de> Value<'de> {
         }
     }
 
-    /// The inner value, which is taken from here on. The span stays.
+    /// The inner value, which must not be taken yet (`is_taken`), and is from here on. The span stays.
     pub fn take(&mut self) -> ValueInner<'de>
         requires { is_taken_node (view self.old) ≡ false }
         ensures given { view self.old ≡ node (inner_view result) self.old.span }
@@ -121,7 +121,7 @@ impl<'de> Value<'de> {
         }
     }
 
-    /// The inner value.
+    /// The inner value, which must not be taken (`is_taken`).
     pub fn as_ref(&self) -> &ValueInner<'de>
         requires { is_taken_node (view self.now) ≡ false }
         ensures { view self.now ≡ node (inner_view result.now) self.now.span }
@@ -132,7 +132,7 @@ impl<'de> Value<'de> {
         }
     }
 
-    /// The string. The value is taken from here on, whether it was a string or not.
+    /// The string. The value must not be taken yet, and is from here on, whether it was a string or not.
     ///
     /// Of another kind, the error is `Wanted`, at the value's span: what was expected is the message
     /// or, where none is given, "a string", and what was found is the kind's name.

@@ -9,7 +9,7 @@ ghost use Rattle.toml_span_uses.specs.Writes.{IsChanged};
 use std::alloc::Global;
 use toml_span::{Error, Stop, Value, parse};
 
-/// Writes at one place, and knows of two what stands there.
+/// Writes at `/b/x`, and knows what stands there then and at `/a/x`.
 pub fn write_second<'de>(root: &mut Value<'de>, new: Value<'de>) -> Result<Value<'de>, Value<'de>>
     requires { is_taken (view new) ≡ false }
     ensures written { IfOk result (λ _. pointed (codes "/b/x") (view root.new) ≡ Some (view new.entry)) }
