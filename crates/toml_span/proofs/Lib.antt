@@ -6,6 +6,8 @@ pub mod FirstPair
 pub mod Scoped
 pub mod EntryDecides
 pub mod OneScope
+pub mod KeyWays
+pub mod ThroughValue
 pub mod SpelledClaims
 pub mod ReadAgain
 pub mod ClaimedValues

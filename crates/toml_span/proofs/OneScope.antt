@@ -1,7 +1,6 @@
 -- Where no two claims clash, those on one path are of one scope.
 use Rattle.std.proofs.Common.{◌≡◌, ℕ, zero, suc, ◌+◌, ◌≤◌, ◌⊎◌, List, [], ◌∷◌, ◌++◌, Option, Some, None, length, length-append, arith, refl, sym, ap, ◌∙◌, subst, append_assoc, append-nil, inl, inr}
-use Rattle.std.specs.Prelude.{⊤, true, option_map}
-use Rattle.std.proofs.lemmas.List.{append_cancel_left}
+use Rattle.std.specs.Prelude.{⊤}
 use Rattle.std.proofs.lemmas.Option.{none-some, same_Some}
 use Rattle.toml_span_tree.specs.Path.{Path, Step, key, position}
 use Rattle.toml_span_read.specs.Lines.{Block, SpellsDocument}
@@ -10,12 +9,11 @@ use Rattle.toml_span_claims.specs.declared.claims.Blame.TheVariants.{Key}
 use Rattle.toml_span_claims.specs.declared.claims.Sort.{Sort}
 use Rattle.toml_span_claims.specs.declared.claims.Sort.TheVariants.{Passed, Section, ArrayOfTables, Entry, Dotted, Assigned}
 use Rattle.toml_span_claims.specs.Claims.{Claim, Claims, no_claims, claimed, scope, claims}
-use Rattle.toml_span_claims.specs.Clashes.{named, blame, meeting, meets, clash, IsFree, Resolves}
+use Rattle.toml_span_claims.specs.Clashes.{named, blame, meeting, clash, IsFree, Resolves}
 use Rattle.toml_span_claims.specs.Flat.{all_claims}
-use Rattle.toml_span_claims.specs.Paths.{same_path}
 use Rattle.toml_span_assembly.proofs.Refusals.{spelled-headed}
 use Rattle.toml_span.specs.Clashing.{IsIn, DoClash}
-use Rattle.toml_span.specs.Scopes.{own, ShareInside, ShareScope}
+use Rattle.toml_span.specs.Scopes.{own, ShareScope}
 use Rattle.toml_span.proofs.Apart.{in-left, in-right}
 use Rattle.toml_span.proofs.EntryDecides.{path-self}
 use Rattle.toml_span.proofs.FirstPair.{in-cases, free-clash}
@@ -23,7 +21,7 @@ use Rattle.toml_span.proofs.Scoped.{Fits, IsChild, IsUnder, Scoped, document-sco
 
 -- ---- claims that clash
 
-do-clash : (c d : Claim) (b : Blame) → c.path ≡ d.path → blame c.mark.sort d.mark.sort ≡ Some b → DoClash c d
+pub do-clash : (c d : Claim) (b : Blame) → c.path ≡ d.path → blame c.mark.sort d.mark.sort ≡ Some b → DoClash c d
 unfolding clash
 do-clash c d b same is = (named d.name (meeting c.mark d.mark b), rw (same, path-self d.path, is) refl)
 
@@ -50,7 +48,7 @@ abbrev pub Peaceful : List Claim → Type 0
 Peaceful [] = ⊤
 Peaceful (c ∷ cs) = ((d : Claim) → IsIn d cs → DoClash c d → ⊥) × Peaceful cs
 
-peaceful-push : (l : List Claim) (c : Claim) → Peaceful l → IsFree l c → Peaceful (l ++ (c ∷ []))
+pub peaceful-push : (l : List Claim) (c : Claim) → Peaceful l → IsFree l c → Peaceful (l ++ (c ∷ []))
 peaceful-push [] c h free = ((λ d here clashes. absurd here), tt)
 peaceful-push (x ∷ l) c h free = (
   (λ d here clashes. elim (in-cases d l (c ∷ []) here) [
@@ -67,13 +65,13 @@ peaceful-own earlier (claimed c cs) ok h =
     subst Peaceful (append_assoc earlier (c ∷ []) (own cs)) (peaceful-own (earlier ++ (c ∷ [])) cs ok.1 (peaceful-push earlier c h ok.0))
 peaceful-own earlier (scope inner cs) ok h = peaceful-own earlier cs ok.1 h
 
-peaceful-across : (xs ys : List Claim) (c d : Claim) → Peaceful (xs ++ ys) → IsIn c xs → IsIn d ys → DoClash c d → ⊥
+pub peaceful-across : (xs ys : List Claim) (c d : Claim) → Peaceful (xs ++ ys) → IsIn c xs → IsIn d ys → DoClash c d → ⊥
 peaceful-across [] ys c d h a b clashes = absurd a
 peaceful-across (x ∷ xs) ys c d h (inl same) b clashes = h.0 d (in-right d xs ys b) (subst (λ y. DoClash y d) same clashes)
 peaceful-across (x ∷ xs) ys c d h (inr more) b clashes = peaceful-across xs ys c d h.1 more b clashes
 
 -- two claims that clash in either order are not both there, if they differ
-peaceful-two : (l : List Claim) (c d : Claim) → Peaceful l → IsIn c l → IsIn d l → (c.mark.sort ≡ d.mark.sort → ⊥) → DoClash c d → DoClash d c → ⊥
+pub peaceful-two : (l : List Claim) (c d : Claim) → Peaceful l → IsIn c l → IsIn d l → (c.mark.sort ≡ d.mark.sort → ⊥) → DoClash c d → DoClash d c → ⊥
 peaceful-two [] c d h a b differ first last = a
 peaceful-two (x ∷ l) c d h (inl same) (inl other) differ first last = differ (ap (λ y. y.mark.sort) (same ∙ sym other))
 peaceful-two (x ∷ l) c d h (inl same) (inr more) differ first last = h.0 d more (subst (λ y. DoClash y d) same first)
