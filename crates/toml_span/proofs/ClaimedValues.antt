@@ -8,17 +8,17 @@ use Rattle.toml_span_read.specs.Data.{Node, node, Inner, scalar, array, inline, 
 use Rattle.toml_span_read.specs.Grammar.{Spells, SpellsInner, SpellsItems, SpellsPairs}
 use Rattle.toml_span_read.specs.Keys.{Part}
 use Rattle.toml_span_read.specs.Lines.{Block, SpellsDocument, SpellsSections, SpellsEvents, first_block}
-use Rattle.toml_span_claims.specs.declared.claims.Sort.TheVariants.{Passed, Section, ArrayOfTables, Entry, Dotted as DottedTable, Assigned}
+use Rattle.toml_span_claims.specs.declared.claims.Sort.TheVariants.{Entry}
 use Rattle.toml_span_claims.specs.declared.claims.Head.{Head}
 use Rattle.toml_span_claims.specs.Paths.{below, at, enter, entries_at, opened_by, section_path}
-use Rattle.toml_span_claims.specs.Claims.{Claim, Claims, no_claims, claimed, scope, followed, header_claim, element, key_claims, value_claims, inner_claims, item_claims, pair_claims, event_claims, array_claims, end_claims, header_claims, section_claims, claims_behind, claims, head_of}
+use Rattle.toml_span_claims.specs.Claims.{Claims, no_claims, claimed, scope, followed, header_claim, element, key_claims, value_claims, inner_claims, item_claims, pair_claims, event_claims, array_claims, end_claims, header_claims, section_claims, claims_behind, claims, head_of}
 use Rattle.toml_span.specs.Laws.{AssignsAgain, ValueReadsAgain}
 use Rattle.toml_span.proofs.ReadAgain.{at-span, scalar-again}
 use Rattle.toml_span.proofs.SpelledClaims.{Spelled, some-part}
 
 -- ---- claims behind others
 
-followed-none : (xs : Claims) → followed xs no_claims ≡ xs
+pub followed-none : (xs : Claims) → followed xs no_claims ≡ xs
 unfolding followed
 followed-none no_claims = refl
 followed-none (claimed c xs) = ap (claimed c) (followed-none xs)

@@ -27,7 +27,7 @@ or-none : {A : Type 0} (x : Option A) → or_else x None ≡ x
 or-none (Some a) = refl
 or-none None = refl
 
-at-append : (q : Path) (xs ys : List Claim) → claims_at q (xs ++ ys) ≡ claims_at q xs ++ claims_at q ys
+pub at-append : (q : Path) (xs ys : List Claim) → claims_at q (xs ++ ys) ≡ claims_at q xs ++ claims_at q ys
 unfolding claims_at
 at-append q [] ys = refl
 at-append q (c ∷ xs) ys = elim (cases_Bool (same_path c.path q)) [

@@ -118,6 +118,14 @@ free-clash [] c d free h clashes = absurd h
 free-clash (x ∷ earlier) c d free (inl same) (t, clashes) = none-some t (sym free.0 ∙ ap (λ y. clash y d) (sym same) ∙ clashes)
 free-clash (x ∷ earlier) c d free (inr more) clashes = free-clash earlier c d free.1 more clashes
 
+none-of : (c d : Claim) (o : Option Told) → clash c d ≡ o → (DoClash c d → ⊥) → clash c d ≡ None
+none-of c d None is free = is
+none-of c d (Some t) is free = absurd (free (t, is))
+
+pub free-of : (earlier : List Claim) (d : Claim) → ((c : Claim) → IsIn c earlier → DoClash c d → ⊥) → IsFree earlier d
+free-of [] d h = tt
+free-of (c ∷ earlier) d h = (none-of c d (clash c d) refl (h c (inl refl)), free-of earlier d (λ x here. h x (inr here)))
+
 pub no-pair : (earlier : List Claim) (cs : Claims) (c d : Claim) → Resolves earlier cs → IsPair earlier cs c d → ⊥
 no-pair earlier no_claims c d ok h = absurd h
 no-pair earlier (claimed x cs) c d ok (inl here) = free-clash earlier c x ok.0 here.1 (subst (λ y. DoClash c y) here.0 here.2)

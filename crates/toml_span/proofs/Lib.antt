@@ -12,6 +12,9 @@ pub mod SpelledClaims
 pub mod ReadAgain
 pub mod ClaimedValues
 pub mod ReadStrings
+pub mod Alone
+pub mod MovedClaims
+pub mod ValueAgain
 pub mod OneTree
 pub mod Pointed
 pub mod Fields

@@ -79,7 +79,7 @@ some-first [] x = (x, [], refl)
 some-first (s ∷ r) x = (s, r ++ (x ∷ []), refl)
 
 -- a path at the base or further inside
-abbrev IsFrom : Path → Path → Type 0
+abbrev pub IsFrom : Path → Path → Type 0
 IsFrom base p = (r : Path) × (p ≡ base ++ r)
 
 child-under : (base p : Path) (x : Step) → IsFrom base p → IsUnder base (p ++ (x ∷ []))

@@ -20,7 +20,7 @@ use Rattle.toml_span.specs.Order.{start_of}
 use Rattle.toml_span.specs.Scopes.{own}
 use Rattle.toml_span.proofs.Apart.{in-right}
 use Rattle.toml_span.proofs.EntryDecides.{path-self}
-use Rattle.toml_span.proofs.FirstPair.{in-cases, clash-blames, later-plain, pair-in, pair-clash, Rises, rises-left, rises-right, rises-without, rising-rises, behind-claim, strictly}
+use Rattle.toml_span.proofs.FirstPair.{free-of, in-cases, clash-blames, later-plain, pair-in, pair-clash, Rises, rises-left, rises-right, rises-without, rising-rises, behind-claim, strictly}
 use Rattle.toml_span.proofs.KeyWays.{Bases, Guarded, Known, Traced, Way, events-walk, guarded-followed, way-last, way-on, way-under}
 use Rattle.toml_span.proofs.OneScope.{Peaceful, do-clash, peaceful-across, peaceful-push, peaceful-two}
 use Rattle.toml_span.proofs.Order.{document-rises}
@@ -240,14 +240,6 @@ document-guarded : (bs : List Block) (text : List ℕ) (limit : ℕ) → SpellsD
 document-guarded bs text limit h = subst (λ l. Guarded [] (claims l)) (sym h.all) (document-walk h.first h.rest text limit h.start h.end h.lines h.sections)
 
 -- ---- the first pair
-
-none-of : (c d : Claim) (o : Option Told) → clash c d ≡ o → (DoClash c d → ⊥) → clash c d ≡ None
-none-of c d None is free = is
-none-of c d (Some t) is free = absurd (free (t, is))
-
-free-of : (earlier : List Claim) (d : Claim) → ((c : Claim) → IsIn c earlier → DoClash c d → ⊥) → IsFree earlier d
-free-of [] d h = tt
-free-of (c ∷ earlier) d h = (none-of c d (clash c d) refl (h c (inl refl)), free-of earlier d (λ x here. h x (inr here)))
 
 pair-guarded : (earlier : List Claim) (cs : Claims) (c d : Claim) → Guarded earlier cs → Peaceful earlier → Rises (earlier ++ all_claims cs) → IsPair earlier cs c d
     → ((e f : Claim) → IsPair earlier cs e f → (f ≡ d) ⊎ (start_of d < start_of f)) → c.mark.sort ≡ Assigned → d.mark.sort ≡ Dotted → ⊥
