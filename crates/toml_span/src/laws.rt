@@ -28,7 +28,7 @@ ghost use Rattle.toml_span_claims.specs.OneEach.{HasOneEach};
 ghost use Rattle.toml_span.specs.Again.{AssignsBrackets, StandsMoved, at_x, text_again};
 ghost use Rattle.toml_span.specs.Document.{StandsAt};
 ghost use Rattle.toml_span.specs.Helpers.{EndsWith, HasNoKeyBut, IsOver, RequiresAt, TriesAt, except};
-ghost use Rattle.toml_span.specs.Laws.{AssignedReadAgain, AssignsAgain, keys_in, ShowsString};
+ghost use Rattle.toml_span.specs.Laws.{AssignsAgain, keys_in, ShowsString};
 ghost use Rattle.toml_span.specs.Parts.{IsValueOf, PointsAt};
 ghost use Rattle.toml_span.specs.Order.{Ascends, key_at, KeysApart};
 ghost use Rattle.toml_span.specs.Outcomes.{HasOutcome, IsAlike, IsAnswered, IsAnswerOf, Outcome, resolved};
@@ -139,10 +139,8 @@ pub fn strings_show_the_text()
 /// Whatever a claim assigns, also an array or an inline table, is spelled again by the text at its span, but
 /// for strings; and what the value claims that is read there, stands right behind it.
 pub fn brackets_read_again()
-    ensures values { (text : List ℕ) (limit : ℕ) (blocks : List Block) → SpellsDocument blocks text limit
+    ensures { (text : List ℕ) (limit : ℕ) (blocks : List Block) → SpellsDocument blocks text limit
         → AssignsAgain text limit (claims blocks) }
-    ensures spans { (text : List ℕ) (limit : ℕ) (blocks : List Block) → SpellsDocument blocks text limit
-        → AssignedReadAgain text limit (all_claims (claims blocks)) }
 {}
 
 /// An array in brackets, or an inline table, is a value of its own. Its claim says what stands at its path. Behind
