@@ -25,7 +25,7 @@ use Rattle.toml_span.specs.Outcomes.{HasOutcome, resolved}
 use Rattle.toml_span.specs.Parts.{part, without_key}
 use Rattle.toml_span.proofs.Alone.{Alone, at-none, document-alone}
 use Rattle.toml_span.proofs.Answered.{one-document}
-use Rattle.toml_span.proofs.ClaimedValues.{followed-none}
+use Rattle.toml_span.proofs.SpelledClaims.{followed-none}
 use Rattle.toml_span.proofs.EntryDecides.{at-append, path-self}
 use Rattle.toml_span.proofs.MovedClaims.{AllMoved, AreMoved, all-moved, at-moved, decides-moved, resolves-moved, source, value-moved, no_more}
 use Rattle.toml_span.proofs.Scoped.{IsUnder}
