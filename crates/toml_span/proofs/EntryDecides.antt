@@ -1,6 +1,6 @@
 -- At a position no header that passes through decides.
-use Rattle.std.proofs.Common.{◌≡◌, ℕ, ◌⊎◌, true, false, List, [], ◌∷◌, ◌++◌, Option, Some, None, refl, sym, ap, ◌∙◌, subst, inl, inr}
-use Rattle.std.proofs.lemmas.Bool.{cases_Bool, false≢true}
+use Rattle.std.proofs.Common.{◌≡◌, ℕ, true, List, [], ◌∷◌, ◌++◌, Option, Some, None, refl, sym, ap, ◌∙◌, subst, inl, inr}
+use Rattle.std.proofs.lemmas.Bool.{cases_Bool}
 use Rattle.std.proofs.lemmas.Option.{none-some, same_Some}
 use Rattle.toml_span_tree.specs.Path.{Path, position}
 use Rattle.toml_span_read.specs.Lines.{Block, SpellsDocument}
@@ -27,7 +27,7 @@ or-none : {A : Type 0} (x : Option A) → or_else x None ≡ x
 or-none (Some a) = refl
 or-none None = refl
 
-at-append : (q : Path) (xs ys : List Claim) → claims_at q (xs ++ ys) ≡ claims_at q xs ++ claims_at q ys
+pub at-append : (q : Path) (xs ys : List Claim) → claims_at q (xs ++ ys) ≡ claims_at q xs ++ claims_at q ys
 unfolding claims_at
 at-append q [] ys = refl
 at-append q (c ∷ xs) ys = elim (cases_Bool (same_path c.path q)) [

@@ -41,7 +41,7 @@ clash-blames c d t h = elim (cases_Bool (same_path c.path d.path)) [
   | inr off ↦ absurd (none-some t (rw off at h))
 ]
 
-later-plain : (c d : Claim) → DoClash c d → d.mark.sort ≡ Entry → ⊥
+pub later-plain : (c d : Claim) → DoClash c d → d.mark.sort ≡ Entry → ⊥
 later-plain c d (t, h) is =
     let (b, blames) = (clash-blames c d t h).1 in
     none-some b (sym (blame-entry c.mark.sort) ∙ sym (ap (blame c.mark.sort) is) ∙ blames)
@@ -53,11 +53,11 @@ earlier-plain c d (t, h) is =
 
 -- ---- lists of claims, each later than those before it
 
-abbrev Rises : List Claim → Type 0
+abbrev pub Rises : List Claim → Type 0
 Rises [] = ⊤
 Rises (c ∷ cs) = ((d : Claim) → IsIn d cs → IsLater c d) × Rises cs
 
-rising-rises : (cs : List Claim) (i j : ℕ) → Rising cs i j → Rises cs
+pub rising-rises : (cs : List Claim) (i j : ℕ) → Rising cs i j → Rises cs
 rising-rises [] i j r = tt
 rising-rises (c ∷ cs) i j r = (λ d h. onward-later c d cs j r.1 h, rising-rises cs (start_of c) j (onward-rest c cs j r.1))
 
@@ -75,15 +75,15 @@ in-without c xs ys zs h = elim (in-cases c xs zs h) [
   | inr right ↦ in-right c xs (ys ++ zs) (in-right c ys zs right)
 ]
 
-rises-left : (xs ys : List Claim) → Rises (xs ++ ys) → Rises xs
+pub rises-left : (xs ys : List Claim) → Rises (xs ++ ys) → Rises xs
 rises-left [] ys r = tt
 rises-left (x ∷ xs) ys r = (λ d h. r.0 d (in-left d xs ys h), rises-left xs ys r.1)
 
-rises-right : (xs ys : List Claim) → Rises (xs ++ ys) → Rises ys
+pub rises-right : (xs ys : List Claim) → Rises (xs ++ ys) → Rises ys
 rises-right [] ys r = r
 rises-right (x ∷ xs) ys r = rises-right xs ys r.1
 
-rises-without : (xs ys zs : List Claim) → Rises (xs ++ (ys ++ zs)) → Rises (xs ++ zs)
+pub rises-without : (xs ys zs : List Claim) → Rises (xs ++ (ys ++ zs)) → Rises (xs ++ zs)
 rises-without [] ys zs r = rises-right ys zs r
 rises-without (x ∷ xs) ys zs r = (λ d h. r.0 d (in-without d xs ys zs h), rises-without xs ys zs r.1)
 
@@ -92,13 +92,13 @@ rises-across [] ys c d r h g = absurd h
 rises-across (x ∷ xs) ys c d r (inl same) g = rw same (r.0 d (in-right d xs ys g))
 rises-across (x ∷ xs) ys c d r (inr more) g = rises-across xs ys c d r.1 more g
 
-strictly : (c d : Claim) → IsLater c d → (d.mark.sort ≡ Entry → ⊥) → start_of c < start_of d
+pub strictly : (c d : Claim) → IsLater c d → (d.mark.sort ≡ Entry → ⊥) → start_of c < start_of d
 strictly c d (inl behind) plain = behind
 strictly c d (inr entry) plain = absurd (plain entry)
 
 -- ---- pairs
 
-pair-in : (earlier : List Claim) (cs : Claims) (c d : Claim) → IsPair earlier cs c d → IsIn d (all_claims cs)
+pub pair-in : (earlier : List Claim) (cs : Claims) (c d : Claim) → IsPair earlier cs c d → IsIn d (all_claims cs)
 unfolding all_claims
 pair-in earlier no_claims c d h = absurd h
 pair-in earlier (claimed x cs) c d (inl here) = inl here.0
@@ -117,6 +117,14 @@ pub free-clash : (earlier : List Claim) (c d : Claim) → IsFree earlier d → I
 free-clash [] c d free h clashes = absurd h
 free-clash (x ∷ earlier) c d free (inl same) (t, clashes) = none-some t (sym free.0 ∙ ap (λ y. clash y d) (sym same) ∙ clashes)
 free-clash (x ∷ earlier) c d free (inr more) clashes = free-clash earlier c d free.1 more clashes
+
+none-of : (c d : Claim) (o : Option Told) → clash c d ≡ o → (DoClash c d → ⊥) → clash c d ≡ None
+none-of c d None is free = is
+none-of c d (Some t) is free = absurd (free (t, is))
+
+pub free-of : (earlier : List Claim) (d : Claim) → ((c : Claim) → IsIn c earlier → DoClash c d → ⊥) → IsFree earlier d
+free-of [] d h = tt
+free-of (c ∷ earlier) d h = (none-of c d (clash c d) refl (h c (inl refl)), free-of earlier d (λ x here. h x (inr here)))
 
 pub no-pair : (earlier : List Claim) (cs : Claims) (c d : Claim) → Resolves earlier cs → IsPair earlier cs c d → ⊥
 no-pair earlier no_claims c d ok h = absurd h
@@ -142,7 +150,7 @@ partner-first before after c d e free r h clashes = elim (in-cases e before (c �
   | inr (inr behind) ↦ inr (strictly c e ((rises-right before (c ∷ after) r).0 e behind) (earlier-plain e d clashes))
 ]
 
-behind-claim : (earlier : List Claim) (x : Claim) (cs : Claims) → Rises (earlier ++ (x ∷ all_claims cs)) → (d : Claim) → IsIn d (all_claims cs) → IsLater x d
+pub behind-claim : (earlier : List Claim) (x : Claim) (cs : Claims) → Rises (earlier ++ (x ∷ all_claims cs)) → (d : Claim) → IsIn d (all_claims cs) → IsLater x d
 behind-claim earlier x cs r d h = (rises-right earlier (x ∷ all_claims cs) r).0 d h
 
 pair-here : (before after : List Claim) (c d : Claim) (cs : Claims) (t : Told) → IsFree before d → clash c d ≡ Some t → Rises ((before ++ (c ∷ after)) ++ (d ∷ all_claims cs))

@@ -6,10 +6,15 @@ pub mod FirstPair
 pub mod Scoped
 pub mod EntryDecides
 pub mod OneScope
+pub mod KeyWays
+pub mod ThroughValue
 pub mod SpelledClaims
 pub mod ReadAgain
 pub mod ClaimedValues
 pub mod ReadStrings
+pub mod Alone
+pub mod MovedClaims
+pub mod ValueAgain
 pub mod OneTree
 pub mod Pointed
 pub mod Fields

@@ -1,7 +1,6 @@
 -- Where no two claims clash, those on one path are of one scope.
 use Rattle.std.proofs.Common.{◌≡◌, ℕ, zero, suc, ◌+◌, ◌≤◌, ◌⊎◌, List, [], ◌∷◌, ◌++◌, Option, Some, None, length, length-append, arith, refl, sym, ap, ◌∙◌, subst, append_assoc, append-nil, inl, inr}
-use Rattle.std.specs.Prelude.{⊤, true, option_map}
-use Rattle.std.proofs.lemmas.List.{append_cancel_left}
+use Rattle.std.specs.Prelude.{⊤}
 use Rattle.std.proofs.lemmas.Option.{none-some, same_Some}
 use Rattle.toml_span_tree.specs.Path.{Path, Step, key, position}
 use Rattle.toml_span_read.specs.Lines.{Block, SpellsDocument}
@@ -10,12 +9,11 @@ use Rattle.toml_span_claims.specs.declared.claims.Blame.TheVariants.{Key}
 use Rattle.toml_span_claims.specs.declared.claims.Sort.{Sort}
 use Rattle.toml_span_claims.specs.declared.claims.Sort.TheVariants.{Passed, Section, ArrayOfTables, Entry, Dotted, Assigned}
 use Rattle.toml_span_claims.specs.Claims.{Claim, Claims, no_claims, claimed, scope, claims}
-use Rattle.toml_span_claims.specs.Clashes.{named, blame, meeting, meets, clash, IsFree, Resolves}
+use Rattle.toml_span_claims.specs.Clashes.{named, blame, meeting, clash, IsFree, Resolves}
 use Rattle.toml_span_claims.specs.Flat.{all_claims}
-use Rattle.toml_span_claims.specs.Paths.{same_path}
 use Rattle.toml_span_assembly.proofs.Refusals.{spelled-headed}
 use Rattle.toml_span.specs.Clashing.{IsIn, DoClash}
-use Rattle.toml_span.specs.Scopes.{own, ShareInside, ShareScope}
+use Rattle.toml_span.specs.Scopes.{own, ShareScope}
 use Rattle.toml_span.proofs.Apart.{in-left, in-right}
 use Rattle.toml_span.proofs.EntryDecides.{path-self}
 use Rattle.toml_span.proofs.FirstPair.{in-cases, free-clash}
@@ -23,7 +21,7 @@ use Rattle.toml_span.proofs.Scoped.{Fits, IsChild, IsUnder, Scoped, document-sco
 
 -- ---- claims that clash
 
-do-clash : (c d : Claim) (b : Blame) → c.path ≡ d.path → blame c.mark.sort d.mark.sort ≡ Some b → DoClash c d
+pub do-clash : (c d : Claim) (b : Blame) → c.path ≡ d.path → blame c.mark.sort d.mark.sort ≡ Some b → DoClash c d
 unfolding clash
 do-clash c d b same is = (named d.name (meeting c.mark d.mark b), rw (same, path-self d.path, is) refl)
 
@@ -50,7 +48,7 @@ abbrev pub Peaceful : List Claim → Type 0
 Peaceful [] = ⊤
 Peaceful (c ∷ cs) = ((d : Claim) → IsIn d cs → DoClash c d → ⊥) × Peaceful cs
 
-peaceful-push : (l : List Claim) (c : Claim) → Peaceful l → IsFree l c → Peaceful (l ++ (c ∷ []))
+pub peaceful-push : (l : List Claim) (c : Claim) → Peaceful l → IsFree l c → Peaceful (l ++ (c ∷ []))
 peaceful-push [] c h free = ((λ d here clashes. absurd here), tt)
 peaceful-push (x ∷ l) c h free = (
   (λ d here clashes. elim (in-cases d l (c ∷ []) here) [
@@ -67,13 +65,13 @@ peaceful-own earlier (claimed c cs) ok h =
     subst Peaceful (append_assoc earlier (c ∷ []) (own cs)) (peaceful-own (earlier ++ (c ∷ [])) cs ok.1 (peaceful-push earlier c h ok.0))
 peaceful-own earlier (scope inner cs) ok h = peaceful-own earlier cs ok.1 h
 
-peaceful-across : (xs ys : List Claim) (c d : Claim) → Peaceful (xs ++ ys) → IsIn c xs → IsIn d ys → DoClash c d → ⊥
+pub peaceful-across : (xs ys : List Claim) (c d : Claim) → Peaceful (xs ++ ys) → IsIn c xs → IsIn d ys → DoClash c d → ⊥
 peaceful-across [] ys c d h a b clashes = absurd a
 peaceful-across (x ∷ xs) ys c d h (inl same) b clashes = h.0 d (in-right d xs ys b) (subst (λ y. DoClash y d) same clashes)
 peaceful-across (x ∷ xs) ys c d h (inr more) b clashes = peaceful-across xs ys c d h.1 more b clashes
 
 -- two claims that clash in either order are not both there, if they differ
-peaceful-two : (l : List Claim) (c d : Claim) → Peaceful l → IsIn c l → IsIn d l → (c.mark.sort ≡ d.mark.sort → ⊥) → DoClash c d → DoClash d c → ⊥
+pub peaceful-two : (l : List Claim) (c d : Claim) → Peaceful l → IsIn c l → IsIn d l → (c.mark.sort ≡ d.mark.sort → ⊥) → DoClash c d → DoClash d c → ⊥
 peaceful-two [] c d h a b differ first last = a
 peaceful-two (x ∷ l) c d h (inl same) (inl other) differ first last = differ (ap (λ y. y.mark.sort) (same ∙ sym other))
 peaceful-two (x ∷ l) c d h (inl same) (inr more) differ first last = h.0 d more (subst (λ y. DoClash y d) same first)
@@ -100,7 +98,7 @@ under-length : (base p : Path) (s : Step) (rest : Path) → p ≡ base ++ (s ∷
 under-length base p s rest is = ap (λ q. length q) is ∙ length-append base (s ∷ rest)
 
 -- an entry and a value are never on one path
-entry-value : (base : Path) (l : List Claim) (a e : Claim) → Fits base l a → Fits base l e → a.mark.sort ≡ Assigned → e.mark.sort ≡ Entry → a.path ≡ e.path → ⊥
+pub entry-value : (base : Path) (l : List Claim) (a e : Claim) → Fits base l a → Fits base l e → a.mark.sort ≡ Assigned → e.mark.sort ≡ Entry → a.path ≡ e.path → ⊥
 entry-value base l a e fits other value is same =
     let (none, (p, k, n, on)) = other.entry is in
     elim (fits.assigned value) [
@@ -166,7 +164,7 @@ nothing-below (suc n) base l a c s (t ∷ q) few fit h here value there is =
     let (e, among, makes, at) = above base l a c s (t ∷ q) fit here there is in
     nothing-below n base l a e s (front (t ∷ q)) (front-few q t n (omega (arith, few))) fit h here value among at
 
-below-none : (base : Path) (l : List Claim) (a c : Claim) → AllFit base l → Peaceful l → IsIn a l → a.mark.sort ≡ Assigned → IsIn c l → IsUnder a.path c.path → ⊥
+pub below-none : (base : Path) (l : List Claim) (a c : Claim) → AllFit base l → Peaceful l → IsIn a l → a.mark.sort ≡ Assigned → IsIn c l → IsUnder a.path c.path → ⊥
 below-none base l a c fit h here value there (s, q, is) = nothing-below (length q) base l a c s q (omega arith) fit h here value there is
 
 -- ---- where a claim of a scope inside stands
@@ -174,7 +172,7 @@ below-none base l a c fit h here value there (s, q, is) = nothing-below (length 
 under-trans : (base p q : Path) → IsUnder base p → IsUnder p q → IsUnder base q
 under-trans base p q (s, r, is) (t, u, on) = (s, r ++ (t ∷ u), on ∙ ap (λ l. l ++ (t ∷ u)) is ∙ append_assoc base (s ∷ r) (t ∷ u))
 
-scoped-under : (base : Path) (earlier : List Claim) (last : Option Claim) (cs : Claims) (d : Claim) → Scoped base earlier last cs → IsIn d (all_claims cs) → IsUnder base d.path
+pub scoped-under : (base : Path) (earlier : List Claim) (last : Option Claim) (cs : Claims) (d : Claim) → Scoped base earlier last cs → IsIn d (all_claims cs) → IsUnder base d.path
 unfolding all_claims
 scoped-under base earlier last no_claims d scoped h = absurd h
 scoped-under base earlier last (claimed x cs) d scoped (inl same) = subst (λ y. IsUnder base y.path) (sym same) scoped.0.under
@@ -186,11 +184,11 @@ scoped-under base earlier (Some a) (scope inner cs) d scoped h = elim (in-cases 
 ]
 
 -- the value in which a claim stands: the last one before these claims, or one of them
-record Within (last : Option Claim) (cs : Claims) (d : Claim) : Type 0 where
-  a : Claim
-  value : a.mark.sort ≡ Assigned
-  near : (last ≡ Some a) ⊎ IsIn a (own cs)
-  under : IsUnder a.path d.path
+pub record Within (last : Option Claim) (cs : Claims) (d : Claim) : Type 0 where
+  pub a : Claim
+  pub value : a.mark.sort ≡ Assigned
+  pub near : (last ≡ Some a) ⊎ IsIn a (own cs)
+  pub under : IsUnder a.path d.path
 
 within-claimed : (last : Option Claim) (x : Claim) (cs : Claims) (d : Claim) → Within (Some x) cs d → Within last (claimed x cs) d
 within-claimed last x cs d w = record {
@@ -214,7 +212,7 @@ within-scope last inner cs d w = record {
   under = w.under;
 }
 
-origin : (base : Path) (earlier : List Claim) (last : Option Claim) (cs : Claims) (d : Claim) → Scoped base earlier last cs → IsIn d (all_claims cs) → IsIn d (own cs) ⊎ Within last cs d
+pub origin : (base : Path) (earlier : List Claim) (last : Option Claim) (cs : Claims) (d : Claim) → Scoped base earlier last cs → IsIn d (all_claims cs) → IsIn d (own cs) ⊎ Within last cs d
 unfolding all_claims
 origin base earlier last no_claims d scoped h = absurd h
 origin base earlier last (claimed x cs) d scoped (inl same) = inl (inl same)
@@ -254,7 +252,7 @@ fit-push base earlier c fit next x here = elim (in-cases x earlier (c ∷ []) he
   | inr (inr none) ↦ absurd none
 ]
 
-fit-own : (base : Path) (earlier : List Claim) (last : Option Claim) (cs : Claims) → Scoped base earlier last cs → AllFit base earlier → AllFit base (earlier ++ own cs)
+pub fit-own : (base : Path) (earlier : List Claim) (last : Option Claim) (cs : Claims) → Scoped base earlier last cs → AllFit base earlier → AllFit base (earlier ++ own cs)
 fit-own base earlier last no_claims scoped fit = subst (AllFit base) (sym (append-nil earlier)) fit
 fit-own base earlier last (claimed c cs) scoped fit =
     subst (AllFit base) (append_assoc earlier (c ∷ []) (own cs)) (fit-own base (earlier ++ (c ∷ [])) (Some c) cs scoped.1 (fit-push base earlier c fit scoped.0))
@@ -262,19 +260,19 @@ fit-own base earlier None (scope inner cs) scoped fit = absurd scoped
 fit-own base earlier (Some a) (scope inner cs) scoped fit = fit-own base earlier None cs scoped.3 fit
 
 -- the last claim is one of the earlier ones
-abbrev LastIn : Option Claim → List Claim → Type 0
+abbrev pub LastIn : Option Claim → List Claim → Type 0
 LastIn None l = ⊤
 LastIn (Some a) l = IsIn a l
 
 -- what is known of the claims of a scope
-record Scene (base : Path) (earlier : List Claim) (last : Option Claim) (cs : Claims) : Type 0 where
-  scoped : Scoped base earlier last cs
-  resolves : Resolves earlier cs
-  fit : AllFit base earlier
-  peaceful : Peaceful earlier
-  latest : LastIn last earlier
+pub record Scene (base : Path) (earlier : List Claim) (last : Option Claim) (cs : Claims) : Type 0 where
+  pub scoped : Scoped base earlier last cs
+  pub resolves : Resolves earlier cs
+  pub fit : AllFit base earlier
+  pub peaceful : Peaceful earlier
+  pub latest : LastIn last earlier
 
-scene-claimed : (base : Path) (earlier : List Claim) (last : Option Claim) (x : Claim) (cs : Claims) → Scene base earlier last (claimed x cs) → Scene base (earlier ++ (x ∷ [])) (Some x) cs
+pub scene-claimed : (base : Path) (earlier : List Claim) (last : Option Claim) (x : Claim) (cs : Claims) → Scene base earlier last (claimed x cs) → Scene base (earlier ++ (x ∷ [])) (Some x) cs
 scene-claimed base earlier last x cs h = record {
   scoped = h.scoped.1;
   resolves = h.resolves.1;
@@ -283,10 +281,10 @@ scene-claimed base earlier last x cs h = record {
   latest = in-right x earlier (x ∷ []) (inl refl);
 }
 
-scene-inside : (base : Path) (earlier : List Claim) (a : Claim) (inner cs : Claims) → Scene base earlier (Some a) (scope inner cs) → Scene a.path [] None inner
+pub scene-inside : (base : Path) (earlier : List Claim) (a : Claim) (inner cs : Claims) → Scene base earlier (Some a) (scope inner cs) → Scene a.path [] None inner
 scene-inside base earlier a inner cs h = record { scoped = h.scoped.2; resolves = h.resolves.0; fit = λ c here. absurd here; peaceful = tt; latest = tt }
 
-scene-after : (base : Path) (earlier : List Claim) (a : Claim) (inner cs : Claims) → Scene base earlier (Some a) (scope inner cs) → Scene base earlier None cs
+pub scene-after : (base : Path) (earlier : List Claim) (a : Claim) (inner cs : Claims) → Scene base earlier (Some a) (scope inner cs) → Scene base earlier None cs
 scene-after base earlier a inner cs h = record { scoped = h.scoped.3; resolves = h.resolves.1; fit = h.fit; peaceful = h.peaceful; latest = tt }
 
 -- a claim of the scope, and one further on that is on its path
@@ -300,27 +298,28 @@ beside base earlier last x cs d h more same = elim (origin base (earlier ++ (x �
       (in-right x earlier (x ∷ own cs) (inl refl)) (subst (IsUnder w.a.path) (sym same) w.under))
 ]
 
+-- two values of a scope, of which one stands before the other, have nothing in common on their paths or below
+pub values-apart : (base : Path) (xs ys : List Claim) (a b : Claim) (q : Path) → AllFit base (xs ++ ys) → Peaceful (xs ++ ys) → IsIn a xs → IsIn b ys → a.mark.sort ≡ Assigned → b.mark.sort ≡ Assigned
+    → IsUnder a.path q → IsUnder b.path q → ⊥
+values-apart base xs ys a b q fit peace here there value other under below =
+    let l = xs ++ ys in
+    elim (on-one-way a.path b.path under.0 below.0 under.1 below.1 (sym under.2 ∙ below.2)) [
+      | inl on ↦ peaceful-across xs ys a b peace here there (do-clash a b Key on (ap (λ s. blame s b.mark.sort) value ∙ ap (blame Assigned) other))
+      | inr (inl inside) ↦ below-none base l a b fit peace (in-left a xs ys here) value (in-right b xs ys there) inside
+      | inr (inr outside) ↦ below-none base l b a fit peace (in-right b xs ys there) other (in-left a xs ys here) outside
+    ]
+
 -- a claim inside a value, and one behind it, are not on one path
 across : (base : Path) (earlier : List Claim) (a : Claim) (inner cs : Claims) (c d : Claim) → Scene base earlier (Some a) (scope inner cs) → IsIn c (all_claims inner) → IsIn d (all_claims cs) → c.path ≡ d.path → ⊥
 across base earlier a inner cs c d h inside more same =
-    let l = earlier ++ own cs in
     let fit = fit-own base earlier None cs h.scoped.3 h.fit in
     let peace = peaceful-own earlier cs h.resolves.1 h.peaceful in
-    let here : IsIn a l = in-left a earlier (own cs) h.latest in
     let under : IsUnder a.path d.path = subst (IsUnder a.path) same (scoped-under a.path [] None inner c h.scoped.2 inside) in
     elim (origin base earlier None cs d h.scoped.3 more) [
-      | inl behind ↦ below-none base l a d fit peace here h.scoped.0 (in-right d earlier (own cs) behind) under
+      | inl behind ↦ below-none base (earlier ++ own cs) a d fit peace (in-left a earlier (own cs) h.latest) h.scoped.0 (in-right d earlier (own cs) behind) under
       | inr w ↦ elim w.near [
         | inl none ↦ none-some w.a none
-        | inr behind ↦
-            let there : IsIn w.a l = in-right w.a earlier (own cs) behind in
-            elim (on-one-way a.path w.a.path under.0 w.under.0 under.1 w.under.1 (sym under.2 ∙ w.under.2)) [
-              | inl on ↦
-                  peaceful-across earlier (own cs) a w.a peace h.latest behind
-                  (do-clash a w.a Key on (ap (λ s. blame s w.a.mark.sort) h.scoped.0 ∙ ap (blame Assigned) w.value))
-              | inr (inl below) ↦ below-none base l a w.a fit peace here h.scoped.0 there below
-              | inr (inr above) ↦ below-none base l w.a a fit peace there w.value here above
-            ]
+        | inr behind ↦ values-apart base earlier (own cs) a w.a d.path fit peace h.latest behind h.scoped.0 w.value under w.under
       ]
     ]
 

@@ -82,7 +82,7 @@ rising-ascends (c ∷ cs) i j r = onward-ascends c cs j r.1
 
 -- ---- claims
 
-all_claims-followed : (xs ys : Claims) → all_claims (followed xs ys) ≡ all_claims xs ++ all_claims ys
+pub all_claims-followed : (xs ys : Claims) → all_claims (followed xs ys) ≡ all_claims xs ++ all_claims ys
 unfolding followed all_claims
 all_claims-followed no_claims ys = refl
 all_claims-followed (claimed c xs) ys = ap (λ l. c ∷ l) (all_claims-followed xs ys)

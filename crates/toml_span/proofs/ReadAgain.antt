@@ -12,12 +12,10 @@ use Rattle.toml_span_read.specs.Earlier.{span_of}
 use Rattle.toml_span_read.specs.Grammar.{from_to, Spells}
 use Rattle.toml_span_read.specs.Lines.{Block, SpellsDocument}
 use Rattle.toml_span_read_laws.proofs.AgainLines.{document_spelled}
-use Rattle.toml_span_claims.specs.declared.claims.Sort.TheVariants.{Assigned}
 use Rattle.toml_span_claims.specs.Claims.{Claim, inner_of, value_shape, claims}
-use Rattle.toml_span_claims.specs.Flat.{all_claims, flat}
-use Rattle.toml_span.specs.Laws.{ShapeReadsAgain, AssignedReadAgain}
+use Rattle.toml_span_claims.specs.Flat.{flat}
 use Rattle.toml_span_assembly.specs.Parsing.{IsTree}
-use Rattle.toml_span_assembly.proofs.EachClaim.{EachIn, each-all, flat-decides}
+use Rattle.toml_span_assembly.proofs.EachClaim.{flat-decides}
 use Rattle.toml_span.proofs.SpelledClaims.{Spelled, OfText, document-of_text}
 
 -- ---- values
@@ -72,21 +70,3 @@ tree-scalar text limit root p x s (bs, spelled, tree) at is = flat-scalar text l
 pub tree-again : (text : List ℕ) (limit : ℕ) (root : Value) (p : Path) (x : Place) (s : Scalar) → IsTree text limit root → place_at p (view root) ≡ Some x → x.shape ≡ is_scalar s
     → ScalarReadsAgain text limit s x.span
 tree-again text limit root p x s (bs, spelled, tree) at is = flat-again text limit (length text) bs p x s spelled (sym (tree.shows p) ∙ at) is
-
--- ---- what is assigned
-
-value-again : (text : List ℕ) (limit : ℕ) (v : Node) → Spelled text limit v → ShapeReadsAgain text limit (value_shape (inner_of v)) (span_of v)
-value-again text limit (node (scalar s) span) h = scalar-again s span text limit h.depth h.from h.to h.deep h.spells
-value-again text limit (node (array vs) span) h = (vs, at-span (node (array vs) span) text limit h.depth h.from h.to h.deep h.spells h.spells.1.1)
-value-again text limit (node (inline ps) span) h = (ps, at-span (node (inline ps) span) text limit h.depth h.from h.to h.deep h.spells h.spells.1.1)
-
-claim-again : (text : List ℕ) (limit : ℕ) (c : Claim) → OfText text limit c → c.mark.sort ≡ Assigned → ShapeReadsAgain text limit c.place.shape c.place.span
-claim-again text limit c (inl a) is = rw (a.shape, a.span) (value-again text limit a.value a.spelled)
-claim-again text limit c (inr made) is = absurd (made.sort is)
-
-list-again : (text : List ℕ) (limit : ℕ) (cs : List Claim) → EachIn (OfText text limit) cs → AssignedReadAgain text limit cs
-list-again text limit [] h = tt
-list-again text limit (c ∷ cs) h = (claim-again text limit c h.0, list-again text limit cs h.1)
-
-pub claims-again : (text : List ℕ) (limit : ℕ) (bs : List Block) → SpellsDocument bs text limit → AssignedReadAgain text limit (all_claims (claims bs))
-claims-again text limit bs h = list-again text limit (all_claims (claims bs)) (each-all (OfText text limit) (claims bs) (document-of_text bs text limit h))

@@ -1,15 +1,13 @@
 -- How the claims of a document stand in scopes: each has a parent in its scope, and each scope inside stands below an assigned claim.
-use Rattle.std.proofs.Common.{◌≡◌, ℕ, zero, suc, ◌+◌, ◌<◌, ◌≤◌, ◌⊎◌, Bool, true, false, List, [], ◌∷◌, ◌++◌, Option, Some, None, length, arith, refl, sym, ap, ◌∙◌, subst, append_assoc, append-nil, inl, inr}
+use Rattle.std.proofs.Common.{◌≡◌, ℕ, zero, suc, ◌<◌, ◌⊎◌, Bool, true, false, List, [], ◌∷◌, ◌++◌, Option, Some, None, arith, refl, sym, ap, ◌∙◌, subst, append_assoc, append-nil, inl, inr}
 use Rattle.std.specs.Prelude.{⊤, if◌then◌else◌}
 use Rattle.std.proofs.lemmas.Bool.{cases_Bool, cases_lt}
-use Rattle.std.proofs.lemmas.Option.{none-some, same_Some}
 use Rattle.toml_span_tree.specs.Path.{Path, Step, key, position}
 use Rattle.toml_span_read.specs.Data.{Node, node, Inner, scalar, array, inline, Items, no_items, item, Pairs, no_pairs, pair, Event}
-use Rattle.toml_span_read.specs.Earlier.{span_of}
 use Rattle.toml_span_read.specs.Keys.{Part}
 use Rattle.toml_span_read.specs.Lines.{Block}
 use Rattle.toml_span_claims.specs.declared.claims.Sort.{Sort}
-use Rattle.toml_span_claims.specs.declared.claims.Sort.TheVariants.{Passed, Section, ArrayOfTables, Entry, Dotted, Assigned}
+use Rattle.toml_span_claims.specs.declared.claims.Sort.TheVariants.{Passed, Section, ArrayOfTables, Entry, Assigned}
 use Rattle.toml_span_claims.specs.declared.claims.Head.{Head}
 use Rattle.toml_span_claims.specs.Claims.{Claim, Claims, no_claims, claimed, scope, followed, key_claims, value_claims, inner_claims, item_claims, pair_claims, event_claims, element, assigned, dotted, head_of, header_claim, array_claims, end_claims, header_claims, section_claims, claims_behind, claims}
 use Rattle.toml_span_claims.specs.Paths.{same_path, below, at, enter, target, entries_at, opened_by, section_path}
@@ -81,7 +79,7 @@ some-first [] x = (x, [], refl)
 some-first (s ∷ r) x = (s, r ++ (x ∷ []), refl)
 
 -- a path at the base or further inside
-abbrev IsFrom : Path → Path → Type 0
+abbrev pub IsFrom : Path → Path → Type 0
 IsFrom base p = (r : Path) × (p ≡ base ++ r)
 
 child-under : (base p : Path) (x : Step) → IsFrom base p → IsUnder base (p ++ (x ∷ []))
@@ -94,7 +92,7 @@ child-from base p x (r, is) = (r ++ (x ∷ []), ap (λ l. l ++ (x ∷ [])) is �
 
 -- ---- claims behind others
 
-has-on : (l more : List Claim) (sort : Sort) (p : Path) → Has l sort p → Has (l ++ more) sort p
+pub has-on : (l more : List Claim) (sort : Sort) (p : Path) → Has l sort p → Has (l ++ more) sort p
 has-on l more sort p (e, here, is, on) = (e, in-left e l more here, is, on)
 
 makes-on : (l more : List Claim) (p : Path) → Makes l p → Makes (l ++ more) p
@@ -312,7 +310,7 @@ end-makes : (array : Bool) (l : List Claim) (p : Path) (n : ℕ) → Ends array 
 end-makes true l p n h = makes-of l Entry (at p n) (λ e. cc) h.1
 end-makes false l p n h = makes-of l Section p (λ e. cc) h
 
-own-followed : (xs ys : Claims) → own (followed xs ys) ≡ own xs ++ own ys
+pub own-followed : (xs ys : Claims) → own (followed xs ys) ≡ own xs ++ own ys
 unfolding followed
 own-followed no_claims ys = refl
 own-followed (claimed c xs) ys = ap (λ l. c ∷ l) (own-followed xs ys)

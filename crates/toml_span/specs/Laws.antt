@@ -2,13 +2,13 @@
 use Rattle.std.specs.Prelude.{◌≡◌, ⊤, ℕ, suc, ◌+◌, Bool, List, [], ◌∷◌}
 use Rattle.toml_span_lex.specs.declared.span.Span.{Span}
 use Rattle.toml_span_lex.specs.Strings.{IsString, IsEmptyOnOneLine}
-use Rattle.toml_span_tree.specs.Path.{Path, key, position, Shape, is_taken, is_scalar, is_array, is_table}
+use Rattle.toml_span_tree.specs.Path.{Path, key, position}
 use Rattle.toml_span_read_laws.specs.Again.{ReadsAgain, ScalarReadsAgain}
 use Rattle.toml_span_read_laws.specs.Between.{CutsContent}
 use Rattle.toml_span_read.specs.Data as read
 use Rattle.toml_span_claims.specs.declared.claims.Sort.TheVariants.{Assigned}
 use Rattle.toml_span_read.specs.Earlier.{span_of}
-use Rattle.toml_span_claims.specs.Claims.{Claim, Claims, no_claims, claimed, scope, followed, inner_of, value_claims, value_shape}
+use Rattle.toml_span_claims.specs.Claims.{Claims, no_claims, claimed, scope, followed, inner_of, value_claims, value_shape}
 
 -- how many keys a path has
 abbrev pub keys_in : Path → ℕ
@@ -26,19 +26,6 @@ pub record ShowsString (text value : List ℕ) (span : Span) : Type 0 where
   pub spelled : IsString text i j span source value multi
   pub content : (IsEmptyOnOneLine i j → ⊥) → CutsContent text i j span value multi
   pub opening : IsEmptyOnOneLine i j → (value ≡ []) × (span ≡ record { start = i; end = i + 1 })
-
--- The text at the span is read again as something of this shape: a number, a truth value or a date as itself. Of a string
--- nothing is said.
-abbrev pub ShapeReadsAgain : List ℕ → ℕ → Shape → Span → Type 0
-ShapeReadsAgain text limit is_taken span = ⊥
-ShapeReadsAgain text limit (is_scalar s) span = ScalarReadsAgain text limit s span
-ShapeReadsAgain text limit is_array span = (items : read.Items) × ReadsAgain text limit (read.node (read.array items) span)
-ShapeReadsAgain text limit is_table span = (pairs : read.Pairs) × ReadsAgain text limit (read.node (read.inline pairs) span)
-
--- so is what each of these claims assigns
-abbrev pub AssignedReadAgain : List ℕ → ℕ → List Claim → Type 0
-AssignedReadAgain text limit [] = ⊤
-AssignedReadAgain text limit (c ∷ cs) = (c.mark.sort ≡ Assigned → ShapeReadsAgain text limit c.place.shape c.place.span) × AssignedReadAgain text limit cs
 
 -- the text at the value's span is read again as that value; of a string nothing is said
 abbrev pub ValueReadsAgain : List ℕ → ℕ → read.Node → Type 0

@@ -13,3 +13,4 @@ pub mod Document
 pub mod Parts
 pub mod Helpers
 pub mod Reading
+pub mod Again

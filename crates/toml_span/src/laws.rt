@@ -21,16 +21,17 @@ ghost use Rattle.toml_span_tree.specs.Pointer.{pointed};
 ghost use Rattle.toml_span_tree.specs.Value.{is_taken, is_whole, view};
 ghost use Rattle.toml_span_tree.specs.declared.error.Error.{Error};
 ghost use Rattle.toml_span_tree.specs.declared.value.Value.{Value};
-ghost use Rattle.toml_span_claims.specs.Claims.{Claims, claims};
+ghost use Rattle.toml_span_claims.specs.Claims.{Claim, Claims, claims};
 ghost use Rattle.toml_span_claims.specs.Clashes.{Told, Resolves, TellsFirst};
 ghost use Rattle.toml_span_claims.specs.Flat.{Shows, all_claims, flat};
 ghost use Rattle.toml_span_claims.specs.OneEach.{HasOneEach};
+ghost use Rattle.toml_span.specs.Again.{AssignsBrackets, StandsMoved, at_x, text_again};
 ghost use Rattle.toml_span.specs.Document.{StandsAt};
 ghost use Rattle.toml_span.specs.Helpers.{EndsWith, HasNoKeyBut, IsOver, RequiresAt, TriesAt, except};
-ghost use Rattle.toml_span.specs.Laws.{AssignedReadAgain, AssignsAgain, keys_in, ShowsString};
+ghost use Rattle.toml_span.specs.Laws.{AssignsAgain, keys_in, ShowsString};
 ghost use Rattle.toml_span.specs.Parts.{IsValueOf, PointsAt};
 ghost use Rattle.toml_span.specs.Order.{Ascends, key_at, KeysApart};
-ghost use Rattle.toml_span.specs.Outcomes.{HasOutcome, IsAlike, IsAnswered, IsAnswerOf, Outcome};
+ghost use Rattle.toml_span.specs.Outcomes.{HasOutcome, IsAlike, IsAnswered, IsAnswerOf, Outcome, resolved};
 ghost use Rattle.toml_span_claims.specs.Ordered.{IsOrdered};
 ghost use Rattle.toml_span_assembly.specs.Parsing.{IsClash, IsFault, IsRefusal, IsTree};
 
@@ -138,10 +139,27 @@ pub fn strings_show_the_text()
 /// Whatever a claim assigns, also an array or an inline table, is spelled again by the text at its span, but
 /// for strings; and what the value claims that is read there, stands right behind it.
 pub fn brackets_read_again()
-    ensures values { (text : List ℕ) (limit : ℕ) (blocks : List Block) → SpellsDocument blocks text limit
+    ensures { (text : List ℕ) (limit : ℕ) (blocks : List Block) → SpellsDocument blocks text limit
         → AssignsAgain text limit (claims blocks) }
-    ensures spans { (text : List ℕ) (limit : ℕ) (blocks : List Block) → SpellsDocument blocks text limit
-        → AssignedReadAgain text limit (all_claims (claims blocks)) }
+{}
+
+/// An array in brackets, or an inline table, is a value of its own. Its claim says what stands at its path. Behind
+/// `x = ` the text at its span is a document of which no two claims clash, and what stands there at `/x` and below is
+/// what stands at the path and below: the same kinds, keys and values, with each span, also of a key, moved as the
+/// text is. So it is with the trees of the two texts.
+pub fn bracketed_values_stand_alone()
+    ensures place { (text : List ℕ) (limit n : ℕ) (blocks : List Block) (c : Claim) → SpellsDocument blocks text limit
+        → Resolves [] (claims blocks) → AssignsBrackets blocks c → flat n (claims blocks) c.path ≡ Some c.place }
+    ensures document { (text : List ℕ) (limit : ℕ) (blocks : List Block) (c : Claim) → SpellsDocument blocks text limit
+        → Resolves [] (claims blocks) → AssignsBrackets blocks c
+        → (again : List Block) × HasOutcome (text_again text c.place.span) limit (resolved again)
+        × StandsMoved c.place.span.start 4 (flat (length text) (claims blocks)) c.path
+        (flat (length (text_again text c.place.span)) (claims again)) at_x }
+    ensures tree { (text : List ℕ) (limit : ℕ) (root other : Value) (blocks : List Block) (c : Claim)
+        → SpellsDocument blocks text limit → IsTree text limit root → AssignsBrackets blocks c
+        → IsTree (text_again text c.place.span) limit other
+        → StandsMoved c.place.span.start 4 (λ path. place_at path (view root)) c.path
+        (λ path. place_at path (view other)) at_x }
 {}
 
 /// One value at most, whose tables are in order, shows given places: so all trees of a text are equal as

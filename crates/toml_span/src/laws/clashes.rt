@@ -1,7 +1,7 @@
 //! Laws of which clash is told.
 ghost use Rattle.std.specs.Prelude.{◌≡◌, ◌≢◌, ◌↔◌, ◌++◌, ◌∷◌, ℕ, List, [], Some};
 ghost use Rattle.toml_span_tree.specs.Path.{Path, position};
-ghost use Rattle.toml_span_claims.specs.declared.claims.Sort.TheVariants.{Passed};
+ghost use Rattle.toml_span_claims.specs.declared.claims.Sort.TheVariants.{Assigned, Dotted, Passed};
 ghost use Rattle.toml_span_claims.specs.Flat.{all_claims, claims_at, decides};
 ghost use Rattle.toml_span_claims.specs.Claims.{Claim, claims};
 ghost use Rattle.toml_span_claims.specs.Clashes.{Told, Resolves, TellsFirst, clash};
@@ -32,4 +32,12 @@ pub fn claims_on_one_path_are_of_one_scope()
     ensures { (text : List ℕ) (limit : ℕ) (blocks : List Block) (c d : Claim) → SpellsDocument blocks text limit
         → Resolves [] (claims blocks) → IsIn c (all_claims (claims blocks)) → IsIn d (all_claims (claims blocks))
         → c.path ≡ d.path → ShareScope (claims blocks) c d }
+{}
+
+/// A dotted key that goes through a value is never what is told first. Within a section or an inline table the reader
+/// tells it, so that no document is spelled. A dotted key of another section leads through a value only where two
+/// earlier claims clash: on a table that is opened twice, or that is opened and made by a dotted key.
+pub fn no_dotted_key_through_a_value_is_told()
+    ensures { (text : List ℕ) (limit : ℕ) (blocks : List Block) (c d : Claim) → SpellsDocument blocks text limit
+        → IsFirstPair [] (claims blocks) c d → c.mark.sort ≡ Assigned → d.mark.sort ≢ Dotted }
 {}
