@@ -1,5 +1,6 @@
 -- Escapes of strings in quotation marks.
-use Rattle.std.specs.Prelude.{◌≡◌, ℕ, ◌+◌, ◌<◌, ◌≤◌, ◌⊎◌, Bool, true, false, ◌||◌, ◌==◌, nat_lt, if◌then◌else◌, is_some, List, take, drop, length, slice_index, Result, Ok, Err, Option, Some, None}
+use Rattle.std.specs.Prelude.{◌≡◌, ℕ, ◌+◌, ◌<◌, ◌≤◌, ◌⊎◌, Bool, true, false, ◌||◌, ◌==◌, nat_lt, if◌then◌else◌, is_some}
+use Rattle.std.specs.Prelude.{List, take, drop, length, slice_index, Option, Some, None}
 use Rattle.std.specs.Char.{is_digit, IsScalar}
 use Rattle.std.specs.Str.Parse.{digits_value}
 use Rattle.toml_span_lex.specs.Bytes.{quotation_mark, backslash}
@@ -52,10 +53,6 @@ IsHexFault start text i n j (errors.InvalidEscapeValue at m v) =
     (at ≡ i) × (m ≡ n) × (v ≡ hex_value text (i + 1) n) × HexRun text (i + 1) j × (j ≡ (i + 1) + n) × (IsScalar v → ⊥)
 IsHexFault start text i n j _ = ⊥
 
-abbrev pub HexGives : ℕ → List ℕ → ℕ → ℕ → Result (ℕ × ℕ) (Error × ℕ) → Type 0
-HexGives start text i n (Ok found) = IsHexEscape text i n found.0 found.1
-HexGives start text i n (Err fault) = IsHexFault start text i n fault.1 fault.0
-
 -- a letter that may stand behind a backslash
 abbrev pub opens_escape : ℕ → Bool
 opens_escape c = is_some (simple_escape c) || nat_lt 0 (hex_len c)
@@ -72,7 +69,3 @@ IsEscapeFault start text i j e =
     ((e ≡ errors.UnterminatedString start) × (i ≡ length text) × (j ≡ i))
     ⊎ ((c : ℕ) × (e ≡ errors.InvalidEscape i c) × (opens_escape c ≡ false) × CharAt text i c j)
     ⊎ ((0 < hex_len (slice_index text i)) × (i < length text) × IsHexFault start text i (hex_len (slice_index text i)) j e)
-
-abbrev pub EscapeGives : ℕ → List ℕ → ℕ → Result (ℕ × ℕ) (Error × ℕ) → Type 0
-EscapeGives start text i (Ok found) = IsEscape text i found.0 found.1
-EscapeGives start text i (Err fault) = IsEscapeFault start text i fault.1 fault.0

@@ -1,5 +1,6 @@
 -- Characters and line ends at a place of a text, and the folded text.
-use Rattle.std.specs.Prelude.{◌≡◌, ℕ, ◌+◌, ◌⊎◌, Bool, true, false, ◌&&◌, ◌==◌, List, [], ◌∷◌, ◌++◌, if◌then◌else◌, drop, slice_index, encode_utf8, Result, Ok, Err, Option, Some, None}
+use Rattle.std.specs.Prelude.{◌≡◌, ℕ, ◌+◌, ◌⊎◌, Bool, true, false, ◌&&◌, ◌==◌, List, [], ◌∷◌, ◌++◌, if◌then◌else◌, drop}
+use Rattle.std.specs.Prelude.{slice_index, encode_utf8}
 use Rattle.std.specs.Char.{len_utf8}
 use Rattle.std.specs.Str.{chars, IsCharBoundary}
 use Rattle.toml_span_lex.specs.Bytes.{line_feed, carriage_return}
@@ -18,10 +19,6 @@ LineEnd text i j = ((slice_index text i ≡ line_feed) × (j ≡ i + 1)) ⊎ ((i
 abbrev pub NoLineEnd : List ℕ → ℕ → Type 0
 NoLineEnd text i = (slice_index text i == line_feed ≡ false) × (is_crlf text i ≡ false)
 
-abbrev pub LineEndGives : List ℕ → ℕ → Option ℕ → Type 0
-LineEndGives text i (Some j) = LineEnd text i j
-LineEndGives text i None = NoLineEnd text i
-
 -- The character at i is c, and the next one begins at j. A carriage return with a line feed is one line feed.
 abbrev pub CharAt : List ℕ → ℕ → ℕ → ℕ → Type 0
 CharAt text i c j =
@@ -35,11 +32,6 @@ KeepsLineEnd text i = (k : ℕ) → i ≡ k + 1 → is_crlf text k ≡ false
 -- a place between two characters of the folded text, or at its start or end
 abbrev pub IsFoldedPlace : List ℕ → ℕ → Type 0
 IsFoldedPlace text i = IsCharBoundary text i × KeepsLineEnd text i
-
--- what holds of the place where a found thing, or a fault, leads
-abbrev pub LeadsTo : {A E : Type 0} → (ℕ → Type 0) → Result (A × ℕ) (E × ℕ) → Type 0
-LeadsTo P (Ok found) = P found.1
-LeadsTo P (Err fault) = P fault.1
 
 -- ---- the folded text
 

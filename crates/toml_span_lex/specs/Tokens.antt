@@ -1,7 +1,10 @@
 -- The token, or the fault, that stands at a place of a text.
-use Rattle.std.specs.Prelude.{◌≡◌, ℕ, ◌+◌, ◌<◌, ◌⊎◌, Bool, true, false, ◌||◌, ◌==◌, if◌then◌else◌, List, slice_index, slice_range, Result, Ok, Err, codes}
+use Rattle.std.specs.Prelude.{◌≡◌, ℕ, ◌+◌, ◌<◌, ◌⊎◌, Bool, true, false, ◌||◌, ◌==◌, if◌then◌else◌, List, slice_index}
+use Rattle.std.specs.Prelude.{slice_range, codes}
 use Rattle.std.specs.Cow.{cow_str_bytes}
-use Rattle.toml_span_lex.specs.Bytes.{line_feed, equals, period, comma, colon, plus, left_brace, right_brace, left_bracket, right_bracket, hash, quotation_mark, apostrophe, is_blank, is_keylike, is_printed, MaximalRun}
+use Rattle.toml_span_lex.specs.Bytes.{line_feed, equals, period, comma, colon, plus, left_brace, right_brace}
+use Rattle.toml_span_lex.specs.Bytes.{left_bracket, right_bracket, hash, quotation_mark, apostrophe, is_blank}
+use Rattle.toml_span_lex.specs.Bytes.{is_keylike, is_printed, MaximalRun}
 use Rattle.toml_span_lex.specs.Text.{LineEnd, CharAt}
 use Rattle.toml_span_lex.specs.Strings.{IsString, IsNoString}
 use Rattle.toml_span_lex.specs.declared.span.Span.{Span}
@@ -107,8 +110,3 @@ IsUnexpected text i j _ = ⊥
 -- No token stands at i: this fault does, and j is behind the character that it names, or the end of the text.
 abbrev pub IsFault : List ℕ → ℕ → ℕ → Error → Type 0
 IsFault text i j e = IsUnexpected text i j e ⊎ IsNoString text i j e
-
--- the token at i, which is no string, and where it ends, or the fault and where the next character begins
-abbrev pub Finds : List ℕ → ℕ → Result (Token × ℕ) (Error × ℕ) → Type 0
-Finds text i (Ok found) = IsToken text i found.1 (lexeme found.0)
-Finds text i (Err fault) = IsUnexpected text i fault.1 fault.0

@@ -2,7 +2,8 @@
 ghost use Rattle.std.specs.Prelude.{◌≡◌, ◌≤◌, ◌<◌, length, slice_index};
 ghost use Rattle.std.specs.Str.{IsCharBoundary};
 ghost use Rattle.toml_span_lex.specs.Escapes as spec;
-ghost use Rattle.toml_span_lex.specs.Text.{LeadsTo};
+ghost use Rattle.toml_span_lex.specs.code.Escapes as code;
+ghost use Rattle.toml_span_lex.specs.code.Text.{LeadsTo};
 
 use crate::text::char_at;
 use crate::tokens::Error;
@@ -17,7 +18,7 @@ fn hex_escape(
     requires within { at < length text.now }
     requires ascii { slice_index text.now at < 128 }
     requires few { len ≤ 8 }
-    ensures gives { spec.HexGives start text.now at len result }
+    ensures gives { code.HexGives start text.now at len result }
     ensures boundary { LeadsTo (λ j. IsCharBoundary text.now j) result }
 {
     let bytes = text.as_bytes();
@@ -74,7 +75,7 @@ fn hex_len(letter: u8) -> usize
 /// The escape whose letter is at a place.
 pub(crate) fn escape(text: &str, start: usize, at: usize) -> Result<(char, usize), (Error, usize)>
     requires { IsCharBoundary text.now at }
-    ensures gives { spec.EscapeGives start text.now at result }
+    ensures gives { code.EscapeGives start text.now at result }
     ensures boundary { LeadsTo (λ j. IsCharBoundary text.now j) result }
 {
     let bytes = text.as_bytes();

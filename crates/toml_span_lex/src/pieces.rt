@@ -3,8 +3,9 @@ ghost use Rattle.std.specs.Prelude.{◌≡◌, ℕ, ◌+◌, ◌≤◌, ◌<◌,
 ghost use Rattle.std.specs.Str.{IsCharBoundary};
 ghost use Rattle.toml_span_lex.specs.Bytes.{MaximalRun, backslash};
 ghost use Rattle.toml_span_lex.specs.Pieces as spec;
+ghost use Rattle.toml_span_lex.specs.code.Pieces as code;
 ghost use Rattle.toml_span_lex.specs.Strings.{IsQuote};
-ghost use Rattle.toml_span_lex.specs.Text.{LeadsTo};
+ghost use Rattle.toml_span_lex.specs.code.Text.{LeadsTo};
 
 use crate::bytes::{blanks_end, is_blank, is_printed, is_unescaped};
 use crate::escapes::escape;
@@ -96,7 +97,7 @@ fn quotes_end(text: &str, quote: u8, from: usize) -> usize
 #[inline]
 fn is_gap(bytes: &[u8], at: usize) -> bool
     requires { at < length bytes.now }
-    ensures { result ≡ spec.is_gap bytes.now at }
+    ensures { result ≡ spec.is_ws_or_newline bytes.now at }
 {
     is_blank(bytes[at]) || bytes[at] == b'\n' || is_crlf(bytes, at)
 }
@@ -104,7 +105,7 @@ fn is_gap(bytes: &[u8], at: usize) -> bool
 /// Where the white space ends, line ends included.
 fn gap_end(text: &str, from: usize) -> usize
     requires { IsCharBoundary text.now from }
-    ensures run { spec.MaximalGap text.now from result }
+    ensures run { spec.WsAndNewlines text.now from result }
     ensures boundary { IsCharBoundary text.now result }
 {
     let bytes = text.as_bytes();
@@ -122,7 +123,7 @@ fn quotes(text: &str, quote: u8, at: usize) -> (Option<Piece>, usize)
     requires boundary { IsCharBoundary text.now at }
     requires ascii { quote < 128 }
     requires here { slice_index text.now at ≡ quote }
-    ensures gives { spec.PieceGives quote true 0 text.now at (Ok result) }
+    ensures gives { code.PieceGives quote true 0 text.now at (Ok result) }
     ensures boundary { IsCharBoundary text.now result.1 }
 {
     let end = quotes_end(text, quote, at);
@@ -142,7 +143,7 @@ fn escape_piece(
 ) -> Result<(Option<Piece>, usize), (Error, usize)>
     requires within { at < length text.now }
     requires here { slice_index text.now at ≡ backslash }
-    ensures gives { spec.PieceGives 34 multi start text.now at result }
+    ensures gives { code.PieceGives 34 multi start text.now at result }
     ensures boundary { LeadsTo (λ j. IsCharBoundary text.now j) result }
 {
     let letter = at + 1;
@@ -157,7 +158,7 @@ fn escape_piece(
 
 /// Whether white space or a line end is at a place.
 fn gap_at(text: &str, at: usize) -> bool
-    ensures gap { result ≡ spec.is_gap text.now at }
+    ensures gap { result ≡ spec.is_ws_or_newline text.now at }
     ensures within { IsTrue result → at < length text.now }
 {
     let bytes = text.as_bytes();
@@ -168,8 +169,8 @@ fn gap_at(text: &str, at: usize) -> bool
 fn drop_line(text: &str, start: usize, at: usize) -> Result<(Option<Piece>, usize), (Error, usize)>
     requires within { at + 1 < length text.now }
     requires here { slice_index text.now at ≡ backslash }
-    requires gap { spec.is_gap text.now (at + 1) ≡ true }
-    ensures gives { spec.PieceGives 34 true start text.now at result }
+    requires gap { spec.is_ws_or_newline text.now (at + 1) ≡ true }
+    ensures gives { code.PieceGives 34 true start text.now at result }
     ensures boundary { LeadsTo (λ j. IsCharBoundary text.now j) result }
 {
     let bytes = text.as_bytes();
@@ -195,7 +196,7 @@ pub(crate) fn piece_at(
 ) -> Result<(Option<Piece>, usize), (Error, usize)>
     requires boundary { IsCharBoundary text.now at }
     requires quote { IsQuote quote }
-    ensures gives { spec.PieceGives quote multi start text.now at result }
+    ensures gives { code.PieceGives quote multi start text.now at result }
     ensures boundary { LeadsTo (λ j. IsCharBoundary text.now j) result }
 {
     let end = plain_end(text, quote, at);

@@ -2,6 +2,7 @@
 ghost use Rattle.std.specs.Prelude.{◌≡◌, ◌<◌, ◌≤◌, length, IfSome};
 ghost use Rattle.std.specs.Str.{IsCharBoundary};
 ghost use Rattle.toml_span_lex.specs.Text as spec;
+ghost use Rattle.toml_span_lex.specs.code.Text as code;
 ghost use Rattle.toml_span_lex.specs.Text.{CharAt};
 
 /// The character at a place, and where the next one begins.
@@ -39,7 +40,7 @@ pub fn is_crlf(bytes: &[u8], at: usize) -> bool
 #[tactic(auto, using(crate::proofs::Runs::behind_line))]
 pub fn line_end(text: &str, at: usize) -> Option<usize>
     requires { at ≤ length text.now }
-    ensures gives { spec.LineEndGives text.now at result }
+    ensures gives { code.LineEndGives text.now at result }
     ensures boundary { IfSome result (λ j. IsCharBoundary text.now j) }
 {
     let bytes = text.as_bytes();

@@ -2,10 +2,12 @@
 ghost use Rattle.std.specs.Prelude.{◌≡◌, ℕ, ◌≤◌, ◌<◌, List, length, slice_index, false, ◌==◌, ◌||◌, ◌↔◌, IsTrue};
 ghost use Rattle.std.specs.Str.{IsCharBoundary};
 ghost use Rattle.toml_span_lex.specs.Bytes.{MaximalRun, is_blank, line_feed, hash};
-ghost use Rattle.toml_span_lex.specs.Text.{LeadsTo, KeepsLineEnd, IsFoldedPlace};
+ghost use Rattle.toml_span_lex.specs.code.Text.{LeadsTo};
+ghost use Rattle.toml_span_lex.specs.Text.{KeepsLineEnd, IsFoldedPlace};
 ghost use Rattle.toml_span_lex.specs.Tokenizer as spec;
-ghost use Rattle.toml_span_lex.specs.Tokenizer.{Place};
-ghost use Rattle.toml_span_lex.specs.Tokens.{lexeme, begins_alone, Finds};
+ghost use Rattle.toml_span_lex.specs.Tokenizer.{Cursor};
+ghost use Rattle.toml_span_lex.specs.Tokens.{lexeme, begins_alone};
+ghost use Rattle.toml_span_lex.specs.code.Tokens.{Finds};
 
 use crate::bytes;
 use crate::bytes::is_keylike;
@@ -33,9 +35,9 @@ pub struct Tokenizer<'a> {
 impl<'a> Model for Tokenizer<'a> {
     ghost use Rattle.std.specs.Prelude.{ℕ, List};
     ghost use Rattle.toml_span_lex.specs.Text.{IsFoldedPlace};
-    ghost use Rattle.toml_span_lex.specs.Tokenizer.{Place};
+    ghost use Rattle.toml_span_lex.specs.Tokenizer.{Cursor};
 
-    ghost Value = { Place };
+    ghost Value = { Cursor };
 
     ghost view = { λ t. record { text = t.input.now; at = t.at } };
 
@@ -159,7 +161,7 @@ impl<'a> Tokenizer<'a> {
     /// fault names, or at the end of the text for a string that is not closed.
     pub fn step(&mut self, alloc: Global) -> Result<Option<(Span, Token<'a>)>, Stop<Error>>
         ensures text { self.new.text ≡ self.old.text }
-        ensures gives { spec.Gives self.old.text self.old.at result self.new.at }
+        ensures gives { spec.StepGives self.old.text self.old.at result self.new.at }
         ensures borrows { spec.BorrowsAt self.old.text self.old.at result self.new.at }
     {
         let start = self.at;
@@ -196,7 +198,7 @@ impl<'a> Tokenizer<'a> {
     /// What `step` would answer. Nothing changes.
     pub fn peek(&mut self, alloc: Global) -> Result<Option<(Span, Token<'a>)>, Stop<Error>>
         ensures unchanged { self.new ≡ self.old }
-        ensures gives { (j : ℕ) × spec.Gives self.old.text self.old.at result j × spec.BorrowsAt self.old.text self.old.at result j }
+        ensures gives { (j : ℕ) × spec.StepGives self.old.text self.old.at result j × spec.BorrowsAt self.old.text self.old.at result j }
     {
         let mut ahead = self.copy();
         ahead.step(alloc)
@@ -292,7 +294,7 @@ impl<'a> Tokenizer<'a> {
     /// stands behind it.
     pub fn table_key(&mut self, alloc: Global) -> Result<Key<'a>, Stop<Error>>
         ensures text { self.new.text ≡ self.old.text }
-        ensures gives { spec.KeyGives self.old.text self.old.at result self.new.at }
+        ensures gives { spec.TableKeyGives self.old.text self.old.at result self.new.at }
     {
         let at = self.at;
         match self.step(alloc)? {

@@ -7,8 +7,9 @@ use Rattle.toml_span_lex.specs.declared.span.Span.{Span}
 use Rattle.toml_span_tree.specs.declared.value.Value.{Value}
 use Rattle.toml_span_tree.specs.Node.{Node, Inner, Items, no_items, item, element_at, get_item}
 use Rattle.toml_span_tree.specs.Value.{view, items_view, inner_of}
-use Rattle.toml_span_tree.specs.Path.{Step, position, Path, below, child, reached, node_at}
-use Rattle.toml_span_tree.specs.Pointer.{push_front, segments, segments_behind, Cut, pointer_segments, step_named, untaken_child, if_not_taken, path_named, entry, untaken_entry, found, pointed, digits_after, position_of, PositionIs}
+use Rattle.toml_span_tree.specs.Path.{Step, position, Path, at_step, child, reached, node_at}
+use Rattle.toml_span_tree.specs.Pointer.{push_front, segments, pointer_segments, step_named, untaken_child, if_not_taken, path_named, pointed, digits_after, position_of}
+use Rattle.toml_span_tree.specs.code.Pointer.{segments_behind, SplitAtSlash, entry, untaken_entry, value_named, PositionIs}
 
 abbrev pub Lacks : ℕ → List ℕ → Type 0
 Lacks c xs = (i : ℕ) → i < length xs → get_or xs i 0 ≢ c
@@ -49,55 +50,55 @@ node_at-more_at (Some m) path = reached-key path m.0 None m.1
 
 -- a path is gone a step at a time
 pub node_at-more : (s : Step) (path : Path) (n : Node) → node_at (s ∷ path) n ≡ option_and_then (node_at path) (child s n)
-node_at-more s path n = node_at-more_at (below s (inner_of n)) path
+node_at-more s path n = node_at-more_at (at_step s (inner_of n)) path
 
 found-path : (s : Step) (n m : Node) (o : Option Path) → child s n ≡ Some m → option_and_then (λ path. node_at path n) (option_map (λ path. s ∷ path) o) ≡ option_and_then (λ path. node_at path m) o
 found-path s n m None is = refl
 found-path s n m (Some path) is = node_at-more s path n ∙ ap (option_and_then (node_at path)) is
 
 found-untaken : (s : Step) (n m : Node) (names : List (List ℕ)) (b : Bool) → child s n ≡ Some m
-    → option_and_then (λ path. node_at path n) (option_and_then (λ m. option_map (λ path. s ∷ path) (path_named names m)) (cond b None (Some m))) ≡ option_and_then (found names) (cond b None (Some m))
+    → option_and_then (λ path. node_at path n) (option_and_then (λ m. option_map (λ path. s ∷ path) (path_named names m)) (cond b None (Some m))) ≡ option_and_then (value_named names) (cond b None (Some m))
 found-untaken s n m names true is = refl
 found-untaken s n m names false is = found-path s n m (path_named names m) is
 
 found-child : (s : Step) (n : Node) (names : List (List ℕ)) (o : Option Node) → child s n ≡ o
-    → option_and_then (λ path. node_at path n) (option_and_then (λ m. option_map (λ path. s ∷ path) (path_named names m)) (option_and_then if_not_taken o)) ≡ option_and_then (found names) (option_and_then if_not_taken o)
+    → option_and_then (λ path. node_at path n) (option_and_then (λ m. option_map (λ path. s ∷ path) (path_named names m)) (option_and_then if_not_taken o)) ≡ option_and_then (value_named names) (option_and_then if_not_taken o)
 found-child s n names None is = refl
 found-child s n names (Some m) is = found-untaken s n m names _ is
 
 found-step : (n : Node) (names : List (List ℕ)) (o : Option Step)
     → option_and_then (λ path. node_at path n) (option_and_then (λ s. option_and_then (λ m. option_map (λ path. s ∷ path) (path_named names m)) (untaken_child n s)) o)
-    ≡ option_and_then (found names) (option_and_then if_not_taken (option_and_then (λ s. child s n) o))
+    ≡ option_and_then (value_named names) (option_and_then if_not_taken (option_and_then (λ s. child s n) o))
 found-step n names None = refl
 found-step n names (Some s) = found-child s n names (child s n) refl
 
 -- segments are gone one at a time
-pub found-more : (segment : List ℕ) (names : List (List ℕ)) (n : Node) → found (segment ∷ names) n ≡ option_and_then (found names) (untaken_entry segment n)
+pub found-more : (segment : List ℕ) (names : List (List ℕ)) (n : Node) → value_named (segment ∷ names) n ≡ option_and_then (value_named names) (untaken_entry segment n)
 found-more segment names n = found-step n names (step_named segment (inner_of n))
 
-pub found-none : (n : Node) → found [] n ≡ Some n
+pub found-none : (n : Node) → value_named [] n ≡ Some n
 found-none n = refl
 
-found-last : (o : Option Node) → option_and_then (found []) o ≡ o
+found-last : (o : Option Node) → option_and_then (value_named []) o ≡ o
 found-last None = refl
 found-last (Some n) = refl
 
 -- a text that is cut at its first slash
-pub found-cut : (path segment : List ℕ) (rest : Option (List ℕ)) (n : Node) → Cut path segment rest → found (segments path) n ≡ option_and_then (found (segments_behind rest)) (untaken_entry segment n)
-found-cut path segment rest n c = ap (λ names. found names n) c.parts ∙ found-more segment (segments_behind rest) n
+pub found-cut : (path segment : List ℕ) (rest : Option (List ℕ)) (n : Node) → SplitAtSlash path segment rest → value_named (segments path) n ≡ option_and_then (value_named (segments_behind rest)) (untaken_entry segment n)
+found-cut path segment rest n c = ap (λ names. value_named names n) c.parts ∙ found-more segment (segments_behind rest) n
 
-pub found-cut_last : (path segment : List ℕ) (n : Node) → Cut path segment None → found (segments path) n ≡ untaken_entry segment n
+pub found-cut_last : (path segment : List ℕ) (n : Node) → SplitAtSlash path segment None → value_named (segments path) n ≡ untaken_entry segment n
 found-cut_last path segment n c = found-cut path segment None n c ∙ found-last (untaken_entry segment n)
 
-pointed-at : (o : Option (List (List ℕ))) (n : Node) → option_and_then (λ path. node_at path n) (option_and_then (λ names. path_named names n) o) ≡ option_and_then (λ names. found names n) o
+pointed-at : (o : Option (List (List ℕ))) (n : Node) → option_and_then (λ path. node_at path n) (option_and_then (λ names. path_named names n) o) ≡ option_and_then (λ names. value_named names n) o
 pointed-at None n = refl
 pointed-at (Some names) n = refl
 
 -- a pointer names what its segments name
-pub pointed-found : (p : List ℕ) (n : Node) → pointed p n ≡ option_and_then (λ names. found names n) (pointer_segments p)
+pub pointed-found : (p : List ℕ) (n : Node) → pointed p n ≡ option_and_then (λ names. value_named names n) (pointer_segments p)
 pointed-found p n = pointed-at (pointer_segments p) n
 
-entry-at : (o : Option ℕ) (ns : Items) → option_and_then (λ s. option_map (λ e. e.1) (below s (Rattle.toml_span_tree.specs.Node.array ns))) (option_map position o) ≡ option_and_then (λ i. get_item i ns) o
+entry-at : (o : Option ℕ) (ns : Items) → option_and_then (λ s. option_map (λ e. e.1) (at_step s (Rattle.toml_span_tree.specs.Node.array ns))) (option_map position o) ≡ option_and_then (λ i. get_item i ns) o
 entry-at None ns = refl
 entry-at (Some i) ns = refl
 

@@ -1,10 +1,10 @@
 -- What a pointer text names in a tree.
-use Rattle.std.specs.Prelude.{◌≡◌, ◌≤◌, ⊤, ℕ, ◌+◌, ◌-◌, ◌*◌, ◌^◌, ◌&&◌, ◌==◌, nat_le, not, List, [], ◌∷◌, Bool, true, false, if◌then◌else◌, cond, length, ◌<◌, Option, Some, None, Result, Ok, Err, IfSome, option_map, option_and_then}
+use Rattle.std.specs.Prelude.{◌≡◌, ⊤, ℕ, ◌+◌, ◌-◌, ◌*◌, ◌&&◌, ◌==◌, nat_le, not, List, [], ◌∷◌, Bool, true, false}
+use Rattle.std.specs.Prelude.{if◌then◌else◌, cond, Option, Some, None, option_map, option_and_then}
 use Rattle.std.specs.Str.{bytes_eq}
-use Rattle.toml_span_tree.specs.declared.value.Value.{Value}
-use Rattle.toml_span_tree.specs.Node.{Node, Inner, taken, scalar, array, table, Items}
-use Rattle.toml_span_tree.specs.Value.{view, inner_of, is_taken}
-use Rattle.toml_span_tree.specs.Path.{Step, key, position, Path, below, child, node_at, put, set_element, set_below}
+use Rattle.toml_span_tree.specs.Node.{Node, Inner, taken, scalar, array, table}
+use Rattle.toml_span_tree.specs.Value.{inner_of, is_taken}
+use Rattle.toml_span_tree.specs.Path.{Step, key, position, Path, child, node_at, put}
 
 -- the number that the digits spell behind n
 abbrev pub digits_after : ℕ → List ℕ → Option ℕ
@@ -19,12 +19,6 @@ zero_alone (x ∷ xs) = None
 unfoldable pub position_of : List ℕ → Option ℕ
 position_of [] = None
 position_of (x ∷ xs) = if x == 48 then zero_alone xs else digits_after 0 (x ∷ xs)
-
--- r is the position, or None where there is none or it is past every list
-abbrev pub PositionIs : Option ℕ → Option ℕ → Type 0
-PositionIs (Some i) o = o ≡ Some i
-PositionIs None None = ⊤
-PositionIs None (Some i) = 2 ^ 64 ≤ i
 
 -- the step that a segment names: in a table a key's name, in an array a position
 abbrev pub step_named : List ℕ → Inner → Option Step
@@ -115,45 +109,3 @@ IsPointed pointer n m =
     (names : List (List ℕ)) × (path : Path) × (pointer_segments pointer ≡ Some names) × NamesPath names path × (node_at path n ≡ Some m) × (is_taken m ≡ true → path ≡ [])
 
 -- The same, a segment at a time.
-
--- what a segment names
-abbrev pub entry : List ℕ → Inner → Option Node
-entry segment i = option_and_then (λ s. option_map (λ e. e.1) (below s i)) (step_named segment i)
-
--- what a segment names, unless it is taken
-abbrev pub untaken_entry : List ℕ → Node → Option Node
-untaken_entry segment n = option_and_then if_not_taken (entry segment (inner_of n))
-
--- what the segments name
-abbrev pub found : List (List ℕ) → Node → Option Node
-found names n = option_and_then (λ path. node_at path n) (path_named names n)
-
--- n with w in the place that the segments name
-abbrev pub put_found : List (List ℕ) → Node → Node → Node
-put_found names w n = put_where_named (path_named names n) w n
-
-abbrev pub set_where_named : Option Step → Node → Inner → Inner
-set_where_named None w i = i
-set_where_named (Some s) w i = set_below s w i
-
--- the same table or array, with w where the segment leads
-abbrev pub set_named : List ℕ → Node → Inner → Inner
-set_named segment w i = set_where_named (step_named segment i) w i
-
-abbrev pub set_item : Option ℕ → Node → Items → Items
-set_item None w ns = ns
-set_item (Some i) w ns = set_element i w ns
-
-abbrev pub segments_behind : Option (List ℕ) → List (List ℕ)
-segments_behind None = []
-segments_behind (Some rest) = segments rest
-
--- the text is cut at its first slash
-pub record Cut (path segment : List ℕ) (rest : Option (List ℕ)) : Type 0 where
-  pub parts : segments path ≡ segment ∷ segments_behind rest
-  pub shorter : IfSome rest (λ more. length more < length path)
-
--- A value below o, which the segments name from there, was exchanged: the old one came out, and o changed to what it is with the new one. Or they name none: the new one came back, and it is the same.
-abbrev pub Exchanged : Result Value Value → Value → List (List ℕ) → Option Node → (Node → Type 0) → Type 0 → Type 0
-Exchanged (Ok old) new names o changed same = (n : Node) × (o ≡ Some n) × (found names n ≡ Some (view old)) × changed (put_found names (view new) n)
-Exchanged (Err back) new names o changed same = (back ≡ new) × (option_and_then (found names) o ≡ None) × same

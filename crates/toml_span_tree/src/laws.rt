@@ -6,7 +6,7 @@ ghost use Rattle.toml_span_tree.specs.Pointer.{position_of, IsPointed, pointed, 
 ghost use Rattle.toml_span_tree.specs.Date.{IsDateText, IsDateOrTime};
 ghost use Rattle.toml_span_tree.specs.declared.date.DateText.{DateText};
 ghost use Rattle.toml_span_tree.specs.declared.float.FloatText.{FloatText};
-ghost use Rattle.toml_span_tree.specs.Value.{inner_of, span_of, is_taken, date_bytes, decimal_of};
+ghost use Rattle.toml_span_tree.specs.Value.{inner_of, span_of, is_taken, date_bytes, float_value};
 
 use crate::date::DateText;
 use crate::float::FloatText;
@@ -26,7 +26,7 @@ pub fn equal_dates()
 /// Two floats are equal exactly where their kinds are, and their texts or signs.
 pub fn equal_floats()
     ensures { (x y : FloatText)
-        → IsTrue (⟦<FloatText as PartialEq>⟧.eq x y) ↔ (decimal_of x ≡ decimal_of y) }
+        → IsTrue (⟦<FloatText as PartialEq>⟧.eq x y) ↔ (float_value x ≡ float_value y) }
 {}
 
 /// What was put at a path stands there.

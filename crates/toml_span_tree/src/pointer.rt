@@ -3,14 +3,19 @@
 //! The empty text names the value itself. Another text begins with `/`, and names a place by the
 //! segments behind it, cut at each `/`: in a table a segment is a key's name, in an array it is a
 //! position in decimal.
-ghost use Rattle.std.specs.Prelude.{◌≡◌, ◌<◌, ◌∷◌, [], ◌^◌, option_map, option_and_then, IfOk, IfErr, IsSome, Some, None, List, ℕ, drop, false, length, slice_index_or, true, vec_len};
+ghost use Rattle.std.specs.Prelude.{◌≡◌, ◌<◌, ◌∷◌, [], ◌^◌, option_map, option_and_then, IfOk, IfErr, IsSome, Some};
+ghost use Rattle.std.specs.Prelude.{None, List, ℕ, drop, false, length, slice_index_or, true, vec_len};
 ghost use Rattle.std.specs.Borrow.{sem};
 ghost use Rattle.std.specs.Cow.{cow_str_bytes};
 ghost use Rattle.toml_span_tree.specs.Value.{view, inner_view, items_view, members_view};
 ghost use Rattle.toml_span_tree.specs.Node.{get_member, get_item};
-ghost use Rattle.toml_span_tree.specs.Pointer.{PositionIs, position_of, entry, untaken_entry, segments, segments_behind, if_not_taken, set_named, set_item, Exchanged, Cut, found, pointed, put_pointed};
+ghost use Rattle.toml_span_tree.specs.code.Pointer.{PositionIs, entry, untaken_entry, segments_behind, set_named};
+ghost use Rattle.toml_span_tree.specs.code.Pointer.{set_item, Exchanged, SplitAtSlash, value_named};
+ghost use Rattle.toml_span_tree.specs.Pointer.{position_of, segments, if_not_taken, pointed, put_pointed};
 ghost use Rattle.toml_span_tree.specs.Path.{set_entry};
-ghost use Rattle.toml_span_tree.specs.Lending.{IsHeld, lends_inner, lends_member, lends_item, lends_entry, lends_child, lends_found, lends_at, lends_pointed};
+ghost use Rattle.toml_span_tree.specs.code.Lending.{IsHeld, lends_inner, lends_member, lends_item, lends_entry};
+ghost use Rattle.toml_span_tree.specs.code.Lending.{lends_child, lends_named, lends_at};
+ghost use Rattle.toml_span_tree.specs.Lending.{lends_pointed};
 
 use crate::value::{Array, Table, Value, ValueInner, named};
 use std::mem;
@@ -40,7 +45,7 @@ fn position(segment: &str) -> Option<usize>
 
 /// The first segment, and what stands behind its slash, if one stands there.
 pub(crate) fn cut<'p>(path: &'p str) -> (&'p str, Option<&'p str>)
-    ensures { Cut path.now result.0.now (option_map (λ rest. rest.now) result.1) }
+    ensures { SplitAtSlash path.now result.0.now (option_map (λ rest. rest.now) result.1) }
 {
     match path.split_once('/') {
         Some((segment, rest)) => (segment, Some(rest)),
@@ -84,7 +89,7 @@ impl<'de> Value<'de> {
 
     /// What the segments name, from here on.
     fn found(&self, path: &'de str) -> Option<&Self>
-        ensures { option_map (λ v. view v.now) result ≡ found (segments path.now) (view self.now) }
+        ensures { option_map (λ v. view v.now) result ≡ value_named (segments path.now) (view self.now) }
     {
         let (segment, rest) = cut(path);
         let child = self.entry(segment)?;
@@ -339,9 +344,9 @@ fn behind<'p>(path: &'p str) -> &'p str
 
 /// What the segments name, from here on, to write.
 fn at_path<'v, 'de>(value: &'v mut Value<'de>, path: &'de str) -> &'v mut Value<'de>
-    requires { IsSome (found (segments path.now) (view value.old)) }
-    ensures* writes_back { sem 𝓛 (lends_found value.entry path.now result) }
-    ensures value { found (segments path.now) (view value.old) ≡ Some (view result.now) }
+    requires { IsSome (value_named (segments path.now) (view value.old)) }
+    ensures* writes_back { sem 𝓛 (lends_named value.entry path.now result) }
+    ensures value { value_named (segments path.now) (view value.old) ≡ Some (view result.now) }
 {
     let segment = first(path);
     let child = step_to(value, segment);

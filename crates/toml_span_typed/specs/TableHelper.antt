@@ -1,9 +1,9 @@
 -- What a helper over a table holds, and what its calls do to it.
-use Rattle.std.specs.Prelude.{◌≡◌, ◌⊎◌, ℕ, List, [], ◌∷◌, ◌++◌, map, IsTrue, cond, Option, Some, None, option_map, Result, Ok, Err, MatchOption, String, string_bytes, codes, true}
+use Rattle.std.specs.Prelude.{◌≡◌, ◌⊎◌, ℕ, List, [], ◌∷◌, ◌++◌, map, IsTrue, cond, Option, Some, None, option_map}
+use Rattle.std.specs.Prelude.{Result, Ok, Err, MatchOption, codes, true}
 use Rattle.std.specs.Borrow.{MutBor}
 use Rattle.std.specs.Cow.{cow_str_bytes}
 use Rattle.std.specs.Str.{bytes_eq}
-use Rattle.std.specs.declared.alloc.Global.{Global}
 use Rattle.std.specs.declared.alloc.AllocError.{AllocError}
 use Rattle.std.proofs.Common.{inl, inr}
 use Rattle.toml_span_lex.specs.declared.key.Key.{Key}
@@ -107,18 +107,14 @@ Tries reads name before (Ok None) after = MatchOption (found name before)
     (λ value. (faults : Faults) × (left : Node) × reads value (Err faults) left × (after ≡ keeping (all faults) (noted name before)))
 Tries reads name before (Err error) after = Starved name before after
 
--- a key's name and its span
-abbrev pub key_text : String Global × Span → List ℕ × Span
-key_text key = (string_bytes key.0, key.1)
-
 -- the keys that remain, with their spans, in the order of their names
 abbrev pub names_in : Members → List (List ℕ × Span)
 names_in no_members = []
 names_in (member name span value rest) = (name, span) ∷ names_in rest
 
 -- the error of the keys that remain
-abbrev pub unexpected : State → Fault
-unexpected s = record { kind = unexpected_keys (names_in s.members) s.asked; span = s.span; line_info = None }
+abbrev pub unexpected_entries : State → Fault
+unexpected_entries s = record { kind = unexpected_keys (names_in s.members) s.asked; span = s.span; line_info = None }
 
 abbrev pub where_filled : Members → List Fault → List Fault
 where_filled no_members faults = []
@@ -126,7 +122,7 @@ where_filled (member name span value rest) faults = faults
 
 -- the error of the keys that remain, if any do
 abbrev pub unasked : State → List Fault
-unasked s = where_filled s.members (unexpected s ∷ [])
+unasked s = where_filled s.members (unexpected_entries s ∷ [])
 
 -- the errors in the end, where no value takes the rest
 abbrev pub with_unasked : State → List Fault

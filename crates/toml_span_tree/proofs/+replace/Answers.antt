@@ -6,7 +6,8 @@ use Rattle.toml_span_tree.specs.declared.value.Value.{Value}
 use Rattle.toml_span_tree.specs.Node.{get_item, get_member, node, table}
 use Rattle.toml_span_tree.specs.Path.{set_entry, set_element}
 use Rattle.toml_span_tree.specs.Value.{view, inner_view, items_view, members_view, inner_or_taken}
-use Rattle.toml_span_tree.specs.Pointer.{set_item, segments, segments_behind, found, put_found}
+use Rattle.toml_span_tree.specs.code.Pointer.{set_item, segments_behind, value_named, put_named}
+use Rattle.toml_span_tree.specs.Pointer.{segments}
 use Rattle.toml_span_tree.proofs.Values.{view_is, inner_view-Table, view-lookup, at_name}
 use Rattle.toml_span_tree.proofs.Pointers.{view-of_mut, get_item-lent, past_all}
 use Rattle.toml_span_tree.proofs.Puts.{view-made, view-set_value, view-set, set_entry-same, set_element-same, exchanged-in, exchanged-none, exchanged-as, exchanged-cut, exchanged-table, if_not_taken-false}
@@ -95,8 +96,8 @@ value::Value::replace_here-returns-in-None t c =
     let none = ap (option_map (λ r. r.now)) c.in-None.is in (
       n,
       if_not_taken-false n (sym c.is_taken.ensures ∙ c.if-is_taken.false),
-      ap (λ o. found (segments_behind o) n) none ∙ ap (λ v. Some (view v)) (sym c.replace.ensures.value),
-      ap view c.replace.ensures.after ∙ sym (ap (λ o. put_found (segments_behind o) (view c.args.new) n) none),
+      ap (λ o. value_named (segments_behind o) n) none ∙ ap (λ v. Some (view v)) (sym c.replace.ensures.value),
+      ap view c.replace.ensures.after ∙ sym (ap (λ o. put_named (segments_behind o) (view c.args.new) n) none),
     )
 
 pub value::ValueInner::replace_found-returns-in-Table :

@@ -4,7 +4,8 @@ ghost use Rattle.std.specs.Cow.{cow_str_bytes};
 ghost use Rattle.toml_span_tree.specs.Error.{fault_of, missing_field};
 ghost use Rattle.toml_span_tree.specs.Node.{entry_at};
 ghost use Rattle.toml_span_tree.specs.Value.{is_filled, members_view, span_of, view};
-ghost use Rattle.toml_span_typed.specs.TableHelper.{Closes, key_text, names_in, without};
+ghost use Rattle.toml_span_typed.specs.TableHelper.{Closes, names_in, without};
+ghost use Rattle.toml_span_typed.specs.code.TableHelper.{key_text};
 
 mod fields;
 
@@ -58,7 +59,9 @@ impl<'de> TableHelper<'de> {
     ghost use Rattle.toml_span_tree.specs.Value.{is_taken, is_whole};
     ghost use Rattle.toml_span_typed.specs.Faults.{all};
     ghost use Rattle.toml_span_typed.specs.Reads.{Taken, result_map, spanned};
-    ghost use Rattle.toml_span_typed.specs.TableHelper.{AllWhole, Closes, Finalizes, HoldsRest, Leaves, Opens, Refuses, Requires, Takes, Tries, found, fresh, keeping, missing, state_of, unasked, unexpected};
+    ghost use Rattle.toml_span_typed.specs.TableHelper.{AllWhole, Closes, Finalizes, HoldsRest, Leaves, Opens, Refuses};
+    ghost use Rattle.toml_span_typed.specs.TableHelper.{Requires, Takes, Tries, found, fresh, keeping, missing};
+    ghost use Rattle.toml_span_typed.specs.TableHelper.{state_of, unasked, unexpected_entries};
 
     /// A helper over the table that a value is, from which nothing may be taken. The value is taken.
     /// Of another kind, the error is `Wanted` "a table". Takes no memory.
@@ -239,7 +242,7 @@ impl<'de> TableHelper<'de> {
 
     /// The error of the keys that remain.
     fn unexpected_keys(&self) -> Result<Error<'de>, AllocError>
-        ensures { IfOk result (λ e. fault_of e ≡ unexpected (state_of self.now)) }
+        ensures { IfOk result (λ e. fault_of e ≡ unexpected_entries (state_of self.now)) }
     {
         let keys = key_names(self.alloc, &self.table)?;
         let expected = copied_texts(self.alloc, self.asked.as_slice())?;

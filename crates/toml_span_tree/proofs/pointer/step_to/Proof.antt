@@ -33,7 +33,7 @@ use Rattle.toml_span_tree.specs.declared.value.Value.{Value}
 use Rattle.toml_span_tree.specs.contracts.value.Value as value
 use Rattle.toml_span_tree.specs.Node.{node}
 use Rattle.toml_span_tree.specs.Value.{view, inner_of as what_of, span_of}
-use Rattle.toml_span_tree.specs.Pointer.{untaken_entry, set_named}
+use Rattle.toml_span_tree.specs.code.Pointer.{untaken_entry, set_named}
 use Rattle.toml_span_tree.specs.contracts.value.named as n
 use Rattle.toml_span_tree.proofs.value.named.Met as n-thm
 use Rattle.toml_span_tree.specs.contracts.pointer.child_of as g
