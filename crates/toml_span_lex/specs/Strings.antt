@@ -12,7 +12,10 @@ use Rattle.toml_span_lex.specs.declared.tokens.Error.{Error}
 
 -- ---- content
 
--- The text from i to j is cut into these pieces, each with the place where it ends.
+-- The text from i to j is cut into these pieces, each with the place where it ends:
+-- `*basic-char`, `*literal-char`
+-- `ml-basic-body = *mlb-content *( mlb-quotes 1*mlb-content ) [ mlb-quotes ]`
+-- `ml-literal-body = *mll-content *( mll-quotes 1*mll-content ) [ mll-quotes ]`
 abbrev pub Cut : ℕ → Bool → List ℕ → ℕ → List (Piece × ℕ) → ℕ → Type 0
 Cut q multi text i [] j = i ≡ j
 Cut q multi text i (p ∷ ps) j = IsPiece q multi text i p.1 p.0 × Cut q multi text p.1 ps j
@@ -58,7 +61,7 @@ pub record NeedsCopy (q : ℕ) (multi : Bool) (text : List ℕ) (from : ℕ) : T
 
 -- ---- strings
 
--- a quotation mark or an apostrophe
+-- `quotation-mark = %x22`, `apostrophe = %x27`
 abbrev pub IsQuote : ℕ → Type 0
 IsQuote q = (q ≡ quotation_mark) ⊎ (q ≡ apostrophe)
 
@@ -66,16 +69,23 @@ IsQuote q = (q ≡ quotation_mark) ⊎ (q ≡ apostrophe)
 abbrev pub opens_multi : List ℕ → ℕ → Bool
 opens_multi text i = slice_index text (i + 1) == slice_index text i && slice_index text (i + 2) == slice_index text i
 
--- The content begins behind the opening quotes, and in a string of several lines behind a line end right there.
+-- `ml-basic-string-delim [ newline ]`, `ml-literal-string-delim [ newline ]`: the content begins behind the opening
+-- quotes, and in a string of several lines behind a line end right there
 abbrev pub ContentFrom : Bool → List ℕ → ℕ → ℕ → Type 0
 ContentFrom false text i from = from ≡ i + 1
 ContentFrom true text i from = LineEnd text (i + 3) from ⊎ (NoLineEnd text (i + 3) × (from ≡ i + 3))
 
 -- The span of a string is its content's. An empty string on one line has its opening quote's.
 abbrev pub content_span : Bool → ℕ → ℕ → ℕ → Span
-content_span multi i from to = if not multi && from == to then record { start = i; end = i + 1 } else record { start = from; end = to }
+content_span multi i from to =
+    if not multi && from == to then record { start = i; end = i + 1 } else record { start = from; end = to }
 
--- the text from i to j is a string
+-- The text from i to j is a string:
+-- `string = ml-basic-string / basic-string / ml-literal-string / literal-string`
+-- `basic-string = quotation-mark *basic-char quotation-mark`
+-- `ml-basic-string = ml-basic-string-delim [ newline ] ml-basic-body ml-basic-string-delim`
+-- `literal-string = apostrophe *literal-char apostrophe`
+-- `ml-literal-string = ml-literal-string-delim [ newline ] ml-literal-body ml-literal-string-delim`
 pub record IsString (text : List ℕ) (i j : ℕ) (span : Span) (source value : List ℕ) (multi : Bool) : Type 0 where
   pub from : ℕ
   pub to : ℕ
@@ -104,7 +114,8 @@ pub record NeedsMemory (text : List ℕ) (i : ℕ) : Type 0 where
 abbrev pub IsEmptyOnOneLine : ℕ → ℕ → Type 0
 IsEmptyOnOneLine i j = j ≡ i + 2
 
--- An empty string on one line is borrowed. Another string is borrowed exactly where its value equals the text at its span.
+-- An empty string on one line is borrowed. Another string is borrowed exactly where its value equals the text at its
+-- span.
 abbrev pub Borrows : {Z : Type 0} → List ℕ → ℕ → ℕ → Span → CowStr Z → Type 0
 Borrows text i j span val =
     (IsEmptyOnOneLine i j → IsBorrowedStr val)
@@ -114,8 +125,8 @@ Borrows text i j span val =
 abbrev pub IsOneQuote : List ℕ → Span → Type 0
 IsOneQuote text span = IsQuote (slice_index text span.start) × (span.end ≡ span.start + 1)
 
--- The same by the span alone: a string is borrowed exactly where it equals the text at its span, or is empty with one quote for a span.
+-- The same by the span alone: a string is borrowed exactly where it equals the text at its span, or is empty with one
+-- quote for a span.
 abbrev pub BorrowsWhereSame : {Z : Type 0} → List ℕ → Span → CowStr Z → Type 0
-BorrowsWhereSame text span val = IsBorrowedStr val ↔ ((cow_str_bytes val ≡ slice_range text span.start span.end) ⊎ ((cow_str_bytes val ≡ []) × IsOneQuote text span))
-
--- ---- where they end
+BorrowsWhereSame text span val = IsBorrowedStr val
+    ↔ ((cow_str_bytes val ≡ slice_range text span.start span.end) ⊎ ((cow_str_bytes val ≡ []) × IsOneQuote text span))

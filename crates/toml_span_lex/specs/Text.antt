@@ -11,7 +11,7 @@ use Rattle.toml_span_lex.specs.Bytes.{line_feed, carriage_return}
 abbrev pub is_crlf : List ℕ → ℕ → Bool
 is_crlf text i = slice_index text i == carriage_return && slice_index text (i + 1) == line_feed
 
--- The text from i to j is a line end: a line feed, alone or behind a carriage return.
+-- `newline = %x0A / %x0D.0A`: the text from i to j is a line end, a line feed, alone or behind a carriage return
 abbrev pub LineEnd : List ℕ → ℕ → ℕ → Type 0
 LineEnd text i j = ((slice_index text i ≡ line_feed) × (j ≡ i + 1)) ⊎ ((is_crlf text i ≡ true) × (j ≡ i + 2))
 
@@ -40,7 +40,8 @@ abbrev pub folded_from : ℕ → Bool → List ℕ → List (ℕ × ℕ)
 folded_from i after_return [] = []
 folded_from i after_return (c ∷ cs) =
     if after_return && c == line_feed then folded_from (i + 1) false cs
-    else (i, (if c == carriage_return && slice_index cs 0 == line_feed then line_feed else c)) ∷ folded_from (i + len_utf8 c) (c == carriage_return) cs
+    else (i, (if c == carriage_return && slice_index cs 0 == line_feed then line_feed else c))
+        ∷ folded_from (i + len_utf8 c) (c == carriage_return) cs
 
 -- the pairs from an offset on
 abbrev pub folded : List ℕ → ℕ → List (ℕ × ℕ)

@@ -16,7 +16,7 @@ use Rattle.toml_span_lex.specs.declared.tokens.Error.TheVariants as errors
 use Rattle.toml_span_lex.specs.declared.stop.Stop.{Stop}
 use Rattle.toml_span_lex.specs.declared.stop.Stop.TheVariants as stops
 
--- how far a text has been read
+-- a text, and how far it has been read
 pub record Cursor : Type 0 where
   pub text : List ℕ
   pub at : ℕ
@@ -29,7 +29,8 @@ FirstPlace text at =
 
 -- ---- refusals
 
--- No token was read at i, and the tokenizer stands at j: where it was for want of memory, else behind what the fault names.
+-- No token was read at i, and the tokenizer stands at j: where it was for want of memory, else behind what the fault
+-- names.
 abbrev pub Fails : List ℕ → ℕ → Stop Error → ℕ → Type 0
 Fails text i (stops.Memory e) j = (j ≡ i) × NeedsMemory text i
 Fails text i (stops.Fault e) j = IsFault text i j e
@@ -41,7 +42,8 @@ TellsWanted _ i due there = ⊥
 
 -- A token stands at i that is not due, and the error tells so. It ends at j.
 abbrev pub IsOther : (Lexeme → Type 0) → List ℕ → List ℕ → ℕ → ℕ → Error → Type 0
-IsOther MayStand due text i j e = (span : Span) × (found : Lexeme) × Stands text i j span found × (MayStand found → ⊥) × TellsWanted e i due (words found)
+IsOther MayStand due text i j e = (span : Span) × (found : Lexeme) × Stands text i j span found × (MayStand found → ⊥)
+    × TellsWanted e i due (words found)
 
 -- The text ends at i, and the error tells so.
 abbrev pub IsEndOf : List ℕ → List ℕ → ℕ → ℕ → Error → Type 0
@@ -62,7 +64,8 @@ BorrowsAt text i _ j = Unit {0}
 -- Another token stands at i, or the text ends there.
 abbrev pub Lacks : List ℕ → ℕ → Lexeme → Type 0
 Lacks text i expected =
-    (i ≡ length text) ⊎ ((j : ℕ) × (span : Span) × (found : Lexeme) × Stands text i j span found × (found ≡ expected → ⊥))
+    (i ≡ length text)
+        ⊎ ((j : ℕ) × (span : Span) × (found : Lexeme) × Stands text i j span found × (found ≡ expected → ⊥))
 
 -- An expected token is eaten. With another one, with none or with a refusal, nothing changes.
 abbrev pub EatsSpanned : Cursor → Result (Option Span) (Stop Error) → Lexeme → Cursor → Type 0
@@ -78,7 +81,8 @@ Eats old (Err stop) expected new = (new ≡ old) × ((j : ℕ) × Fails old.text
 -- The next token has to be the expected one.
 abbrev pub RefusesOther : (Lexeme → Type 0) → List ℕ → List ℕ → ℕ → Stop Error → ℕ → Type 0
 RefusesOther MayStand due text i (stops.Memory e) j = Fails text i (stops.Memory e) j
-RefusesOther MayStand due text i (stops.Fault e) j = IsFault text i j e ⊎ (IsOther MayStand due text i j e ⊎ IsEndOf due text i j e)
+RefusesOther MayStand due text i (stops.Fault e) j =
+    IsFault text i j e ⊎ (IsOther MayStand due text i j e ⊎ IsEndOf due text i j e)
 
 abbrev pub ExpectsSpanned : List ℕ → ℕ → Result Span (Stop Error) → Lexeme → ℕ → Type 0
 ExpectsSpanned text i (Ok span) expected j = Stands text i j span expected
@@ -90,11 +94,13 @@ Expects text i (Err stop) expected j = RefusesOther (λ l. l ≡ expected) (word
 
 -- ---- keys
 
--- The text from i to j is a key: a bare one, whose name is the text itself, or a string on one line.
+-- `simple-key = quoted-key / unquoted-key`, `quoted-key = basic-string / literal-string`: the text from i to j is a key, a
+-- bare one, whose name is the text itself, or a string on one line
 abbrev pub IsSimpleKey : List ℕ → ℕ → ℕ → Key → Type 0
 IsSimpleKey text i j key =
     (IsBorrowedStr key.name × Stands text i j key.span (keylike (cow_str_bytes key.name)))
-    ⊎ ((source : List ℕ) × Stands text i j key.span (string source (cow_str_bytes key.name) false) × Borrows text i j key.span key.name)
+    ⊎ ((source : List ℕ) × Stands text i j key.span (string source (cow_str_bytes key.name) false)
+        × Borrows text i j key.span key.name)
 
 -- a token that a key can be
 abbrev pub MayBeKey : Lexeme → Type 0
@@ -105,7 +111,8 @@ MayBeKey _ = ⊥
 -- A string of several lines stands where a key is due. The error has its place, and that plus the value's length.
 abbrev pub IsMultilineKey : List ℕ → ℕ → ℕ → Error → Type 0
 IsMultilineKey text i j (errors.MultilineStringKey at end) =
-    (span : Span) × (source : List ℕ) × (value : List ℕ) × Stands text i j span (string source value true) × (at ≡ i) × (end ≡ i + length value)
+    (span : Span) × (source : List ℕ) × (value : List ℕ) × Stands text i j span (string source value true) × (at ≡ i)
+        × (end ≡ i + length value)
 IsMultilineKey text i j _ = ⊥
 
 abbrev pub TableKeyGives : List ℕ → ℕ → Result Key (Stop Error) → ℕ → Type 0
@@ -126,11 +133,14 @@ LineEndDue text i (Ok u) j = EndsLine text i j
 LineEndDue text i (Err (stops.Memory e)) j = Fails text i (stops.Memory e) j
 LineEndDue text i (Err (stops.Fault e)) j = IsFault text i j e ⊎ IsOther (λ l. l ≡ newline) (codes "newline") text i j e
 
--- a comment and the line end or the end of the text behind it, or no comment, or a character that can't follow it
+-- `comment = comment-start-symbol *non-eol`, and the line end or the end of the text behind it; or no comment, or a
+-- character that can't follow it
 abbrev pub EatsComment : List ℕ → ℕ → Result Bool Error → ℕ → Type 0
-EatsComment text i (Ok true) j = (k : ℕ) × (span : Span) × (s : List ℕ) × Stands text i k span (comment s) × EndsLine text k j
+EatsComment text i (Ok true) j =
+    (k : ℕ) × (span : Span) × (s : List ℕ) × Stands text i k span (comment s) × EndsLine text k j
 EatsComment text i (Ok false) j = (slice_index text i ≡ hash → ⊥) × (j ≡ i)
-EatsComment text i (Err e) j = (k : ℕ) × (span : Span) × (s : List ℕ) × Stands text i k span (comment s) × IsUnexpected text k j e
+EatsComment text i (Err e) j =
+    (k : ℕ) × (span : Span) × (s : List ℕ) × Stands text i k span (comment s) × IsUnexpected text k j e
 
 -- past the next line end, or to the end of the text
 abbrev pub SkipsLine : List ℕ → ℕ → ℕ → Type 0

@@ -79,7 +79,11 @@ RunAt p text i j part = (i < j) × MaximalRun p text i j × (part ≡ slice_rang
 abbrev pub SignAt : ℕ → List ℕ → ℕ → ℕ → Type 0
 SignAt c text i j = (slice_index text i ≡ c) × (j ≡ i + 1)
 
--- the text from i to j is this token, which is no string
+-- The text from i to j is this token, which is no string:
+-- `ws = *wschar`, of one character at least
+-- `newline = %x0A / %x0D.0A`
+-- `comment = comment-start-symbol *non-eol`
+-- `unquoted-key = 1*( ALPHA / DIGIT / %x2D / %x5F )`, or a part of a number or a date
 abbrev pub IsToken : List ℕ → ℕ → ℕ → Lexeme → Type 0
 IsToken text i j (whitespace s) = RunAt is_blank text i j s
 IsToken text i j newline = LineEnd text i j

@@ -49,7 +49,8 @@ fn same(
     requires on { at ≤ next }
     ensures ok { (q : ℕ) → (v : List ℕ) → code.Kept q text.now from at v kept
         → IfOk result (λ r. code.Kept q text.now from next (v ++ slice_range text.now at next) r) }
-    ensures memory { (q : ℕ) → (v : List ℕ) → code.Kept q text.now from at v kept → IfErr result (λ _. spec.HasChange q text.now from at) }
+    ensures memory { (q : ℕ) → (v : List ℕ) → code.Kept q text.now from at v kept
+        → IfErr result (λ _. spec.HasChange q text.now from at) }
 {
     match kept {
         None => Ok(None),
@@ -75,9 +76,11 @@ fn with_piece(
     requires next { IsCharBoundary text.now next }
     requires forward { from ≤ at }
     requires on { at ≤ next }
-    ensures ok { (q : ℕ) → (m : Bool) → (v : List ℕ) → IsPiece q m text.now at next piece → code.Kept q text.now from at v kept
+    ensures ok { (q : ℕ) → (m : Bool) → (v : List ℕ) → IsPiece q m text.now at next piece
+        → code.Kept q text.now from at v kept
         → IfOk result (λ r. code.Kept q text.now from next (v ++ piece_value text.now at next piece) r) }
-    ensures memory { (q : ℕ) → (m : Bool) → (v : List ℕ) → IsPiece q m text.now at next piece → code.Kept q text.now from at v kept
+    ensures memory { (q : ℕ) → (m : Bool) → (v : List ℕ) → IsPiece q m text.now at next piece
+        → code.Kept q text.now from at v kept
         → IfErr result (λ _. spec.HasChange q text.now from next) }
 {
     match piece {
@@ -98,6 +101,9 @@ fn with_piece(
 }
 
 /// The content of a string from a place on, where it ends, and where the string ends.
+///
+/// `*basic-char`, `*literal-char`, `ml-basic-body = *mlb-content *( mlb-quotes 1*mlb-content ) [ mlb-quotes ]`,
+/// `ml-literal-body = *mll-content *( mll-quotes 1*mll-content ) [ mll-quotes ]`
 fn content(
     alloc: Global,
     text: &str,
@@ -144,7 +150,8 @@ fn opens_multi(bytes: &[u8], at: usize) -> bool
     at + 2 < bytes.len() && bytes[at + 1] == bytes[at] && bytes[at + 2] == bytes[at]
 }
 
-/// Where the content of a string begins.
+/// Where the content of a string begins: behind `ml-basic-string-delim [ newline ]` or
+/// `ml-literal-string-delim [ newline ]`, or behind one quote.
 fn content_from(text: &str, multi: bool, at: usize) -> usize
     requires within { at < length text.now }
     requires ascii { slice_index text.now at < 128 }
@@ -163,6 +170,12 @@ fn content_from(text: &str, multi: bool, at: usize) -> usize
 }
 
 /// The string at a place, its span, and where it ends.
+///
+/// `string = ml-basic-string / basic-string / ml-literal-string / literal-string`
+/// `basic-string = quotation-mark *basic-char quotation-mark`
+/// `ml-basic-string = ml-basic-string-delim [ newline ] ml-basic-body ml-basic-string-delim`
+/// `literal-string = apostrophe *literal-char apostrophe`
+/// `ml-literal-string = ml-literal-string-delim [ newline ] ml-literal-body ml-literal-string-delim`
 pub fn string_at(
     alloc: Global,
     text: &str,

@@ -35,7 +35,7 @@ pub fn is_crlf(bytes: &[u8], at: usize) -> bool
     bytes[at] == b'\r' && at + 1 < bytes.len() && bytes[at + 1] == b'\n'
 }
 
-/// What is behind the line end at a place, if one stands there.
+/// What is behind the line end at a place, if one stands there: `newline = %x0A / %x0D.0A`.
 #[inline]
 #[tactic(auto, using(crate::proofs::Runs::behind_line))]
 pub fn line_end(text: &str, at: usize) -> Option<usize>

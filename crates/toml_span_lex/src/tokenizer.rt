@@ -1,7 +1,7 @@
 //! Reads a text token by token.
 ghost use Rattle.std.specs.Prelude.{◌≡◌, ℕ, ◌≤◌, ◌<◌, List, length, slice_index, false, ◌==◌, ◌||◌, ◌↔◌, IsTrue};
 ghost use Rattle.std.specs.Str.{IsCharBoundary};
-ghost use Rattle.toml_span_lex.specs.Bytes.{MaximalRun, is_blank, line_feed, hash};
+ghost use Rattle.toml_span_lex.specs.Bytes.{MaximalRun, apostrophe, is_blank, line_feed, hash, quotation_mark};
 ghost use Rattle.toml_span_lex.specs.code.Text.{LeadsTo};
 ghost use Rattle.toml_span_lex.specs.Text.{KeepsLineEnd, IsFoldedPlace};
 ghost use Rattle.toml_span_lex.specs.Tokenizer as spec;
@@ -57,12 +57,15 @@ pub fn first_place(text: &str) -> usize
     if c == '\u{feff}' { next } else { 0 }
 }
 
-/// The token at a place and where it ends, or the fault and where the next character begins.
+/// The token at a place, which is no string, and where it ends, or the fault and where the next character begins.
+///
+/// `ws = *wschar`, `newline = %x0A / %x0D.0A`, `comment = comment-start-symbol *non-eol`,
+/// `unquoted-key = 1*( ALPHA / DIGIT / %x2D / %x5F )`
 #[tactic(auto, using(std::proofs::lemmas::Str::lead_after_ascii))]
 pub fn token_at(input: &str, at: usize) -> Result<(Token<'_>, usize), (Error, usize)>
     requires boundary { IsCharBoundary input.now at }
     requires within { at < length input.now }
-    requires quote { (slice_index input.now at == 34 || slice_index input.now at == 39) ≡ false }
+    requires quote { (slice_index input.now at == quotation_mark || slice_index input.now at == apostrophe) ≡ false }
     ensures gives { Finds input.now at result }
     ensures boundary { LeadsTo (λ j. IsCharBoundary input.now j) result }
 {
@@ -96,7 +99,7 @@ fn other_at(input: &str, at: usize) -> Result<(Token<'_>, usize), (Error, usize)
     requires boundary { IsCharBoundary input.now at }
     requires within { at < length input.now }
     requires other { begins_alone (slice_index input.now at) ≡ false }
-    requires quote { (slice_index input.now at == 34 || slice_index input.now at == 39) ≡ false }
+    requires quote { (slice_index input.now at == quotation_mark || slice_index input.now at == apostrophe) ≡ false }
     ensures gives { Finds input.now at result }
     ensures boundary { LeadsTo (λ j. IsCharBoundary input.now j) result }
 {
@@ -198,7 +201,8 @@ impl<'a> Tokenizer<'a> {
     /// What `step` would answer. Nothing changes.
     pub fn peek(&mut self, alloc: Global) -> Result<Option<(Span, Token<'a>)>, Stop<Error>>
         ensures unchanged { self.new ≡ self.old }
-        ensures gives { (j : ℕ) × spec.StepGives self.old.text self.old.at result j × spec.BorrowsAt self.old.text self.old.at result j }
+        ensures gives { (j : ℕ) × spec.StepGives self.old.text self.old.at result j
+            × spec.BorrowsAt self.old.text self.old.at result j }
     {
         let mut ahead = self.copy();
         ahead.step(alloc)
@@ -288,7 +292,7 @@ impl<'a> Tokenizer<'a> {
         }
     }
 
-    /// Eats a key: a bare one, or a string on one line.
+    /// Eats a key: a bare one, or a string on one line (`simple-key = quoted-key / unquoted-key`).
     ///
     /// A string of several lines is `MultilineStringKey`, another token `Wanted`, and the tokenizer
     /// stands behind it.
@@ -349,7 +353,7 @@ impl<'a> Tokenizer<'a> {
         }
     }
 
-    /// Eats a comment and the line end behind it, and says whether one stands here.
+    /// Eats a comment (`comment-start-symbol *non-eol`) and the line end behind it, and says whether one stands here.
     ///
     /// A control character that ends the comment and no line end begins there is `Unexpected`, and
     /// the tokenizer stands behind it.

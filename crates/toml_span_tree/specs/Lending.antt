@@ -14,4 +14,5 @@ value_row = value.the_row (record { mir = named 1; lft = [] })
 
 -- s ends with the last value behind r in the place that the pointer names, or is unchanged if r is None
 abbrev pub lends_pointed : MutBor Value → List ℕ → Option (MutBor Value) → Fml
-lends_pointed s p r = LendsSo value_row value_row s r (λ n w. OnSome r (view n ≡ put_pointed p (view w) (view s.now))) (λ n. n ≡ s.now)
+lends_pointed s p r =
+    LendsSo value_row value_row s r (λ n w. OnSome r (view n ≡ put_pointed p (view w) (view s.now))) (λ n. n ≡ s.now)

@@ -66,7 +66,8 @@ child s n = option_map (λ m. m.1) (at_step s (inner_of n))
 -- the entries with another value at that name; the keys and their spans stay
 abbrev pub set_entry : List ℕ → Node → Members → Members
 set_entry name w no_members = no_members
-set_entry name w (member other span n ms) = cond (bytes_eq name other) (member other span w ms) (member other span n (set_entry name w ms))
+set_entry name w (member other span n ms) =
+    cond (bytes_eq name other) (member other span w ms) (member other span n (set_entry name w ms))
 
 -- the elements with another one at that position
 abbrev pub set_element : ℕ → Node → Items → Items
@@ -87,7 +88,8 @@ abbrev pub put_where : Option Node → Step → (Node → Node) → Node → Nod
 put_where None s change n = n
 put_where (Some m) s change n = node (set_at_step s (change m) (inner_of n)) (span_of n)
 
--- n with w at the path: w itself at the empty path, else the same table or array with the change in the one place that the first step leads to
+-- n with w at the path: w itself at the empty path, else the same table or array with the change in the one place that
+-- the first step leads to
 abbrev pub put : Path → Node → Node → Node
 put [] w n = w
 put (s ∷ path) w n = put_where (child s n) s (put path w) n

@@ -38,7 +38,8 @@ untaken_child n s = option_and_then if_not_taken (child s n)
 abbrev pub path_named : List (List ℕ) → Node → Option Path
 path_named [] n = Some []
 path_named (segment ∷ more) n =
-    option_and_then (λ s. option_and_then (λ m. option_map (λ path. s ∷ path) (path_named more m)) (untaken_child n s)) (step_named segment (inner_of n))
+    option_and_then (λ s. option_and_then (λ m. option_map (λ path. s
+        ∷ path) (path_named more m)) (untaken_child n s)) (step_named segment (inner_of n))
 
 abbrev pub push_front : ℕ → List (List ℕ) → List (List ℕ)
 push_front x [] = (x ∷ []) ∷ []
@@ -76,7 +77,8 @@ positions_apart None o = true
 positions_apart (Some i) None = true
 positions_apart (Some i) (Some j) = not (i == j)
 
--- the segments name different places in whatever table or array: their bytes differ, and so do the positions that they spell
+-- the segments name different places in whatever table or array: their bytes differ, and so do the positions that they
+-- spell
 abbrev pub segments_apart : List ℕ → List ℕ → Bool
 segments_apart segment other = not (bytes_eq segment other) && positions_apart (position_of segment) (position_of other)
 
@@ -84,7 +86,8 @@ segments_apart segment other = not (bytes_eq segment other) && positions_apart (
 abbrev pub paths_part : List (List ℕ) → List (List ℕ) → Bool
 paths_part [] others = false
 paths_part (segment ∷ more) [] = false
-paths_part (segment ∷ more) (other ∷ others) = if bytes_eq segment other then paths_part more others else segments_apart segment other
+paths_part (segment ∷ more) (other ∷ others) =
+    if bytes_eq segment other then paths_part more others else segments_apart segment other
 
 abbrev pub part_where : Option (List (List ℕ)) → Option (List (List ℕ)) → Bool
 part_where None o = false
@@ -106,6 +109,7 @@ NamesPath (segment ∷ names) (position i ∷ path) = (position_of segment ≡ S
 -- The pointer names m in n: its segments name a path, m stands there, and m is not taken, unless it is n itself.
 abbrev pub IsPointed : List ℕ → Node → Node → Type 0
 IsPointed pointer n m =
-    (names : List (List ℕ)) × (path : Path) × (pointer_segments pointer ≡ Some names) × NamesPath names path × (node_at path n ≡ Some m) × (is_taken m ≡ true → path ≡ [])
+    (names : List (List ℕ)) × (path : Path) × (pointer_segments pointer ≡ Some names) × NamesPath names path
+        × (node_at path n ≡ Some m) × (is_taken m ≡ true → path ≡ [])
 
 -- The same, a segment at a time.

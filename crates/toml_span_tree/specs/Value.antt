@@ -1,4 +1,5 @@
--- What a value means, and what the calls of `Value` and `ValueInner` answer. Whether a text is borrowed is no part of it.
+-- What a value means, and what the calls of `Value` and `ValueInner` answer. Whether a text is borrowed is no part of
+-- it.
 use Rattle.std.specs.Prelude.{ℕ, ℤ, List, [], ◌∷◌, map, Bool, true, false, Option, Some, None, option_and_then, ◌&&◌}
 use Rattle.std.specs.Prelude.{codes, string_bytes}
 use Rattle.std.specs.Cow.{cow_str_bytes}

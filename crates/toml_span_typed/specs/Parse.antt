@@ -19,7 +19,8 @@ TellsRefusal shown span fault =
     × IfSome shown (λ stated. text ≡ stated)
 
 -- the string is read as `from_str_gives` says; memory is wanted only where it refuses the string
-abbrev pub Parses : {T E : Type 0} → (List ℕ → Result T E → Type 0) → (E → Option (List ℕ)) → Node → Result T (Stop Error) → Type 0
+abbrev pub Parses : {T E : Type 0} → (List ℕ → Result T E → Type 0) → (E → Option (List ℕ)) → Node
+    → Result T (Stop Error) → Type 0
 Parses gives output value (Ok parsed) =
     (text : List ℕ) × (text_in (inner_of value) ≡ Some text) × gives text (Ok parsed)
 Parses gives output value (Err (stop.Fault error)) = MatchOption (text_in (inner_of value))

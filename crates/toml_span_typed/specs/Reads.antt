@@ -16,7 +16,8 @@ result_map f (Err e) = Err e
 
 -- The call gives an answer that the type's reading allows of the value before, the answer and the
 -- value left; want of memory leaves what the type states for it.
-abbrev pub Answers : {T : Type 0} → (Node → Result T Faults → Node → Type 0) → (Node → Node → Type 0) → Node → Result T (Stop Faults) → Node → Type 0
+abbrev pub Answers : {T : Type 0} → (Node → Result T Faults → Node → Type 0) → (Node → Node → Type 0) → Node
+    → Result T (Stop Faults) → Node → Type 0
 Answers reads starved before (Ok x) after = reads before (Ok x) after
 Answers reads starved before (Err (stop.Fault faults)) after = reads before (Err faults) after
 Answers reads starved before (Err (stop.Memory error)) after = starved before after
@@ -83,7 +84,8 @@ read_integer name held (node (scalar (integer z)) span) = or_out_of name span (h
 read_integer name held value = refused name value
 
 -- T's reading, with the span of the value as it was beside the element
-abbrev pub spanned : {T S : Type 0} → (Node → Result T Faults → Node → Type 0) → (S → T) → (S → Span) → Node → Result S Faults → Node → Type 0
+abbrev pub spanned : {T S : Type 0} → (Node → Result T Faults → Node → Type 0) → (S → T) → (S → Span) → Node
+    → Result S Faults → Node → Type 0
 spanned reads value_in span_in before answer after =
     reads before (result_map value_in answer) after × IfOk answer (λ s. span_in s ≡ span_of before)
 
@@ -93,9 +95,11 @@ nodes_of no_items = []
 nodes_of (item value values) = value ∷ nodes_of values
 
 -- an answer for each value, that the reading allows
-abbrev pub EachReads : {T : Type 0} → (Node → Result T Faults → Node → Type 0) → List Node → List (Result T Faults) → Type 0
+abbrev pub EachReads : {T : Type 0} → (Node → Result T Faults → Node → Type 0) → List Node → List (Result T Faults)
+    → Type 0
 EachReads reads [] [] = ⊤
-EachReads reads (value ∷ values) (answer ∷ answers) = ((after : Node) × reads value answer after) × EachReads reads values answers
+EachReads reads (value ∷ values) (answer ∷ answers) =
+    ((after : Node) × reads value answer after) × EachReads reads values answers
 EachReads reads _ _ = ⊥
 
 -- the elements among the answers, in order
@@ -116,11 +120,14 @@ Joins answers (Ok xs) = (errors answers ≡ []) × (elements answers ≡ xs)
 Joins answers (Err faults) = errors answers ≡ all faults
 
 -- each value is read, and the answer joins what they gave
-abbrev pub ReadsAll : {T : Type 0} → (Node → Result T Faults → Node → Type 0) → List Node → Result (List T) Faults → Type 0
-ReadsAll reads values answer = (answers : List (Result _ Faults)) × EachReads reads values answers × Joins answers answer
+abbrev pub ReadsAll : {T : Type 0} → (Node → Result T Faults → Node → Type 0) → List Node → Result (List T) Faults
+    → Type 0
+ReadsAll reads values answer =
+    (answers : List (Result _ Faults)) × EachReads reads values answers × Joins answers answer
 
 -- T's readings of an array's elements, joined; the array is taken
-abbrev pub array_reads : {T : Type 0} → (Node → Result T Faults → Node → Type 0) → Node → Result (List T) Faults → Node → Type 0
+abbrev pub array_reads : {T : Type 0} → (Node → Result T Faults → Node → Type 0) → Node → Result (List T) Faults → Node
+    → Type 0
 array_reads reads (node (array values) span) answer after =
     ReadsAll reads (nodes_of values) answer × Taken (node (array values) span) after
 array_reads reads value answer after = (answer ≡ refused (codes "an array") value) × Taken value after

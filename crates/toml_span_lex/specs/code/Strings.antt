@@ -18,8 +18,10 @@ abbrev pub Kept : {Z : Type 0} → ℕ → List ℕ → ℕ → ℕ → List ℕ
 Kept q text from at value None = value ≡ slice_range text from at
 Kept q text from at value (Some s) = (string_bytes s ≡ value) × (length value + from < at) × HasChange q text from at
 
-abbrev pub ContentGives : {Z : Type 0} → ℕ → Bool → ℕ → List ℕ → ℕ → Result (Option (String Z) × ℕ × ℕ) (Stop (Error × ℕ)) → Type 0
-ContentGives q multi start text from (Ok (kept, to, end)) = (value : List ℕ) × IsContent q multi text from value to end × Kept q text from to value kept
+abbrev pub ContentGives : {Z : Type 0} → ℕ → Bool → ℕ → List ℕ → ℕ
+    → Result (Option (String Z) × ℕ × ℕ) (Stop (Error × ℕ)) → Type 0
+ContentGives q multi start text from (Ok (kept, to, end)) =
+    (value : List ℕ) × IsContent q multi text from value to end × Kept q text from to value kept
 ContentGives q multi start text from (Err (stops.Memory e)) = NeedsCopy q multi text from
 ContentGives q multi start text from (Err (stops.Fault (e, j))) = IsContentCutOff q multi start text from j e
 
@@ -29,14 +31,16 @@ StringBorrows text _ = Unit {0}
 
 -- what reading a string at i gives
 abbrev pub StringGives : List ℕ → ℕ → Result (Span × Token × ℕ) (Stop (Error × ℕ)) → Type 0
-StringGives text i (Ok (span, tokens.String src val multi, j)) = IsString text i j span src.now (cow_str_bytes val) multi × Borrows text i j span val
+StringGives text i (Ok (span, tokens.String src val multi, j)) =
+    IsString text i j span src.now (cow_str_bytes val) multi × Borrows text i j span val
 StringGives text i (Ok (span, _, j)) = ⊥
 StringGives text i (Err (stops.Memory e)) = NeedsMemory text i
 StringGives text i (Err (stops.Fault (e, j))) = IsNoString text i j e
 
 -- what a walk over the string at i gives
 abbrev pub ScanGives : List ℕ → ℕ → Result ℕ (Error × ℕ) → Type 0
-ScanGives text i (Ok j) = (span : Span) × (source : List ℕ) × (value : List ℕ) × IsString text i j span source value (opens_multi text i)
+ScanGives text i (Ok j) =
+    (span : Span) × (source : List ℕ) × (value : List ℕ) × IsString text i j span source value (opens_multi text i)
 ScanGives text i (Err (e, j)) = IsNoString text i j e
 
 -- The content and the string end at characters, within the text.

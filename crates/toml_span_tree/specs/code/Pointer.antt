@@ -50,7 +50,9 @@ pub record SplitAtSlash (path segment : List ℕ) (rest : Option (List ℕ)) : T
   pub parts : segments path ≡ segment ∷ segments_behind rest
   pub shorter : IfSome rest (λ more. length more < length path)
 
--- A value below o, which the segments name from there, was exchanged: the old one came out, and o changed to what it is with the new one. Or they name none: the new one came back, and it is the same.
+-- A value below o, which the segments name from there, was exchanged: the old one came out, and o changed to what it is
+-- with the new one. Or they name none: the new one came back, and it is the same.
 abbrev pub Exchanged : Result Value Value → Value → List (List ℕ) → Option Node → (Node → Type 0) → Type 0 → Type 0
-Exchanged (Ok old) new names o changed same = (n : Node) × (o ≡ Some n) × (value_named names n ≡ Some (view old)) × changed (put_named names (view new) n)
+Exchanged (Ok old) new names o changed same =
+    (n : Node) × (o ≡ Some n) × (value_named names n ≡ Some (view old)) × changed (put_named names (view new) n)
 Exchanged (Err back) new names o changed same = (back ≡ new) × (option_and_then (value_named names) o ≡ None) × same
