@@ -73,4 +73,4 @@ IsEscapeFault start text i j e =
     ((e ≡ errors.UnterminatedString start) × (i ≡ length text) × (j ≡ i))
     ⊎ ((c : ℕ) × (e ≡ errors.InvalidEscape i c) × (opens_escape c ≡ false) × CharAt text i c j)
     ⊎ ((0 < hex_len (slice_index text i)) × (i < length text)
-        × IsHexFault start text i (hex_len (slice_index text i)) j e)
+    × IsHexFault start text i (hex_len (slice_index text i)) j e)

@@ -69,7 +69,7 @@ FaultsUnfolded = (text : List ℕ) (i j : ℕ) (e : Error) → IsFault text i j 
 abbrev pub CopiedStrings : Type 0
 CopiedStrings = (text : List ℕ) (i j : ℕ) (s : Span) (l : Lexeme) → Stands text i j s l → NeedsMemory text i
     → ((source : List ℕ) × (value : List ℕ) × (multi : Bool) × (l ≡ string source value multi))
-        × HasChange (slice_index text i) text i j
+    × HasChange (slice_index text i) text i j
 
 -- ---- keys
 

@@ -41,7 +41,7 @@ folded_from i after_return [] = []
 folded_from i after_return (c ∷ cs) =
     if after_return && c == line_feed then folded_from (i + 1) false cs
     else (i, (if c == carriage_return && slice_index cs 0 == line_feed then line_feed else c))
-        ∷ folded_from (i + len_utf8 c) (c == carriage_return) cs
+    ∷ folded_from (i + len_utf8 c) (c == carriage_return) cs
 
 -- the pairs from an offset on
 abbrev pub folded : List ℕ → ℕ → List (ℕ × ℕ)

@@ -65,7 +65,7 @@ BorrowsAt text i _ j = Unit {0}
 abbrev pub Lacks : List ℕ → ℕ → Lexeme → Type 0
 Lacks text i expected =
     (i ≡ length text)
-        ⊎ ((j : ℕ) × (span : Span) × (found : Lexeme) × Stands text i j span found × (found ≡ expected → ⊥))
+    ⊎ ((j : ℕ) × (span : Span) × (found : Lexeme) × Stands text i j span found × (found ≡ expected → ⊥))
 
 -- An expected token is eaten. With another one, with none or with a refusal, nothing changes.
 abbrev pub EatsSpanned : Cursor → Result (Option Span) (Stop Error) → Lexeme → Cursor → Type 0
@@ -100,7 +100,7 @@ abbrev pub IsSimpleKey : List ℕ → ℕ → ℕ → Key → Type 0
 IsSimpleKey text i j key =
     (IsBorrowedStr key.name × Stands text i j key.span (keylike (cow_str_bytes key.name)))
     ⊎ ((source : List ℕ) × Stands text i j key.span (string source (cow_str_bytes key.name) false)
-        × Borrows text i j key.span key.name)
+    × Borrows text i j key.span key.name)
 
 -- a token that a key can be
 abbrev pub MayBeKey : Lexeme → Type 0
@@ -112,7 +112,7 @@ MayBeKey _ = ⊥
 abbrev pub IsMultilineKey : List ℕ → ℕ → ℕ → Error → Type 0
 IsMultilineKey text i j (errors.MultilineStringKey at end) =
     (span : Span) × (source : List ℕ) × (value : List ℕ) × Stands text i j span (string source value true) × (at ≡ i)
-        × (end ≡ i + length value)
+    × (end ≡ i + length value)
 IsMultilineKey text i j _ = ⊥
 
 abbrev pub TableKeyGives : List ℕ → ℕ → Result Key (Stop Error) → ℕ → Type 0

@@ -182,10 +182,7 @@ fn drop_line(text: &str, start: usize, at: usize) -> Result<(Option<Piece>, usiz
     let letter = at + 1;
     let blank = blanks_end(text, letter);
     match line_end(text, blank) {
-        Some(line) => Ok((
-            Some(Piece::Dropped),
-            ws_and_newlines_end(text, line),
-        )),
+        Some(line) => Ok((Some(Piece::Dropped), ws_and_newlines_end(text, line))),
         None if blank == bytes.len() => Err((Error::UnterminatedString(start), blank)),
         None => Err((
             Error::InvalidEscape(letter, char::from(bytes[letter])),
