@@ -53,8 +53,8 @@ piece_value text i j pieces.Dropped = []
 piece_value text i j _ = slice_range text i j
 
 -- `ml-basic-string-delim = 3quotation-mark`, `ml-literal-string-delim = 3apostrophe`, with `[ mlb-quotes ]` or
--- `[ mll-quotes ]` before them: the string closes with the quotes at i, and j is behind the last one. On one line that is
--- one quote; else they are the first three or more in a row, and five at most.
+-- `[ mll-quotes ]` before them: the string closes with the quotes at i, and j is behind the last one. On one line
+-- that is one quote; else they are the first three or more in a row, and five at most.
 abbrev pub IsClose : ℕ → Bool → List ℕ → ℕ → ℕ → Type 0
 IsClose q false text i j = (slice_index text i ≡ q) × (i < length text) × (j ≡ i + 1)
 IsClose q true text i j = (r : ℕ) × MaximalRun (λ c. c == q) text i r × (i + 3 ≤ r) × (j ≡ min r (i + 5))

@@ -94,8 +94,8 @@ Expects text i (Err stop) expected j = RefusesOther (λ l. l ≡ expected) (word
 
 -- ---- keys
 
--- `simple-key = quoted-key / unquoted-key`, `quoted-key = basic-string / literal-string`: the text from i to j is a key, a
--- bare one, whose name is the text itself, or a string on one line
+-- `simple-key = quoted-key / unquoted-key`, `quoted-key = basic-string / literal-string`: the text from i to j is a
+-- key, a bare one, whose name is the text itself, or a string on one line
 abbrev pub IsSimpleKey : List ℕ → ℕ → ℕ → Key → Type 0
 IsSimpleKey text i j key =
     (IsBorrowedStr key.name × Stands text i j key.span (keylike (cow_str_bytes key.name)))

@@ -1,24 +1,21 @@
 -- What a pointer text names in a tree.
-use Rattle.std.specs.Prelude.{◌≡◌, ⊤, ℕ, ◌+◌, ◌-◌, ◌*◌, ◌&&◌, ◌==◌, nat_le, not, List, [], ◌∷◌, Bool, true, false}
+use Rattle.std.specs.Prelude.{◌≡◌, ⊤, ℕ, ◌&&◌, ◌||◌, ◌==◌, nat_lt, not, length, slice_index, List, [], ◌∷◌, Bool, true, false}
 use Rattle.std.specs.Prelude.{if◌then◌else◌, cond, Option, Some, None, option_map, option_and_then}
-use Rattle.std.specs.Str.{bytes_eq}
+use Rattle.std.specs.Str.{all_ascii_digits, bytes_eq}
+use Rattle.std.specs.Str.Parse.{digits_value}
+use Rattle.toml_span_lex.specs.Bytes.{slash, digit_zero}
 use Rattle.toml_span_tree.specs.Node.{Node, Inner, taken, scalar, array, table}
 use Rattle.toml_span_tree.specs.Value.{inner_of, is_taken}
 use Rattle.toml_span_tree.specs.Path.{Step, key, position, Path, child, node_at, put}
 
--- the number that the digits spell behind n
-abbrev pub digits_after : ℕ → List ℕ → Option ℕ
-digits_after n [] = Some n
-digits_after n (x ∷ xs) = if nat_le 48 x && nat_le x 57 then digits_after (n * 10 + (x - 48)) xs else None
+-- decimal digits, at least one, with no sign and no leading zero but `0` itself
+abbrev pub is_decimal_form : List ℕ → Bool
+is_decimal_form text =
+    nat_lt 0 (length text) && all_ascii_digits text && (length text == 1 || not (slice_index text 0 == digit_zero))
 
-abbrev pub zero_alone : List ℕ → Option ℕ
-zero_alone [] = Some 0
-zero_alone (x ∷ xs) = None
-
--- the position that the text spells: decimal digits, no sign, no leading zero but `0` itself
+-- the position that the text spells
 unfoldable pub position_of : List ℕ → Option ℕ
-position_of [] = None
-position_of (x ∷ xs) = if x == 48 then zero_alone xs else digits_after 0 (x ∷ xs)
+position_of text = if is_decimal_form text then Some (digits_value 10 text) else None
 
 -- the step that a segment names: in a table a key's name, in an array a position
 abbrev pub step_named : List ℕ → Inner → Option Step
@@ -38,8 +35,8 @@ untaken_child n s = option_and_then if_not_taken (child s n)
 abbrev pub path_named : List (List ℕ) → Node → Option Path
 path_named [] n = Some []
 path_named (segment ∷ more) n =
-    option_and_then (λ s. option_and_then (λ m. option_map (λ path. s
-        ∷ path) (path_named more m)) (untaken_child n s)) (step_named segment (inner_of n))
+    option_and_then (λ s. option_and_then (λ m. option_map (λ path. s ∷ path) (path_named more m)) (untaken_child n s))
+    (step_named segment (inner_of n))
 
 abbrev pub push_front : ℕ → List (List ℕ) → List (List ℕ)
 push_front x [] = (x ∷ []) ∷ []
@@ -48,12 +45,12 @@ push_front x (segment ∷ more) = (x ∷ segment) ∷ more
 -- the text, cut at each slash
 unfoldable pub segments : List ℕ → List (List ℕ)
 segments [] = [] ∷ []
-segments (x ∷ xs) = if x == 47 then [] ∷ segments xs else push_front x (segments xs)
+segments (x ∷ xs) = if x == slash then [] ∷ segments xs else push_front x (segments xs)
 
 -- the segments of a pointer: none of the empty text, else those behind the slash with which it begins
 unfoldable pub pointer_segments : List ℕ → Option (List (List ℕ))
 pointer_segments [] = Some []
-pointer_segments (x ∷ xs) = if x == 47 then Some (segments xs) else None
+pointer_segments (x ∷ xs) = if x == slash then Some (segments xs) else None
 
 -- the path that a pointer names
 abbrev pub pointed_path : List ℕ → Node → Option Path

@@ -143,7 +143,9 @@ impl<'de> Value<'de> {
     pub fn take_string<'s>(&mut self, msg: Option<&'s str>) -> Result<CowStr<'de>, Error<'s>>
         requires { is_taken_node (view self.old) ≡ false }
         ensures text { IfOk result (λ text. text_in (inner_of (view self.old)) ≡ Some (cow_str_bytes text)) }
-        ensures refused { IfErr result (λ error. (text_in (inner_of (view self.old)) ≡ None) × (fault_of error ≡ wrong_kind (unwrap_or (option_map (λ m. m.now) msg.entry) (codes "a string")) (view self.old))) }
+        ensures refused { IfErr result (λ error. (text_in (inner_of (view self.old)) ≡ None)
+            × (fault_of error
+            ≡ wrong_kind (unwrap_or (option_map (λ m. m.now) msg.entry) (codes "a string")) (view self.old))) }
         ensures taken { view self.new ≡ node taken self.old.span }
     {
         let span = self.span;

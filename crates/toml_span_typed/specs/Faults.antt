@@ -1,6 +1,7 @@
 -- The errors of a read. There is at least one.
 use Rattle.std.specs.Prelude.{ℕ, List, [], ◌∷◌, ◌++◌}
 use Rattle.std.specs.List.{flat_map}
+use Rattle.toml_span_lex.specs.Bytes.{line_feed}
 use Rattle.toml_span_tree.specs.Error.{Fault}
 use Rattle.toml_span_tree.specs.Message.{display_text}
 
@@ -18,7 +19,7 @@ all faults = faults.earlier ++ faults.last ∷ []
 
 -- an error's text and a line feed
 abbrev pub line : Fault → List ℕ
-line fault = display_text fault.kind ++ 10 ∷ []
+line fault = display_text fault.kind ++ line_feed ∷ []
 
 -- each error's text and a line feed, in order
 abbrev pub lines : List Fault → List ℕ

@@ -35,8 +35,8 @@ array_row = vec.the_row value_row global.the_row ghosts
 
 abbrev pub table_row : RattleType
 table_row =
-    tree.the_row (key.the_row (record { mir = named 1; lft =
-    [] })) value_row global.the_row ord.ghosts eq.ghosts partial_ord.ghosts ghosts
+    tree.the_row (key.the_row (record { mir = named 1; lft = [] })) value_row global.the_row ord.ghosts eq.ghosts
+    partial_ord.ghosts ghosts
 
 abbrev pub lends_inner : MutBor Value → MutBor ValueInner → Fml
 lends_inner s r = Lends value_row inner_row s r (λ w. record { value = Some w; span = s.now.span })
@@ -49,16 +49,18 @@ abbrev pub lends_item : MutBor (Vec Value Global) → ℕ → MutBor Value → F
 lends_item s i r = Lends array_row value_row s r (with_item s.now i)
 
 abbrev pub lends_member : MutBor (BTreeMap Key Value) → List ℕ → MutBor Value → Fml
-lends_member s name r = LendsBy table_row value_row s r (λ n w. members_view n.entries
-    ≡ set_entry name (view w) (members_view s.now.entries))
+lends_member s name r =
+    LendsBy table_row value_row s r
+    (λ n w. members_view n.entries ≡ set_entry name (view w) (members_view s.now.entries))
 
 abbrev pub lends_entry : MutBor ValueInner → List ℕ → MutBor Value → Fml
 lends_entry s segment r =
     LendsBy inner_row value_row s r (λ n w. inner_view n ≡ set_named segment (view w) (inner_view s.now))
 
 abbrev pub lends_child : MutBor Value → List ℕ → MutBor Value → Fml
-lends_child s segment r = LendsBy value_row value_row s r (λ n w. view n
-    ≡ node (set_named segment (view w) (inner_of (view s.now))) (span_of (view s.now)))
+lends_child s segment r =
+    LendsBy value_row value_row s r
+    (λ n w. view n ≡ node (set_named segment (view w) (inner_of (view s.now))) (span_of (view s.now)))
 
 abbrev pub lends_named : MutBor Value → List ℕ → MutBor Value → Fml
 lends_named s path r = LendsBy value_row value_row s r (λ n w. view n ≡ put_named (segments path) (view w) (view s.now))

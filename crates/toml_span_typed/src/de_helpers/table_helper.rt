@@ -143,7 +143,8 @@ impl<'de> TableHelper<'de> {
         name: &'de str,
     ) -> Result<Spanned<T>, Stop<Error<'de>>>
         requires { IfSome (found name.now (state_of self.old)) (λ value. IsTrue (is_whole value)) }
-        ensures answer { Requires (spanned T.reads (λ s. s.value) (λ s. s.span)) name.now (state_of self.old) result (state_of self.new) }
+        ensures answer { Requires (spanned T.reads (λ s. s.value) (λ s. s.span)) name.now (state_of self.old) result
+            (state_of self.new) }
         ensures whole { AllWhole (state_of self.old) → AllWhole (state_of self.new) }
     {
         self.required(name)
@@ -179,7 +180,8 @@ impl<'de> TableHelper<'de> {
         name: &'de str,
     ) -> Result<Option<Spanned<T>>, AllocError>
         requires { IfSome (found name.now (state_of self.old)) (λ value. IsTrue (is_whole value)) }
-        ensures answer { Tries (spanned T.reads (λ s. s.value) (λ s. s.span)) name.now (state_of self.old) result (state_of self.new) }
+        ensures answer { Tries (spanned T.reads (λ s. s.value) (λ s. s.span)) name.now (state_of self.old) result
+            (state_of self.new) }
         ensures whole { AllWhole (state_of self.old) → AllWhole (state_of self.new) }
     {
         self.optional(name)
@@ -262,7 +264,8 @@ impl<'de> TableHelper<'de> {
 
     /// Keeps the errors of a read, and gives a copy of the last one. Without memory it keeps none.
     fn keep_all(&mut self, faults: DeserError<'de>) -> Result<Error<'de>, AllocError>
-        ensures ok { IfOk result (λ e. (fault_of e ≡ faults.entry.last) × (state_of self.new ≡ keeping (all faults.entry) (state_of self.old))) }
+        ensures ok { IfOk result (λ e. (fault_of e ≡ faults.entry.last)
+            × (state_of self.new ≡ keeping (all faults.entry) (state_of self.old))) }
         ensures err { OnErr result (state_of self.new ≡ state_of self.old) }
     {
         let last = faults.last().clone(self.alloc)?;
@@ -284,7 +287,8 @@ fn named<'de>(name: &'de str) -> Key<'de>
 /// Moves the entry of a name out of a table.
 fn remove<'de>(table: &mut Table<'de>, name: &'de str) -> Option<(Key<'de>, Value<'de>)>
     ensures rest { members_view table.new.entries ≡ without name.now (members_view table.old.entries) }
-    ensures entry { option_map (λ e. (Some e.0.span, view e.1)) result ≡ entry_at name.now (members_view table.old.entries) }
+    ensures entry { option_map (λ e. (Some e.0.span, view e.1)) result
+        ≡ entry_at name.now (members_view table.old.entries) }
     ensures name { IfSome result (λ e. cow_str_bytes e.0.name ≡ name.now) }
 {
     table.remove_entry(&named(name))

@@ -32,7 +32,8 @@ fn read_all<'de, T: Deserialize<'de>>(
     items: Vec<Value<'de>>,
 ) -> Result<Vec<T>, Stop<DeserError<'de>>>
     requires { IsTrue (all_whole (items_view items.items)) }
-    ensures { Answered result (λ r. ReadsAll T.reads (nodes_of (items_view items.entry.items)) (result_map (λ v. v.items) r)) }
+    ensures { Answered result (λ r. ReadsAll T.reads (nodes_of (items_view items.entry.items))
+        (result_map (λ v. v.items) r)) }
 {
     let mut read = Vec::new(alloc);
     let mut faults = None;
@@ -55,7 +56,8 @@ fn read_next<'de, T: Deserialize<'de>>(
     faults: &mut Option<DeserError<'de>>,
 ) -> Result<(), AllocError>
     requires { IsTrue (is_whole (view item)) }
-    ensures { OnOk result (AddsRead T.reads (view item.entry) read.old.items (all_of_option faults.old) read.new.items (all_of_option faults.new)) }
+    ensures { OnOk result (AddsRead T.reads (view item.entry) read.old.items (all_of_option faults.old)
+        read.new.items (all_of_option faults.new)) }
 {
     match T::deserialize(alloc, &mut item) {
         Ok(element) => match read.push(element) {
