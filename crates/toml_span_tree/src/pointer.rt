@@ -18,7 +18,7 @@ ghost use Rattle.toml_span_tree.specs.code.Lending.{IsHeld, lends_inner, lends_m
 ghost use Rattle.toml_span_tree.specs.code.Lending.{lends_child, lends_named, lends_at};
 ghost use Rattle.toml_span_tree.specs.Lending.{lends_pointed};
 
-use crate::value::{Array, Table, Value, ValueInner, named};
+use crate::value::{Array, Table, Value, ValueInner};
 use std::mem;
 use toml_span_lex::key::Key;
 
@@ -49,7 +49,7 @@ pub(crate) fn cut<'p>(path: &'p str) -> (&'p str, Option<&'p str>)
 fn table_entry<'v, 'de>(table: &'v Table<'de>, name: &'de str) -> Option<&'v Value<'de>>
     ensures { option_map (λ v. view v.now) result ≡ get_member name.now (members_view table.now.entries) }
 {
-    table.get(&named(name))
+    table.get(&Key::named(name))
 }
 
 pub(crate) fn array_entry<'v, 'de>(array: &'v Array<'de>, segment: &str) -> Option<&'v Value<'de>>
@@ -143,7 +143,7 @@ fn replace_entry<'de>(
         (λ w. members_view table.new.entries ≡ set_entry name.now w (members_view table.old.entries))
         (members_view table.new.entries ≡ members_view table.old.entries) }
 {
-    match table.get_mut(&named(name)) {
+    match table.get_mut(&Key::named(name)) {
         Some(child) => child.replace_here(rest, new),
         None => Err(new),
     }
@@ -313,7 +313,7 @@ fn step_to<'v, 'de>(value: &'v mut Value<'de>, segment: &'de str) -> &'v mut Val
     ensures* writes_back { sem 𝓛 (lends_child value.entry segment.now result) }
     ensures value { untaken_entry segment.now (view value.old) ≡ Some (view result.now) }
 {
-    let key = named(segment);
+    let key = Key::named(segment);
     let child = child_of(value, &key);
     release(key);
     child

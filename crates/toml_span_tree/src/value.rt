@@ -20,16 +20,6 @@ pub type Array<'de> = Vec<Value<'de>>;
 /// A table's entries, in the order of their names.
 pub type Table<'de> = BTreeMap<Key<'de>, Value<'de>>;
 
-/// A key of that name, to look a table up by. Keys compare by their names alone.
-pub(crate) fn named(name: &str) -> Key<'_>
-    ensures { cow_str_bytes result.name ≡ name.now }
-{
-    Key {
-        name: CowStr::Borrowed(name),
-        span: Span::default(),
-    }
-}
-
 /// What a value holds.
 #[cycle(tree)]
 #[derive(Debug, Drop)]
@@ -177,7 +167,7 @@ impl<'de> Value<'de> {
         ensures { result ≡ is_some (option_and_then (get_member key.now) (members_in (inner_of (view self.now)))) }
     {
         match self.as_table() {
-            Some(table) => table.contains_key(&named(key)),
+            Some(table) => table.contains_key(&Key::named(key)),
             None => false,
         }
     }

@@ -55,11 +55,11 @@ pointer::replace_entry-returns-in-Some t c =
     let after = c.replace_here.new.self in
     let there : get_member name (members_view es) ≡ Some (view child.now) =
     sym (view-lookup name es)
-    ∙ ap (option_map view) (ap (λ (n : List ℕ). lookup (at_name n) es) (sym c.named.ensures) ∙ sym c.get_mut.ensures.value)
+    ∙ ap (option_map view) (ap (λ (n : List ℕ). lookup (at_name n) es) (sym c.named.ensures.0) ∙ sym c.get_mut.ensures.value)
     ∙ sym (view-of_mut c.get_mut.result)
     ∙ ap (option_map (λ v. view v.now)) c.in-Some.is in
     let written =
-    ap members_view ((c.get_mut.follows.holds after).0 ∙ ap (λ (n : List ℕ). set_value (at_name n) es after) c.named.ensures)
+    ap members_view ((c.get_mut.follows.holds after).0 ∙ ap (λ (n : List ℕ). set_value (at_name n) es after) c.named.ensures.0)
     ∙ view-set_value name es after in
     exchanged-in c.replace_here.result c.args.new (segments_behind (option_map (λ r. r.now) c.args.rest)) _ (view child.now) (view after) _ _
     there
@@ -72,7 +72,7 @@ pointer::replace_entry-returns t c =
     let es = c.args.table.now.entries in
     exchanged-none c.args.new (segments_behind (option_map (λ r. r.now) c.args.rest)) _ _
     (sym (view-lookup c.args.name.now es)
-    ∙ ap (option_map view) (ap (λ (n : List ℕ). lookup (at_name n) es) (sym c.named.ensures) ∙ sym c.get_mut.ensures.value)
+    ∙ ap (option_map view) (ap (λ (n : List ℕ). lookup (at_name n) es) (sym c.named.ensures.0) ∙ sym c.get_mut.ensures.value)
     ∙ sym (view-of_mut c.get_mut.result)
     ∙ ap (option_map (λ v. view v.now)) c.in-None.is)
     (ap (λ (m : BTreeMap Key Value). members_view m.entries) c.get_mut.follows.holds-at-none)

@@ -13,7 +13,6 @@ use crate::de_helpers::expected;
 use crate::deser_error::DeserError;
 use crate::deserialize::Deserialize;
 use std::alloc::{AllocError, Global};
-use std::borrow::CowStr;
 use toml_span_lex::key::Key;
 use toml_span_lex::span::Span;
 use toml_span_lex::spanned::Spanned;
@@ -94,7 +93,7 @@ impl<'de> TableHelper<'de> {
     pub fn contains(&self, name: &'de str) -> bool
         ensures { result ≡ is_some (found name.now (state_of self.now)) }
     {
-        self.table.contains_key(&named(name))
+        self.table.contains_key(&Key::named(name))
     }
 
     /// Records the name, and moves its entry out, if there is one. Without memory for the name
@@ -274,16 +273,6 @@ impl<'de> TableHelper<'de> {
     }
 }
 
-/// A key of this name, to look for.
-fn named<'de>(name: &'de str) -> Key<'de>
-    ensures { cow_str_bytes result.name ≡ name.now }
-{
-    Key {
-        name: CowStr::Borrowed(name),
-        span: Span::default(),
-    }
-}
-
 /// Moves the entry of a name out of a table.
 fn remove<'de>(table: &mut Table<'de>, name: &'de str) -> Option<(Key<'de>, Value<'de>)>
     ensures rest { members_view table.new.entries ≡ without name.now (members_view table.old.entries) }
@@ -291,7 +280,7 @@ fn remove<'de>(table: &mut Table<'de>, name: &'de str) -> Option<(Key<'de>, Valu
         ≡ entry_at name.now (members_view table.old.entries) }
     ensures name { IfSome result (λ e. cow_str_bytes e.0.name ≡ name.now) }
 {
-    table.remove_entry(&named(name))
+    table.remove_entry(&Key::named(name))
 }
 
 /// The error of a field that is not there, in the table at this span.
