@@ -107,6 +107,6 @@ NamesPath (segment ∷ names) (position i ∷ path) = (position_of segment ≡ S
 abbrev pub IsPointed : List ℕ → Node → Node → Type 0
 IsPointed pointer n m =
     (names : List (List ℕ)) × (path : Path) × (pointer_segments pointer ≡ Some names) × NamesPath names path
-        × (node_at path n ≡ Some m) × (is_taken m ≡ true → path ≡ [])
+    × (node_at path n ≡ Some m) × (is_taken m ≡ true → path ≡ [])
 
 -- The same, a segment at a time.

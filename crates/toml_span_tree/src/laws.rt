@@ -38,7 +38,7 @@ pub fn put_stands()
 pub fn put_keeps_the_key()
     ensures { (path : Path) (n w : Node) (p : Place) → place_at path n ≡ Some p
         → place_at path (put path w n)
-            ≡ Some (record { shape = shape_of (inner_of w); key_span = p.key_span; span = span_of w }) }
+        ≡ Some (record { shape = shape_of (inner_of w); key_span = p.key_span; span = span_of w }) }
 {}
 
 /// Every other path shows what it showed, unless it leads through the place of the change.

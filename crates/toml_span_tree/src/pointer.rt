@@ -158,7 +158,7 @@ fn replace_element<'de>(
 ) -> Result<Value<'de>, Value<'de>>
     ensures { Exchanged result new.entry (segments_behind (option_map (λ r. r.now) rest.entry))
         (option_and_then if_not_taken
-            (option_and_then (λ i. get_item i (items_view array.old.items)) (position_of segment.now)))
+        (option_and_then (λ i. get_item i (items_view array.old.items)) (position_of segment.now)))
         (λ w. items_view array.new.items ≡ set_item (position_of segment.now) w (items_view array.old.items))
         (items_view array.new.items ≡ items_view array.old.items) }
 {
