@@ -16,7 +16,6 @@ use Rattle.toml_span_lex.specs.contracts.key.KeyPartialEq.TheImpl as eq
 use Rattle.toml_span_lex.specs.contracts.key.KeyPartialOrd.TheImpl as partial_ord
 use Rattle.toml_span_lex.specs.contracts.key.Key as key
 use Rattle.toml_span_lex.specs.declared.key.Key.{Key}
-use Rattle.toml_span_tree.specs.contracts.value.Value as value
 use Rattle.toml_span_tree.specs.contracts.value.ValueInner as inner
 use Rattle.toml_span_tree.specs.declared.value.Value.{Value}
 use Rattle.toml_span_tree.specs.declared.value.ValueInner.{ValueInner, Array, Table}
