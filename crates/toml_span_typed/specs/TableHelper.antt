@@ -95,7 +95,7 @@ abbrev pub Requires : {T : Type 0} → (Node → Result T Faults → Node → Ty
     → State → Type 0
 Requires reads name before (Ok x) after =
     (value : Node) × (left : Node) × (found name before ≡ Some value) × reads value (Ok x) left
-        × (after ≡ noted name before)
+    × (after ≡ noted name before)
 Requires reads name before (Err (stop.Fault error)) after = MatchOption (found name before)
     ((fault_of error ≡ missing name before) × (after ≡ keeping (missing name before ∷ []) (noted name before)))
     (λ value. (faults : Faults) × (left : Node) × reads value (Err faults) left
@@ -108,11 +108,11 @@ abbrev pub Tries : {T : Type 0} → (Node → Result T Faults → Node → Type 
     → Result (Option T) AllocError → State → Type 0
 Tries reads name before (Ok (Some x)) after =
     (value : Node) × (left : Node) × (found name before ≡ Some value) × reads value (Ok x) left
-        × (after ≡ noted name before)
+    × (after ≡ noted name before)
 Tries reads name before (Ok None) after = MatchOption (found name before)
     (after ≡ noted name before)
     (λ value. (faults : Faults) × (left : Node) × reads value (Err faults) left
-        × (after ≡ keeping (all faults) (noted name before)))
+    × (after ≡ keeping (all faults) (noted name before)))
 Tries reads name before (Err error) after = Starved name before after
 
 -- the keys that remain, with their spans, in the order of their names

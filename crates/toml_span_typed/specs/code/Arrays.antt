@@ -17,7 +17,7 @@ Answered (Err (stop.Memory error)) P = ⊤
 abbrev pub AreRead : {T : Type 0} → (Node → Result T Faults → Node → Type 0) → List Node → List T → List Fault → Type 0
 AreRead reads values xs faults =
     (answers : List (Result _ Faults)) × EachReads reads values answers × (elements answers ≡ xs)
-        × (errors answers ≡ faults)
+    × (errors answers ≡ faults)
 
 -- one more value is read: its element comes behind the elements, or its errors behind the errors
 abbrev pub AddsRead : {T : Type 0} → (Node → Result T Faults → Node → Type 0) → Node → List T → List Fault → List T
