@@ -5,7 +5,8 @@ use Rattle.std.specs.Prelude.{◌≡◌, ◌⊎◌, [], ◌∷◌, ◌++◌, ℕ
 use Rattle.std.specs.Prelude.{nat_le, List, length, take, drop, slice_index, if◌then◌else◌}
 use Rattle.std.specs.List.{list_all}
 use Rattle.std.specs.Char.{is_ascii_digit}
-use Rattle.toml_span_lex.specs.Bytes.{space, plus, dash, period, digit_zero, colon, capital_t, capital_z, small_t, small_z}
+use Rattle.toml_span_lex.specs.Bytes.{space, plus, dash, period, digit_zero, colon, capital_t, capital_z, small_t}
+use Rattle.toml_span_lex.specs.Bytes.{small_z}
 
 -- the number that two digits at i give
 abbrev pub two_digits : List ℕ → ℕ → ℕ
