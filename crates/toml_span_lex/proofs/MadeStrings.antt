@@ -12,9 +12,10 @@ use Rattle.toml_span_lex.specs.declared.stop.Stop.TheVariants as stops
 use Rattle.toml_span_lex.specs.declared.tokens.Error.{Error}
 use Rattle.toml_span_lex.specs.declared.span.Span.{Span}
 use Rattle.toml_span_lex.specs.declared.pieces.Piece.{Piece}
-use Rattle.toml_span_lex.specs.Strings.{opens_multi, ContentFrom, ContentGives, IsContent, Cut, content, content_end, content_span, IsString, Borrows, BorrowsWhereSame, HasChange, EndsWell}
+use Rattle.toml_span_lex.specs.Strings.{opens_multi, ContentFrom, IsContent, Cut, content, content_end, content_span, IsString, Borrows, BorrowsWhereSame, HasChange}
+use Rattle.toml_span_lex.specs.code.Strings.{ContentGives, EndsWell}
 use Rattle.toml_span_lex.specs.Pieces.{IsClose}
-use Rattle.toml_span_lex.specs.Strings.{StringGives, StringEnds}
+use Rattle.toml_span_lex.specs.code.Strings.{StringGives, StringEnds}
 
 pub third_quote : (text : List ℕ) (i : ℕ) → opens_multi text i ≡ true → get_or text (i + 2) 0 ≡ get_or text i 0
 third_quote text i h = grind (arith, nat_tests)

@@ -11,7 +11,7 @@ use Rattle.toml_span_lex.specs.Text.{CharAt, LineEnd, NoLineEnd}
 use Rattle.toml_span_lex.specs.declared.pieces.Piece.{Piece}
 use Rattle.toml_span_lex.specs.declared.pieces.Piece.TheVariants as pieces
 use Rattle.toml_span_lex.specs.Escapes.{simple_escape, hex_len, is_hex, IsEscape, IsHexEscape, IsHexFault, IsEscapeFault, opens_escape}
-use Rattle.toml_span_lex.specs.Pieces.{is_gap, IsDropped, IsPiece, IsClose, IsContentFault}
+use Rattle.toml_span_lex.specs.Pieces.{is_ws_or_newline, IsDropped, IsPiece, IsClose, IsContentFault}
 use Rattle.toml_span_lex.specs.Strings.{Cut, IsString, IsNoString}
 use Rattle.toml_span_lex.specs.declared.span.Span.{Span}
 use Rattle.toml_span_lex.specs.Tokens.{Lexeme, whitespace, newline, comment, sign, keylike, string, is_sign, begins_token, begins_alone, Stands, IsUnexpected, IsFault}
@@ -86,7 +86,7 @@ by_gap false = inl refl
 
 back_tag : (q : ℕ) (text : List ℕ) (i : ℕ) → q ≡ 34 → get_or text i 0 ≡ 92 → (tag_at q text i ≡ 3) ⊎ (tag_at q text i ≡ 4)
 unfolding tag_at
-back_tag q text i a b = rw (a, b) (by_gap (is_gap text (i + 1)))
+back_tag q text i a b = rw (a, b) (by_gap (is_ws_or_newline text (i + 1)))
 
 back_piece : (q : ℕ) (m : Bool) (text : List ℕ) (i j : ℕ) (p : Piece) → (tag p ≡ 3) ⊎ (tag p ≡ 4) → IsPiece q m text i j p → ((c : ℕ) × IsEscape text (i + 1) c j) ⊎ ((m ≡ true) × IsDropped text (i + 1) j)
 unfolding tag
@@ -113,7 +113,7 @@ pub char_unprinted : (text : List ℕ) (i c j : ℕ) → CharAt text i c j → i
 char_unprinted text i c j (inl h) n = rw (crlf_first text i h.0) refl
 char_unprinted text i c j (inr h) n = let same = ap (λ n. get_or text n 0) (sym (add-zero i)) ∙ (sym (get_or-drop i text 0 0) ∙ byte_from_char (drop i text) (drop j text) c h.2 (unprinted_ascii c n)) in rw same n
 
-pub blank_gap : (text : List ℕ) (i : ℕ) → is_blank (get_or text i 0) ≡ true → is_gap text i ≡ true
+pub blank_gap : (text : List ℕ) (i : ℕ) → is_blank (get_or text i 0) ≡ true → is_ws_or_newline text i ≡ true
 blank_gap text i h = rw h refl
 
 dropped_line : (text : List ℕ) (i j k : ℕ) → IsDropped text i j → MaximalRun is_blank text i k → NoLineEnd text k → ⊥

@@ -15,7 +15,8 @@ use Rattle.toml_span_lex.specs.declared.pieces.Piece.TheVariants as pieces
 use Rattle.toml_span_lex.specs.Text.{LineEnd}
 use Rattle.toml_span_lex.specs.Escapes.{simple_escape, hex_len, hex_value, is_hex, HexRun, IsHexEscape, IsEscape}
 use Rattle.toml_span_lex.specs.Pieces.{IsDropped, IsPiece, piece_value, IsClose}
-use Rattle.toml_span_lex.specs.Strings.{Cut, content, Kept, content_end, Ends, HasChange}
+use Rattle.toml_span_lex.specs.Strings.{Cut, content, content_end, HasChange}
+use Rattle.toml_span_lex.specs.code.Strings.{Kept, Ends}
 
 -- a kept content is no longer than the text
 pub kept_length : {Z : Type 0} (q : ℕ) (text : List ℕ) (from at : ℕ) (v : List ℕ) (kept : Option (String Z)) → from ≤ at → Kept q text from at v kept → length v + from ≤ at

@@ -9,7 +9,7 @@ use Rattle.std.proofs.lemmas.List.{get_or_past}
 use Rattle.std.proofs.lemmas.Bool.Decides.{nat_tests}
 use Rattle.toml_span_lex.specs.Bytes.{is_blank, is_keylike, is_printed}
 use Rattle.toml_span_lex.specs.Text.{is_crlf, CharAt, NoLineEnd}
-use Rattle.toml_span_lex.specs.Pieces.{is_gap, is_plain}
+use Rattle.toml_span_lex.specs.Pieces.{is_ws_or_newline, is_plain}
 use Rattle.toml_span_lex.specs.Tokens.{begins_token, begins_alone}
 
 -- a byte that is not 0 stands within the text
@@ -51,13 +51,13 @@ blank_line_ascii c h = grind arith
 pub crlf_first : (text : List ℕ) (i : ℕ) → is_crlf text i ≡ true → get_or text i 0 ≡ 13
 crlf_first text i h = grind arith
 
-pub gap_ascii : (text : List ℕ) (i : ℕ) → is_gap text i ≡ true → get_or text i 0 < 128
+pub gap_ascii : (text : List ℕ) (i : ℕ) → is_ws_or_newline text i ≡ true → get_or text i 0 < 128
 gap_ascii text i h = elim (or_cases _ _ h) [ inl a ↦ blank_line_ascii _ a | inr b ↦ let e = crlf_first text i b in omega arith ]
 
 pub behind_line : (text : List ℕ) (i : ℕ) → IsUtf8 text → is_crlf text i ≡ true → IsCharBoundary text (i + 2)
 behind_line text i u h = behind_crlf text i (i + 2) refl u h
 
-pub boundary_gap : (text : List ℕ) (i j : ℕ) → IsUtf8 text → IsCharBoundary text i → i ≤ j → j ≤ length text → ((k : ℕ) → i ≤ k → k < j → is_gap text k ≡ true) → IsCharBoundary text j
+pub boundary_gap : (text : List ℕ) (i j : ℕ) → IsUtf8 text → IsCharBoundary text i → i ≤ j → j ≤ length text → ((k : ℕ) → i ≤ k → k < j → is_ws_or_newline text k ≡ true) → IsCharBoundary text j
 boundary_gap text i j u b f w passes =
     elim (cases_lt i j) [
       | inl lt ↦ behind text (j - 1) j (omega arith) u (omega arith) (gap_ascii text _ (passes (j - 1) (omega arith) (omega arith)))

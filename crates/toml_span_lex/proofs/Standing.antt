@@ -3,8 +3,10 @@ use Rattle.std.proofs.Common.{ℕ, List, Result, Ok, Err, inl, inr, refl}
 use Rattle.toml_span_lex.specs.declared.span.Span.{Span}
 use Rattle.toml_span_lex.specs.declared.tokens.Token.{Token}
 use Rattle.toml_span_lex.specs.declared.tokens.Error.{Error}
-use Rattle.toml_span_lex.specs.Strings.{opens_multi, ScanGives}
-use Rattle.toml_span_lex.specs.Tokens.{Lexeme, whitespace, newline, comment, sign, keylike, string, lexeme, IsToken, Stands, Finds}
+use Rattle.toml_span_lex.specs.Strings.{opens_multi}
+use Rattle.toml_span_lex.specs.code.Strings.{ScanGives}
+use Rattle.toml_span_lex.specs.Tokens.{Lexeme, whitespace, newline, comment, sign, keylike, string, lexeme, IsToken, Stands}
+use Rattle.toml_span_lex.specs.code.Tokens.{Finds}
 use Rattle.toml_span_lex.specs.Laws.{SomethingStands}
 
 -- a token that is no string, with its span

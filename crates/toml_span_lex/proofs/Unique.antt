@@ -8,7 +8,7 @@ use Rattle.toml_span_lex.specs.Text.{LineEnd}
 use Rattle.toml_span_lex.specs.declared.pieces.Piece.{Piece}
 use Rattle.toml_span_lex.specs.declared.pieces.Piece.TheVariants as pieces
 use Rattle.toml_span_lex.specs.Escapes.{simple_escape, hex_len, IsEscape}
-use Rattle.toml_span_lex.specs.Pieces.{is_plain, is_gap, MaximalGap, IsDropped, IsPiece, IsClose}
+use Rattle.toml_span_lex.specs.Pieces.{is_plain, is_ws_or_newline, WsAndNewlines, IsDropped, IsPiece, IsClose}
 use Rattle.toml_span_lex.specs.Strings.{Cut, IsContent}
 use Rattle.toml_span_lex.proofs.Runs.{crlf_first}
 use Rattle.toml_span_lex.proofs.PieceLemmas.{same_byte}
@@ -22,10 +22,10 @@ pub run_unique : (p : ℕ → Bool) (text : List ℕ) (i j k : ℕ) → MaximalR
 run_unique p text i j k a b =
     elim (cases_lt j k) [ inl l ↦ absurd (no_shorter p text i j k a b l) | inr g ↦ elim (cases_lt k j) [ inl l ↦ absurd (no_shorter p text i k j b a l) | inr h ↦ omega arith ] ]
 
-no_shorter_gap : (text : List ℕ) (i j k : ℕ) → MaximalGap text i j → MaximalGap text i k → j < k → ⊥
+no_shorter_gap : (text : List ℕ) (i j k : ℕ) → WsAndNewlines text i j → WsAndNewlines text i k → j < k → ⊥
 no_shorter_gap text i j k a b l = false≢true (sym (a.stops (omega (arith, b.within))) ∙ b.passes j a.forward l)
 
-pub gap_unique : (text : List ℕ) (i j k : ℕ) → MaximalGap text i j → MaximalGap text i k → j ≡ k
+pub gap_unique : (text : List ℕ) (i j k : ℕ) → WsAndNewlines text i j → WsAndNewlines text i k → j ≡ k
 gap_unique text i j k a b =
     elim (cases_lt j k) [ inl l ↦ absurd (no_shorter_gap text i j k a b l) | inr g ↦ elim (cases_lt k j) [ inl l ↦ absurd (no_shorter_gap text i k j b a l) | inr h ↦ omega arith ] ]
 
@@ -59,7 +59,7 @@ unfoldable pub tag_at : ℕ → List ℕ → ℕ → ℕ
 tag_at q text i =
     if is_plain q (get_or text i 0) then 0
     else if get_or text i 0 == q then 1
-    else if get_or text i 0 == 92 then (if is_gap text (i + 1) then 4 else 3)
+    else if get_or text i 0 == 92 then (if is_ws_or_newline text (i + 1) then 4 else 3)
     else 2
 
 unfoldable pub tag : Piece → ℕ
@@ -76,7 +76,7 @@ or_true false = refl
 blank_byte : (b : ℕ) → (is_blank b || b == 10) ≡ true → ((b ≡ 32) ⊎ (b ≡ 9)) ⊎ ((b ≡ 10) ⊎ (b ≡ 13))
 blank_byte b h = grind (arith, nat_tests)
 
-gap_byte : (text : List ℕ) (i : ℕ) → is_gap text i ≡ true → ((get_or text i 0 ≡ 32) ⊎ (get_or text i 0 ≡ 9)) ⊎ ((get_or text i 0 ≡ 10) ⊎ (get_or text i 0 ≡ 13))
+gap_byte : (text : List ℕ) (i : ℕ) → is_ws_or_newline text i ≡ true → ((get_or text i 0 ≡ 32) ⊎ (get_or text i 0 ≡ 9)) ⊎ ((get_or text i 0 ≡ 10) ⊎ (get_or text i 0 ≡ 13))
 gap_byte text i h = elim (or_cases _ _ h) [ inr b ↦ inr (inr (crlf_first text i b)) | inl b ↦ blank_byte (get_or text i 0) b ]
 
 no_letter : (b : ℕ) → ((b ≡ 32) ⊎ (b ≡ 9)) ⊎ ((b ≡ 10) ⊎ (b ≡ 13)) → (simple_escape b ≡ None) × (hex_len b ≡ 0)
@@ -89,15 +89,15 @@ pub is_false : (b : Bool) → (b ≡ true → ⊥) → b ≡ false
 is_false true h = absurd (h refl)
 is_false false h = refl
 
-pub escape_no_gap : (text : List ℕ) (i c j : ℕ) → IsEscape text i c j → is_gap text i ≡ false
+pub escape_no_gap : (text : List ℕ) (i c j : ℕ) → IsEscape text i c j → is_ws_or_newline text i ≡ false
 escape_no_gap text i c j (inl a) = is_false _ (λ g. none_some c (sym (no_letter (get_or text i 0) (gap_byte text i g)).0 ∙ a.0))
 escape_no_gap text i c j (inr a) = is_false _ (λ g. (let z = (no_letter (get_or text i 0) (gap_byte text i g)).1 in omega (arith, a.0)))
 
-line_gap : (text : List ℕ) (i j : ℕ) → LineEnd text i j → is_gap text i ≡ true
+line_gap : (text : List ℕ) (i j : ℕ) → LineEnd text i j → is_ws_or_newline text i ≡ true
 line_gap text i j (inl h) = rw h.0 refl
 line_gap text i j (inr h) = rw (h.0, or_true) refl
 
-pub dropped_gap : (text : List ℕ) (i j : ℕ) → IsDropped text i j → is_gap text i ≡ true
+pub dropped_gap : (text : List ℕ) (i j : ℕ) → IsDropped text i j → is_ws_or_newline text i ≡ true
 dropped_gap text i j (k, l, run, line, gap) =
     elim (cases_lt i k) [
       | inl f ↦ rw (run.passes i (omega arith) f) refl

@@ -1,8 +1,12 @@
 -- The classes of bytes, and runs of them.
-use Rattle.std.specs.Prelude.{◌≡◌, ℕ, ◌<◌, ◌≤◌, Bool, true, false, not, ◌&&◌, ◌||◌, ◌==◌, nat_le, List, length, slice_index}
+use Rattle.std.specs.Prelude.{◌≡◌, ℕ, ◌<◌, ◌≤◌, Bool, true, false, not, ◌&&◌, ◌||◌, ◌==◌, nat_le, List, length}
+use Rattle.std.specs.Prelude.{slice_index}
 use Rattle.std.specs.Char.{is_ascii_alphanumeric}
 
 -- ---- the bytes that have names
+
+abbrev pub backspace : ℕ
+backspace = 8
 
 abbrev pub tab : ℕ
 tab = 9
@@ -10,8 +14,14 @@ tab = 9
 abbrev pub line_feed : ℕ
 line_feed = 10
 
+abbrev pub form_feed : ℕ
+form_feed = 12
+
 abbrev pub carriage_return : ℕ
 carriage_return = 13
+
+abbrev pub escape_character : ℕ
+escape_character = 27
 
 abbrev pub space : ℕ
 space = 32
@@ -40,11 +50,26 @@ dash = 45
 abbrev pub period : ℕ
 period = 46
 
+abbrev pub slash : ℕ
+slash = 47
+
+abbrev pub digit_zero : ℕ
+digit_zero = 48
+
 abbrev pub colon : ℕ
 colon = 58
 
 abbrev pub equals : ℕ
 equals = 61
+
+abbrev pub capital_t : ℕ
+capital_t = 84
+
+abbrev pub capital_u : ℕ
+capital_u = 85
+
+abbrev pub capital_z : ℕ
+capital_z = 90
 
 abbrev pub left_bracket : ℕ
 left_bracket = 91
@@ -54,6 +79,33 @@ right_bracket = 93
 
 abbrev pub underscore : ℕ
 underscore = 95
+
+abbrev pub small_b : ℕ
+small_b = 98
+
+abbrev pub small_e : ℕ
+small_e = 101
+
+abbrev pub small_f : ℕ
+small_f = 102
+
+abbrev pub small_n : ℕ
+small_n = 110
+
+abbrev pub small_r : ℕ
+small_r = 114
+
+abbrev pub small_t : ℕ
+small_t = 116
+
+abbrev pub small_u : ℕ
+small_u = 117
+
+abbrev pub small_x : ℕ
+small_x = 120
+
+abbrev pub small_z : ℕ
+small_z = 122
 
 abbrev pub left_brace : ℕ
 left_brace = 123
@@ -69,15 +121,16 @@ byte_order_mark = 0xFEFF
 
 -- ---- classes
 
--- a space or a tab
+-- `wschar = %x20 / %x09`: a space or a tab
 abbrev pub is_blank : ℕ → Bool
 is_blank c = c == space || c == tab
 
--- a letter, a digit, a dash or an underscore
+-- `ALPHA / DIGIT / %x2D / %x5F`, a character of an `unquoted-key`: a letter, a digit, a dash or an underscore
 abbrev pub is_keylike : ℕ → Bool
 is_keylike c = (is_ascii_alphanumeric c || c == dash) || c == underscore
 
--- A tab, or no control character. A byte from 128 on is part of a character past ASCII.
+-- `non-eol = %x09 / %x20-7E / non-ascii`: a tab, or no control character. A byte from 128 on is part of a character
+-- past ASCII.
 abbrev pub is_printed : ℕ → Bool
 is_printed c = c == tab || (nat_le space c && not (c == delete))
 

@@ -1,30 +1,35 @@
 -- Escapes of strings in quotation marks.
-use Rattle.std.specs.Prelude.{◌≡◌, ℕ, ◌+◌, ◌<◌, ◌≤◌, ◌⊎◌, Bool, true, false, ◌||◌, ◌==◌, nat_lt, if◌then◌else◌, is_some, List, take, drop, length, slice_index, Result, Ok, Err, Option, Some, None}
+use Rattle.std.specs.Prelude.{◌≡◌, ℕ, ◌+◌, ◌<◌, ◌≤◌, ◌⊎◌, Bool, true, false, ◌||◌, ◌==◌, nat_lt, if◌then◌else◌, is_some}
+use Rattle.std.specs.Prelude.{List, take, drop, length, slice_index, Option, Some, None}
 use Rattle.std.specs.Char.{is_digit, IsScalar}
 use Rattle.std.specs.Str.Parse.{digits_value}
-use Rattle.toml_span_lex.specs.Bytes.{quotation_mark, backslash}
+use Rattle.toml_span_lex.specs.Bytes.{backspace, tab, line_feed, form_feed, carriage_return, escape_character}
+use Rattle.toml_span_lex.specs.Bytes.{quotation_mark, backslash, capital_u, small_b, small_e, small_f, small_n}
+use Rattle.toml_span_lex.specs.Bytes.{small_r, small_t, small_u, small_x}
 use Rattle.toml_span_lex.specs.Text.{CharAt}
 use Rattle.toml_span_lex.specs.declared.tokens.Error.{Error}
 use Rattle.toml_span_lex.specs.declared.tokens.Error.TheVariants as errors
 
--- the character that one letter stands for behind a backslash
+-- `escape-seq-char = %x22 / %x5C / %x62 / %x66 / %x6E / %x72 / %x74 / %x65`, and those of `hex_len`: the character that
+-- one letter stands for behind a backslash
 abbrev pub simple_escape : ℕ → Option ℕ
 simple_escape c =
     if c == quotation_mark then Some quotation_mark
     else if c == backslash then Some backslash
-    else if c == 98 then Some 8  -- b, backspace
-    else if c == 102 then Some 12  -- f, form feed
-    else if c == 110 then Some 10  -- n, line feed
-    else if c == 114 then Some 13  -- r, carriage return
-    else if c == 116 then Some 9  -- t, tab
-    else if c == 101 then Some 27  -- e, escape
+    else if c == small_b then Some backspace
+    else if c == small_f then Some form_feed
+    else if c == small_n then Some line_feed
+    else if c == small_r then Some carriage_return
+    else if c == small_t then Some tab
+    else if c == small_e then Some escape_character
     else None
 
--- how many hexadecimal digits follow a letter behind a backslash: 2 behind x, 4 behind u, 8 behind U
+-- `escape-seq-char =/ %x78 2HEXDIG / %x75 4HEXDIG / %x55 8HEXDIG`: how many hexadecimal digits follow a letter behind a
+-- backslash
 abbrev pub hex_len : ℕ → ℕ
-hex_len c = if c == 120 then 2 else if c == 117 then 4 else if c == 85 then 8 else 0
+hex_len c = if c == small_x then 2 else if c == small_u then 4 else if c == capital_u then 8 else 0
 
--- a hexadecimal digit, of either case
+-- `HEXDIG`: a hexadecimal digit, of either case
 abbrev pub is_hex : ℕ → Bool
 is_hex c = is_digit c 16
 
@@ -52,15 +57,11 @@ IsHexFault start text i n j (errors.InvalidEscapeValue at m v) =
     (at ≡ i) × (m ≡ n) × (v ≡ hex_value text (i + 1) n) × HexRun text (i + 1) j × (j ≡ (i + 1) + n) × (IsScalar v → ⊥)
 IsHexFault start text i n j _ = ⊥
 
-abbrev pub HexGives : ℕ → List ℕ → ℕ → ℕ → Result (ℕ × ℕ) (Error × ℕ) → Type 0
-HexGives start text i n (Ok found) = IsHexEscape text i n found.0 found.1
-HexGives start text i n (Err fault) = IsHexFault start text i n fault.1 fault.0
-
 -- a letter that may stand behind a backslash
 abbrev pub opens_escape : ℕ → Bool
 opens_escape c = is_some (simple_escape c) || nat_lt 0 (hex_len c)
 
--- the escape whose letter is at i writes c, and ends at j
+-- `escaped = escape escape-seq-char`: the escape whose letter is at i writes c, and ends at j
 abbrev pub IsEscape : List ℕ → ℕ → ℕ → ℕ → Type 0
 IsEscape text i c j =
     ((simple_escape (slice_index text i) ≡ Some c) × (i < length text) × (j ≡ i + 1))
@@ -71,8 +72,5 @@ abbrev pub IsEscapeFault : ℕ → List ℕ → ℕ → ℕ → Error → Type 0
 IsEscapeFault start text i j e =
     ((e ≡ errors.UnterminatedString start) × (i ≡ length text) × (j ≡ i))
     ⊎ ((c : ℕ) × (e ≡ errors.InvalidEscape i c) × (opens_escape c ≡ false) × CharAt text i c j)
-    ⊎ ((0 < hex_len (slice_index text i)) × (i < length text) × IsHexFault start text i (hex_len (slice_index text i)) j e)
-
-abbrev pub EscapeGives : ℕ → List ℕ → ℕ → Result (ℕ × ℕ) (Error × ℕ) → Type 0
-EscapeGives start text i (Ok found) = IsEscape text i found.0 found.1
-EscapeGives start text i (Err fault) = IsEscapeFault start text i fault.1 fault.0
+    ⊎ ((0 < hex_len (slice_index text i)) × (i < length text)
+    × IsHexFault start text i (hex_len (slice_index text i)) j e)

@@ -18,7 +18,8 @@ use Rattle.toml_span_lex.specs.Tokens.{Lexeme, keylike, string, lexeme, Stands, 
 
 -- At most one token begins at a place, with one end, one span and one content.
 abbrev pub OneToken : Type 0
-OneToken = (text : List ℕ) (i j k : ℕ) (s t : Span) (l r : Lexeme) → Stands text i j s l → Stands text i k t r → (j ≡ k) × (s ≡ t) × (l ≡ r)
+OneToken = (text : List ℕ) (i j k : ℕ) (s t : Span) (l r : Lexeme) → Stands text i j s l → Stands text i k t r
+    → (j ≡ k) × (s ≡ t) × (l ≡ r)
 
 -- At most one fault stands at a place.
 abbrev pub OneFault : Type 0
@@ -26,7 +27,8 @@ OneFault = (text : List ℕ) (i j k : ℕ) (e f : Error) → IsFault text i j e 
 
 -- Where a token begins, no fault stands.
 abbrev pub TokenOrFault : Type 0
-TokenOrFault = (text : List ℕ) (i j k : ℕ) (s : Span) (l : Lexeme) (e : Error) → Stands text i j s l → IsFault text i k e → ⊥
+TokenOrFault =
+    (text : List ℕ) (i j k : ℕ) (s : Span) (l : Lexeme) (e : Error) → Stands text i j s l → IsFault text i k e → ⊥
 
 -- A token has at least one byte and ends within the text, and so does what a fault names. At the end neither stands.
 abbrev pub TokensWithin : Type 0
@@ -43,17 +45,20 @@ SomethingStands text i =
 
 -- The content of a string has one value and one end.
 abbrev pub OneContent : Type 0
-OneContent = (q : ℕ) (m : Bool) (text v w : List ℕ) (i s t j k : ℕ) → IsQuote q → IsContent q m text i v s j → IsContent q m text i w t k → (v ≡ w) × (s ≡ t) × (j ≡ k)
+OneContent = (q : ℕ) (m : Bool) (text v w : List ℕ) (i s t j k : ℕ) → IsQuote q → IsContent q m text i v s j
+    → IsContent q m text i w t k → (v ≡ w) × (s ≡ t) × (j ≡ k)
 
 -- ---- the folded text
 
 -- Going from character to character gives the folded text.
 abbrev pub FoldedText : Type 0
-FoldedText = (text : List ℕ) (i c j : ℕ) → IsUtf8 (drop i text) → CharAt text i c j → folded text i ≡ (i, c) ∷ folded text j
+FoldedText =
+    (text : List ℕ) (i c j : ℕ) → IsUtf8 (drop i text) → CharAt text i c j → folded text i ≡ (i, c) ∷ folded text j
 
 -- From a place of the folded text, tokens and faults lead to one.
 abbrev pub TokensUnfolded : Type 0
-TokensUnfolded = (text : List ℕ) (i j : ℕ) (s : Span) (l : Lexeme) → KeepsLineEnd text i → Stands text i j s l → KeepsLineEnd text j
+TokensUnfolded =
+    (text : List ℕ) (i j : ℕ) (s : Span) (l : Lexeme) → KeepsLineEnd text i → Stands text i j s l → KeepsLineEnd text j
 
 abbrev pub FaultsUnfolded : Type 0
 FaultsUnfolded = (text : List ℕ) (i j : ℕ) (e : Error) → IsFault text i j e → KeepsLineEnd text j
@@ -63,7 +68,8 @@ FaultsUnfolded = (text : List ℕ) (i j : ℕ) (e : Error) → IsFault text i j 
 -- A token that may want memory is a string with a carriage return in it, or one in quotation marks with a backslash.
 abbrev pub CopiedStrings : Type 0
 CopiedStrings = (text : List ℕ) (i j : ℕ) (s : Span) (l : Lexeme) → Stands text i j s l → NeedsMemory text i
-    → ((source : List ℕ) × (value : List ℕ) × (multi : Bool) × (l ≡ string source value multi)) × HasChange (slice_index text i) text i j
+    → ((source : List ℕ) × (value : List ℕ) × (multi : Bool) × (l ≡ string source value multi))
+    × HasChange (slice_index text i) text i j
 
 -- ---- keys
 
@@ -76,7 +82,8 @@ KeysByName eq cmp = (a b : Key) →
 
 -- A bare key's name is the text at its span.
 abbrev pub BareKeys : Type 0
-BareKeys = (text : List ℕ) (i j : ℕ) (span : Span) (name : List ℕ) → Stands text i j span (keylike name) → name ≡ slice_range text span.start span.end
+BareKeys = (text : List ℕ) (i j : ℕ) (span : Span) (name : List ℕ) → Stands text i j span (keylike name)
+    → name ≡ slice_range text span.start span.end
 
 -- ---- tokens
 

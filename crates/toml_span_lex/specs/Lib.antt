@@ -6,3 +6,4 @@ pub mod Strings
 pub mod Tokens
 pub mod Tokenizer
 pub mod Laws
+pub mod code

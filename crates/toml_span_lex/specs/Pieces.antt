@@ -1,5 +1,6 @@
 -- The pieces that a string is cut into. Its quotes are q, and multi says whether there are three of them.
-use Rattle.std.specs.Prelude.{◌≡◌, ℕ, ◌+◌, ◌<◌, ◌≤◌, ◌⊎◌, min, Bool, true, false, not, ◌&&◌, ◌||◌, ◌==◌, if◌then◌else◌, List, [], ◌∷◌, length, slice_index, slice_range, encode_utf8, Result, Ok, Err, Option, Some, None}
+use Rattle.std.specs.Prelude.{◌≡◌, ℕ, ◌+◌, ◌<◌, ◌≤◌, ◌⊎◌, min, Bool, true, false, not, ◌&&◌, ◌||◌, ◌==◌, if◌then◌else◌}
+use Rattle.std.specs.Prelude.{List, [], ◌∷◌, length, slice_index, slice_range, encode_utf8}
 use Rattle.toml_span_lex.specs.Bytes.{quotation_mark, backslash, line_feed, is_blank, is_printed, MaximalRun}
 use Rattle.toml_span_lex.specs.Text.{is_crlf, LineEnd, NoLineEnd, CharAt}
 use Rattle.toml_span_lex.specs.Escapes.{IsEscape, IsEscapeFault}
@@ -8,32 +9,39 @@ use Rattle.toml_span_lex.specs.declared.pieces.Piece.TheVariants as pieces
 use Rattle.toml_span_lex.specs.declared.tokens.Error.{Error}
 use Rattle.toml_span_lex.specs.declared.tokens.Error.TheVariants as errors
 
--- a byte that stands for itself between these quotes
+-- A byte that stands for itself between these quotes:
+-- `basic-unescaped = wschar / %x21 / %x23-5B / %x5D-7E / non-ascii`
+-- `literal-char = %x09 / %x20-26 / %x28-7E / non-ascii`
 abbrev pub is_plain : ℕ → ℕ → Bool
 is_plain q c = is_printed c && not (c == q) && not (q == quotation_mark && c == backslash)
 
--- a space, a tab or a line end
-abbrev pub is_gap : List ℕ → ℕ → Bool
-is_gap text i = is_blank (slice_index text i) || slice_index text i == line_feed || is_crlf text i
+-- `wschar / newline`: a space, a tab or a line end
+abbrev pub is_ws_or_newline : List ℕ → ℕ → Bool
+is_ws_or_newline text i = is_blank (slice_index text i) || slice_index text i == line_feed || is_crlf text i
 
--- all spaces, tabs and line ends from i to j, and none at j
-pub record MaximalGap (text : List ℕ) (i j : ℕ) : Type 0 where
+-- `*( wschar / newline )`: all spaces, tabs and line ends from i to j, and none at j
+pub record WsAndNewlines (text : List ℕ) (i j : ℕ) : Type 0 where
   pub forward : i ≤ j
   pub within : j ≤ length text
-  pub passes : (k : ℕ) → i ≤ k → k < j → is_gap text k ≡ true
-  pub stops : j < length text → is_gap text j ≡ false
+  pub passes : (k : ℕ) → i ≤ k → k < j → is_ws_or_newline text k ≡ true
+  pub stops : j < length text → is_ws_or_newline text j ≡ false
 
--- what a backslash drops: spaces and tabs, a line end, and all spaces, tabs and line ends behind it
+-- `mlb-escaped-nl = escape ws newline *( wschar / newline )`: what a backslash drops, which are spaces and tabs, a line
+-- end, and all spaces, tabs and line ends behind it
 abbrev pub IsDropped : List ℕ → ℕ → ℕ → Type 0
-IsDropped text i j = (k : ℕ) × (l : ℕ) × MaximalRun is_blank text i k × LineEnd text k l × MaximalGap text l j
+IsDropped text i j = (k : ℕ) × (l : ℕ) × MaximalRun is_blank text i k × LineEnd text k l × WsAndNewlines text l j
 
 -- The text from i to j is this piece. Line ends, one or two quotes and what a backslash drops are pieces of
 -- strings of several lines alone, escapes of strings in quotation marks alone.
+-- `basic-char = basic-unescaped / escaped`
+-- `mlb-content = basic-char / newline / mlb-escaped-nl`, `mlb-quotes = 1*2quotation-mark`
+-- `mll-content = literal-char / newline`, `mll-quotes = 1*2apostrophe`
 abbrev pub IsPiece : ℕ → Bool → List ℕ → ℕ → ℕ → Piece → Type 0
 IsPiece q multi text i j pieces.Plain = (i < j) × MaximalRun (is_plain q) text i j
 IsPiece q multi text i j pieces.Quotes = (multi ≡ true) × (i < j) × (j < i + 3) × MaximalRun (λ c. c == q) text i j
 IsPiece q multi text i j pieces.LineEnd = (multi ≡ true) × LineEnd text i j
-IsPiece q multi text i j (pieces.Escape c) = (q ≡ quotation_mark) × (slice_index text i ≡ backslash) × IsEscape text (i + 1) c j
+IsPiece q multi text i j (pieces.Escape c) =
+    (q ≡ quotation_mark) × (slice_index text i ≡ backslash) × IsEscape text (i + 1) c j
 IsPiece q multi text i j pieces.Dropped =
     (q ≡ quotation_mark) × (multi ≡ true) × (slice_index text i ≡ backslash) × IsDropped text (i + 1) j
 
@@ -44,11 +52,18 @@ piece_value text i j (pieces.Escape c) = encode_utf8 c
 piece_value text i j pieces.Dropped = []
 piece_value text i j _ = slice_range text i j
 
--- The string closes with the quotes at i, and j is behind the last one. On one line that is one quote; else they are
--- the first three or more in a row, and five at most.
+-- `ml-basic-string-delim = 3quotation-mark`, `ml-literal-string-delim = 3apostrophe`, with `[ mlb-quotes ]` or
+-- `[ mll-quotes ]` before them: the string closes with the quotes at i, and j is behind the last one. On one line
+-- that is one quote; else they are the first three or more in a row, and five at most.
 abbrev pub IsClose : ℕ → Bool → List ℕ → ℕ → ℕ → Type 0
 IsClose q false text i j = (slice_index text i ≡ q) × (i < length text) × (j ≡ i + 1)
 IsClose q true text i j = (r : ℕ) × MaximalRun (λ c. c == q) text i r × (i + 3 ≤ r) × (j ≡ min r (i + 5))
+
+-- the fault of a backslash at i with spaces and tabs behind it up to j, and no line end there
+abbrev pub drop_fault : ℕ → List ℕ → ℕ → ℕ → Error
+drop_fault start text i j =
+    if j == length text then errors.UnterminatedString start
+    else errors.InvalidEscape (i + 1) (slice_index text (i + 1))
 
 -- A string opened at start. Neither a piece of it nor its end stands at i, and this fault does: the end of the text, a
 -- line end on one line, a character that is not admitted, no escape behind a backslash, or no line end behind a
@@ -58,11 +73,7 @@ IsContentFault q multi start text i j e =
     ((e ≡ errors.UnterminatedString start) × (i ≡ length text) × (j ≡ i))
     ⊎ ((e ≡ errors.NewlineInString i) × (multi ≡ false) × LineEnd text i j)
     ⊎ ((c : ℕ) × (e ≡ errors.InvalidCharInString i c) × (is_printed c ≡ false) × NoLineEnd text i × CharAt text i c j)
-    ⊎ ((q ≡ quotation_mark) × (slice_index text i ≡ backslash) × (multi ≡ true → is_gap text (i + 1) ≡ false) × IsEscapeFault start text (i + 1) j e)
-    ⊎ ((q ≡ quotation_mark) × (multi ≡ true) × (slice_index text i ≡ backslash) × (i + 1 < j) × MaximalRun is_blank text (i + 1) j × NoLineEnd text j
-    × (e ≡ (if j == length text then errors.UnterminatedString start else errors.InvalidEscape (i + 1) (slice_index text (i + 1)))))
-
-abbrev pub PieceGives : ℕ → Bool → ℕ → List ℕ → ℕ → Result (Option Piece × ℕ) (Error × ℕ) → Type 0
-PieceGives q multi start text i (Ok (Some piece, j)) = IsPiece q multi text i j piece
-PieceGives q multi start text i (Ok (None, j)) = IsClose q multi text i j
-PieceGives q multi start text i (Err (e, j)) = IsContentFault q multi start text i j e
+    ⊎ ((q ≡ quotation_mark) × (slice_index text i ≡ backslash) × (multi ≡ true → is_ws_or_newline text (i + 1) ≡ false)
+    × IsEscapeFault start text (i + 1) j e)
+    ⊎ ((q ≡ quotation_mark) × (multi ≡ true) × (slice_index text i ≡ backslash) × (i + 1 < j)
+    × MaximalRun is_blank text (i + 1) j × NoLineEnd text j × (e ≡ drop_fault start text i j))

@@ -1,7 +1,6 @@
 -- Strings: their content, value, span and faults.
-use Rattle.std.specs.Prelude.{◌≡◌, ◌↔◌, ℕ, ◌+◌, ◌-◌, ◌<◌, ◌≤◌, ◌⊎◌, Bool, true, false, not, ◌&&◌, ◌==◌, if◌then◌else◌, List, [], ◌∷◌, ◌++◌, length, slice_index, slice_range, string_bytes, Result, Ok, Err, Option, Some, None}
-use Rattle.std.specs.Str.{IsCharBoundary}
-use Rattle.std.specs.declared.string.String.{String}
+use Rattle.std.specs.Prelude.{◌≡◌, ◌↔◌, ℕ, ◌+◌, ◌-◌, ◌<◌, ◌≤◌, ◌⊎◌, Bool, true, false, not, ◌&&◌, ◌==◌, if◌then◌else◌}
+use Rattle.std.specs.Prelude.{List, [], ◌∷◌, ◌++◌, slice_index, slice_range}
 use Rattle.std.specs.Cow.{cow_str_bytes, IsBorrowedStr}
 use Rattle.std.specs.declared.borrow.CowStr.{CowStr}
 use Rattle.toml_span_lex.specs.Bytes.{quotation_mark, apostrophe, backslash, carriage_return}
@@ -9,15 +8,14 @@ use Rattle.toml_span_lex.specs.Text.{LineEnd, NoLineEnd}
 use Rattle.toml_span_lex.specs.Pieces.{IsPiece, piece_value, IsClose, IsContentFault}
 use Rattle.toml_span_lex.specs.declared.pieces.Piece.{Piece}
 use Rattle.toml_span_lex.specs.declared.span.Span.{Span}
-use Rattle.toml_span_lex.specs.declared.stop.Stop.{Stop}
-use Rattle.toml_span_lex.specs.declared.stop.Stop.TheVariants as stops
 use Rattle.toml_span_lex.specs.declared.tokens.Error.{Error}
-use Rattle.toml_span_lex.specs.declared.tokens.Token.{Token}
-use Rattle.toml_span_lex.specs.declared.tokens.Token.TheVariants as tokens
 
 -- ---- content
 
--- The text from i to j is cut into these pieces, each with the place where it ends.
+-- The text from i to j is cut into these pieces, each with the place where it ends:
+-- `*basic-char`, `*literal-char`
+-- `ml-basic-body = *mlb-content *( mlb-quotes 1*mlb-content ) [ mlb-quotes ]`
+-- `ml-literal-body = *mll-content *( mll-quotes 1*mll-content ) [ mll-quotes ]`
 abbrev pub Cut : ℕ → Bool → List ℕ → ℕ → List (Piece × ℕ) → ℕ → Type 0
 Cut q multi text i [] j = i ≡ j
 Cut q multi text i (p ∷ ps) j = IsPiece q multi text i p.1 p.0 × Cut q multi text p.1 ps j
@@ -61,19 +59,9 @@ pub record NeedsCopy (q : ℕ) (multi : Bool) (text : List ℕ) (from : ℕ) : T
   pub cut : Cut q multi text from pieces at
   pub change : HasChange q text from at
 
--- The content is kept as the text itself while it equals it, and as a shorter text of its own from then on.
-abbrev pub Kept : {Z : Type 0} → ℕ → List ℕ → ℕ → ℕ → List ℕ → Option (String Z) → Type 0
-Kept q text from at value None = value ≡ slice_range text from at
-Kept q text from at value (Some s) = (string_bytes s ≡ value) × (length value + from < at) × HasChange q text from at
-
-abbrev pub ContentGives : {Z : Type 0} → ℕ → Bool → ℕ → List ℕ → ℕ → Result (Option (String Z) × ℕ × ℕ) (Stop (Error × ℕ)) → Type 0
-ContentGives q multi start text from (Ok (kept, to, end)) = (value : List ℕ) × IsContent q multi text from value to end × Kept q text from to value kept
-ContentGives q multi start text from (Err (stops.Memory e)) = NeedsCopy q multi text from
-ContentGives q multi start text from (Err (stops.Fault (e, j))) = IsContentCutOff q multi start text from j e
-
 -- ---- strings
 
--- a quotation mark or an apostrophe
+-- `quotation-mark = %x22`, `apostrophe = %x27`
 abbrev pub IsQuote : ℕ → Type 0
 IsQuote q = (q ≡ quotation_mark) ⊎ (q ≡ apostrophe)
 
@@ -81,16 +69,23 @@ IsQuote q = (q ≡ quotation_mark) ⊎ (q ≡ apostrophe)
 abbrev pub opens_multi : List ℕ → ℕ → Bool
 opens_multi text i = slice_index text (i + 1) == slice_index text i && slice_index text (i + 2) == slice_index text i
 
--- The content begins behind the opening quotes, and in a string of several lines behind a line end right there.
+-- `ml-basic-string-delim [ newline ]`, `ml-literal-string-delim [ newline ]`: the content begins behind the opening
+-- quotes, and in a string of several lines behind a line end right there
 abbrev pub ContentFrom : Bool → List ℕ → ℕ → ℕ → Type 0
 ContentFrom false text i from = from ≡ i + 1
 ContentFrom true text i from = LineEnd text (i + 3) from ⊎ (NoLineEnd text (i + 3) × (from ≡ i + 3))
 
 -- The span of a string is its content's. An empty string on one line has its opening quote's.
 abbrev pub content_span : Bool → ℕ → ℕ → ℕ → Span
-content_span multi i from to = if not multi && from == to then record { start = i; end = i + 1 } else record { start = from; end = to }
+content_span multi i from to =
+    if not multi && from == to then record { start = i; end = i + 1 } else record { start = from; end = to }
 
--- the text from i to j is a string
+-- The text from i to j is a string:
+-- `string = ml-basic-string / basic-string / ml-literal-string / literal-string`
+-- `basic-string = quotation-mark *basic-char quotation-mark`
+-- `ml-basic-string = ml-basic-string-delim [ newline ] ml-basic-body ml-basic-string-delim`
+-- `literal-string = apostrophe *literal-char apostrophe`
+-- `ml-literal-string = ml-literal-string-delim [ newline ] ml-literal-body ml-literal-string-delim`
 pub record IsString (text : List ℕ) (i j : ℕ) (span : Span) (source value : List ℕ) (multi : Bool) : Type 0 where
   pub from : ℕ
   pub to : ℕ
@@ -119,7 +114,8 @@ pub record NeedsMemory (text : List ℕ) (i : ℕ) : Type 0 where
 abbrev pub IsEmptyOnOneLine : ℕ → ℕ → Type 0
 IsEmptyOnOneLine i j = j ≡ i + 2
 
--- An empty string on one line is borrowed. Another string is borrowed exactly where its value equals the text at its span.
+-- An empty string on one line is borrowed. Another string is borrowed exactly where its value equals the text at its
+-- span.
 abbrev pub Borrows : {Z : Type 0} → List ℕ → ℕ → ℕ → Span → CowStr Z → Type 0
 Borrows text i j span val =
     (IsEmptyOnOneLine i j → IsBorrowedStr val)
@@ -129,42 +125,8 @@ Borrows text i j span val =
 abbrev pub IsOneQuote : List ℕ → Span → Type 0
 IsOneQuote text span = IsQuote (slice_index text span.start) × (span.end ≡ span.start + 1)
 
--- The same by the span alone: a string is borrowed exactly where it equals the text at its span, or is empty with one quote for a span.
+-- The same by the span alone: a string is borrowed exactly where it equals the text at its span, or is empty with one
+-- quote for a span.
 abbrev pub BorrowsWhereSame : {Z : Type 0} → List ℕ → Span → CowStr Z → Type 0
-BorrowsWhereSame text span val = IsBorrowedStr val ↔ ((cow_str_bytes val ≡ slice_range text span.start span.end) ⊎ ((cow_str_bytes val ≡ []) × IsOneQuote text span))
-
-abbrev pub StringBorrows : List ℕ → Result (Span × Token × ℕ) (Stop (Error × ℕ)) → Type 0
-StringBorrows text (Ok (span, tokens.String src val multi, j)) = BorrowsWhereSame text span val
-StringBorrows text _ = Unit {0}
-
--- what reading a string at i gives
-abbrev pub StringGives : List ℕ → ℕ → Result (Span × Token × ℕ) (Stop (Error × ℕ)) → Type 0
-StringGives text i (Ok (span, tokens.String src val multi, j)) = IsString text i j span src.now (cow_str_bytes val) multi × Borrows text i j span val
-StringGives text i (Ok (span, _, j)) = ⊥
-StringGives text i (Err (stops.Memory e)) = NeedsMemory text i
-StringGives text i (Err (stops.Fault (e, j))) = IsNoString text i j e
-
--- what a walk over the string at i gives
-abbrev pub ScanGives : List ℕ → ℕ → Result ℕ (Error × ℕ) → Type 0
-ScanGives text i (Ok j) = (span : Span) × (source : List ℕ) × (value : List ℕ) × IsString text i j span source value (opens_multi text i)
-ScanGives text i (Err (e, j)) = IsNoString text i j e
-
--- ---- where they end
-
--- The content and the string end at characters, within the text.
-pub record Ends (text : List ℕ) (from to end : ℕ) : Type 0 where
-  pub forward : from ≤ to
-  pub on : to < end
-  pub within : end ≤ length text
-  pub to_boundary : IsCharBoundary text to
-  pub end_boundary : IsCharBoundary text end
-
-abbrev pub EndsWell : {Z : Type 0} → List ℕ → ℕ → Result (Option (String Z) × ℕ × ℕ) (Stop (Error × ℕ)) → Type 0
-EndsWell text from (Ok (kept, to, end)) = Ends text from to end
-EndsWell text from (Err (stops.Memory e)) = Unit {0}
-EndsWell text from (Err (stops.Fault (e, j))) = IsCharBoundary text j
-
-abbrev pub StringEnds : List ℕ → Result (Span × Token × ℕ) (Stop (Error × ℕ)) → Type 0
-StringEnds text (Ok (span, token, j)) = IsCharBoundary text j
-StringEnds text (Err (stops.Memory e)) = Unit {0}
-StringEnds text (Err (stops.Fault (e, j))) = IsCharBoundary text j
+BorrowsWhereSame text span val = IsBorrowedStr val
+    ↔ ((cow_str_bytes val ≡ slice_range text span.start span.end) ⊎ ((cow_str_bytes val ≡ []) × IsOneQuote text span))

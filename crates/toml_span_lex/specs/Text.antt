@@ -1,5 +1,6 @@
 -- Characters and line ends at a place of a text, and the folded text.
-use Rattle.std.specs.Prelude.{◌≡◌, ℕ, ◌+◌, ◌⊎◌, Bool, true, false, ◌&&◌, ◌==◌, List, [], ◌∷◌, ◌++◌, if◌then◌else◌, drop, slice_index, encode_utf8, Result, Ok, Err, Option, Some, None}
+use Rattle.std.specs.Prelude.{◌≡◌, ℕ, ◌+◌, ◌⊎◌, Bool, true, false, ◌&&◌, ◌==◌, List, [], ◌∷◌, ◌++◌, if◌then◌else◌, drop}
+use Rattle.std.specs.Prelude.{slice_index, encode_utf8}
 use Rattle.std.specs.Char.{len_utf8}
 use Rattle.std.specs.Str.{chars, IsCharBoundary}
 use Rattle.toml_span_lex.specs.Bytes.{line_feed, carriage_return}
@@ -10,17 +11,13 @@ use Rattle.toml_span_lex.specs.Bytes.{line_feed, carriage_return}
 abbrev pub is_crlf : List ℕ → ℕ → Bool
 is_crlf text i = slice_index text i == carriage_return && slice_index text (i + 1) == line_feed
 
--- The text from i to j is a line end: a line feed, alone or behind a carriage return.
+-- `newline = %x0A / %x0D.0A`: the text from i to j is a line end, a line feed, alone or behind a carriage return
 abbrev pub LineEnd : List ℕ → ℕ → ℕ → Type 0
 LineEnd text i j = ((slice_index text i ≡ line_feed) × (j ≡ i + 1)) ⊎ ((is_crlf text i ≡ true) × (j ≡ i + 2))
 
 -- no line end begins at i
 abbrev pub NoLineEnd : List ℕ → ℕ → Type 0
 NoLineEnd text i = (slice_index text i == line_feed ≡ false) × (is_crlf text i ≡ false)
-
-abbrev pub LineEndGives : List ℕ → ℕ → Option ℕ → Type 0
-LineEndGives text i (Some j) = LineEnd text i j
-LineEndGives text i None = NoLineEnd text i
 
 -- The character at i is c, and the next one begins at j. A carriage return with a line feed is one line feed.
 abbrev pub CharAt : List ℕ → ℕ → ℕ → ℕ → Type 0
@@ -36,11 +33,6 @@ KeepsLineEnd text i = (k : ℕ) → i ≡ k + 1 → is_crlf text k ≡ false
 abbrev pub IsFoldedPlace : List ℕ → ℕ → Type 0
 IsFoldedPlace text i = IsCharBoundary text i × KeepsLineEnd text i
 
--- what holds of the place where a found thing, or a fault, leads
-abbrev pub LeadsTo : {A E : Type 0} → (ℕ → Type 0) → Result (A × ℕ) (E × ℕ) → Type 0
-LeadsTo P (Ok found) = P found.1
-LeadsTo P (Err fault) = P fault.1
-
 -- ---- the folded text
 
 -- The characters with their offsets. A carriage return with a line feed is one line feed.
@@ -48,7 +40,8 @@ abbrev pub folded_from : ℕ → Bool → List ℕ → List (ℕ × ℕ)
 folded_from i after_return [] = []
 folded_from i after_return (c ∷ cs) =
     if after_return && c == line_feed then folded_from (i + 1) false cs
-    else (i, (if c == carriage_return && slice_index cs 0 == line_feed then line_feed else c)) ∷ folded_from (i + len_utf8 c) (c == carriage_return) cs
+    else (i, (if c == carriage_return && slice_index cs 0 == line_feed then line_feed else c))
+    ∷ folded_from (i + len_utf8 c) (c == carriage_return) cs
 
 -- the pairs from an offset on
 abbrev pub folded : List ℕ → ℕ → List (ℕ × ℕ)

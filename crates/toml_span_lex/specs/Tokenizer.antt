@@ -1,10 +1,12 @@
 -- What each call of the tokenizer answers, and the place that it leaves.
-use Rattle.std.specs.Prelude.{◌≡◌, ℕ, ◌≤◌, ◌<◌, ◌+◌, ◌⊎◌, Bool, true, false, List, length, slice_index, Result, Ok, Err, Option, Some, None, codes}
+use Rattle.std.specs.Prelude.{◌≡◌, ℕ, ◌≤◌, ◌<◌, ◌+◌, ◌⊎◌, Bool, true, false, List, length, slice_index, Result, Ok, Err}
+use Rattle.std.specs.Prelude.{Option, Some, None, codes}
 use Rattle.std.specs.Cow.{cow_str_bytes, IsBorrowedStr}
 use Rattle.toml_span_lex.specs.Bytes.{hash, byte_order_mark}
 use Rattle.toml_span_lex.specs.Text.{LineEnd, NoLineEnd, CharAt}
 use Rattle.toml_span_lex.specs.Strings.{NeedsMemory, Borrows}
-use Rattle.toml_span_lex.specs.Tokens.{Lexeme, newline, comment, keylike, string, lexeme, words, Stands, IsUnexpected, IsFault}
+use Rattle.toml_span_lex.specs.Tokens.{Lexeme, newline, comment, keylike, string, lexeme, words, Stands, IsUnexpected}
+use Rattle.toml_span_lex.specs.Tokens.{IsFault}
 use Rattle.toml_span_lex.specs.declared.span.Span.{Span}
 use Rattle.toml_span_lex.specs.declared.key.Key.{Key}
 use Rattle.toml_span_lex.specs.declared.tokens.Token.{Token}
@@ -14,8 +16,8 @@ use Rattle.toml_span_lex.specs.declared.tokens.Error.TheVariants as errors
 use Rattle.toml_span_lex.specs.declared.stop.Stop.{Stop}
 use Rattle.toml_span_lex.specs.declared.stop.Stop.TheVariants as stops
 
--- how far a text has been read
-pub record Place : Type 0 where
+-- a text, and how far it has been read
+pub record Cursor : Type 0 where
   pub text : List ℕ
   pub at : ℕ
 
@@ -27,30 +29,32 @@ FirstPlace text at =
 
 -- ---- refusals
 
--- No token was read at i, and the tokenizer stands at j: where it was for want of memory, else behind what the fault names.
+-- No token was read at i, and the tokenizer stands at j: where it was for want of memory, else behind what the fault
+-- names.
 abbrev pub Fails : List ℕ → ℕ → Stop Error → ℕ → Type 0
 Fails text i (stops.Memory e) j = (j ≡ i) × NeedsMemory text i
 Fails text i (stops.Fault e) j = IsFault text i j e
 
 -- the error that at a place one thing was due, and another was found
-abbrev pub IsWanted : Error → ℕ → List ℕ → List ℕ → Type 0
-IsWanted (errors.Wanted at expected found) i due there = (at ≡ i) × (expected.now ≡ due) × (found.now ≡ there)
-IsWanted _ i due there = ⊥
+abbrev pub TellsWanted : Error → ℕ → List ℕ → List ℕ → Type 0
+TellsWanted (errors.Wanted at expected found) i due there = (at ≡ i) × (expected.now ≡ due) × (found.now ≡ there)
+TellsWanted _ i due there = ⊥
 
 -- A token stands at i that is not due, and the error tells so. It ends at j.
 abbrev pub IsOther : (Lexeme → Type 0) → List ℕ → List ℕ → ℕ → ℕ → Error → Type 0
-IsOther MayStand due text i j e = (span : Span) × (found : Lexeme) × Stands text i j span found × (MayStand found → ⊥) × IsWanted e i due (words found)
+IsOther MayStand due text i j e = (span : Span) × (found : Lexeme) × Stands text i j span found × (MayStand found → ⊥)
+    × TellsWanted e i due (words found)
 
 -- The text ends at i, and the error tells so.
 abbrev pub IsEndOf : List ℕ → List ℕ → ℕ → ℕ → Error → Type 0
-IsEndOf due text i j e = (i ≡ length text) × (j ≡ i) × IsWanted e i due (codes "eof")
+IsEndOf due text i j e = (i ≡ length text) × (j ≡ i) × TellsWanted e i due (codes "eof")
 
 -- ---- the next token
 
-abbrev pub Gives : List ℕ → ℕ → Result (Option (Span × Token)) (Stop Error) → ℕ → Type 0
-Gives text i (Ok None) j = (i ≡ length text) × (j ≡ i)
-Gives text i (Ok (Some found)) j = Stands text i j found.0 (lexeme found.1)
-Gives text i (Err stop) j = Fails text i stop j
+abbrev pub StepGives : List ℕ → ℕ → Result (Option (Span × Token)) (Stop Error) → ℕ → Type 0
+StepGives text i (Ok None) j = (i ≡ length text) × (j ≡ i)
+StepGives text i (Ok (Some found)) j = Stands text i j found.0 (lexeme found.1)
+StepGives text i (Err stop) j = Fails text i stop j
 
 -- which strings borrow the text
 abbrev pub BorrowsAt : List ℕ → ℕ → Result (Option (Span × Token)) (Stop Error) → ℕ → Type 0
@@ -60,15 +64,16 @@ BorrowsAt text i _ j = Unit {0}
 -- Another token stands at i, or the text ends there.
 abbrev pub Lacks : List ℕ → ℕ → Lexeme → Type 0
 Lacks text i expected =
-    (i ≡ length text) ⊎ ((j : ℕ) × (span : Span) × (found : Lexeme) × Stands text i j span found × (found ≡ expected → ⊥))
+    (i ≡ length text)
+    ⊎ ((j : ℕ) × (span : Span) × (found : Lexeme) × Stands text i j span found × (found ≡ expected → ⊥))
 
 -- An expected token is eaten. With another one, with none or with a refusal, nothing changes.
-abbrev pub EatsSpanned : Place → Result (Option Span) (Stop Error) → Lexeme → Place → Type 0
+abbrev pub EatsSpanned : Cursor → Result (Option Span) (Stop Error) → Lexeme → Cursor → Type 0
 EatsSpanned old (Ok (Some span)) expected new = Stands old.text old.at new.at span expected
 EatsSpanned old (Ok None) expected new = (new ≡ old) × Lacks old.text old.at expected
 EatsSpanned old (Err stop) expected new = (new ≡ old) × ((j : ℕ) × Fails old.text old.at stop j)
 
-abbrev pub Eats : Place → Result Bool (Stop Error) → Lexeme → Place → Type 0
+abbrev pub Eats : Cursor → Result Bool (Stop Error) → Lexeme → Cursor → Type 0
 Eats old (Ok true) expected new = (span : Span) × Stands old.text old.at new.at span expected
 Eats old (Ok false) expected new = (new ≡ old) × Lacks old.text old.at expected
 Eats old (Err stop) expected new = (new ≡ old) × ((j : ℕ) × Fails old.text old.at stop j)
@@ -76,7 +81,8 @@ Eats old (Err stop) expected new = (new ≡ old) × ((j : ℕ) × Fails old.text
 -- The next token has to be the expected one.
 abbrev pub RefusesOther : (Lexeme → Type 0) → List ℕ → List ℕ → ℕ → Stop Error → ℕ → Type 0
 RefusesOther MayStand due text i (stops.Memory e) j = Fails text i (stops.Memory e) j
-RefusesOther MayStand due text i (stops.Fault e) j = IsFault text i j e ⊎ (IsOther MayStand due text i j e ⊎ IsEndOf due text i j e)
+RefusesOther MayStand due text i (stops.Fault e) j =
+    IsFault text i j e ⊎ (IsOther MayStand due text i j e ⊎ IsEndOf due text i j e)
 
 abbrev pub ExpectsSpanned : List ℕ → ℕ → Result Span (Stop Error) → Lexeme → ℕ → Type 0
 ExpectsSpanned text i (Ok span) expected j = Stands text i j span expected
@@ -88,11 +94,13 @@ Expects text i (Err stop) expected j = RefusesOther (λ l. l ≡ expected) (word
 
 -- ---- keys
 
--- The text from i to j is a key: a bare one, whose name is the text itself, or a string on one line.
-abbrev pub IsKey : List ℕ → ℕ → ℕ → Key → Type 0
-IsKey text i j key =
+-- `simple-key = quoted-key / unquoted-key`, `quoted-key = basic-string / literal-string`: the text from i to j is a
+-- key, a bare one, whose name is the text itself, or a string on one line
+abbrev pub IsSimpleKey : List ℕ → ℕ → ℕ → Key → Type 0
+IsSimpleKey text i j key =
     (IsBorrowedStr key.name × Stands text i j key.span (keylike (cow_str_bytes key.name)))
-    ⊎ ((source : List ℕ) × Stands text i j key.span (string source (cow_str_bytes key.name) false) × Borrows text i j key.span key.name)
+    ⊎ ((source : List ℕ) × Stands text i j key.span (string source (cow_str_bytes key.name) false)
+    × Borrows text i j key.span key.name)
 
 -- a token that a key can be
 abbrev pub MayBeKey : Lexeme → Type 0
@@ -103,13 +111,14 @@ MayBeKey _ = ⊥
 -- A string of several lines stands where a key is due. The error has its place, and that plus the value's length.
 abbrev pub IsMultilineKey : List ℕ → ℕ → ℕ → Error → Type 0
 IsMultilineKey text i j (errors.MultilineStringKey at end) =
-    (span : Span) × (source : List ℕ) × (value : List ℕ) × Stands text i j span (string source value true) × (at ≡ i) × (end ≡ i + length value)
+    (span : Span) × (source : List ℕ) × (value : List ℕ) × Stands text i j span (string source value true) × (at ≡ i)
+    × (end ≡ i + length value)
 IsMultilineKey text i j _ = ⊥
 
-abbrev pub KeyGives : List ℕ → ℕ → Result Key (Stop Error) → ℕ → Type 0
-KeyGives text i (Ok key) j = IsKey text i j key
-KeyGives text i (Err (stops.Memory e)) j = Fails text i (stops.Memory e) j
-KeyGives text i (Err (stops.Fault e)) j =
+abbrev pub TableKeyGives : List ℕ → ℕ → Result Key (Stop Error) → ℕ → Type 0
+TableKeyGives text i (Ok key) j = IsSimpleKey text i j key
+TableKeyGives text i (Err (stops.Memory e)) j = Fails text i (stops.Memory e) j
+TableKeyGives text i (Err (stops.Fault e)) j =
     (IsFault text i j e ⊎ IsMultilineKey text i j e)
     ⊎ (IsOther MayBeKey (codes "a table key") text i j e ⊎ IsEndOf (codes "a table key") text i j e)
 
@@ -124,11 +133,14 @@ LineEndDue text i (Ok u) j = EndsLine text i j
 LineEndDue text i (Err (stops.Memory e)) j = Fails text i (stops.Memory e) j
 LineEndDue text i (Err (stops.Fault e)) j = IsFault text i j e ⊎ IsOther (λ l. l ≡ newline) (codes "newline") text i j e
 
--- a comment and the line end or the end of the text behind it, or no comment, or a character that can't follow it
+-- `comment = comment-start-symbol *non-eol`, and the line end or the end of the text behind it; or no comment, or a
+-- character that can't follow it
 abbrev pub EatsComment : List ℕ → ℕ → Result Bool Error → ℕ → Type 0
-EatsComment text i (Ok true) j = (k : ℕ) × (span : Span) × (s : List ℕ) × Stands text i k span (comment s) × EndsLine text k j
+EatsComment text i (Ok true) j =
+    (k : ℕ) × (span : Span) × (s : List ℕ) × Stands text i k span (comment s) × EndsLine text k j
 EatsComment text i (Ok false) j = (slice_index text i ≡ hash → ⊥) × (j ≡ i)
-EatsComment text i (Err e) j = (k : ℕ) × (span : Span) × (s : List ℕ) × Stands text i k span (comment s) × IsUnexpected text k j e
+EatsComment text i (Err e) j =
+    (k : ℕ) × (span : Span) × (s : List ℕ) × Stands text i k span (comment s) × IsUnexpected text k j e
 
 -- past the next line end, or to the end of the text
 abbrev pub SkipsLine : List ℕ → ℕ → ℕ → Type 0

@@ -1,7 +1,10 @@
 -- The token, or the fault, that stands at a place of a text.
-use Rattle.std.specs.Prelude.{◌≡◌, ℕ, ◌+◌, ◌<◌, ◌⊎◌, Bool, true, false, ◌||◌, ◌==◌, if◌then◌else◌, List, slice_index, slice_range, Result, Ok, Err, codes}
+use Rattle.std.specs.Prelude.{◌≡◌, ℕ, ◌+◌, ◌<◌, ◌⊎◌, Bool, true, false, ◌||◌, ◌==◌, if◌then◌else◌, List, slice_index}
+use Rattle.std.specs.Prelude.{slice_range, codes}
 use Rattle.std.specs.Cow.{cow_str_bytes}
-use Rattle.toml_span_lex.specs.Bytes.{line_feed, equals, period, comma, colon, plus, left_brace, right_brace, left_bracket, right_bracket, hash, quotation_mark, apostrophe, is_blank, is_keylike, is_printed, MaximalRun}
+use Rattle.toml_span_lex.specs.Bytes.{line_feed, equals, period, comma, colon, plus, left_brace, right_brace}
+use Rattle.toml_span_lex.specs.Bytes.{left_bracket, right_bracket, hash, quotation_mark, apostrophe, is_blank}
+use Rattle.toml_span_lex.specs.Bytes.{is_keylike, is_printed, MaximalRun}
 use Rattle.toml_span_lex.specs.Text.{LineEnd, CharAt}
 use Rattle.toml_span_lex.specs.Strings.{IsString, IsNoString}
 use Rattle.toml_span_lex.specs.declared.span.Span.{Span}
@@ -76,7 +79,11 @@ RunAt p text i j part = (i < j) × MaximalRun p text i j × (part ≡ slice_rang
 abbrev pub SignAt : ℕ → List ℕ → ℕ → ℕ → Type 0
 SignAt c text i j = (slice_index text i ≡ c) × (j ≡ i + 1)
 
--- the text from i to j is this token, which is no string
+-- The text from i to j is this token, which is no string:
+-- `ws = *wschar`, of one character at least
+-- `newline = %x0A / %x0D.0A`
+-- `comment = comment-start-symbol *non-eol`
+-- `unquoted-key = 1*( ALPHA / DIGIT / %x2D / %x5F )`, or a part of a number or a date
 abbrev pub IsToken : List ℕ → ℕ → ℕ → Lexeme → Type 0
 IsToken text i j (whitespace s) = RunAt is_blank text i j s
 IsToken text i j newline = LineEnd text i j
@@ -107,8 +114,3 @@ IsUnexpected text i j _ = ⊥
 -- No token stands at i: this fault does, and j is behind the character that it names, or the end of the text.
 abbrev pub IsFault : List ℕ → ℕ → ℕ → Error → Type 0
 IsFault text i j e = IsUnexpected text i j e ⊎ IsNoString text i j e
-
--- the token at i, which is no string, and where it ends, or the fault and where the next character begins
-abbrev pub Finds : List ℕ → ℕ → Result (Token × ℕ) (Error × ℕ) → Type 0
-Finds text i (Ok found) = IsToken text i found.1 (lexeme found.0)
-Finds text i (Err fault) = IsUnexpected text i fault.1 fault.0

@@ -4,7 +4,7 @@ ghost use Rattle.std.specs.Str.{IsCharBoundary};
 ghost use Rattle.toml_span_lex.specs.Bytes as spec;
 ghost use Rattle.toml_span_lex.specs.Bytes.{MaximalRun};
 
-/// A space or a tab.
+/// A space or a tab: `wschar = %x20 / %x09`.
 #[inline]
 pub fn is_blank(byte: u8) -> bool
     ensures { result ≡ spec.is_blank byte }
@@ -29,7 +29,7 @@ static CLASS: [u8; 256] = *b"\
     22222222222222222222222222222222\
     22222222222222222222222222222222";
 
-/// A byte of a bare key: an ASCII letter, a digit, a dash or an underscore.
+/// A byte of a bare key: an ASCII letter, a digit, a dash or an underscore (`ALPHA / DIGIT / %x2D / %x5F`).
 #[inline]
 pub fn is_keylike(byte: u8) -> bool
     ensures { result ≡ spec.is_keylike byte }
@@ -45,7 +45,7 @@ pub(crate) fn is_unescaped(byte: u8) -> bool
     CLASS[byte as usize] & PLAIN != 0
 }
 
-/// A byte that a comment can hold: a tab, or no control character.
+/// A byte that a comment can hold: a tab, or no control character (`non-eol = %x09 / %x20-7E / non-ascii`).
 #[inline(always)]
 pub fn is_printed(byte: u8) -> bool
     ensures { result ≡ spec.is_printed byte }
@@ -53,7 +53,7 @@ pub fn is_printed(byte: u8) -> bool
     byte == b'\t' || (byte >= 0x20 && byte != 0x7F)
 }
 
-/// Where the run of spaces and tabs from a place on ends.
+/// Where the run of spaces and tabs from a place on ends: `ws = *wschar`.
 pub fn blanks_end(text: &str, from: usize) -> usize
     requires { IsCharBoundary text.now from }
     ensures run { MaximalRun spec.is_blank text.now from result }
@@ -68,7 +68,7 @@ pub fn blanks_end(text: &str, from: usize) -> usize
     bytes.len()
 }
 
-/// Where the run of bytes of bare keys from a place on ends.
+/// Where the run of bytes of bare keys from a place on ends: `unquoted-key = 1*( ALPHA / DIGIT / %x2D / %x5F )`.
 pub fn keylike_end(text: &str, from: usize) -> usize
     requires { IsCharBoundary text.now from }
     ensures run { MaximalRun spec.is_keylike text.now from result }
@@ -95,7 +95,7 @@ fn all_printed(bytes: &[u8]) -> bool
     all
 }
 
-/// Where the run of bytes of a comment ends, found sixteen at a time.
+/// Where the run of bytes of a comment ends, found sixteen at a time: `comment = comment-start-symbol *non-eol`.
 pub fn printed_end(text: &str, from: usize) -> usize
     requires { IsCharBoundary text.now from }
     ensures run { MaximalRun spec.is_printed text.now from result }

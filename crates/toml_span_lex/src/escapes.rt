@@ -1,13 +1,14 @@
-//! Escapes of strings in quotation marks (TOML 1.1, "String": `escaped`).
+//! Escapes of strings in quotation marks (TOML 1.1, "String").
 ghost use Rattle.std.specs.Prelude.{◌≡◌, ◌≤◌, ◌<◌, length, slice_index};
 ghost use Rattle.std.specs.Str.{IsCharBoundary};
 ghost use Rattle.toml_span_lex.specs.Escapes as spec;
-ghost use Rattle.toml_span_lex.specs.Text.{LeadsTo};
+ghost use Rattle.toml_span_lex.specs.code.Escapes as code;
+ghost use Rattle.toml_span_lex.specs.code.Text.{LeadsTo};
 
 use crate::text::char_at;
 use crate::tokens::Error;
 
-/// The character that `len` digits behind the letter at `at` write.
+/// The character that `len` digits behind the letter at `at` write: `%x78 2HEXDIG / %x75 4HEXDIG / %x55 8HEXDIG`.
 fn hex_escape(
     text: &str,
     start: usize,
@@ -17,7 +18,7 @@ fn hex_escape(
     requires within { at < length text.now }
     requires ascii { slice_index text.now at < 128 }
     requires few { len ≤ 8 }
-    ensures gives { spec.HexGives start text.now at len result }
+    ensures gives { code.HexGives start text.now at len result }
     ensures boundary { LeadsTo (λ j. IsCharBoundary text.now j) result }
 {
     let bytes = text.as_bytes();
@@ -40,7 +41,8 @@ fn hex_escape(
     }
 }
 
-/// The character that a letter stands for behind a backslash.
+/// The character that a letter stands for behind a backslash:
+/// `escape-seq-char = %x22 / %x5C / %x62 / %x66 / %x6E / %x72 / %x74 / %x65`, and those of `hex_len`.
 #[inline]
 fn simple_escape(letter: u8) -> Option<char>
     ensures { result ≡ spec.simple_escape letter }
@@ -58,7 +60,8 @@ fn simple_escape(letter: u8) -> Option<char>
     }
 }
 
-/// How many hexadecimal digits follow a letter behind a backslash.
+/// How many hexadecimal digits follow a letter behind a backslash:
+/// `escape-seq-char =/ %x78 2HEXDIG / %x75 4HEXDIG / %x55 8HEXDIG`.
 #[inline]
 fn hex_len(letter: u8) -> usize
     ensures { result ≡ spec.hex_len letter }
@@ -71,10 +74,10 @@ fn hex_len(letter: u8) -> usize
     }
 }
 
-/// The escape whose letter is at a place.
+/// The escape whose letter is at a place: `escaped = escape escape-seq-char`, behind the `escape`.
 pub(crate) fn escape(text: &str, start: usize, at: usize) -> Result<(char, usize), (Error, usize)>
     requires { IsCharBoundary text.now at }
-    ensures gives { spec.EscapeGives start text.now at result }
+    ensures gives { code.EscapeGives start text.now at result }
     ensures boundary { LeadsTo (λ j. IsCharBoundary text.now j) result }
 {
     let bytes = text.as_bytes();

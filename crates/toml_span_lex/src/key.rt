@@ -19,6 +19,19 @@ pub struct Key<'de> {
     pub span: Span,
 }
 
+impl<'de> Key<'de> {
+    /// A key of this name, at `0..0`, such as one to look a table up by.
+    pub fn named(name: &'de str) -> Self
+        ensures { (cow_str_bytes result.name ≡ name.now) × (result.span ≡ record { start = 0; end = 0 })
+            × IsBorrowedStr result.name }
+    {
+        Self {
+            name: CowStr::Borrowed(name),
+            span: Span::default(),
+        }
+    }
+}
+
 impl Key<'_> {
     /// A second key of the same name and span, which borrows the name exactly if this one does. On want of
     /// memory there is none, and this one is as before.
@@ -44,10 +57,7 @@ impl Default for Key<'_> {
 
     /// The empty name, at `0..0`.
     fn default() -> Self {
-        Self {
-            name: CowStr::Borrowed(""),
-            span: Span::default(),
-        }
+        Self::named("")
     }
 }
 

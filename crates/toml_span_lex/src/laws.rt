@@ -77,7 +77,8 @@ pub fn spanned_partly_ordered_by_value<T: PartialOrd>()
 /// equal.
 pub fn spanned_ordered_by_value<T: Ord>()
     ensures cmp { (a b : Spanned T) → ⟦<Spanned<T> as Ord>⟧.cmp a b ≡ T.cmp a.value b.value }
-    ensures ties { (a b : Spanned T) → (⟦<Spanned<T> as Ord>⟧.cmp a b ≡ Equal) ↔ (⟦<Spanned<T> as PartialEq>⟧.eq a b ≡ true) }
+    ensures ties { (a b : Spanned T)
+        → (⟦<Spanned<T> as Ord>⟧.cmp a b ≡ Equal) ↔ (⟦<Spanned<T> as PartialEq>⟧.eq a b ≡ true) }
 {}
 
 /// A bare key's name is the text at its span.

@@ -1,10 +1,11 @@
 //! The pieces that a string is cut into (TOML 1.1, "String").
 ghost use Rattle.std.specs.Prelude.{◌≡◌, ℕ, ◌+◌, ◌≤◌, ◌<◌, ◌==◌, true, length, slice_index, IsTrue, Ok};
 ghost use Rattle.std.specs.Str.{IsCharBoundary};
-ghost use Rattle.toml_span_lex.specs.Bytes.{MaximalRun, backslash};
+ghost use Rattle.toml_span_lex.specs.Bytes.{MaximalRun, backslash, quotation_mark};
 ghost use Rattle.toml_span_lex.specs.Pieces as spec;
+ghost use Rattle.toml_span_lex.specs.code.Pieces as code;
 ghost use Rattle.toml_span_lex.specs.Strings.{IsQuote};
-ghost use Rattle.toml_span_lex.specs.Text.{LeadsTo};
+ghost use Rattle.toml_span_lex.specs.code.Text.{LeadsTo};
 
 use crate::bytes::{blanks_end, is_blank, is_printed, is_unescaped};
 use crate::escapes::escape;
@@ -25,6 +26,9 @@ pub enum Piece {
 }
 
 /// A byte that stands for itself between these quotes.
+///
+/// `basic-unescaped = wschar / %x21 / %x23-5B / %x5D-7E / non-ascii`,
+/// `literal-char = %x09 / %x20-26 / %x28-7E / non-ascii`
 #[inline(always)]
 fn is_plain(quote: u8, byte: u8) -> bool
     ensures { result ≡ spec.is_plain quote byte }
@@ -92,37 +96,38 @@ fn quotes_end(text: &str, quote: u8, from: usize) -> usize
     bytes.len()
 }
 
-/// Whether a space, a tab or a byte of a line end is at a place.
+/// Whether a space, a tab or a line end is at a place: `wschar / newline`.
 #[inline]
-fn is_gap(bytes: &[u8], at: usize) -> bool
+fn is_ws_or_newline(bytes: &[u8], at: usize) -> bool
     requires { at < length bytes.now }
-    ensures { result ≡ spec.is_gap bytes.now at }
+    ensures { result ≡ spec.is_ws_or_newline bytes.now at }
 {
     is_blank(bytes[at]) || bytes[at] == b'\n' || is_crlf(bytes, at)
 }
 
-/// Where the white space ends, line ends included.
-fn gap_end(text: &str, from: usize) -> usize
+/// Where the white space ends, line ends included: `*( wschar / newline )`.
+fn ws_and_newlines_end(text: &str, from: usize) -> usize
     requires { IsCharBoundary text.now from }
-    ensures run { spec.MaximalGap text.now from result }
+    ensures run { spec.WsAndNewlines text.now from result }
     ensures boundary { IsCharBoundary text.now result }
 {
     let bytes = text.as_bytes();
     for at in from..bytes.len() {
-        if !is_gap(bytes, at) {
+        if !is_ws_or_newline(bytes, at) {
             return at;
         }
     }
     bytes.len()
 }
 
-/// One or two quotes of a string of several lines, or its end.
+/// One or two quotes of a string of several lines, or its end: `mlb-quotes = 1*2quotation-mark`,
+/// `mll-quotes = 1*2apostrophe`, `ml-basic-string-delim = 3quotation-mark`, `ml-literal-string-delim = 3apostrophe`.
 fn quotes(text: &str, quote: u8, at: usize) -> (Option<Piece>, usize)
     requires within { at < length text.now }
     requires boundary { IsCharBoundary text.now at }
     requires ascii { quote < 128 }
     requires here { slice_index text.now at ≡ quote }
-    ensures gives { spec.PieceGives quote true 0 text.now at (Ok result) }
+    ensures gives { code.PieceGives quote true 0 text.now at (Ok result) }
     ensures boundary { IsCharBoundary text.now result.1 }
 {
     let end = quotes_end(text, quote, at);
@@ -133,7 +138,7 @@ fn quotes(text: &str, quote: u8, at: usize) -> (Option<Piece>, usize)
     }
 }
 
-/// What a backslash begins.
+/// What a backslash begins: `escaped`, or `mlb-escaped-nl`.
 fn escape_piece(
     text: &str,
     multi: bool,
@@ -142,11 +147,11 @@ fn escape_piece(
 ) -> Result<(Option<Piece>, usize), (Error, usize)>
     requires within { at < length text.now }
     requires here { slice_index text.now at ≡ backslash }
-    ensures gives { spec.PieceGives 34 multi start text.now at result }
+    ensures gives { code.PieceGives quotation_mark multi start text.now at result }
     ensures boundary { LeadsTo (λ j. IsCharBoundary text.now j) result }
 {
     let letter = at + 1;
-    if multi && gap_at(text, letter) {
+    if multi && ws_or_newline_at(text, letter) {
         return drop_line(text, start, at);
     }
     match escape(text, start, letter) {
@@ -156,27 +161,28 @@ fn escape_piece(
 }
 
 /// Whether white space or a line end is at a place.
-fn gap_at(text: &str, at: usize) -> bool
-    ensures gap { result ≡ spec.is_gap text.now at }
+fn ws_or_newline_at(text: &str, at: usize) -> bool
+    ensures gap { result ≡ spec.is_ws_or_newline text.now at }
     ensures within { IsTrue result → at < length text.now }
 {
     let bytes = text.as_bytes();
-    at < bytes.len() && is_gap(bytes, at)
+    at < bytes.len() && is_ws_or_newline(bytes, at)
 }
 
-/// What a backslash before white space drops, in a string of several lines.
+/// What a backslash before white space drops, in a string of several lines:
+/// `mlb-escaped-nl = escape ws newline *( wschar / newline )`.
 fn drop_line(text: &str, start: usize, at: usize) -> Result<(Option<Piece>, usize), (Error, usize)>
     requires within { at + 1 < length text.now }
     requires here { slice_index text.now at ≡ backslash }
-    requires gap { spec.is_gap text.now (at + 1) ≡ true }
-    ensures gives { spec.PieceGives 34 true start text.now at result }
+    requires gap { spec.is_ws_or_newline text.now (at + 1) ≡ true }
+    ensures gives { code.PieceGives quotation_mark true start text.now at result }
     ensures boundary { LeadsTo (λ j. IsCharBoundary text.now j) result }
 {
     let bytes = text.as_bytes();
     let letter = at + 1;
     let blank = blanks_end(text, letter);
     match line_end(text, blank) {
-        Some(line) => Ok((Some(Piece::Dropped), gap_end(text, line))),
+        Some(line) => Ok((Some(Piece::Dropped), ws_and_newlines_end(text, line))),
         None if blank == bytes.len() => Err((Error::UnterminatedString(start), blank)),
         None => Err((
             Error::InvalidEscape(letter, char::from(bytes[letter])),
@@ -186,6 +192,9 @@ fn drop_line(text: &str, start: usize, at: usize) -> Result<(Option<Piece>, usiz
 }
 
 /// The piece at a place, or the end of the string.
+///
+/// `basic-char = basic-unescaped / escaped`, `mlb-content = basic-char / newline / mlb-escaped-nl`,
+/// `mll-content = literal-char / newline`
 pub(crate) fn piece_at(
     text: &str,
     quote: u8,
@@ -195,7 +204,7 @@ pub(crate) fn piece_at(
 ) -> Result<(Option<Piece>, usize), (Error, usize)>
     requires boundary { IsCharBoundary text.now at }
     requires quote { IsQuote quote }
-    ensures gives { spec.PieceGives quote multi start text.now at result }
+    ensures gives { code.PieceGives quote multi start text.now at result }
     ensures boundary { LeadsTo (λ j. IsCharBoundary text.now j) result }
 {
     let end = plain_end(text, quote, at);

@@ -86,7 +86,8 @@ impl<T: Clone> Spanned<T> {
         ensures value { IfOk result (λ copy. T.is_clone self.now.value copy.value) }
         ensures span { IfOk result (λ copy. copy.span ≡ self.now.span) }
         ensures succeeds { T.is_infallible self.now.value → IsOk result }
-        ensures equal { ((copy : T) → T.is_clone self.now.value copy → copy ≡ self.now.value) → IfOk result (λ copy. copy ≡ self.now) }
+        ensures equal { ((copy : T) → T.is_clone self.now.value copy → copy ≡ self.now.value)
+            → IfOk result (λ copy. copy ≡ self.now) }
     {
         Ok(Self {
             value: self.value.clone()?,

@@ -1,9 +1,12 @@
 //! Strings: content, value and span (TOML 1.1, "String").
-ghost use Rattle.std.specs.Prelude.{◌≡◌, ℕ, ◌+◌, ◌≤◌, ◌<◌, length, slice_index, slice_range, string_bytes, Bool, IfOk, IfErr, ◌++◌, List};
+ghost use Rattle.std.specs.Prelude.{◌≡◌, ℕ, ◌+◌, ◌≤◌, ◌<◌, length, slice_index, slice_range, string_bytes, Bool, IfOk};
+ghost use Rattle.std.specs.Prelude.{IfErr, ◌++◌, List};
 ghost use Rattle.std.specs.Str.{IsCharBoundary};
 ghost use Rattle.toml_span_lex.specs.Pieces.{IsPiece, piece_value};
 ghost use Rattle.toml_span_lex.specs.Strings as spec;
-ghost use Rattle.toml_span_lex.specs.Strings.{IsQuote, StringGives, StringBorrows, StringEnds};
+ghost use Rattle.toml_span_lex.specs.code.Strings as code;
+ghost use Rattle.toml_span_lex.specs.Strings.{IsQuote};
+ghost use Rattle.toml_span_lex.specs.code.Strings.{StringGives, StringBorrows, StringEnds};
 
 use crate::pieces::{Piece, piece_at};
 use crate::span::Span;
@@ -24,7 +27,7 @@ fn owned(
     requires from { IsCharBoundary text.now from }
     requires at { IsCharBoundary text.now at }
     requires forward { from ≤ at }
-    ensures { (q : ℕ) → (v : List ℕ) → spec.Kept q text.now from at v kept → IfOk result (λ s. string_bytes s ≡ v) }
+    ensures { (q : ℕ) → (v : List ℕ) → code.Kept q text.now from at v kept → IfOk result (λ s. string_bytes s ≡ v) }
 {
     match kept {
         Some(s) => Ok(s),
@@ -44,9 +47,10 @@ fn same(
     requires next { IsCharBoundary text.now next }
     requires forward { from ≤ at }
     requires on { at ≤ next }
-    ensures ok { (q : ℕ) → (v : List ℕ) → spec.Kept q text.now from at v kept
-        → IfOk result (λ r. spec.Kept q text.now from next (v ++ slice_range text.now at next) r) }
-    ensures memory { (q : ℕ) → (v : List ℕ) → spec.Kept q text.now from at v kept → IfErr result (λ _. spec.HasChange q text.now from at) }
+    ensures ok { (q : ℕ) → (v : List ℕ) → code.Kept q text.now from at v kept
+        → IfOk result (λ r. code.Kept q text.now from next (v ++ slice_range text.now at next) r) }
+    ensures memory { (q : ℕ) → (v : List ℕ) → code.Kept q text.now from at v kept
+        → IfErr result (λ _. spec.HasChange q text.now from at) }
 {
     match kept {
         None => Ok(None),
@@ -72,9 +76,11 @@ fn with_piece(
     requires next { IsCharBoundary text.now next }
     requires forward { from ≤ at }
     requires on { at ≤ next }
-    ensures ok { (q : ℕ) → (m : Bool) → (v : List ℕ) → IsPiece q m text.now at next piece → spec.Kept q text.now from at v kept
-        → IfOk result (λ r. spec.Kept q text.now from next (v ++ piece_value text.now at next piece) r) }
-    ensures memory { (q : ℕ) → (m : Bool) → (v : List ℕ) → IsPiece q m text.now at next piece → spec.Kept q text.now from at v kept
+    ensures ok { (q : ℕ) → (m : Bool) → (v : List ℕ) → IsPiece q m text.now at next piece
+        → code.Kept q text.now from at v kept
+        → IfOk result (λ r. code.Kept q text.now from next (v ++ piece_value text.now at next piece) r) }
+    ensures memory { (q : ℕ) → (m : Bool) → (v : List ℕ) → IsPiece q m text.now at next piece
+        → code.Kept q text.now from at v kept
         → IfErr result (λ _. spec.HasChange q text.now from next) }
 {
     match piece {
@@ -95,6 +101,9 @@ fn with_piece(
 }
 
 /// The content of a string from a place on, where it ends, and where the string ends.
+///
+/// `*basic-char`, `*literal-char`, `ml-basic-body = *mlb-content *( mlb-quotes 1*mlb-content ) [ mlb-quotes ]`,
+/// `ml-literal-body = *mll-content *( mll-quotes 1*mll-content ) [ mll-quotes ]`
 fn content(
     alloc: Global,
     text: &str,
@@ -105,8 +114,8 @@ fn content(
 ) -> Result<(Option<String>, usize, usize), Stop<(Error, usize)>>
     requires boundary { IsCharBoundary text.now from }
     requires quote { IsQuote quote }
-    ensures gives { spec.ContentGives quote multi start text.now from result }
-    ensures ends { spec.EndsWell text.now from result }
+    ensures gives { code.ContentGives quote multi start text.now from result }
+    ensures ends { code.EndsWell text.now from result }
 {
     let mut kept = None;
     let mut at = from;
@@ -141,7 +150,8 @@ fn opens_multi(bytes: &[u8], at: usize) -> bool
     at + 2 < bytes.len() && bytes[at + 1] == bytes[at] && bytes[at + 2] == bytes[at]
 }
 
-/// Where the content of a string begins.
+/// Where the content of a string begins: behind `ml-basic-string-delim [ newline ]` or
+/// `ml-literal-string-delim [ newline ]`, or behind one quote.
 fn content_from(text: &str, multi: bool, at: usize) -> usize
     requires within { at < length text.now }
     requires ascii { slice_index text.now at < 128 }
@@ -160,6 +170,12 @@ fn content_from(text: &str, multi: bool, at: usize) -> usize
 }
 
 /// The string at a place, its span, and where it ends. A fault comes with the place up to which the string was read.
+///
+/// `string = ml-basic-string / basic-string / ml-literal-string / literal-string`
+/// `basic-string = quotation-mark *basic-char quotation-mark`
+/// `ml-basic-string = ml-basic-string-delim [ newline ] ml-basic-body ml-basic-string-delim`
+/// `literal-string = apostrophe *literal-char apostrophe`
+/// `ml-literal-string = ml-literal-string-delim [ newline ] ml-literal-body ml-literal-string-delim`
 pub fn string_at(
     alloc: Global,
     text: &str,
@@ -218,7 +234,7 @@ fn content_span(multi: bool, at: usize, from: usize, to: usize) -> Span
 pub(crate) fn scan_string(text: &str, at: usize) -> Result<usize, (Error, usize)>
     requires within { at < length text.now }
     requires quote { IsQuote (slice_index text.now at) }
-    ensures { spec.ScanGives text.now at result }
+    ensures { code.ScanGives text.now at result }
 {
     let quote = text.as_bytes()[at];
     let multi = opens_multi(text.as_bytes(), at);

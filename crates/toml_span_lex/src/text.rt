@@ -2,6 +2,7 @@
 ghost use Rattle.std.specs.Prelude.{◌≡◌, ◌<◌, ◌≤◌, length, IfSome};
 ghost use Rattle.std.specs.Str.{IsCharBoundary};
 ghost use Rattle.toml_span_lex.specs.Text as spec;
+ghost use Rattle.toml_span_lex.specs.code.Text as code;
 ghost use Rattle.toml_span_lex.specs.Text.{CharAt};
 
 /// The character at a place, and where the next one begins.
@@ -34,12 +35,12 @@ pub fn is_crlf(bytes: &[u8], at: usize) -> bool
     bytes[at] == b'\r' && at + 1 < bytes.len() && bytes[at + 1] == b'\n'
 }
 
-/// What is behind the line end at a place, if one stands there.
+/// What is behind the line end at a place, if one stands there: `newline = %x0A / %x0D.0A`.
 #[inline]
 #[tactic(auto, using(crate::proofs::Runs::behind_line))]
 pub fn line_end(text: &str, at: usize) -> Option<usize>
     requires { at ≤ length text.now }
-    ensures gives { spec.LineEndGives text.now at result }
+    ensures gives { code.LineEndGives text.now at result }
     ensures boundary { IfSome result (λ j. IsCharBoundary text.now j) }
 {
     let bytes = text.as_bytes();

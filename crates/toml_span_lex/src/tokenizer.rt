@@ -1,11 +1,13 @@
 //! Reads a text token by token.
 ghost use Rattle.std.specs.Prelude.{◌≡◌, ℕ, ◌≤◌, ◌<◌, List, length, slice_index, false, ◌==◌, ◌||◌, ◌↔◌, IsTrue};
 ghost use Rattle.std.specs.Str.{IsCharBoundary};
-ghost use Rattle.toml_span_lex.specs.Bytes.{MaximalRun, is_blank, line_feed, hash};
-ghost use Rattle.toml_span_lex.specs.Text.{LeadsTo, KeepsLineEnd, IsFoldedPlace};
+ghost use Rattle.toml_span_lex.specs.Bytes.{MaximalRun, apostrophe, is_blank, line_feed, hash, quotation_mark};
+ghost use Rattle.toml_span_lex.specs.code.Text.{LeadsTo};
+ghost use Rattle.toml_span_lex.specs.Text.{KeepsLineEnd, IsFoldedPlace};
 ghost use Rattle.toml_span_lex.specs.Tokenizer as spec;
-ghost use Rattle.toml_span_lex.specs.Tokenizer.{Place};
-ghost use Rattle.toml_span_lex.specs.Tokens.{lexeme, begins_alone, Finds};
+ghost use Rattle.toml_span_lex.specs.Tokenizer.{Cursor};
+ghost use Rattle.toml_span_lex.specs.Tokens.{lexeme, begins_alone};
+ghost use Rattle.toml_span_lex.specs.code.Tokens.{Finds};
 
 use crate::bytes;
 use crate::bytes::is_keylike;
@@ -33,9 +35,9 @@ pub struct Tokenizer<'a> {
 impl<'a> Model for Tokenizer<'a> {
     ghost use Rattle.std.specs.Prelude.{ℕ, List};
     ghost use Rattle.toml_span_lex.specs.Text.{IsFoldedPlace};
-    ghost use Rattle.toml_span_lex.specs.Tokenizer.{Place};
+    ghost use Rattle.toml_span_lex.specs.Tokenizer.{Cursor};
 
-    ghost Value = { Place };
+    ghost Value = { Cursor };
 
     ghost view = { λ t. record { text = t.input.now; at = t.at } };
 
@@ -55,12 +57,15 @@ pub fn first_place(text: &str) -> usize
     if c == '\u{feff}' { next } else { 0 }
 }
 
-/// The token at a place and where it ends, or the fault and where the next character begins.
+/// The token at a place, which is no string, and where it ends, or the fault and where the next character begins.
+///
+/// `ws = *wschar`, `newline = %x0A / %x0D.0A`, `comment = comment-start-symbol *non-eol`,
+/// `unquoted-key = 1*( ALPHA / DIGIT / %x2D / %x5F )`
 #[tactic(auto, using(std::proofs::lemmas::Str::lead_after_ascii))]
 pub fn token_at(input: &str, at: usize) -> Result<(Token<'_>, usize), (Error, usize)>
     requires boundary { IsCharBoundary input.now at }
     requires within { at < length input.now }
-    requires quote { (slice_index input.now at == 34 || slice_index input.now at == 39) ≡ false }
+    requires quote { (slice_index input.now at == quotation_mark || slice_index input.now at == apostrophe) ≡ false }
     ensures gives { Finds input.now at result }
     ensures boundary { LeadsTo (λ j. IsCharBoundary input.now j) result }
 {
@@ -94,7 +99,7 @@ fn other_at(input: &str, at: usize) -> Result<(Token<'_>, usize), (Error, usize)
     requires boundary { IsCharBoundary input.now at }
     requires within { at < length input.now }
     requires other { begins_alone (slice_index input.now at) ≡ false }
-    requires quote { (slice_index input.now at == 34 || slice_index input.now at == 39) ≡ false }
+    requires quote { (slice_index input.now at == quotation_mark || slice_index input.now at == apostrophe) ≡ false }
     ensures gives { Finds input.now at result }
     ensures boundary { LeadsTo (λ j. IsCharBoundary input.now j) result }
 {
@@ -159,7 +164,7 @@ impl<'a> Tokenizer<'a> {
     /// fault names, or at the end of the text for a string that is not closed.
     pub fn step(&mut self, alloc: Global) -> Result<Option<(Span, Token<'a>)>, Stop<Error>>
         ensures text { self.new.text ≡ self.old.text }
-        ensures gives { spec.Gives self.old.text self.old.at result self.new.at }
+        ensures gives { spec.StepGives self.old.text self.old.at result self.new.at }
         ensures borrows { spec.BorrowsAt self.old.text self.old.at result self.new.at }
     {
         let start = self.at;
@@ -196,7 +201,8 @@ impl<'a> Tokenizer<'a> {
     /// What `step` would answer. Nothing changes.
     pub fn peek(&mut self, alloc: Global) -> Result<Option<(Span, Token<'a>)>, Stop<Error>>
         ensures unchanged { self.new ≡ self.old }
-        ensures gives { (j : ℕ) × spec.Gives self.old.text self.old.at result j × spec.BorrowsAt self.old.text self.old.at result j }
+        ensures gives { (j : ℕ) × spec.StepGives self.old.text self.old.at result j
+            × spec.BorrowsAt self.old.text self.old.at result j }
     {
         let mut ahead = self.copy();
         ahead.step(alloc)
@@ -288,13 +294,13 @@ impl<'a> Tokenizer<'a> {
         }
     }
 
-    /// Eats a key: a bare one, or a string on one line.
+    /// Eats a key: a bare one, or a string on one line (`simple-key = quoted-key / unquoted-key`).
     ///
     /// A string of several lines is `MultilineStringKey`, another token `Wanted`, and the tokenizer
     /// stands behind it.
     pub fn table_key(&mut self, alloc: Global) -> Result<Key<'a>, Stop<Error>>
         ensures text { self.new.text ≡ self.old.text }
-        ensures gives { spec.KeyGives self.old.text self.old.at result self.new.at }
+        ensures gives { spec.TableKeyGives self.old.text self.old.at result self.new.at }
     {
         let at = self.at;
         match self.step(alloc)? {
@@ -349,7 +355,7 @@ impl<'a> Tokenizer<'a> {
         }
     }
 
-    /// Eats a comment and the line end behind it, and says whether one stands here.
+    /// Eats a comment (`comment-start-symbol *non-eol`) and the line end behind it, and says whether one stands here.
     ///
     /// A control character that ends the comment and no line end begins there is `Unexpected`, and
     /// the tokenizer stands behind it.

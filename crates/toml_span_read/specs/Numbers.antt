@@ -11,7 +11,7 @@ use Rattle.toml_span_read.specs.declared.value.ValKind.{ValKind}
 use Rattle.toml_span_read.specs.declared.numbers.Decimal.{Decimal as NumberDecimal}
 use Rattle.toml_span_read.specs.declared.numbers.Decimal.TheVariants as decimals
 use Rattle.toml_span_tree.specs.declared.float.FloatText.{FloatText}
-use Rattle.toml_span_tree.specs.Value.{decimal_of}
+use Rattle.toml_span_tree.specs.Value.{float_value}
 use Rattle.toml_span_read.specs.Faults.{IsPlaced, invalid_number}
 use Rattle.toml_span_read.specs.Data.{kind_view, scalar}
 
@@ -279,8 +279,8 @@ abbrev pub SpecialGives : List ℕ → Option FloatText → Type 0
 SpecialGives word None =
     (word ≡ codes "inf" → ⊥) × (word ≡ codes "-inf" → ⊥) × (word ≡ codes "nan" → ⊥) × (word ≡ codes "-nan" → ⊥)
 SpecialGives word (Some x) =
-    ((word ≡ codes "inf") × (decimal_of x ≡ infinite false)) ⊎ ((word ≡ codes "-inf") × (decimal_of x ≡ infinite true))
-    ⊎ ((word ≡ codes "nan") × (decimal_of x ≡ not_a_number false)) ⊎ ((word ≡ codes "-nan") × (decimal_of x ≡ not_a_number true))
+    ((word ≡ codes "inf") × (float_value x ≡ infinite false)) ⊎ ((word ≡ codes "-inf") × (float_value x ≡ infinite true))
+    ⊎ ((word ≡ codes "nan") × (float_value x ≡ not_a_number false)) ⊎ ((word ≡ codes "-nan") × (float_value x ≡ not_a_number true))
 
 -- the number whose run is from a to b, behind its plus, if it has one, at i
 abbrev pub UnsignedGives : List ℕ → ℕ → ℕ → ℕ → Result (ValKind × ℕ) (Stop Fault) → Type 0

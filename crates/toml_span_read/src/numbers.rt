@@ -8,7 +8,7 @@ ghost use Rattle.toml_span_read.specs.Stuck.{BareGives};
 ghost use Rattle.toml_span_read.specs.Faults.{Advances, IsPlaced};
 ghost use Rattle.toml_span_read.specs.Data.{IsScalarKind, kind_view, scalar};
 ghost use Rattle.toml_span_tree.specs.Node.{integer, float};
-ghost use Rattle.toml_span_tree.specs.Value.{decimal_of};
+ghost use Rattle.toml_span_tree.specs.Value.{float_value};
 ghost use Rattle.toml_span_read.specs.Numbers as spec;
 ghost use Rattle.toml_span_read.specs.Numbers.{IsRun, Run, IsSpecial, UnsignedDecimal, NoDecimal, DigitsEnd, NumberEnds, DecimalEnds, IsPlacedFault, DigitGives, DigitsGive, WithinGives, sum_of_digits, is_digit, SignedGives, IntegerGives, RadixIntegerGives, IntegerPartGives, ExponentDigitsGive, ExponentGives, FractionGives, DecimalGives, SpecialGives, UnsignedGives, NumberGives, behind_sign, is_negative};
 
@@ -450,7 +450,7 @@ fn integer_kind<'de>(value: i64) -> ValKind<'de>
 /// The float of this text.
 #[inline]
 fn float_kind<'de>(text: FloatText) -> ValKind<'de>
-    ensures { kind_view result ≡ scalar (float (decimal_of text)) }
+    ensures { kind_view result ≡ scalar (float (float_value text)) }
 {
     ValKind::Float(text)
 }

@@ -122,17 +122,9 @@ fn table(alloc: Global) -> Result<Value<'static>, AllocError> {
     items.push(Value::new(ValueInner::String(CowStr::Borrowed("x"))))?;
     let float = FloatText::Infinite { negative: true };
     let mut table = BTreeMap::new(alloc);
-    table.insert(named("a"), Value::new(ValueInner::Array(items)))?;
-    table.insert(named("f"), Value::new(ValueInner::Float(float)))?;
+    table.insert(Key::named("a"), Value::new(ValueInner::Array(items)))?;
+    table.insert(Key::named("f"), Value::new(ValueInner::Float(float)))?;
     Ok(Value::new(ValueInner::Table(table)))
-}
-
-/// A key of a name.
-fn named(name: &str) -> Key<'_> {
-    Key {
-        name: CowStr::Borrowed(name),
-        span: Span::default(),
-    }
 }
 
 /// Whether a value is written as the table's JSON text. A request for memory may be refused once.

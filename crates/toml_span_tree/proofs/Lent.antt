@@ -8,14 +8,15 @@ use Rattle.toml_span_tree.specs.declared.value.ValueInner.TheOpen.{ValueInner-F}
 use Rattle.toml_span_tree.specs.declared.value.ValueInner.TheViews.{out-ValueInner, roll-ValueInner, roll-out-ValueInner, rolls-String, rolls-Integer, rolls-Float, rolls-Boolean, rolls-Datetime, rolls-Array, rolls-Table}
 use Rattle.toml_span_lex.specs.declared.key.Key.{Key}
 use Rattle.std.specs.Vec.{with_item}
-use Rattle.toml_span_tree.specs.Lending.{IsTable, IsArray}
+use Rattle.toml_span_tree.specs.code.Lending.{IsTable, IsArray}
 use Rattle.toml_span_tree.specs.Node.{Node, node, Scalar, taken, scalar, array, table, get_member, get_item}
-use Rattle.toml_span_tree.specs.Value.{view, inner_view, items_view, members_view, inner_of, span_of, is_taken, inner_or_taken, decimal_of, date_bytes}
+use Rattle.toml_span_tree.specs.Value.{view, inner_view, items_view, members_view, inner_of, span_of, is_taken, inner_or_taken, float_value, date_bytes}
 use Rattle.std.specs.Cow.{cow_str_bytes}
 use Rattle.std.specs.declared.borrow.CowStr.{CowStr}
 use Rattle.toml_span_tree.specs.declared.date.DateText.{DateText}
 use Rattle.toml_span_tree.specs.declared.float.FloatText.{FloatText}
-use Rattle.toml_span_tree.specs.Pointer.{pointer_segments, pointed, put_pointed, push_front, Cut, segments_behind, segments, found, put_found, entry, untaken_entry, if_not_taken, set_named, set_where_named, position_of}
+use Rattle.toml_span_tree.specs.Pointer.{pointer_segments, pointed, put_pointed, push_front, segments, if_not_taken, position_of}
+use Rattle.toml_span_tree.specs.code.Pointer.{SplitAtSlash, segments_behind, value_named, put_named, entry, untaken_entry, set_named, set_where_named}
 use Rattle.toml_span_tree.specs.Path.{position, set_entry}
 use Rattle.toml_span_tree.proofs.Values.{Entry, view_is, inner_view-Array, inner_view-Table, at_name, view-lookup}
 use Rattle.toml_span_tree.proofs.Pointers.{pointed-found, pointer-empty, pointer-slash, found-more, view-of_mut, entry-array, get_item-within}
@@ -86,7 +87,7 @@ view-String s = search (rules, the_lemmas)
 view-Integer : (z : ℤ) → inner_view (Integer z) ≡ scalar (Scalar.integer z)
 view-Integer z = search (rules, the_lemmas)
 
-view-Float : (x : FloatText) → inner_view (Float x) ≡ scalar (Scalar.float (decimal_of x))
+view-Float : (x : FloatText) → inner_view (Float x) ≡ scalar (Scalar.float (float_value x))
 view-Float x = search (rules, the_lemmas)
 
 view-Boolean : (b : Bool) → inner_view (Boolean b) ≡ scalar (Scalar.boolean b)
@@ -162,30 +163,30 @@ array-set i v text p w n e at q =
     ∙ sym (ap (set_named text (view w)) (ap inner_view e ∙ inner_view-Array v))
 
 -- the first segment, and the others
-pub path-asks : (n : Node) (path segment : List ℕ) (more : List (List ℕ)) → segments path ≡ segment ∷ more → IsSome (found (segments path) n) → IsSome (untaken_entry segment n)
-path-asks n path segment more e h = some-under (found more) (untaken_entry segment n) (subst IsSome (ap (λ names. found names n) e ∙ found-more segment more n) h)
+pub path-asks : (n : Node) (path segment : List ℕ) (more : List (List ℕ)) → segments path ≡ segment ∷ more → IsSome (value_named (segments path) n) → IsSome (untaken_entry segment n)
+path-asks n path segment more e h = some-under (value_named more) (untaken_entry segment n) (subst IsSome (ap (λ names. value_named names n) e ∙ found-more segment more n) h)
 
-found-child : (n m : Node) (path segment : List ℕ) (more : List (List ℕ)) → segments path ≡ segment ∷ more → untaken_entry segment n ≡ Some m → found (segments path) n ≡ found more m
-found-child n m path segment more e there = ap (λ names. found names n) e ∙ found-more segment more n ∙ ap (option_and_then (found more)) there
+found-child : (n m : Node) (path segment : List ℕ) (more : List (List ℕ)) → segments path ≡ segment ∷ more → untaken_entry segment n ≡ Some m → value_named (segments path) n ≡ value_named more m
+found-child n m path segment more e there = ap (λ names. value_named names n) e ∙ found-more segment more n ∙ ap (option_and_then (value_named more)) there
 
-pub path-goes : (n m : Node) (path segment : List ℕ) (more : List (List ℕ)) → segments path ≡ segment ∷ more → untaken_entry segment n ≡ Some m → IsSome (found (segments path) n) → IsSome (found more m)
+pub path-goes : (n m : Node) (path segment : List ℕ) (more : List (List ℕ)) → segments path ≡ segment ∷ more → untaken_entry segment n ≡ Some m → IsSome (value_named (segments path) n) → IsSome (value_named more m)
 path-goes n m path segment more e there h = subst IsSome (found-child n m path segment more e there) h
 
-pub path-last : (n m : Node) (path segment : List ℕ) (more : List (List ℕ)) → segments path ≡ segment ∷ more → more ≡ [] → untaken_entry segment n ≡ Some m → found (segments path) n ≡ Some m
-path-last n m path segment more e last there = found-child n m path segment more e there ∙ ap (λ names. found names m) last
+pub path-last : (n m : Node) (path segment : List ℕ) (more : List (List ℕ)) → segments path ≡ segment ∷ more → more ≡ [] → untaken_entry segment n ≡ Some m → value_named (segments path) n ≡ Some m
+path-last n m path segment more e last there = found-child n m path segment more e there ∙ ap (λ names. value_named names m) last
 
-pub path-more : (n m x : Node) (path segment : List ℕ) (more : List (List ℕ)) → segments path ≡ segment ∷ more → untaken_entry segment n ≡ Some m → found more m ≡ Some x → found (segments path) n ≡ Some x
+pub path-more : (n m x : Node) (path segment : List ℕ) (more : List (List ℕ)) → segments path ≡ segment ∷ more → untaken_entry segment n ≡ Some m → value_named more m ≡ Some x → value_named (segments path) n ≡ Some x
 path-more n m x path segment more e there h = found-child n m path segment more e there ∙ h
 
-pub path-set-more : (n m old w t r : Node) (path segment : List ℕ) (more : List (List ℕ)) → segments path ≡ segment ∷ more → untaken_entry segment n ≡ Some m → found more m ≡ Some old
-    → t ≡ put_found more w m → r ≡ node (set_named segment t (inner_of n)) (span_of n) → r ≡ put_found (segments path) w n
+pub path-set-more : (n m old w t r : Node) (path segment : List ℕ) (more : List (List ℕ)) → segments path ≡ segment ∷ more → untaken_entry segment n ≡ Some m → value_named more m ≡ Some old
+    → t ≡ put_named more w m → r ≡ node (set_named segment t (inner_of n)) (span_of n) → r ≡ put_named (segments path) w n
 path-set-more n m old w t r path segment more e there h q p =
-    p ∙ ap (λ u. node (set_named segment u (inner_of n)) (span_of n)) q ∙ sym (put_found-more segment more n m w old there h) ∙ ap (λ names. put_found names w n) (sym e)
+    p ∙ ap (λ u. node (set_named segment u (inner_of n)) (span_of n)) q ∙ sym (put_found-more segment more n m w old there h) ∙ ap (λ names. put_named names w n) (sym e)
 
 pub path-set-last : (n m w r : Node) (path segment : List ℕ) (more : List (List ℕ)) → segments path ≡ segment ∷ more → more ≡ [] → untaken_entry segment n ≡ Some m
-    → r ≡ node (set_named segment w (inner_of n)) (span_of n) → r ≡ put_found (segments path) w n
+    → r ≡ node (set_named segment w (inner_of n)) (span_of n) → r ≡ put_named (segments path) w n
 path-set-last n m w r path segment more e last there p =
-    path-set-more n m m w w r path segment more e there (ap (λ names. found names m) last) (sym (ap (λ names. put_found names w m) last)) p
+    path-set-more n m m w w r path segment more e there (ap (λ names. value_named names m) last) (sym (ap (λ names. put_named names w m) last)) p
 
 pushed-some : (x : ℕ) (names : List (List ℕ)) → 0 < length (push_front x names)
 pushed-some x [] = omega arith
@@ -200,7 +201,7 @@ unfolding segments
 segments-some [] = omega arith
 segments-some (x ∷ xs) = slash-some (x == 47) x (segments xs)
 
-pub more-some : (path segment : List ℕ) (o : Option (List ℕ)) (rest : List ℕ) → Cut path segment o → o ≡ Some rest → 0 < length (drop 1 (segments path))
+pub more-some : (path segment : List ℕ) (o : Option (List ℕ)) (rest : List ℕ) → SplitAtSlash path segment o → o ≡ Some rest → 0 < length (drop 1 (segments path))
 more-some path segment o rest c e = subst (λ names. 0 < length (drop 1 names)) (sym (c.parts ∙ ap (λ o. segment ∷ segments_behind o) e)) (segments-some rest)
 
 -- the text of a pointer
@@ -209,12 +210,12 @@ empty-at [] h = refl
 empty-at (x ∷ p) h = absurd (omega (arith, h))
 
 pub empty-is : (p : List ℕ) (n : Node) → length p ≡ 0 → pointed p n ≡ Some n
-empty-is p n h = pointed-found p n ∙ ap (option_and_then (λ names. found names n)) (pointer-empty p h)
+empty-is p n h = pointed-found p n ∙ ap (option_and_then (λ names. value_named names n)) (pointer-empty p h)
 
 pub empty-set : (p : List ℕ) (n w r : Node) → length p ≡ 0 → r ≡ w → r ≡ put_pointed p w n
 empty-set p n w r h e = e ∙ sym (put_pointed-found p [] w n (pointer-empty p h))
 
-slash-at : (b : Bool) (x : ℕ) (xs : List ℕ) (n : Node) → (x == 47) ≡ b → IsSome (option_and_then (λ names. found names n) (cond b (Some (segments xs)) None)) → x ≡ 47
+slash-at : (b : Bool) (x : ℕ) (xs : List ℕ) (n : Node) → (x == 47) ≡ b → IsSome (option_and_then (λ names. value_named names n) (cond b (Some (segments xs)) None)) → x ≡ 47
 slash-at true x xs n e h = eqb→eq x 47 (subst T (sym e) tt)
 slash-at false x xs n e h = absurd (cc h)
 
@@ -223,8 +224,8 @@ unfolding pointer_segments
 slash-of [] n more h = absurd (omega (arith, more))
 slash-of (x ∷ xs) n more h = (xs, ap (λ y. y ∷ xs) (slash-at (x == 47) x xs n refl (subst IsSome (pointed-found (x ∷ xs) n) h)))
 
-pub slash-is : (p path : List ℕ) (n : Node) → p ≡ 47 ∷ path → pointed p n ≡ found (segments path) n
-slash-is p path n e = pointed-found p n ∙ ap (option_and_then (λ names. found names n)) (pointer-slash p path e)
+pub slash-is : (p path : List ℕ) (n : Node) → p ≡ 47 ∷ path → pointed p n ≡ value_named (segments path) n
+slash-is p path n e = pointed-found p n ∙ ap (option_and_then (λ names. value_named names n)) (pointer-slash p path e)
 
-pub slash-set : (p path : List ℕ) (n w r : Node) → p ≡ 47 ∷ path → r ≡ put_found (segments path) w n → r ≡ put_pointed p w n
+pub slash-set : (p path : List ℕ) (n w r : Node) → p ≡ 47 ∷ path → r ≡ put_named (segments path) w n → r ≡ put_pointed p w n
 slash-set p path n w r e h = h ∙ sym (put_pointed-found p (segments path) w n (pointer-slash p path e))

@@ -13,3 +13,4 @@ pub mod Puts
 pub mod Sizes
 pub mod Values
 pub mod Walks
+pub mod Clones

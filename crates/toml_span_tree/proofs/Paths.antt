@@ -7,7 +7,7 @@ use Rattle.std.proofs.lemmas.Slice.Eq.{bytes_eq-Decides}
 use Rattle.toml_span_lex.specs.declared.span.Span.{Span}
 use Rattle.toml_span_tree.specs.Node.{Node, Inner, taken, scalar, array, table, Items, no_items, item, Members, no_members, member, entry_at, element_at}
 use Rattle.toml_span_tree.specs.Value.{inner_of, span_of}
-use Rattle.toml_span_tree.specs.Path.{Step, key, position, Path, Place, shape_of, below, reached, place_of, place_at, node_at, set_entry, set_element, set_below, put, put_where, BeginsWith}
+use Rattle.toml_span_tree.specs.Path.{Step, key, position, Path, Place, shape_of, at_step, reached, place_of, place_at, node_at, set_entry, set_element, set_at_step, put, put_where, BeginsWith}
 
 abbrev pub Found : Type 0
 Found = Option Span × Node
@@ -31,7 +31,7 @@ element_at-set zero (item n ns) e w h =
     ap (λ (e : Found). Some (e.0, w)) same
 element_at-set (suc i) (item n ns) e w h = element_at-set i ns e w h
 
-pub below-set : (s : Step) (i : Inner) (e : Found) (w : Node) → below s i ≡ Some e → below s (set_below s w i) ≡ Some (e.0, w)
+pub below-set : (s : Step) (i : Inner) (e : Found) (w : Node) → at_step s i ≡ Some e → at_step s (set_at_step s w i) ≡ Some (e.0, w)
 below-set s taken e w h = cc
 below-set s (scalar x) e w h = cc
 below-set (key name) (array ns) e w h = cc
@@ -39,7 +39,7 @@ below-set (position i) (array ns) e w h = element_at-set i ns e w h
 below-set (key name) (table ms) e w h = entry_at-set name ms e w h
 below-set (position i) (table ms) e w h = cc
 
-reached-put_at : (o : Option Found) (s : Step) (path : Path) (k : Option Span) (n w : Node) (r : Found) → below s (inner_of n) ≡ o → option_and_then (reached path) o ≡ Some r
+reached-put_at : (o : Option Found) (s : Step) (path : Path) (k : Option Span) (n w : Node) (r : Found) → at_step s (inner_of n) ≡ o → option_and_then (reached path) o ≡ Some r
     → ((e : Found) → reached path e ≡ Some r → reached path (e.0, put path w e.1) ≡ Some (r.0, w))
     → reached (s ∷ path) (k, put_where (option_map (λ e. e.1) o) s (put path w) n) ≡ Some (r.0, w)
 reached-put_at None s path k n w r is there ih = cc
@@ -50,7 +50,7 @@ pub reached-put : (path : Path) (e : Found) (w : Node) (r : Found) → reached p
 reached-put [] e w r h =
     let same : e ≡ r = cc in
     ap (λ (e : Found). Some (e.0, w)) same
-reached-put (s ∷ path) e w r h = reached-put_at (below s (inner_of e.1)) s path e.0 e.1 w r refl h (λ f. reached-put path f w r)
+reached-put (s ∷ path) e w r h = reached-put_at (at_step s (inner_of e.1)) s path e.0 e.1 w r refl h (λ f. reached-put path f w r)
 
 node_at-put_at : (o : Option Found) (path : Path) (n m w : Node) → reached path (None, n) ≡ o → option_map (λ e. e.1) o ≡ Some m → node_at path (put path w n) ≡ Some w
 node_at-put_at None path n m w is h = cc
@@ -99,7 +99,7 @@ StepsApart (key q) (position i) = ⊤
 StepsApart (position j) (key name) = ⊤
 StepsApart (position j) (position i) = j ≢ i
 
-pub below-other : (t s : Step) (i : Inner) (w : Node) → StepsApart t s → below t (set_below s w i) ≡ below t i
+pub below-other : (t s : Step) (i : Inner) (w : Node) → StepsApart t s → at_step t (set_at_step s w i) ≡ at_step t i
 below-other t s taken w apart = refl
 below-other t s (scalar x) w apart = refl
 below-other (key q) (key name) (array ns) w apart = refl
@@ -121,7 +121,7 @@ same_or_apart (key q) (position i) = inr tt
 same_or_apart (position j) (key name) = inr tt
 same_or_apart (position j) (position i) = ⊎_elim (λ e. inl (ap position e)) (λ e. inr e) (cases_eq j i)
 
-shape_of-set : (s : Step) (i : Inner) (w : Node) → shape_of (set_below s w i) ≡ shape_of i
+shape_of-set : (s : Step) (i : Inner) (w : Node) → shape_of (set_at_step s w i) ≡ shape_of i
 shape_of-set s taken w = refl
 shape_of-set s (scalar x) w = refl
 shape_of-set (key name) (array ns) w = refl
@@ -133,17 +133,17 @@ shape_of-set (position i) (table ms) w = refl
 abbrev pub Shown : Path → Found → Option Place
 Shown path e = option_map place_of (reached path e)
 
-shown_below : (path q : Path) (t s : Step) (k : Option Span) (n w : Node) (e : Found) → below s (inner_of n) ≡ Some e → (t ≡ s) ⊎ StepsApart t s
+shown_below : (path q : Path) (t s : Step) (k : Option Span) (n w : Node) (e : Found) → at_step s (inner_of n) ≡ Some e → (t ≡ s) ⊎ StepsApart t s
     → ((t ≡ s) → BeginsWith path q → ⊥) → ((BeginsWith path q → ⊥) → Shown q (e.0, put path w e.1) ≡ Shown q e)
-    → option_map place_of (option_and_then (reached q) (below t (set_below s (put path w e.1) (inner_of n)))) ≡ option_map place_of (option_and_then (reached q) (below t (inner_of n)))
+    → option_map place_of (option_and_then (reached q) (at_step t (set_at_step s (put path w e.1) (inner_of n)))) ≡ option_map place_of (option_and_then (reached q) (at_step t (inner_of n)))
 shown_below path q t s k n w e is (inl same) off ih =
-    ap (λ t. option_map place_of (option_and_then (reached q) (below t (set_below s (put path w e.1) (inner_of n))))) same
+    ap (λ t. option_map place_of (option_and_then (reached q) (at_step t (set_at_step s (put path w e.1) (inner_of n))))) same
     ∙ ap (λ o. option_map place_of (option_and_then (reached q) o)) (below-set s (inner_of n) e (put path w e.1) is)
     ∙ ih (off same)
-    ∙ sym (ap (λ o. option_map place_of (option_and_then (reached q) o)) (ap (λ t. below t (inner_of n)) same ∙ is))
+    ∙ sym (ap (λ o. option_map place_of (option_and_then (reached q) o)) (ap (λ t. at_step t (inner_of n)) same ∙ is))
 shown_below path q t s k n w e is (inr apart) off ih = ap (λ o. option_map place_of (option_and_then (reached q) o)) (below-other t s (inner_of n) (put path w e.1) apart)
 
-shown_at : (o : Option Found) (path q : Path) (s : Step) (k : Option Span) (n w : Node) → below s (inner_of n) ≡ o → (BeginsWith (s ∷ path) q → ⊥)
+shown_at : (o : Option Found) (path q : Path) (s : Step) (k : Option Span) (n w : Node) → at_step s (inner_of n) ≡ o → (BeginsWith (s ∷ path) q → ⊥)
     → ((e : Found) (r : Path) → (BeginsWith path r → ⊥) → Shown r (e.0, put path w e.1) ≡ Shown r e)
     → Shown q (k, put_where (option_map (λ e. e.1) o) s (put path w) n) ≡ Shown q (k, n)
 shown_at None path q s k n w is off ih = refl
@@ -153,7 +153,7 @@ shown_at (Some e) path (t ∷ q) s k n w is off ih =
 
 pub shown-other : (path q : Path) (e : Found) (w : Node) → (BeginsWith path q → ⊥) → Shown q (e.0, put path w e.1) ≡ Shown q e
 shown-other [] q e w off = absurd (off (q, refl))
-shown-other (s ∷ path) q e w off = shown_at (below s (inner_of e.1)) path q s e.0 e.1 w refl off (λ f r h. shown-other path r f w h)
+shown-other (s ∷ path) q e w off = shown_at (at_step s (inner_of e.1)) path q s e.0 e.1 w refl off (λ f r h. shown-other path r f w h)
 
 -- a change leaves what every path shows that does not begin with its own
 pub place_at-other : (path q : Path) (n w : Node) → (BeginsWith path q → ⊥) → place_at q (put path w n) ≡ place_at q n

@@ -4,22 +4,23 @@ use Rattle.std.specs.Str.{bytes_eq}
 use Rattle.std.proofs.lemmas.Slice.Eq.{bytes_eq-Decides}
 use Rattle.toml_span_tree.specs.Node.{Node, node, Inner, taken, scalar, array, table}
 use Rattle.toml_span_tree.specs.Value.{inner_of, is_taken, holds_nothing}
-use Rattle.toml_span_tree.specs.Path.{Step, key, position, Path, below, child, node_at, set_below}
-use Rattle.toml_span_tree.specs.Pointer.{position_of, step_named, if_not_taken, entry, untaken_entry, found, pointed, put_pointed, put_found, pointer_segments, set_named, set_where_named, positions_apart, segments_apart, paths_part, part_where, pointers_part, NamesPath, IsPointed}
+use Rattle.toml_span_tree.specs.Path.{Step, key, position, Path, at_step, child, node_at, set_at_step}
+use Rattle.toml_span_tree.specs.Pointer.{position_of, step_named, if_not_taken, pointed, put_pointed, pointer_segments, positions_apart, segments_apart, paths_part, part_where, pointers_part, NamesPath, IsPointed}
+use Rattle.toml_span_tree.specs.code.Pointer.{entry, untaken_entry, value_named, put_named, set_named, set_where_named}
 use Rattle.toml_span_tree.proofs.Paths.{Found, below-set, below-other, StepsApart, bytes_same}
 use Rattle.toml_span_tree.proofs.Pointers.{found-more, node_at-more, pointed-found}
 use Rattle.toml_span_tree.proofs.Puts.{put_found-more, put_pointed-found}
 
 -- the path that a value is found by
-found_child : (o : Option Node) (names : List (List ℕ)) (m : Node) → option_and_then (found names) o ≡ Some m → (c : Node) × (o ≡ Some c) × (found names c ≡ Some m)
+found_child : (o : Option Node) (names : List (List ℕ)) (m : Node) → option_and_then (value_named names) o ≡ Some m → (c : Node) × (o ≡ Some c) × (value_named names c ≡ Some m)
 found_child None names m h = cc
 found_child (Some c) names m h = (c, refl, h)
 
-pub found-first : (segment : List ℕ) (names : List (List ℕ)) (n m : Node) → found (segment ∷ names) n ≡ Some m → (c : Node) × (untaken_entry segment n ≡ Some c) × (found names c ≡ Some m)
+pub found-first : (segment : List ℕ) (names : List (List ℕ)) (n m : Node) → value_named (segment ∷ names) n ≡ Some m → (c : Node) × (untaken_entry segment n ≡ Some c) × (value_named names c ≡ Some m)
 found-first segment names n m h = found_child (untaken_entry segment n) names m (sym (found-more segment names n) ∙ h)
 
 -- a change keeps what kind a table or an array is
-kind_kept : (s : Step) (i : Inner) (w : Node) → holds_nothing (set_below s w i) ≡ holds_nothing i
+kind_kept : (s : Step) (i : Inner) (w : Node) → holds_nothing (set_at_step s w i) ≡ holds_nothing i
 kind_kept s taken w = refl
 kind_kept s (scalar x) w = refl
 kind_kept (key name) (array ns) w = refl
@@ -31,7 +32,7 @@ named_kept : (o : Option Step) (i : Inner) (w : Node) → holds_nothing (set_whe
 named_kept None i w = refl
 named_kept (Some s) i w = kind_kept s i w
 
-step_kept : (other : List ℕ) (s : Step) (i : Inner) (w : Node) → step_named other (set_below s w i) ≡ step_named other i
+step_kept : (other : List ℕ) (s : Step) (i : Inner) (w : Node) → step_named other (set_at_step s w i) ≡ step_named other i
 step_kept other s taken w = refl
 step_kept other s (scalar x) w = refl
 step_kept other (key name) (array ns) w = refl
@@ -40,13 +41,13 @@ step_kept other (key name) (table ms) w = refl
 step_kept other (position i) (table ms) w = refl
 
 -- what a segment names after a change at it
-entry_set_at : (o : Option Step) (segment : List ℕ) (i : Inner) (c w : Node) → step_named segment i ≡ o → option_and_then (λ s. option_map (λ e. e.1) (below s i)) o ≡ Some c
+entry_set_at : (o : Option Step) (segment : List ℕ) (i : Inner) (c w : Node) → step_named segment i ≡ o → option_and_then (λ s. option_map (λ e. e.1) (at_step s i)) o ≡ Some c
     → entry segment (set_where_named o w i) ≡ Some w
 entry_set_at None segment i c w is h = cc
 entry_set_at (Some s) segment i c w is h =
-    ap (λ o. option_and_then (λ s'. option_map (λ e. e.1) (below s' (set_below s w i))) o) (step_kept segment s i w ∙ is) ∙ lent (below s i) refl h
+    ap (λ o. option_and_then (λ s'. option_map (λ e. e.1) (at_step s' (set_at_step s w i))) o) (step_kept segment s i w ∙ is) ∙ lent (at_step s i) refl h
   where
-    lent : (o : Option Found) → below s i ≡ o → option_map (λ e. e.1) o ≡ Some c → option_map (λ e. e.1) (below s (set_below s w i)) ≡ Some w
+    lent : (o : Option Found) → at_step s i ≡ o → option_map (λ e. e.1) o ≡ Some c → option_map (λ e. e.1) (at_step s (set_at_step s w i)) ≡ Some w
     lent None is h = cc
     lent (Some e) is h = ap (option_map (λ e. e.1)) (below-set s i e w is)
 
@@ -70,31 +71,31 @@ untaken : (c : Node) → is_taken c ≡ false → if_not_taken c ≡ Some c
 untaken c h = ap (λ b. cond b None (Some c)) h
 
 -- what was put is not taken, where the new value is not
-put_found-untaken : (names : List (List ℕ)) (n m w : Node) → is_taken w ≡ false → found names n ≡ Some m → is_taken n ≡ false → is_taken (put_found names w n) ≡ false
+put_found-untaken : (names : List (List ℕ)) (n m w : Node) → is_taken w ≡ false → value_named names n ≡ Some m → is_taken n ≡ false → is_taken (put_named names w n) ≡ false
 put_found-untaken [] n m w h there whole = h
 put_found-untaken (segment ∷ names) n m w h there whole =
     let first = found-first segment names n m there in
-    ap is_taken (put_found-more segment names n first.0 w m first.1 first.2) ∙ named_kept (step_named segment (inner_of n)) (inner_of n) (put_found names w first.0) ∙ kept n ∙ whole
+    ap is_taken (put_found-more segment names n first.0 w m first.1 first.2) ∙ named_kept (step_named segment (inner_of n)) (inner_of n) (put_named names w first.0) ∙ kept n ∙ whole
   where
     kept : (n : Node) → holds_nothing (inner_of n) ≡ is_taken n
     kept n = refl
 
-untaken_entry-put : (segment : List ℕ) (names : List (List ℕ)) (n c m w : Node) → untaken_entry segment n ≡ Some c → found names c ≡ Some m → is_taken (put_found names w c) ≡ false
-    → untaken_entry segment (put_found (segment ∷ names) w n) ≡ Some (put_found names w c)
+untaken_entry-put : (segment : List ℕ) (names : List (List ℕ)) (n c m w : Node) → untaken_entry segment n ≡ Some c → value_named names c ≡ Some m → is_taken (put_named names w c) ≡ false
+    → untaken_entry segment (put_named (segment ∷ names) w n) ≡ Some (put_named names w c)
 untaken_entry-put segment names n c m w leads there whole =
     ap (untaken_entry segment) (put_found-more segment names n c w m leads there)
-    ∙ ap (option_and_then if_not_taken) (entry-set segment (inner_of n) c (put_found names w c) (untaken_entry-of segment n c leads).0)
-    ∙ untaken (put_found names w c) whole
+    ∙ ap (option_and_then if_not_taken) (entry-set segment (inner_of n) c (put_named names w c) (untaken_entry-of segment n c leads).0)
+    ∙ untaken (put_named names w c) whole
 
 -- what was put is found by the same segments
-pub found-put : (names : List (List ℕ)) (n m w : Node) → is_taken w ≡ false → found names n ≡ Some m → found names (put_found names w n) ≡ Some w
+pub found-put : (names : List (List ℕ)) (n m w : Node) → is_taken w ≡ false → value_named names n ≡ Some m → value_named names (put_named names w n) ≡ Some w
 found-put [] n m w h there = refl
 found-put (segment ∷ names) n m w h there =
     let first = found-first segment names n m there in
     let c = first.0 in
     let whole = put_found-untaken names c m w h first.2 (untaken_entry-of segment n c first.1).1 in
-    found-more segment names (put_found (segment ∷ names) w n)
-    ∙ ap (option_and_then (found names)) (untaken_entry-put segment names n c m w first.1 first.2 whole)
+    found-more segment names (put_named (segment ∷ names) w n)
+    ∙ ap (option_and_then (value_named names)) (untaken_entry-put segment names n c m w first.1 first.2 whole)
     ∙ found-put names c m w h first.2
 
 -- pointers that part
@@ -133,66 +134,66 @@ entry_apart_at : (o p : Option Step) (segment other : List ℕ) (i : Inner) (c w
     → entry other (set_where_named o w i) ≡ entry other i
 entry_apart_at None p segment other i c w is it apart = refl
 entry_apart_at (Some s) None segment other i c w is it apart =
-    ap (option_and_then (λ t. option_map (λ e. e.1) (below t (set_below s w i)))) (step_kept other s i w ∙ it)
-    ∙ sym (ap (option_and_then (λ t. option_map (λ e. e.1) (below t i))) it)
+    ap (option_and_then (λ t. option_map (λ e. e.1) (at_step t (set_at_step s w i)))) (step_kept other s i w ∙ it)
+    ∙ sym (ap (option_and_then (λ t. option_map (λ e. e.1) (at_step t i))) it)
 entry_apart_at (Some s) (Some t) segment other i c w is it apart =
-    ap (option_and_then (λ t. option_map (λ e. e.1) (below t (set_below s w i)))) (step_kept other s i w ∙ it)
+    ap (option_and_then (λ t. option_map (λ e. e.1) (at_step t (set_at_step s w i)))) (step_kept other s i w ∙ it)
     ∙ ap (option_map (λ e. e.1)) (below-other t s i w (steps_apart i segment other s t apart is it))
-    ∙ sym (ap (option_and_then (λ t. option_map (λ e. e.1) (below t i))) it)
+    ∙ sym (ap (option_and_then (λ t. option_map (λ e. e.1) (at_step t i))) it)
 
 entry-apart : (segment other : List ℕ) (i : Inner) (w : Node) → segments_apart segment other ≡ true → entry other (set_named segment w i) ≡ entry other i
 entry-apart segment other i w apart = entry_apart_at (step_named segment i) (step_named other i) segment other i w w refl refl apart
 
-part_more : (names others : List (List ℕ)) (n m w : Node) → paths_part names others ≡ true → found names n ≡ Some m → is_taken n ≡ false → is_taken (put_found names w n) ≡ false
+part_more : (names others : List (List ℕ)) (n m w : Node) → paths_part names others ≡ true → value_named names n ≡ Some m → is_taken n ≡ false → is_taken (put_named names w n) ≡ false
 part_more [] others n m w apart there whole = cc
 part_more (segment ∷ names) others n m w apart there whole =
     let first = found-first segment names n m there in
-    ap is_taken (put_found-more segment names n first.0 w m first.1 first.2) ∙ named_kept (step_named segment (inner_of n)) (inner_of n) (put_found names w first.0) ∙ whole
+    ap is_taken (put_found-more segment names n first.0 w m first.1 first.2) ∙ named_kept (step_named segment (inner_of n)) (inner_of n) (put_named names w first.0) ∙ whole
 
 found_apart_at : (b : Bool) (segment other : List ℕ) (names others : List (List ℕ)) (n c m w : Node) → bytes_eq segment other ≡ b → cond b (paths_part names others) (segments_apart segment other) ≡ true
-    → untaken_entry segment n ≡ Some c → found names c ≡ Some m → (paths_part names others ≡ true → found others (put_found names w c) ≡ found others c)
-    → option_and_then (found others) (untaken_entry other (put_found (segment ∷ names) w n)) ≡ option_and_then (found others) (untaken_entry other n)
+    → untaken_entry segment n ≡ Some c → value_named names c ≡ Some m → (paths_part names others ≡ true → value_named others (put_named names w c) ≡ value_named others c)
+    → option_and_then (value_named others) (untaken_entry other (put_named (segment ∷ names) w n)) ≡ option_and_then (value_named others) (untaken_entry other n)
 found_apart_at true segment other names others n c m w is apart leads there ih =
     let same = sym (bytes_same segment other is) in
     let whole = part_more names others c m w apart there (untaken_entry-of segment n c leads).1 in
-    ap (λ k. option_and_then (found others) (untaken_entry k (put_found (segment ∷ names) w n))) same
-    ∙ ap (option_and_then (found others)) (untaken_entry-put segment names n c m w leads there whole)
+    ap (λ k. option_and_then (value_named others) (untaken_entry k (put_named (segment ∷ names) w n))) same
+    ∙ ap (option_and_then (value_named others)) (untaken_entry-put segment names n c m w leads there whole)
     ∙ ih apart
-    ∙ sym (ap (λ k. option_and_then (found others) (untaken_entry k n)) same ∙ ap (option_and_then (found others)) leads)
+    ∙ sym (ap (λ k. option_and_then (value_named others) (untaken_entry k n)) same ∙ ap (option_and_then (value_named others)) leads)
 found_apart_at false segment other names others n c m w is apart leads there ih =
-    ap (λ k. option_and_then (found others) (untaken_entry other k)) (put_found-more segment names n c w m leads there)
-    ∙ ap (λ o. option_and_then (found others) (option_and_then if_not_taken o)) (entry-apart segment other (inner_of n) (put_found names w c) apart)
+    ap (λ k. option_and_then (value_named others) (untaken_entry other k)) (put_found-more segment names n c w m leads there)
+    ∙ ap (λ o. option_and_then (value_named others) (option_and_then if_not_taken o)) (entry-apart segment other (inner_of n) (put_named names w c) apart)
 
 -- a change leaves what is named by segments that part from its own
-pub found-apart : (names others : List (List ℕ)) (n m w : Node) → found names n ≡ Some m → paths_part names others ≡ true → found others (put_found names w n) ≡ found others n
+pub found-apart : (names others : List (List ℕ)) (n m w : Node) → value_named names n ≡ Some m → paths_part names others ≡ true → value_named others (put_named names w n) ≡ value_named others n
 found-apart [] others n m w there apart = cc
 found-apart (segment ∷ names) [] n m w there apart = cc
 found-apart (segment ∷ names) (other ∷ others) n m w there apart =
     let first = found-first segment names n m there in
-    found-more other others (put_found (segment ∷ names) w n)
+    found-more other others (put_named (segment ∷ names) w n)
     ∙ found_apart_at (bytes_eq segment other) segment other names others n first.0 m w refl apart first.1 first.2 (λ h. found-apart names others first.0 m w first.2 h)
     ∙ sym (found-more other others n)
 
 -- the same of pointers
-pointed_at : (o : Option (List (List ℕ))) (p : List ℕ) (n m : Node) → pointer_segments p ≡ o → option_and_then (λ names. found names n) o ≡ Some m → (names : List (List ℕ)) × (pointer_segments p ≡ Some names) × (found names n ≡ Some m)
+pointed_at : (o : Option (List (List ℕ))) (p : List ℕ) (n m : Node) → pointer_segments p ≡ o → option_and_then (λ names. value_named names n) o ≡ Some m → (names : List (List ℕ)) × (pointer_segments p ≡ Some names) × (value_named names n ≡ Some m)
 pointed_at None p n m is h = cc
 pointed_at (Some names) p n m is h = (names, is, h)
 
-pub pointed-names : (p : List ℕ) (n m : Node) → pointed p n ≡ Some m → (names : List (List ℕ)) × (pointer_segments p ≡ Some names) × (found names n ≡ Some m)
+pub pointed-names : (p : List ℕ) (n m : Node) → pointed p n ≡ Some m → (names : List (List ℕ)) × (pointer_segments p ≡ Some names) × (value_named names n ≡ Some m)
 pointed-names p n m h = pointed_at (pointer_segments p) p n m refl (sym (pointed-found p n) ∙ h)
 
 pub pointed-put : (p : List ℕ) (n m w : Node) → is_taken w ≡ false → pointed p n ≡ Some m → pointed p (put_pointed p w n) ≡ Some w
 pointed-put p n m w h there =
     let t = pointed-names p n m there in
     pointed-found p (put_pointed p w n)
-    ∙ ap (option_and_then (λ names. found names (put_pointed p w n))) t.1
-    ∙ ap (found t.0) (put_pointed-found p t.0 w n t.1)
+    ∙ ap (option_and_then (λ names. value_named names (put_pointed p w n))) t.1
+    ∙ ap (value_named t.0) (put_pointed-found p t.0 w n t.1)
     ∙ found-put t.0 n m w h t.2
 
-pointed_apart_at : (o : Option (List (List ℕ))) (p q : List ℕ) (names : List (List ℕ)) (n m w : Node) → pointer_segments q ≡ o → part_where (Some names) o ≡ true → pointer_segments p ≡ Some names → found names n ≡ Some m
-    → option_and_then (λ others. found others (put_pointed p w n)) o ≡ option_and_then (λ others. found others n) o
+pointed_apart_at : (o : Option (List (List ℕ))) (p q : List ℕ) (names : List (List ℕ)) (n m w : Node) → pointer_segments q ≡ o → part_where (Some names) o ≡ true → pointer_segments p ≡ Some names → value_named names n ≡ Some m
+    → option_and_then (λ others. value_named others (put_pointed p w n)) o ≡ option_and_then (λ others. value_named others n) o
 pointed_apart_at None p q names n m w it apart is there = refl
-pointed_apart_at (Some others) p q names n m w it apart is there = ap (found others) (put_pointed-found p names w n is) ∙ found-apart names others n m w there apart
+pointed_apart_at (Some others) p q names n m w it apart is there = ap (value_named others) (put_pointed-found p names w n is) ∙ found-apart names others n m w there apart
 
 pub pointed-apart : (p q : List ℕ) (n m w : Node) → pointed p n ≡ Some m → pointers_part p q ≡ true → pointed q (put_pointed p w n) ≡ pointed q n
 pointed-apart p q n m w there apart =
@@ -216,8 +217,8 @@ step_names s segment names path (array ns) is h = by (position_of segment) refl 
         let this : position k ≡ s = cc in
         subst (λ s. NamesPath (segment ∷ names) (s ∷ path)) this (is', h)
 
-step_of : (o : Option Step) (segment : List ℕ) (i : Inner) (c : Node) → step_named segment i ≡ o → option_and_then (λ s. option_map (λ e. e.1) (below s i)) o ≡ Some c
-    → (s : Step) × (step_named segment i ≡ Some s) × (option_map (λ e. e.1) (below s i) ≡ Some c)
+step_of : (o : Option Step) (segment : List ℕ) (i : Inner) (c : Node) → step_named segment i ≡ o → option_and_then (λ s. option_map (λ e. e.1) (at_step s i)) o ≡ Some c
+    → (s : Step) × (step_named segment i ≡ Some s) × (option_map (λ e. e.1) (at_step s i) ≡ Some c)
 step_of None segment i c is h = cc
 step_of (Some s) segment i c is h = (s, is, h)
 
@@ -231,7 +232,7 @@ not_first path c m there whole h = by (is_taken m) refl
         let same : c ≡ m = cc in
         sym (ap is_taken same) ∙ whole
 
-pub found-path : (names : List (List ℕ)) (n m : Node) → found names n ≡ Some m → (path : Path) × NamesPath names path × (node_at path n ≡ Some m) × (is_taken m ≡ true → path ≡ [])
+pub found-path : (names : List (List ℕ)) (n m : Node) → value_named names n ≡ Some m → (path : Path) × NamesPath names path × (node_at path n ≡ Some m) × (is_taken m ≡ true → path ≡ [])
 found-path [] n m h = ([], tt, h, λ _. refl)
 found-path (segment ∷ names) n m h =
     let first = found-first segment names n m h in
@@ -247,7 +248,7 @@ found-path (segment ∷ names) n m h =
     )
 
 -- and the other way
-step_leads : (s : Step) (segment : List ℕ) (names : List (List ℕ)) (path : Path) (i : Inner) (c : Node) → NamesPath (segment ∷ names) (s ∷ path) → option_map (λ e. e.1) (below s i) ≡ Some c
+step_leads : (s : Step) (segment : List ℕ) (names : List (List ℕ)) (path : Path) (i : Inner) (c : Node) → NamesPath (segment ∷ names) (s ∷ path) → option_map (λ e. e.1) (at_step s i) ≡ Some c
     → (step_named segment i ≡ Some s) × NamesPath names path
 step_leads s segment names path taken c h leads = cc
 step_leads s segment names path (scalar x) c h leads = cc
@@ -285,7 +286,7 @@ after s path m h is = absurd (cons_nil (h is))
     cons_nil : s ∷ path ≡ [] → ⊥
     cons_nil e = cc
 
-pub path-found : (names : List (List ℕ)) (path : Path) (n m : Node) → NamesPath names path → node_at path n ≡ Some m → (is_taken m ≡ true → path ≡ []) → found names n ≡ Some m
+pub path-found : (names : List (List ℕ)) (path : Path) (n m : Node) → NamesPath names path → node_at path n ≡ Some m → (is_taken m ≡ true → path ≡ []) → value_named names n ≡ Some m
 path-found [] [] n m h there whole = there
 path-found [] (s ∷ path) n m h there whole = absurd h
 path-found (segment ∷ names) [] n m h there whole = absurd h
@@ -294,9 +295,9 @@ path-found (segment ∷ names) (s ∷ path) n m h there whole =
     let c = first.0 in
     let named = step_leads s segment names path (inner_of n) c h first.1 in
     found-more segment names n
-    ∙ ap (λ o. option_and_then (found names) (option_and_then if_not_taken (option_and_then (λ s. child s n) o))) named.0
-    ∙ ap (λ o. option_and_then (found names) (option_and_then if_not_taken o)) first.1
-    ∙ ap (option_and_then (found names)) (untaken c (last_whole s path c m first.2 whole))
+    ∙ ap (λ o. option_and_then (value_named names) (option_and_then if_not_taken (option_and_then (λ s. child s n) o))) named.0
+    ∙ ap (λ o. option_and_then (value_named names) (option_and_then if_not_taken o)) first.1
+    ∙ ap (option_and_then (value_named names)) (untaken c (last_whole s path c m first.2 whole))
     ∙ path-found names path c m named.1 first.2 (after s path m whole)
 
 pub pointed-is : (p : List ℕ) (n m : Node) → (pointed p n ≡ Some m) ↔ IsPointed p n m
@@ -305,5 +306,5 @@ pointed-is p n m = (
       let names = pointed-names p n m h in
       let path = found-path names.0 n m names.2 in
       (names.0, path.0, names.1, path.1, path.2, path.3),
-  λ h. pointed-found p n ∙ ap (option_and_then (λ names. found names n)) h.2 ∙ path-found h.0 h.1 n m h.3 h.4 h.5,
+  λ h. pointed-found p n ∙ ap (option_and_then (λ names. value_named names n)) h.2 ∙ path-found h.0 h.1 n m h.3 h.4 h.5,
 )

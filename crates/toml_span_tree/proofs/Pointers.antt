@@ -1,14 +1,20 @@
 -- A pointer, a segment at a time.
-use Rattle.std.proofs.Common.{◌≡◌, ◌≢◌, ℕ, zero, suc, ◌<◌, List, [], ◌∷◌, ◌++◌, length, get_or, Option, Some, None, option_map, option_and_then, refl, sym, ap, ◌∙◌, arith, ne_eqb, Bool, true, false, cond, ◌≤◌, ◌+◌, ◌*◌, ◌-◌, ◌^◌, ◌&&◌, nat_le, drop, le-leb, Bor, MutBor}
+use Rattle.std.proofs.Common.{◌≡◌, ◌≢◌, ℕ, zero, suc, ◌<◌, List, [], ◌∷◌, ◌++◌, length, get_or, Option, Some, None, option_map, option_and_then, refl, sym, ap, ◌∙◌, arith, ne_eqb, Bool, true, false, cond, ◌≤◌, ◌^◌, ◌&&◌, Bor, MutBor}
+use Rattle.std.proofs.Common.{◌||◌, ◌==◌, not, nat_lt, lt-ltb, ltb-true, ltb-false}
+use Rattle.std.proofs.lemmas.Str.Parse.{IsNumeralModel, numerals_by_value, tells_all_ascii_digits}
 use Rattle.std.specs.Option.{IfSome, MatchOption}
+use Rattle.std.specs.Prelude.{Result, Ok, Err, OkIff}
+use Rattle.std.specs.Result.{result_ok}
+use Rattle.std.specs.Str.{all_ascii_digits}
+use Rattle.std.specs.Str.Parse.{digits_value}
 use Rattle.std.specs.Slice.{IsItemAt}
-use Rattle.std.proofs.lemmas.List.{drop_more}
 use Rattle.toml_span_lex.specs.declared.span.Span.{Span}
 use Rattle.toml_span_tree.specs.declared.value.Value.{Value}
 use Rattle.toml_span_tree.specs.Node.{Node, Inner, Items, no_items, item, element_at, get_item}
 use Rattle.toml_span_tree.specs.Value.{view, items_view, inner_of}
-use Rattle.toml_span_tree.specs.Path.{Step, position, Path, below, child, reached, node_at}
-use Rattle.toml_span_tree.specs.Pointer.{push_front, segments, segments_behind, Cut, pointer_segments, step_named, untaken_child, if_not_taken, path_named, entry, untaken_entry, found, pointed, digits_after, position_of, PositionIs}
+use Rattle.toml_span_tree.specs.Path.{Step, position, Path, at_step, child, reached, node_at}
+use Rattle.toml_span_tree.specs.Pointer.{push_front, segments, pointer_segments, step_named, untaken_child, if_not_taken, path_named, pointed, is_decimal_form, position_of}
+use Rattle.toml_span_tree.specs.code.Pointer.{segments_behind, SplitAtSlash, entry, untaken_entry, value_named, PositionIs}
 
 abbrev pub Lacks : ℕ → List ℕ → Type 0
 Lacks c xs = (i : ℕ) → i < length xs → get_or xs i 0 ≢ c
@@ -49,55 +55,55 @@ node_at-more_at (Some m) path = reached-key path m.0 None m.1
 
 -- a path is gone a step at a time
 pub node_at-more : (s : Step) (path : Path) (n : Node) → node_at (s ∷ path) n ≡ option_and_then (node_at path) (child s n)
-node_at-more s path n = node_at-more_at (below s (inner_of n)) path
+node_at-more s path n = node_at-more_at (at_step s (inner_of n)) path
 
 found-path : (s : Step) (n m : Node) (o : Option Path) → child s n ≡ Some m → option_and_then (λ path. node_at path n) (option_map (λ path. s ∷ path) o) ≡ option_and_then (λ path. node_at path m) o
 found-path s n m None is = refl
 found-path s n m (Some path) is = node_at-more s path n ∙ ap (option_and_then (node_at path)) is
 
 found-untaken : (s : Step) (n m : Node) (names : List (List ℕ)) (b : Bool) → child s n ≡ Some m
-    → option_and_then (λ path. node_at path n) (option_and_then (λ m. option_map (λ path. s ∷ path) (path_named names m)) (cond b None (Some m))) ≡ option_and_then (found names) (cond b None (Some m))
+    → option_and_then (λ path. node_at path n) (option_and_then (λ m. option_map (λ path. s ∷ path) (path_named names m)) (cond b None (Some m))) ≡ option_and_then (value_named names) (cond b None (Some m))
 found-untaken s n m names true is = refl
 found-untaken s n m names false is = found-path s n m (path_named names m) is
 
 found-child : (s : Step) (n : Node) (names : List (List ℕ)) (o : Option Node) → child s n ≡ o
-    → option_and_then (λ path. node_at path n) (option_and_then (λ m. option_map (λ path. s ∷ path) (path_named names m)) (option_and_then if_not_taken o)) ≡ option_and_then (found names) (option_and_then if_not_taken o)
+    → option_and_then (λ path. node_at path n) (option_and_then (λ m. option_map (λ path. s ∷ path) (path_named names m)) (option_and_then if_not_taken o)) ≡ option_and_then (value_named names) (option_and_then if_not_taken o)
 found-child s n names None is = refl
 found-child s n names (Some m) is = found-untaken s n m names _ is
 
 found-step : (n : Node) (names : List (List ℕ)) (o : Option Step)
     → option_and_then (λ path. node_at path n) (option_and_then (λ s. option_and_then (λ m. option_map (λ path. s ∷ path) (path_named names m)) (untaken_child n s)) o)
-    ≡ option_and_then (found names) (option_and_then if_not_taken (option_and_then (λ s. child s n) o))
+    ≡ option_and_then (value_named names) (option_and_then if_not_taken (option_and_then (λ s. child s n) o))
 found-step n names None = refl
 found-step n names (Some s) = found-child s n names (child s n) refl
 
 -- segments are gone one at a time
-pub found-more : (segment : List ℕ) (names : List (List ℕ)) (n : Node) → found (segment ∷ names) n ≡ option_and_then (found names) (untaken_entry segment n)
+pub found-more : (segment : List ℕ) (names : List (List ℕ)) (n : Node) → value_named (segment ∷ names) n ≡ option_and_then (value_named names) (untaken_entry segment n)
 found-more segment names n = found-step n names (step_named segment (inner_of n))
 
-pub found-none : (n : Node) → found [] n ≡ Some n
+pub found-none : (n : Node) → value_named [] n ≡ Some n
 found-none n = refl
 
-found-last : (o : Option Node) → option_and_then (found []) o ≡ o
+found-last : (o : Option Node) → option_and_then (value_named []) o ≡ o
 found-last None = refl
 found-last (Some n) = refl
 
 -- a text that is cut at its first slash
-pub found-cut : (path segment : List ℕ) (rest : Option (List ℕ)) (n : Node) → Cut path segment rest → found (segments path) n ≡ option_and_then (found (segments_behind rest)) (untaken_entry segment n)
-found-cut path segment rest n c = ap (λ names. found names n) c.parts ∙ found-more segment (segments_behind rest) n
+pub found-cut : (path segment : List ℕ) (rest : Option (List ℕ)) (n : Node) → SplitAtSlash path segment rest → value_named (segments path) n ≡ option_and_then (value_named (segments_behind rest)) (untaken_entry segment n)
+found-cut path segment rest n c = ap (λ names. value_named names n) c.parts ∙ found-more segment (segments_behind rest) n
 
-pub found-cut_last : (path segment : List ℕ) (n : Node) → Cut path segment None → found (segments path) n ≡ untaken_entry segment n
+pub found-cut_last : (path segment : List ℕ) (n : Node) → SplitAtSlash path segment None → value_named (segments path) n ≡ untaken_entry segment n
 found-cut_last path segment n c = found-cut path segment None n c ∙ found-last (untaken_entry segment n)
 
-pointed-at : (o : Option (List (List ℕ))) (n : Node) → option_and_then (λ path. node_at path n) (option_and_then (λ names. path_named names n) o) ≡ option_and_then (λ names. found names n) o
+pointed-at : (o : Option (List (List ℕ))) (n : Node) → option_and_then (λ path. node_at path n) (option_and_then (λ names. path_named names n) o) ≡ option_and_then (λ names. value_named names n) o
 pointed-at None n = refl
 pointed-at (Some names) n = refl
 
 -- a pointer names what its segments name
-pub pointed-found : (p : List ℕ) (n : Node) → pointed p n ≡ option_and_then (λ names. found names n) (pointer_segments p)
+pub pointed-found : (p : List ℕ) (n : Node) → pointed p n ≡ option_and_then (λ names. value_named names n) (pointer_segments p)
 pointed-found p n = pointed-at (pointer_segments p) n
 
-entry-at : (o : Option ℕ) (ns : Items) → option_and_then (λ s. option_map (λ e. e.1) (below s (Rattle.toml_span_tree.specs.Node.array ns))) (option_map position o) ≡ option_and_then (λ i. get_item i ns) o
+entry-at : (o : Option ℕ) (ns : Items) → option_and_then (λ s. option_map (λ e. e.1) (at_step s (Rattle.toml_span_tree.specs.Node.array ns))) (option_map position o) ≡ option_and_then (λ i. get_item i ns) o
 entry-at None ns = refl
 entry-at (Some i) ns = refl
 
@@ -121,44 +127,85 @@ past_all vs None h small = refl
 past_all vs (Some i) h small = sym (get_item-past vs i (omega (arith, h, small)))
 
 -- positions
-from_digit : (b : Bool) (o : Option ℕ) (m : ℕ) → cond b o None ≡ Some m → o ≡ Some m
-from_digit true o m h = h
-from_digit false o m h = cc
+pub numerals : IsNumeralModel (λ ds. all_ascii_digits ds ≡ true) (digits_value 10)
+numerals = numerals_by_value _ tells_all_ascii_digits
 
-pub digits_after-grows : (n : ℕ) (xs : List ℕ) (m : ℕ) → digits_after n xs ≡ Some m → n ≤ m
-digits_after-grows n [] m h = let e : n ≡ m = cc in omega (arith, e)
-digits_after-grows n (x ∷ xs) m h = omega (arith, digits_after-grows (n * 10 + (x - 48)) xs m (from_digit (nat_le 48 x && nat_le x 57) _ m h))
-
-past_of : (n : ℕ) (xs : List ℕ) (o : Option ℕ) → digits_after n xs ≡ o → 2 ^ 64 ≤ n → PositionIs None o
-past_of n xs None e h = tt
-past_of n xs (Some m) e h = omega (arith, digits_after-grows n xs m e, h)
-
-pub digits_after-past : (n : ℕ) (xs : List ℕ) → 2 ^ 64 ≤ n → PositionIs None (digits_after n xs)
-digits_after-past n xs h = past_of n xs _ refl h
-
-pub digits_after-digit : (n : ℕ) (bytes : List ℕ) (i : ℕ) → i < length bytes → 48 ≤ get_or bytes i 0 → get_or bytes i 0 ≤ 57
-    → digits_after n (drop i bytes) ≡ digits_after (n * 10 + (get_or bytes i 0 - 48)) (drop (i + 1) bytes)
-digits_after-digit n bytes i less low high = rw (drop_more bytes i 0 less, le-leb _ _ low, le-leb _ _ high)
-
-pub position_of-zero : (p : List ℕ) → length p ≡ 1 → get_or p 0 0 ≡ 48 → position_of p ≡ Some 0
+pub no_position : (text : List ℕ) → is_decimal_form text ≡ false → position_of text ≡ None
 unfolding position_of
-position_of-zero [] h g = absurd (omega (arith, h))
-position_of-zero (x ∷ []) h g = rw g
-position_of-zero (x ∷ y ∷ ys) h g = absurd (omega (arith, h))
+no_position text h = rw h refl
 
-pub position_of-leading_zero : (p : List ℕ) → length p ≢ 1 → get_or p 0 0 ≡ 48 → position_of p ≡ None
+pub some_position : (text : List ℕ) → is_decimal_form text ≡ true → position_of text ≡ Some (digits_value 10 text)
 unfolding position_of
-position_of-leading_zero [] h g = refl
-position_of-leading_zero (x ∷ []) h g = absurd (h refl)
-position_of-leading_zero (x ∷ y ∷ ys) h g = rw g
+some_position text h = rw h refl
 
-pub position_of-digits : (p : List ℕ) → 0 < length p → get_or p 0 0 ≢ 48 → position_of p ≡ digits_after 0 p
-unfolding position_of
-position_of-digits [] h g = absurd (omega (arith, h))
-position_of-digits (x ∷ xs) h g = rw (ne_eqb x 48 g)
+-- the parts of a decimal form
+form_at : (some digits lead : Bool) → some && digits && lead ≡ true → (some ≡ true) × (digits ≡ true) × (lead ≡ true)
+form_at true true true h = (refl, refl, refl)
+form_at true true false h = cc
+form_at true false lead h = cc
+form_at false digits lead h = cc
 
-pub PositionIs-carried : (o p : Option ℕ) → o ≡ p → PositionIs None p → PositionIs None o
-PositionIs-carried o p e h = rw e h
+pub form_parts : (text : List ℕ) → is_decimal_form text ≡ true
+    → (nat_lt 0 (length text) ≡ true) × (all_ascii_digits text ≡ true) × (length text == 1 || not (get_or text 0 0 == 48) ≡ true)
+form_parts text h = form_at (nat_lt 0 (length text)) (all_ascii_digits text) (length text == 1 || not (get_or text 0 0 == 48)) h
+
+-- texts of other forms
+middle_false : (a b c : Bool) → b ≡ false → a && b && c ≡ false
+middle_false true b c h = rw h refl
+middle_false false b c h = refl
+
+last_false : (a b c : Bool) → c ≡ false → a && b && c ≡ false
+last_false true true c h = h
+last_false true false c h = refl
+last_false false b c h = refl
+
+pub no_form-empty : (text : List ℕ) → length text ≡ 0 → is_decimal_form text ≡ false
+no_form-empty [] h = refl
+no_form-empty (x ∷ xs) h = absurd (omega (arith, h))
+
+signed : (text : List ℕ) → get_or text 0 0 ≡ 43 → 0 < length text → all_ascii_digits text ≡ false
+signed [] h some = absurd (omega (arith, some))
+signed (x ∷ xs) h some = rw h refl
+
+pub no_form-plus : (text : List ℕ) → get_or text 0 0 ≡ 43 → 0 < length text → is_decimal_form text ≡ false
+no_form-plus text h some = middle_false (nat_lt 0 (length text)) (all_ascii_digits text) (length text == 1 || not (get_or text 0 0 == 48)) (signed text h some)
+
+pub no_form-zero : (text : List ℕ) → get_or text 0 0 ≡ 48 → 1 < length text → is_decimal_form text ≡ false
+no_form-zero text h more = last_false (nat_lt 0 (length text)) (all_ascii_digits text) (length text == 1 || not (get_or text 0 0 == 48)) (rw (ne_eqb (length text) 1 (λ e. omega (arith, e, more)), h) refl)
+
+-- no zero leads, unless it is alone
+pub lead-one : (text : List ℕ) → length text ≡ 1 → length text == 1 || not (get_or text 0 0 == 48) ≡ true
+lead-one text h = rw h refl
+
+or_true : (b : Bool) → b || true ≡ true
+or_true true = refl
+or_true false = refl
+
+pub lead-other : (text : List ℕ) → get_or text 0 0 ≢ 48 → length text == 1 || not (get_or text 0 0 == 48) ≡ true
+lead-other text h = rw (ne_eqb (get_or text 0 0) 48 h) (or_true _)
+
+pub PositionIs-none : (text : List ℕ) (o : Option ℕ) → o ≡ None → is_decimal_form text ≡ false → PositionIs o (position_of text)
+PositionIs-none text o e h = rw (e, no_position text h) tt
+
+not_less : (b : Bool) (m n : ℕ) → nat_lt m n ≡ b → (m < n → ⊥) → n ≤ m
+not_less true m n e h = absurd (h (ltb-true m n e))
+not_less false m n e h = ltb-false m n e
+
+-- what std reads is the position, or there is none, or it is past every list
+module _ (text : List ℕ) (lead : length text == 1 || not (get_or text 0 0 == 48) ≡ true) where
+  spelt_ok : (n : ℕ) → (all_ascii_digits text ≡ true) × (0 < length text) × (digits_value 10 text < 2 ^ 64) → n ≡ digits_value 10 text → PositionIs (Some n) (position_of text)
+  spelt_ok n are e = some_position text (rw (lt-ltb 0 (length text) are.1, are.0, lead) refl) ∙ ap Some (sym e)
+
+  spelt_err : (b : Bool) → is_decimal_form text ≡ b → ((all_ascii_digits text ≡ true) × (0 < length text) × (digits_value 10 text < 2 ^ 64) → ⊥) → PositionIs None (position_of text)
+  spelt_err false h none = rw (no_position text h) tt
+  spelt_err true h none =
+      let parts = form_parts text h in
+      rw (some_position text h) (not_less _ (digits_value 10 text) (2 ^ 64) refl (λ less. none (parts.1, ltb-true 0 (length text) parts.0, less)))
+
+  pub spelt : {E : Type 0} (r : Result ℕ E) (o : Option ℕ) → OkIff r ((all_ascii_digits text ≡ true) × (0 < length text) × (digits_value 10 text < 2 ^ 64)) (digits_value 10 text) → o ≡ result_ok r
+      → PositionIs o (position_of text)
+  spelt (Ok n) o h e = rw e (spelt_ok n h.0 h.1)
+  spelt (Err x) o h e = rw e (spelt_err _ refl h)
 
 -- what `get` of an array gives
 pub get_item-got : (r : Option (Bor Value)) (vs : List Value) (i : ℕ) → IsItemAt vs i r → option_map (λ v. view v.now) r ≡ get_item i (items_view vs)

@@ -11,8 +11,9 @@ use Rattle.toml_span_tree.specs.declared.value.Value.{Value}
 use Rattle.toml_span_tree.specs.declared.value.ValueInner.{ValueInner}
 use Rattle.toml_span_tree.specs.Node.{Node, node, Inner, taken, table, Items, no_items, item, Members, no_members, member, entry_at, get_member, get_item}
 use Rattle.toml_span_tree.specs.Value.{view, inner_view, items_view, members_view, inner_of, span_of, is_taken}
-use Rattle.toml_span_tree.specs.Path.{Step, Path, child, node_at, put, put_where, set_below, set_entry, set_element}
-use Rattle.toml_span_tree.specs.Pointer.{step_named, if_not_taken, untaken_child, path_named, entry, untaken_entry, found, put_found, put_where_named, set_named, set_where_named, segments, segments_behind, Cut, pointer_segments, pointed, put_pointed, Exchanged}
+use Rattle.toml_span_tree.specs.Path.{Step, Path, child, node_at, put, put_where, set_at_step, set_entry, set_element}
+use Rattle.toml_span_tree.specs.Pointer.{step_named, if_not_taken, untaken_child, path_named, put_where_named, segments, pointer_segments, pointed, put_pointed}
+use Rattle.toml_span_tree.specs.code.Pointer.{entry, untaken_entry, value_named, put_named, set_named, set_where_named, segments_behind, SplitAtSlash, Exchanged}
 use Rattle.toml_span_tree.proofs.Values.{Entry, view_is, at_name}
 use Rattle.toml_span_tree.proofs.Pointers.{found-cut, pointed-found}
 
@@ -56,17 +57,17 @@ pub exchanged-in : (r : Result Value Value) (new : Value) (names : List (List �
 exchanged-in (Ok old) new names o m after changed same is made kept h =
     (h.0, ap (option_and_then if_not_taken) is ∙ h.1, h.2, subst changed h.3 made)
 exchanged-in (Err back) new names o m after changed same is made kept h =
-    (h.0, ap (λ o. option_and_then (found names) (option_and_then if_not_taken o)) is ∙ h.1, kept h.2)
+    (h.0, ap (λ o. option_and_then (value_named names) (option_and_then if_not_taken o)) is ∙ h.1, kept h.2)
 
 -- where nothing is named
-pub exchanged-none : (new : Value) (names : List (List ℕ)) (o : Option Node) (same : Type 0) → o ≡ None → same → (new ≡ new) × (option_and_then (found names) (option_and_then if_not_taken o) ≡ None) × same
-exchanged-none new names o same is kept = (refl, ap (λ o. option_and_then (found names) (option_and_then if_not_taken o)) is, kept)
+pub exchanged-none : (new : Value) (names : List (List ℕ)) (o : Option Node) (same : Type 0) → o ≡ None → same → (new ≡ new) × (option_and_then (value_named names) (option_and_then if_not_taken o) ≡ None) × same
+exchanged-none new names o same is kept = (refl, ap (λ o. option_and_then (value_named names) (option_and_then if_not_taken o)) is, kept)
 
 -- the same exchange, where what is changed is told in other words
 pub exchanged-as : (r : Result Value Value) (new : Value) (names : List (List ℕ)) (o p : Option Node) (changed told : Node → Type 0) (same kept : Type 0)
     → o ≡ p → ((w : Node) → changed w → told w) → (same → kept) → Exchanged r new names o changed same → Exchanged r new names p told kept
 exchanged-as (Ok old) new names o p changed told same kept is f g h = (h.0, sym is ∙ h.1, h.2, f _ h.3)
-exchanged-as (Err back) new names o p changed told same kept is f g h = (h.0, ap (option_and_then (found names)) (sym is) ∙ h.1, g h.2)
+exchanged-as (Err back) new names o p changed told same kept is f g h = (h.0, ap (option_and_then (value_named names)) (sym is) ∙ h.1, g h.2)
 
 -- a value itself
 untaken : (b : Bool) (n : Node) → b ≡ false → cond b None (Some n) ≡ Some n
@@ -80,43 +81,43 @@ if_not_taken-true n h = ap (λ b. cond b None (Some n)) h
 
 -- an exchange below n, a segment at a time
 put_more_path : (s : Step) (n m w old : Node) (o : Option Path) → child s n ≡ Some m → option_and_then (λ path. node_at path m) o ≡ Some old
-    → put_where_named (option_map (λ path. s ∷ path) o) w n ≡ node (set_below s (put_where_named o w m) (inner_of n)) (span_of n)
+    → put_where_named (option_map (λ path. s ∷ path) o) w n ≡ node (set_at_step s (put_where_named o w m) (inner_of n)) (span_of n)
 put_more_path s n m w old None is there = cc
 put_more_path s n m w old (Some path) is there = ap (λ o. put_where o s (put path w) n) is
 
-put_more_taken : (s : Step) (n m k w old : Node) (names : List (List ℕ)) (b : Bool) → child s n ≡ Some k → cond b None (Some k) ≡ Some m → found names m ≡ Some old
-    → put_where_named (option_and_then (λ m. option_map (λ path. s ∷ path) (path_named names m)) (cond b None (Some k))) w n ≡ node (set_below s (put_found names w m) (inner_of n)) (span_of n)
+put_more_taken : (s : Step) (n m k w old : Node) (names : List (List ℕ)) (b : Bool) → child s n ≡ Some k → cond b None (Some k) ≡ Some m → value_named names m ≡ Some old
+    → put_where_named (option_and_then (λ m. option_map (λ path. s ∷ path) (path_named names m)) (cond b None (Some k))) w n ≡ node (set_at_step s (put_named names w m) (inner_of n)) (span_of n)
 put_more_taken s n m k w old names true is leads there = cc
 put_more_taken s n m k w old names false is leads there =
     let same : k ≡ m = cc in
     ap (λ k. put_where_named (option_map (λ path. s ∷ path) (path_named names k)) w n) same ∙ put_more_path s n m w old (path_named names m) (is ∙ ap Some same) there
 
-put_more_child : (s : Step) (n m w old : Node) (names : List (List ℕ)) (o : Option Node) → child s n ≡ o → option_and_then if_not_taken o ≡ Some m → found names m ≡ Some old
-    → put_where_named (option_and_then (λ m. option_map (λ path. s ∷ path) (path_named names m)) (option_and_then if_not_taken o)) w n ≡ node (set_below s (put_found names w m) (inner_of n)) (span_of n)
+put_more_child : (s : Step) (n m w old : Node) (names : List (List ℕ)) (o : Option Node) → child s n ≡ o → option_and_then if_not_taken o ≡ Some m → value_named names m ≡ Some old
+    → put_where_named (option_and_then (λ m. option_map (λ path. s ∷ path) (path_named names m)) (option_and_then if_not_taken o)) w n ≡ node (set_at_step s (put_named names w m) (inner_of n)) (span_of n)
 put_more_child s n m w old names None is leads there = cc
 put_more_child s n m w old names (Some k) is leads there = put_more_taken s n m k w old names (is_taken k) is leads there
 
-put_more_step : (n m w old : Node) (names : List (List ℕ)) (o : Option Step) → option_and_then if_not_taken (option_and_then (λ s. child s n) o) ≡ Some m → found names m ≡ Some old
+put_more_step : (n m w old : Node) (names : List (List ℕ)) (o : Option Step) → option_and_then if_not_taken (option_and_then (λ s. child s n) o) ≡ Some m → value_named names m ≡ Some old
     → put_where_named (option_and_then (λ s. option_and_then (λ m. option_map (λ path. s ∷ path) (path_named names m)) (untaken_child n s)) o) w n
-    ≡ node (set_where_named o (put_found names w m) (inner_of n)) (span_of n)
+    ≡ node (set_where_named o (put_named names w m) (inner_of n)) (span_of n)
 put_more_step n m w old names None leads there = cc
 put_more_step n m w old names (Some s) leads there = put_more_child s n m w old names (child s n) refl leads there
 
-pub put_found-more : (segment : List ℕ) (names : List (List ℕ)) (n m w old : Node) → untaken_entry segment n ≡ Some m → found names m ≡ Some old
-    → put_found (segment ∷ names) w n ≡ node (set_named segment (put_found names w m) (inner_of n)) (span_of n)
+pub put_found-more : (segment : List ℕ) (names : List (List ℕ)) (n m w old : Node) → untaken_entry segment n ≡ Some m → value_named names m ≡ Some old
+    → put_named (segment ∷ names) w n ≡ node (set_named segment (put_named names w m) (inner_of n)) (span_of n)
 put_found-more segment names n m w old leads there = put_more_step n m w old names (step_named segment (inner_of n)) leads there
 
 -- an exchange in what n holds is one in n
-pub exchanged-cut : (r : Result Value Value) (new : Value) (path segment : List ℕ) (rest : Option (List ℕ)) (i j : Inner) (span : Span) → Cut path segment rest
+pub exchanged-cut : (r : Result Value Value) (new : Value) (path segment : List ℕ) (rest : Option (List ℕ)) (i j : Inner) (span : Span) → SplitAtSlash path segment rest
     → Exchanged r new (segments_behind rest) (option_and_then if_not_taken (entry segment i)) (λ w. j ≡ set_named segment w i) (j ≡ i)
     → Exchanged r new (segments path) (Some (node i span)) (λ w. node j span ≡ w) (node j span ≡ node i span)
 exchanged-cut (Ok old) new path segment rest i j span cut h = (
   node i span,
   refl,
-  found-cut path segment rest (node i span) cut ∙ ap (option_and_then (found (segments_behind rest))) h.1 ∙ h.2,
+  found-cut path segment rest (node i span) cut ∙ ap (option_and_then (value_named (segments_behind rest))) h.1 ∙ h.2,
   ap (λ i. node i span) h.3
       ∙ sym (put_found-more segment (segments_behind rest) (node i span) h.0 (view new) (view old) h.1 h.2)
-      ∙ ap (λ names. put_found names (view new) (node i span)) (sym cut.parts),
+      ∙ ap (λ names. put_named names (view new) (node i span)) (sym cut.parts),
 )
 exchanged-cut (Err back) new path segment rest i j span cut h = (
   h.0,
@@ -125,26 +126,26 @@ exchanged-cut (Err back) new path segment rest i j span cut h = (
 )
 
 -- nothing is named below a value that is taken
-pub found-taken : (path segment : List ℕ) (rest : Option (List ℕ)) (n : Node) → Cut path segment rest → inner_of n ≡ taken → found (segments path) n ≡ None
-found-taken path segment rest n cut h = found-cut path segment rest n cut ∙ ap (λ i. option_and_then (found (segments_behind rest)) (option_and_then if_not_taken (entry segment i))) h
+pub found-taken : (path segment : List ℕ) (rest : Option (List ℕ)) (n : Node) → SplitAtSlash path segment rest → inner_of n ≡ taken → value_named (segments path) n ≡ None
+found-taken path segment rest n cut h = found-cut path segment rest n cut ∙ ap (λ i. option_and_then (value_named (segments_behind rest)) (option_and_then if_not_taken (entry segment i))) h
 
 -- an exchange at what a pointer names
-pub put_pointed-found : (p : List ℕ) (names : List (List ℕ)) (w n : Node) → pointer_segments p ≡ Some names → put_pointed p w n ≡ put_found names w n
+pub put_pointed-found : (p : List ℕ) (names : List (List ℕ)) (w n : Node) → pointer_segments p ≡ Some names → put_pointed p w n ≡ put_named names w n
 put_pointed-found p names w n h = ap (λ o. put_where_named (option_and_then (λ names. path_named names n) o) w n) h
 
 pub exchanged-done : (r : Result Value Value) (new : Value) (p : List ℕ) (names : List (List ℕ)) (n after : Node) → pointer_segments p ≡ Some names
     → Exchanged r new names (Some n) (λ w. after ≡ w) (after ≡ n) → IfOk r (λ old. (pointed p n ≡ Some (view old)) × (after ≡ put_pointed p (view new) n))
 exchanged-done (Ok old) new p names n after is h =
     let same : n ≡ h.0 = cc (h.1) in (
-      pointed-found p n ∙ ap (option_and_then (λ names. found names n)) is ∙ ap (found names) same ∙ h.2,
-      h.3 ∙ ap (put_found names (view new)) (sym same) ∙ sym (put_pointed-found p names (view new) n is),
+      pointed-found p n ∙ ap (option_and_then (λ names. value_named names n)) is ∙ ap (value_named names) same ∙ h.2,
+      h.3 ∙ ap (put_named names (view new)) (sym same) ∙ sym (put_pointed-found p names (view new) n is),
     )
 exchanged-done (Err back) new p names n after is h = tt
 
 pub exchanged-refused : (r : Result Value Value) (new : Value) (p : List ℕ) (names : List (List ℕ)) (n after : Node) → pointer_segments p ≡ Some names
     → Exchanged r new names (Some n) (λ w. after ≡ w) (after ≡ n) → IfErr r (λ back. (back ≡ new) × (pointed p n ≡ None) × (after ≡ n))
 exchanged-refused (Ok old) new p names n after is h = tt
-exchanged-refused (Err back) new p names n after is h = (h.0, pointed-found p n ∙ ap (option_and_then (λ names. found names n)) is ∙ h.1, h.2)
+exchanged-refused (Err back) new p names n after is h = (h.0, pointed-found p n ∙ ap (option_and_then (λ names. value_named names n)) is ∙ h.1, h.2)
 
 -- an exchange in a table that is held
 pub exchanged-table : (r : Result Value Value) (new : Value) (names : List (List ℕ)) (segment : List ℕ) (ms ns : Members) (i j : Inner) → i ≡ table ms → j ≡ table ns

@@ -1,13 +1,16 @@
 -- Date texts: dates and times with their offsets (TOML 1.1, "Offset Date-Time" to "Local Time", after
 -- RFC 3339). A test "at i" or "at the front" is of a place, and any other of a whole text; behind the
--- end of a text stand zeros. 45 is a dash, 58 a colon, 46 a dot and 48 the digit 0.
-use Rattle.std.specs.Prelude.{◌≡◌, ◌⊎◌, [], ◌∷◌, ◌++◌, ℕ, ◌+◌, ◌-◌, ◌*◌, ◌%◌, Bool, true, not, ◌&&◌, ◌||◌, ◌==◌, nat_lt, nat_le, List, length, take, drop, slice_index, if◌then◌else◌}
+-- end of a text stand zeros.
+use Rattle.std.specs.Prelude.{◌≡◌, ◌⊎◌, [], ◌∷◌, ◌++◌, ℕ, ◌+◌, ◌-◌, ◌*◌, ◌%◌, Bool, true, not, ◌&&◌, ◌||◌, ◌==◌, nat_lt}
+use Rattle.std.specs.Prelude.{nat_le, List, length, take, drop, slice_index, if◌then◌else◌}
 use Rattle.std.specs.List.{list_all}
 use Rattle.std.specs.Char.{is_ascii_digit}
+use Rattle.toml_span_lex.specs.Bytes.{space, plus, dash, period, digit_zero, colon, capital_t, capital_z, small_t}
+use Rattle.toml_span_lex.specs.Bytes.{small_z}
 
 -- the number that two digits at i give
 abbrev pub two_digits : List ℕ → ℕ → ℕ
-two_digits text i = 10 * (slice_index text i - 48) + (slice_index text (i + 1) - 48)
+two_digits text i = 10 * (slice_index text i - digit_zero) + (slice_index text (i + 1) - digit_zero)
 
 -- 2DIGIT at i, from low to high
 abbrev pub is_two_digits : ℕ → ℕ → List ℕ → ℕ → Bool
@@ -35,37 +38,37 @@ has_year text = is_two_digits 0 99 text 0 && is_two_digits 0 99 text 2
 unfoldable pub is_full_date : List ℕ → Bool
 is_full_date text =
     length text == 10 && has_year text
-    && slice_index text 4 == 45 && is_two_digits 1 12 text 5
-    && slice_index text 7 == 45 && is_two_digits 1 (last_day (year_of text) (two_digits text 5)) text 8
+    && slice_index text 4 == dash && is_two_digits 1 12 text 5
+    && slice_index text 7 == dash && is_two_digits 1 (last_day (year_of text) (two_digits text 5)) text 8
 
 -- time-hour ":" time-minute, at the front
 abbrev pub has_hour_minute : List ℕ → Bool
-has_hour_minute text = is_two_digits 0 23 text 0 && slice_index text 2 == 58 && is_two_digits 0 59 text 3
+has_hour_minute text = is_two_digits 0 23 text 0 && slice_index text 2 == colon && is_two_digits 0 59 text 3
 
 -- time-secfrac = "." 1*DIGIT
 abbrev pub is_time_secfrac : List ℕ → Bool
 is_time_secfrac text =
-    slice_index text 0 == 46 && nat_lt 1 (length text) && list_all is_ascii_digit (drop 1 text)
+    slice_index text 0 == period && nat_lt 1 (length text) && list_all is_ascii_digit (drop 1 text)
 
 -- [ ":" time-second [ time-secfrac ] ]
 abbrev pub is_seconds : List ℕ → Bool
 is_seconds text =
     length text == 0
-    || (slice_index text 0 == 58 && is_two_digits 0 60 text 1
+    || (slice_index text 0 == colon && is_two_digits 0 60 text 1
     && (length text == 3 || is_time_secfrac (drop 3 text)))
 
 -- partial-time = time-hour ":" time-minute [ ":" time-second [ time-secfrac ] ]
 unfoldable pub is_partial_time : List ℕ → Bool
 is_partial_time text = has_hour_minute text && is_seconds (drop 5 text)
 
--- "Z"
+-- "Z", of either case
 abbrev pub is_utc : List ℕ → Bool
-is_utc text = length text == 1 && (slice_index text 0 == 90 || slice_index text 0 == 122)
+is_utc text = length text == 1 && (slice_index text 0 == capital_z || slice_index text 0 == small_z)
 
 -- time-numoffset = ( "+" / "-" ) time-hour ":" time-minute
 abbrev pub is_time_numoffset : List ℕ → Bool
 is_time_numoffset text =
-    length text == 6 && (slice_index text 0 == 43 || slice_index text 0 == 45) && has_hour_minute (drop 1 text)
+    length text == 6 && (slice_index text 0 == plus || slice_index text 0 == dash) && has_hour_minute (drop 1 text)
 
 -- time-offset = "Z" / time-numoffset
 unfoldable pub is_time_offset : List ℕ → Bool
@@ -82,14 +85,15 @@ is_time text = is_partial_time text || is_time_with 1 text || is_time_with 6 tex
 
 -- time-delim = "T" / %x20
 abbrev pub is_time_delim : ℕ → Bool
-is_time_delim c = c == 84 || c == 116 || c == 32
+is_time_delim c = c == capital_t || c == small_t || c == space
 
--- full-date time-delim partial-time [ time-offset ]
+-- offset-date-time = full-date time-delim full-time, full-time = partial-time time-offset
+-- local-date-time = full-date time-delim partial-time
 abbrev pub is_date_time : List ℕ → Bool
 is_date_time text =
     is_full_date (take 10 text) && is_time_delim (slice_index text 10) && is_time (drop 11 text)
 
--- local-date, local-time, local-date-time or offset-date-time
+-- date-time = offset-date-time / local-date-time / local-date / local-time
 unfoldable pub is_date_text : List ℕ → Bool
 is_date_text text = is_full_date text || is_partial_time text || is_date_time text
 

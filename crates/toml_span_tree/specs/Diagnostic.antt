@@ -3,19 +3,24 @@ use Rattle.std.specs.Prelude.{ℕ, List, [], ◌∷◌, ◌++◌, Bool, true, fa
 use Rattle.std.specs.Fmt.{decimal}
 use Rattle.toml_span_lex.specs.declared.span.Span.{Span}
 use Rattle.toml_span_tree.specs.declared.diagnostic.Label.{Label}
-use Rattle.toml_span_tree.specs.Error.{Kind, unexpected_eof, exceeded_depth_limit, invalid_char_in_string, invalid_escape, invalid_hex_escape, invalid_escape_value, unexpected, unterminated_string, invalid_number, invalid_datetime, out_of_range, wanted, duplicate_table, duplicate_key, redefine_as_array, multiline_string_key, custom, dotted_key_invalid_type, unexpected_keys, unquoted_string, missing_field, deprecated, unexpected_value}
+use Rattle.toml_span_tree.specs.Error.{Kind, unexpected_eof, exceeded_depth_limit, invalid_char_in_string}
+use Rattle.toml_span_tree.specs.Error.{invalid_escape, invalid_hex_escape, invalid_escape_value, unexpected}
+use Rattle.toml_span_tree.specs.Error.{unterminated_string, invalid_number, invalid_datetime, out_of_range, wanted}
+use Rattle.toml_span_tree.specs.Error.{duplicate_table, duplicate_key, redefine_as_array, multiline_string_key, custom}
+use Rattle.toml_span_tree.specs.Error.{dotted_key_invalid_type, unexpected_keys, unquoted_string, missing_field}
+use Rattle.toml_span_tree.specs.Error.{deprecated, unexpected_value}
 use Rattle.toml_span_tree.specs.Listed.{listed, quoted}
 use Rattle.toml_span_tree.specs.Message.{shown_char}
 
 -- a label by content
-pub record Mark (F : Type 0) : Type 0 where
+pub record LabelContent (F : Type 0) : Type 0 where
   pub primary : Bool
   pub file : F
   pub span : Span
   pub message : List ℕ
 
-abbrev pub mark_of : {F : Type 0} → Label F → Mark F
-mark_of label =
+abbrev pub label_content : {F : Type 0} → Label F → LabelContent F
+label_content label =
     record { primary = label.primary; file = label.file; span = label.span; message = string_bytes label.message }
 
 abbrev pub unexpected_keys_message : ℕ → List (List ℕ) → List ℕ
@@ -59,14 +64,14 @@ label_text_of (deprecated old new) = codes "deprecated field"
 label_text_of (unexpected_value expected value) = codes "unexpected value"
 label_text_of _ = []
 
-abbrev pub primary : {F : Type 0} → F → Span → List ℕ → Mark F
+abbrev pub primary : {F : Type 0} → F → Span → List ℕ → LabelContent F
 primary file span message = record { primary = true; file = file; span = span; message = message }
 
-abbrev pub secondary : {F : Type 0} → F → Span → List ℕ → Mark F
+abbrev pub secondary : {F : Type 0} → F → Span → List ℕ → LabelContent F
 secondary file span message = record { primary = false; file = file; span = span; message = message }
 
 -- the labels in order
-abbrev pub labels_of : {F : Type 0} → F → Span → Kind → List (Mark F)
+abbrev pub labels_of : {F : Type 0} → F → Span → Kind → List (LabelContent F)
 labels_of file span (duplicate_table name first) =
     secondary file first (codes "first table instance") ∷ primary file span (codes "duplicate table") ∷ []
 labels_of file span (duplicate_key key first) =

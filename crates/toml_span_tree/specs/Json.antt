@@ -1,13 +1,14 @@
 -- The JSON value of a tree without its spans: a float and a date as their texts.
 use Rattle.serde_json.specs.Data as json
 use Rattle.serde_json.specs.Find.{of_integer}
-use Rattle.toml_span_tree.specs.Float.{decimal_text}
-use Rattle.toml_span_tree.specs.Node.{Scalar, text, integer, float, boolean, datetime, Node, node, Inner, taken, scalar, array, table, Items, no_items, item, Members, no_members, member}
+use Rattle.toml_span_tree.specs.Float.{float_text}
+use Rattle.toml_span_tree.specs.Node.{Scalar, text, integer, float, boolean, datetime, Node, node, Inner, taken, scalar}
+use Rattle.toml_span_tree.specs.Node.{array, table, Items, no_items, item, Members, no_members, member}
 
 abbrev pub scalar_json : Scalar → json.Data
 scalar_json (text s) = json.string s
 scalar_json (integer z) = json.number (of_integer z)
-scalar_json (float x) = json.string (decimal_text x)
+scalar_json (float x) = json.string (float_text x)
 scalar_json (boolean b) = json.boolean b
 scalar_json (datetime d) = json.string d
 

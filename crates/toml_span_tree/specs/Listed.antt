@@ -6,22 +6,23 @@ use Rattle.std.specs.List.{flat_map, join_by}
 use Rattle.std.specs.Prelude.{false}
 use Rattle.std.specs.Str.{chars}
 use Rattle.toml_span_lex.specs.declared.span.Span.{Span}
+use Rattle.toml_span_lex.specs.Bytes.{tab, line_feed, carriage_return, space, quotation_mark, backslash}
 
 -- A character of white space, or a control character, as an escape: `\t`, `\n`, `\r`, a space as
 -- itself, and others by their code in hexadecimal.
 abbrev pub escaped_char : ℕ → List ℕ
 escaped_char c =
-    if c == 9 then codes "\\t"
-    else if c == 10 then codes "\\n"
-    else if c == 13 then codes "\\r"
-    else if c == 32 then codes " "
+    if c == tab then codes "\\t"
+    else if c == line_feed then codes "\\n"
+    else if c == carriage_return then codes "\\r"
+    else if c == space then codes " "
     else codes "\\u{" ++ digits 16 false c ++ codes "}"
 
 -- a character in quotes
 abbrev pub quoted_char : ℕ → List ℕ
 quoted_char c =
-    if c == 34 then codes "\\\""
-    else if c == 92 then codes "\\\\"
+    if c == quotation_mark then codes "\\\""
+    else if c == backslash then codes "\\\\"
     else if is_whitespace c || is_control c then escaped_char c
     else encode_utf8 c
 

@@ -4,7 +4,12 @@ use Rattle.std.specs.Char.{is_whitespace}
 use Rattle.std.specs.Fmt.{decimal}
 use Rattle.toml_span_lex.specs.declared.span.Span.{Span}
 use Rattle.toml_span_tree.specs.Listed.{escaped_char, listed, quoted, quoted_key}
-use Rattle.toml_span_tree.specs.Error.{Kind, unexpected_eof, exceeded_depth_limit, invalid_char_in_string, invalid_escape, invalid_hex_escape, invalid_escape_value, unexpected, unterminated_string, invalid_number, invalid_datetime, out_of_range, wanted, duplicate_table, duplicate_key, redefine_as_array, multiline_string_key, custom, dotted_key_invalid_type, unexpected_keys, unquoted_string, missing_field, deprecated, unexpected_value}
+use Rattle.toml_span_tree.specs.Error.{Kind, unexpected_eof, exceeded_depth_limit, invalid_char_in_string}
+use Rattle.toml_span_tree.specs.Error.{invalid_escape, invalid_hex_escape, invalid_escape_value, unexpected}
+use Rattle.toml_span_tree.specs.Error.{unterminated_string, invalid_number, invalid_datetime, out_of_range, wanted}
+use Rattle.toml_span_tree.specs.Error.{duplicate_table, duplicate_key, redefine_as_array, multiline_string_key, custom}
+use Rattle.toml_span_tree.specs.Error.{dotted_key_invalid_type, unexpected_keys, unquoted_string, missing_field}
+use Rattle.toml_span_tree.specs.Error.{deprecated, unexpected_value}
 
 -- the code of a kind
 abbrev pub code_of : Kind → List ℕ
@@ -49,27 +54,27 @@ abbrev pub unexpected_value_text : List (List ℕ) → List ℕ
 unexpected_value_text expected = codes "expected '" ++ listed quoted expected ++ codes "'"
 
 -- the text of an error of this kind
-abbrev pub text_of : Kind → List ℕ
-text_of unexpected_eof = codes "unexpected eof encountered"
-text_of exceeded_depth_limit = codes "input exceeds the maximum allowed nesting depth"
-text_of (invalid_char_in_string c) = codes "invalid character in string: `" ++ shown_char c ++ codes "`"
-text_of (invalid_escape c) = codes "invalid escape character in string: `" ++ shown_char c ++ codes "`"
-text_of (invalid_hex_escape c) = codes "invalid hex escape character in string: `" ++ shown_char c ++ codes "`"
-text_of (invalid_escape_value value) = codes "invalid escape value: `" ++ decimal value ++ codes "`"
-text_of (unexpected c) = codes "unexpected character found: `" ++ shown_char c ++ codes "`"
-text_of unterminated_string = codes "unterminated string"
-text_of invalid_number = codes "invalid number"
-text_of invalid_datetime = codes "invalid datetime"
-text_of (out_of_range type) = codes "out of range of '" ++ type ++ codes "'"
-text_of (wanted expected found) = codes "expected " ++ expected ++ codes ", found " ++ found
-text_of (duplicate_table name first) = codes "redefinition of table `" ++ name ++ codes "`"
-text_of (duplicate_key key first) = codes "duplicate key: `" ++ key ++ codes "`"
-text_of redefine_as_array = codes "table redefined as array"
-text_of multiline_string_key = codes "multiline strings are not allowed for key"
-text_of (custom message) = message
-text_of (dotted_key_invalid_type first) = codes "dotted key attempted to extend non-table type"
-text_of (unexpected_keys keys expected) = unexpected_keys_text keys expected
-text_of unquoted_string = codes "invalid TOML value, did you mean to use a quoted string?"
-text_of (missing_field field) = codes "missing field '" ++ field ++ codes "' in table"
-text_of (deprecated old new) = deprecated_text old new
-text_of (unexpected_value expected value) = unexpected_value_text expected
+abbrev pub display_text : Kind → List ℕ
+display_text unexpected_eof = codes "unexpected eof encountered"
+display_text exceeded_depth_limit = codes "input exceeds the maximum allowed nesting depth"
+display_text (invalid_char_in_string c) = codes "invalid character in string: `" ++ shown_char c ++ codes "`"
+display_text (invalid_escape c) = codes "invalid escape character in string: `" ++ shown_char c ++ codes "`"
+display_text (invalid_hex_escape c) = codes "invalid hex escape character in string: `" ++ shown_char c ++ codes "`"
+display_text (invalid_escape_value value) = codes "invalid escape value: `" ++ decimal value ++ codes "`"
+display_text (unexpected c) = codes "unexpected character found: `" ++ shown_char c ++ codes "`"
+display_text unterminated_string = codes "unterminated string"
+display_text invalid_number = codes "invalid number"
+display_text invalid_datetime = codes "invalid datetime"
+display_text (out_of_range type) = codes "out of range of '" ++ type ++ codes "'"
+display_text (wanted expected found) = codes "expected " ++ expected ++ codes ", found " ++ found
+display_text (duplicate_table name first) = codes "redefinition of table `" ++ name ++ codes "`"
+display_text (duplicate_key key first) = codes "duplicate key: `" ++ key ++ codes "`"
+display_text redefine_as_array = codes "table redefined as array"
+display_text multiline_string_key = codes "multiline strings are not allowed for key"
+display_text (custom message) = message
+display_text (dotted_key_invalid_type first) = codes "dotted key attempted to extend non-table type"
+display_text (unexpected_keys keys expected) = unexpected_keys_text keys expected
+display_text unquoted_string = codes "invalid TOML value, did you mean to use a quoted string?"
+display_text (missing_field field) = codes "missing field '" ++ field ++ codes "' in table"
+display_text (deprecated old new) = deprecated_text old new
+display_text (unexpected_value expected value) = unexpected_value_text expected

@@ -4,15 +4,15 @@ use Rattle.std.specs.Str.{bytes_eq}
 use Rattle.toml_span_lex.specs.declared.span.Span.{Span}
 
 -- a float: the text of a literal, or what has no digits, which is negative or not
-pub data Decimal : Type 0 where
-  finite : List ℕ → Decimal
-  infinite : Bool → Decimal
-  not_a_number : Bool → Decimal
+pub data FloatValue : Type 0 where
+  finite : List ℕ → FloatValue
+  infinite : Bool → FloatValue
+  not_a_number : Bool → FloatValue
 
 pub data Scalar : Type 0 where
   text : List ℕ → Scalar
   integer : ℤ → Scalar
-  float : Decimal → Scalar
+  float : FloatValue → Scalar
   boolean : Bool → Scalar
   datetime : List ℕ → Scalar
 

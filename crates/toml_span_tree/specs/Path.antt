@@ -1,8 +1,10 @@
 -- The path map of a tree: what stands at each path.
-use Rattle.std.specs.Prelude.{◌≡◌, ℕ, zero, suc, List, [], ◌∷◌, ◌++◌, cond, Option, Some, None, option_map, option_and_then}
+use Rattle.std.specs.Prelude.{◌≡◌, ℕ, zero, suc, List, [], ◌∷◌, ◌++◌, cond, Option, Some, None, option_map}
+use Rattle.std.specs.Prelude.{option_and_then}
 use Rattle.std.specs.Str.{bytes_eq}
 use Rattle.toml_span_lex.specs.declared.span.Span.{Span}
-use Rattle.toml_span_tree.specs.Node.{Scalar, Node, node, Inner, taken, scalar, array, table, Items, no_items, item, Members, no_members, member, entry_at, element_at}
+use Rattle.toml_span_tree.specs.Node.{Scalar, Node, node, Inner, taken, scalar, array, table, Items, no_items, item}
+use Rattle.toml_span_tree.specs.Node.{Members, no_members, member, entry_at, element_at}
 use Rattle.toml_span_tree.specs.Value.{inner_of, span_of}
 
 -- a step down: to the entry with a name, or to the element at a position
@@ -15,10 +17,10 @@ Path = List Step
 
 -- what stands at a place: that it is taken, or its kind, and the value of a scalar
 pub data Shape : Type 0 where
-  is_taken : Shape
-  is_scalar : Scalar → Shape
-  is_array : Shape
-  is_table : Shape
+  shape_taken : Shape
+  shape_scalar : Scalar → Shape
+  shape_array : Shape
+  shape_table : Shape
 
 -- what a tree shows at a path; a key's span stands where a table's entry does
 pub record Place : Type 0 where
@@ -27,24 +29,24 @@ pub record Place : Type 0 where
   pub span : Span
 
 abbrev pub shape_of : Inner → Shape
-shape_of taken = is_taken
-shape_of (scalar s) = is_scalar s
-shape_of (array ns) = is_array
-shape_of (table ms) = is_table
+shape_of taken = shape_taken
+shape_of (scalar s) = shape_scalar s
+shape_of (array ns) = shape_array
+shape_of (table ms) = shape_table
 
 -- where a step leads: the key's span, if it is a key, and the value
-abbrev pub below : Step → Inner → Option (Option Span × Node)
-below s taken = None
-below s (scalar x) = None
-below (key name) (array ns) = None
-below (position i) (array ns) = element_at i ns
-below (key name) (table ms) = entry_at name ms
-below (position i) (table ms) = None
+abbrev pub at_step : Step → Inner → Option (Option Span × Node)
+at_step s taken = None
+at_step s (scalar x) = None
+at_step (key name) (array ns) = None
+at_step (position i) (array ns) = element_at i ns
+at_step (key name) (table ms) = entry_at name ms
+at_step (position i) (table ms) = None
 
 -- the value at a path, with the span of the last step's key
 abbrev pub reached : Path → Option Span × Node → Option (Option Span × Node)
 reached [] n = Some n
-reached (s ∷ path) n = option_and_then (reached path) (below s (inner_of n.1))
+reached (s ∷ path) n = option_and_then (reached path) (at_step s (inner_of n.1))
 
 abbrev pub place_of : Option Span × Node → Place
 place_of n = record { shape = shape_of (inner_of n.1); key_span = n.0; span = span_of n.1 }
@@ -59,12 +61,13 @@ node_at path n = option_map (λ m. m.1) (reached path (None, n))
 
 -- the value that a step leads to
 abbrev pub child : Step → Node → Option Node
-child s n = option_map (λ m. m.1) (below s (inner_of n))
+child s n = option_map (λ m. m.1) (at_step s (inner_of n))
 
 -- the entries with another value at that name; the keys and their spans stay
 abbrev pub set_entry : List ℕ → Node → Members → Members
 set_entry name w no_members = no_members
-set_entry name w (member other span n ms) = cond (bytes_eq name other) (member other span w ms) (member other span n (set_entry name w ms))
+set_entry name w (member other span n ms) =
+    cond (bytes_eq name other) (member other span w ms) (member other span n (set_entry name w ms))
 
 -- the elements with another one at that position
 abbrev pub set_element : ℕ → Node → Items → Items
@@ -73,19 +76,20 @@ set_element zero w (item n ns) = item w ns
 set_element (suc i) w (item n ns) = item n (set_element i w ns)
 
 -- the same table or array, with another value where the step leads
-abbrev pub set_below : Step → Node → Inner → Inner
-set_below s w taken = taken
-set_below s w (scalar x) = scalar x
-set_below (key name) w (array ns) = array ns
-set_below (position i) w (array ns) = array (set_element i w ns)
-set_below (key name) w (table ms) = table (set_entry name w ms)
-set_below (position i) w (table ms) = table ms
+abbrev pub set_at_step : Step → Node → Inner → Inner
+set_at_step s w taken = taken
+set_at_step s w (scalar x) = scalar x
+set_at_step (key name) w (array ns) = array ns
+set_at_step (position i) w (array ns) = array (set_element i w ns)
+set_at_step (key name) w (table ms) = table (set_entry name w ms)
+set_at_step (position i) w (table ms) = table ms
 
 abbrev pub put_where : Option Node → Step → (Node → Node) → Node → Node
 put_where None s change n = n
-put_where (Some m) s change n = node (set_below s (change m) (inner_of n)) (span_of n)
+put_where (Some m) s change n = node (set_at_step s (change m) (inner_of n)) (span_of n)
 
--- n with w at the path: w itself at the empty path, else the same table or array with the change in the one place that the first step leads to
+-- n with w at the path: w itself at the empty path, else the same table or array with the change in the one place that
+-- the first step leads to
 abbrev pub put : Path → Node → Node → Node
 put [] w n = w
 put (s ∷ path) w n = put_where (child s n) s (put path w) n

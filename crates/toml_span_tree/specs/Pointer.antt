@@ -1,30 +1,22 @@
 -- What a pointer text names in a tree.
-use Rattle.std.specs.Prelude.{◌≡◌, ◌≤◌, ⊤, ℕ, ◌+◌, ◌-◌, ◌*◌, ◌^◌, ◌&&◌, ◌==◌, nat_le, not, List, [], ◌∷◌, Bool, true, false, if◌then◌else◌, cond, length, ◌<◌, Option, Some, None, Result, Ok, Err, IfSome, option_map, option_and_then}
-use Rattle.std.specs.Str.{bytes_eq}
-use Rattle.toml_span_tree.specs.declared.value.Value.{Value}
-use Rattle.toml_span_tree.specs.Node.{Node, Inner, taken, scalar, array, table, Items}
-use Rattle.toml_span_tree.specs.Value.{view, inner_of, is_taken}
-use Rattle.toml_span_tree.specs.Path.{Step, key, position, Path, below, child, node_at, put, set_element, set_below}
+use Rattle.std.specs.Prelude.{◌≡◌, ⊤, ℕ, ◌&&◌, ◌||◌, ◌==◌, nat_lt, not, length, slice_index, List, [], ◌∷◌, Bool, true}
+use Rattle.std.specs.Prelude.{false}
+use Rattle.std.specs.Prelude.{if◌then◌else◌, cond, Option, Some, None, option_map, option_and_then}
+use Rattle.std.specs.Str.{all_ascii_digits, bytes_eq}
+use Rattle.std.specs.Str.Parse.{digits_value}
+use Rattle.toml_span_lex.specs.Bytes.{slash, digit_zero}
+use Rattle.toml_span_tree.specs.Node.{Node, Inner, taken, scalar, array, table}
+use Rattle.toml_span_tree.specs.Value.{inner_of, is_taken}
+use Rattle.toml_span_tree.specs.Path.{Step, key, position, Path, child, node_at, put}
 
--- the number that the digits spell behind n
-abbrev pub digits_after : ℕ → List ℕ → Option ℕ
-digits_after n [] = Some n
-digits_after n (x ∷ xs) = if nat_le 48 x && nat_le x 57 then digits_after (n * 10 + (x - 48)) xs else None
+-- decimal digits, at least one, with no sign and no leading zero but `0` itself
+abbrev pub is_decimal_form : List ℕ → Bool
+is_decimal_form text =
+    nat_lt 0 (length text) && all_ascii_digits text && (length text == 1 || not (slice_index text 0 == digit_zero))
 
-abbrev pub zero_alone : List ℕ → Option ℕ
-zero_alone [] = Some 0
-zero_alone (x ∷ xs) = None
-
--- the position that the text spells: decimal digits, no sign, no leading zero but `0` itself
+-- the position that the text spells
 unfoldable pub position_of : List ℕ → Option ℕ
-position_of [] = None
-position_of (x ∷ xs) = if x == 48 then zero_alone xs else digits_after 0 (x ∷ xs)
-
--- r is the position, or None where there is none or it is past every list
-abbrev pub PositionIs : Option ℕ → Option ℕ → Type 0
-PositionIs (Some i) o = o ≡ Some i
-PositionIs None None = ⊤
-PositionIs None (Some i) = 2 ^ 64 ≤ i
+position_of text = if is_decimal_form text then Some (digits_value 10 text) else None
 
 -- the step that a segment names: in a table a key's name, in an array a position
 abbrev pub step_named : List ℕ → Inner → Option Step
@@ -44,7 +36,8 @@ untaken_child n s = option_and_then if_not_taken (child s n)
 abbrev pub path_named : List (List ℕ) → Node → Option Path
 path_named [] n = Some []
 path_named (segment ∷ more) n =
-    option_and_then (λ s. option_and_then (λ m. option_map (λ path. s ∷ path) (path_named more m)) (untaken_child n s)) (step_named segment (inner_of n))
+    option_and_then (λ s. option_and_then (λ m. option_map (λ path. s ∷ path) (path_named more m)) (untaken_child n s))
+    (step_named segment (inner_of n))
 
 abbrev pub push_front : ℕ → List (List ℕ) → List (List ℕ)
 push_front x [] = (x ∷ []) ∷ []
@@ -53,12 +46,12 @@ push_front x (segment ∷ more) = (x ∷ segment) ∷ more
 -- the text, cut at each slash
 unfoldable pub segments : List ℕ → List (List ℕ)
 segments [] = [] ∷ []
-segments (x ∷ xs) = if x == 47 then [] ∷ segments xs else push_front x (segments xs)
+segments (x ∷ xs) = if x == slash then [] ∷ segments xs else push_front x (segments xs)
 
 -- the segments of a pointer: none of the empty text, else those behind the slash with which it begins
 unfoldable pub pointer_segments : List ℕ → Option (List (List ℕ))
 pointer_segments [] = Some []
-pointer_segments (x ∷ xs) = if x == 47 then Some (segments xs) else None
+pointer_segments (x ∷ xs) = if x == slash then Some (segments xs) else None
 
 -- the path that a pointer names
 abbrev pub pointed_path : List ℕ → Node → Option Path
@@ -82,7 +75,8 @@ positions_apart None o = true
 positions_apart (Some i) None = true
 positions_apart (Some i) (Some j) = not (i == j)
 
--- the segments name different places in whatever table or array: their bytes differ, and so do the positions that they spell
+-- the segments name different places in whatever table or array: their bytes differ, and so do the positions that they
+-- spell
 abbrev pub segments_apart : List ℕ → List ℕ → Bool
 segments_apart segment other = not (bytes_eq segment other) && positions_apart (position_of segment) (position_of other)
 
@@ -90,7 +84,8 @@ segments_apart segment other = not (bytes_eq segment other) && positions_apart (
 abbrev pub paths_part : List (List ℕ) → List (List ℕ) → Bool
 paths_part [] others = false
 paths_part (segment ∷ more) [] = false
-paths_part (segment ∷ more) (other ∷ others) = if bytes_eq segment other then paths_part more others else segments_apart segment other
+paths_part (segment ∷ more) (other ∷ others) =
+    if bytes_eq segment other then paths_part more others else segments_apart segment other
 
 abbrev pub part_where : Option (List (List ℕ)) → Option (List (List ℕ)) → Bool
 part_where None o = false
@@ -112,48 +107,7 @@ NamesPath (segment ∷ names) (position i ∷ path) = (position_of segment ≡ S
 -- The pointer names m in n: its segments name a path, m stands there, and m is not taken, unless it is n itself.
 abbrev pub IsPointed : List ℕ → Node → Node → Type 0
 IsPointed pointer n m =
-    (names : List (List ℕ)) × (path : Path) × (pointer_segments pointer ≡ Some names) × NamesPath names path × (node_at path n ≡ Some m) × (is_taken m ≡ true → path ≡ [])
+    (names : List (List ℕ)) × (path : Path) × (pointer_segments pointer ≡ Some names) × NamesPath names path
+    × (node_at path n ≡ Some m) × (is_taken m ≡ true → path ≡ [])
 
 -- The same, a segment at a time.
-
--- what a segment names
-abbrev pub entry : List ℕ → Inner → Option Node
-entry segment i = option_and_then (λ s. option_map (λ e. e.1) (below s i)) (step_named segment i)
-
--- what a segment names, unless it is taken
-abbrev pub untaken_entry : List ℕ → Node → Option Node
-untaken_entry segment n = option_and_then if_not_taken (entry segment (inner_of n))
-
--- what the segments name
-abbrev pub found : List (List ℕ) → Node → Option Node
-found names n = option_and_then (λ path. node_at path n) (path_named names n)
-
--- n with w in the place that the segments name
-abbrev pub put_found : List (List ℕ) → Node → Node → Node
-put_found names w n = put_where_named (path_named names n) w n
-
-abbrev pub set_where_named : Option Step → Node → Inner → Inner
-set_where_named None w i = i
-set_where_named (Some s) w i = set_below s w i
-
--- the same table or array, with w where the segment leads
-abbrev pub set_named : List ℕ → Node → Inner → Inner
-set_named segment w i = set_where_named (step_named segment i) w i
-
-abbrev pub set_item : Option ℕ → Node → Items → Items
-set_item None w ns = ns
-set_item (Some i) w ns = set_element i w ns
-
-abbrev pub segments_behind : Option (List ℕ) → List (List ℕ)
-segments_behind None = []
-segments_behind (Some rest) = segments rest
-
--- the text is cut at its first slash
-pub record Cut (path segment : List ℕ) (rest : Option (List ℕ)) : Type 0 where
-  pub parts : segments path ≡ segment ∷ segments_behind rest
-  pub shorter : IfSome rest (λ more. length more < length path)
-
--- A value below o, which the segments name from there, was exchanged: the old one came out, and o changed to what it is with the new one. Or they name none: the new one came back, and it is the same.
-abbrev pub Exchanged : Result Value Value → Value → List (List ℕ) → Option Node → (Node → Type 0) → Type 0 → Type 0
-Exchanged (Ok old) new names o changed same = (n : Node) × (o ≡ Some n) × (found names n ≡ Some (view old)) × changed (put_found names (view new) n)
-Exchanged (Err back) new names o changed same = (back ≡ new) × (option_and_then (found names) o ≡ None) × same

@@ -1,5 +1,7 @@
--- What a value means, and what the calls of `Value` and `ValueInner` answer. Whether a text is borrowed is no part of it.
-use Rattle.std.specs.Prelude.{ℕ, ℤ, List, [], ◌∷◌, map, Bool, true, false, Option, Some, None, option_and_then, ◌&&◌, codes, string_bytes}
+-- What a value means, and what the calls of `Value` and `ValueInner` answer. Whether a text is borrowed is no part of
+-- it.
+use Rattle.std.specs.Prelude.{ℕ, ℤ, List, [], ◌∷◌, map, Bool, true, false, Option, Some, None, option_and_then, ◌&&◌}
+use Rattle.std.specs.Prelude.{codes, string_bytes}
 use Rattle.std.specs.Cow.{cow_str_bytes}
 use Rattle.toml_span_lex.specs.declared.key.Key.{Key}
 use Rattle.toml_span_lex.specs.declared.span.Span.{Span}
@@ -11,12 +13,14 @@ use Rattle.toml_span_tree.specs.declared.value.ValueInner.{ValueInner}
 use Rattle.toml_span_tree.specs.declared.value.ValueInner.TheOpen.{ValueInner-F, Value-F}
 use Rattle.toml_span_tree.specs.declared.value.ValueInner.TheFolds.{fold-Value, fold-ValueInner}
 use Rattle.toml_span_tree.specs.Error.{Fault, wanted}
-use Rattle.toml_span_tree.specs.Node.{Decimal, finite, infinite, not_a_number, Scalar, text, integer, float, boolean, datetime, Node, node, Inner, taken, scalar, array, table, Items, no_items, item, Members, no_members, member}
+use Rattle.toml_span_tree.specs.Node.{FloatValue, finite, infinite, not_a_number, Scalar, text, integer, float, boolean}
+use Rattle.toml_span_tree.specs.Node.{datetime, Node, node, Inner, taken, scalar, array, table, Items, no_items, item}
+use Rattle.toml_span_tree.specs.Node.{Members, no_members, member}
 
-abbrev pub decimal_of : FloatText → Decimal
-decimal_of (Finite s) = finite (string_bytes s)
-decimal_of (Infinite b) = infinite b
-decimal_of (NotANumber b) = not_a_number b
+abbrev pub float_value : FloatText → FloatValue
+float_value (Finite s) = finite (string_bytes s)
+float_value (Infinite b) = infinite b
+float_value (NotANumber b) = not_a_number b
 
 abbrev pub date_bytes : DateText → List ℕ
 date_bytes date = date.text.now
@@ -37,7 +41,7 @@ inner_or_taken (Some i) = i
 abbrev pub inner_step : ValueInner-F Inner Node → Inner
 inner_step (ValueInner-F.String s) = scalar (text (cow_str_bytes s))
 inner_step (ValueInner-F.Integer z) = scalar (integer z)
-inner_step (ValueInner-F.Float x) = scalar (float (decimal_of x))
+inner_step (ValueInner-F.Float x) = scalar (float (float_value x))
 inner_step (ValueInner-F.Boolean b) = scalar (boolean b)
 inner_step (ValueInner-F.Datetime d) = scalar (datetime (date_bytes d))
 inner_step (ValueInner-F.Array v) = array (items_of v.items)
@@ -131,7 +135,7 @@ integer_of (float x) = None
 integer_of (boolean b) = None
 integer_of (datetime d) = None
 
-abbrev pub float_of : Scalar → Option Decimal
+abbrev pub float_of : Scalar → Option FloatValue
 float_of (text s) = None
 float_of (integer z) = None
 float_of (float x) = Some x
@@ -158,7 +162,7 @@ text_in i = option_and_then text_of (scalar_in i)
 abbrev pub integer_in : Inner → Option ℤ
 integer_in i = option_and_then integer_of (scalar_in i)
 
-abbrev pub float_in : Inner → Option Decimal
+abbrev pub float_in : Inner → Option FloatValue
 float_in i = option_and_then float_of (scalar_in i)
 
 abbrev pub boolean_in : Inner → Option Bool
@@ -194,5 +198,5 @@ has_members (array ns) = false
 has_members (table ms) = is_filled ms
 
 -- the error that says what was expected of a value, and the kind of the value that was found
-abbrev pub not_a : List ℕ → Node → Fault
-not_a expected n = record { kind = wanted expected (kind_name (inner_of n)); span = span_of n; line_info = None }
+abbrev pub wrong_kind : List ℕ → Node → Fault
+wrong_kind expected n = record { kind = wanted expected (kind_name (inner_of n)); span = span_of n; line_info = None }

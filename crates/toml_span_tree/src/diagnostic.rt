@@ -2,7 +2,8 @@
 ghost use Rattle.std.specs.Prelude.{◌≡◌, [], ◌∷◌, IfOk, map, string_bytes};
 ghost use Rattle.toml_span_tree.specs.Error.{kind_of, marked_keys};
 ghost use Rattle.toml_span_tree.specs.Message.{code_of};
-ghost use Rattle.toml_span_tree.specs.Diagnostic.{label_text_of, labels_of, mark_of, message_of, secondary, unexpected_keys_message};
+ghost use Rattle.toml_span_tree.specs.Diagnostic.{label_text_of, labels_of, label_content, message_of, secondary};
+ghost use Rattle.toml_span_tree.specs.Diagnostic.{unexpected_keys_message};
 
 use crate::error::{Error, ErrorKind};
 use crate::listed::{LentNames, Names};
@@ -126,7 +127,7 @@ fn key_labels<F: Copy>(
     file: F,
     keys: &[(String, Span)],
 ) -> Result<Vec<Label<F>>, AllocError>
-    ensures { IfOk result (λ labels. map mark_of labels.items
+    ensures { IfOk result (λ labels. map label_content labels.items
         ≡ map (λ key. secondary file key.1 []) (marked_keys keys.now)) }
 {
     let mut labels = Vec::with_capacity(alloc, keys.len())?;
@@ -154,7 +155,7 @@ impl Error<'_> {
             ≡ code_of (kind_of self.now.kind)) }
         ensures message { IfOk result (λ shown. string_bytes shown.message
             ≡ message_of (kind_of self.now.kind)) }
-        ensures labels { IfOk result (λ shown. map mark_of shown.labels.items
+        ensures labels { IfOk result (λ shown. map label_content shown.labels.items
             ≡ labels_of fid self.now.span (kind_of self.now.kind)) }
     {
         Ok(Diagnostic {
@@ -166,7 +167,7 @@ impl Error<'_> {
 
     /// The labels in order.
     fn labels<F: Copy>(&self, alloc: Global, file: F) -> Result<Vec<Label<F>>, AllocError>
-        ensures { IfOk result (λ labels. map mark_of labels.items
+        ensures { IfOk result (λ labels. map label_content labels.items
             ≡ labels_of file self.now.span (kind_of self.now.kind)) }
     {
         if let ErrorKind::UnexpectedKeys { keys, .. } = &self.kind {
@@ -203,7 +204,7 @@ fn secondary<F: Copy>(
     span: Span,
     message: &str,
 ) -> Result<Label<F>, AllocError>
-    ensures { IfOk result (λ label. mark_of label ≡ secondary file span message.now) }
+    ensures { IfOk result (λ label. label_content label ≡ secondary file span message.now) }
 {
     Ok(Label {
         primary: false,

@@ -105,36 +105,20 @@ impl<'s> From<(ErrorKind<'s>, Span)> for Error<'s> {
     }
 }
 
-/// A second list of these names.
-fn clone_names(alloc: Global, names: &[String]) -> Result<Vec<String>, AllocError>
-    ensures { IfOk result (λ copy. map string_bytes copy.items ≡ map string_bytes names.now) }
-{
-    let mut copy = Vec::with_capacity(alloc, names.len())?;
-    for name in names {
-        copy.push(String::from_str(alloc, name.as_str())?)?;
-    }
-    Ok(copy)
-}
-
 /// A second list of these keys.
-fn clone_keys(alloc: Global, keys: &[(String, Span)]) -> Result<Vec<(String, Span)>, AllocError>
-    ensures { IfOk result (λ copy. marked_keys copy.items ≡ marked_keys keys.now) }
+#[tactic(auto, using(crate::proofs::Clones::keys_cloned))]
+fn clone_keys(keys: &Vec<(String, Span)>) -> Result<Vec<(String, Span)>, AllocError>
+    ensures { IfOk result (λ copy. marked_keys copy.items ≡ marked_keys keys.now.items) }
 {
-    let mut copy = Vec::with_capacity(alloc, keys.len())?;
-    for key in keys {
-        copy.push((String::from_str(alloc, key.0.as_str())?, key.1))?;
-    }
-    Ok(copy)
+    keys.clone()
 }
 
-/// A second text of the same content.
-fn clone_text<'s>(alloc: Global, text: &CowStr<'s>) -> Result<CowStr<'s>, AllocError>
-    ensures { IfOk result (λ copy. cow_str_bytes copy ≡ cow_str_bytes text.now) }
+/// A second list of these names.
+#[tactic(auto, using(crate::proofs::Clones::names_cloned))]
+fn clone_names(names: &Vec<String>) -> Result<Vec<String>, AllocError>
+    ensures { IfOk result (λ copy. map string_bytes copy.items ≡ map string_bytes names.now.items) }
 {
-    match text {
-        CowStr::Borrowed(text) => Ok(CowStr::Borrowed(*text)),
-        CowStr::Owned(text) => Ok(CowStr::Owned(String::from_str(alloc, text.as_str())?)),
-    }
+    names.clone()
 }
 
 impl<'s> ErrorKind<'s> {
@@ -169,13 +153,13 @@ impl<'s> ErrorKind<'s> {
             },
             ErrorKind::RedefineAsArray => ErrorKind::RedefineAsArray,
             ErrorKind::MultilineStringKey => ErrorKind::MultilineStringKey,
-            ErrorKind::Custom(message) => ErrorKind::Custom(clone_text(alloc, message)?),
+            ErrorKind::Custom(message) => ErrorKind::Custom(message.clone()?),
             ErrorKind::DottedKeyInvalidType { first } => {
                 ErrorKind::DottedKeyInvalidType { first: *first }
             }
             ErrorKind::UnexpectedKeys { keys, expected } => ErrorKind::UnexpectedKeys {
-                keys: clone_keys(alloc, keys.as_slice())?,
-                expected: clone_names(alloc, expected.as_slice())?,
+                keys: clone_keys(keys)?,
+                expected: clone_names(expected)?,
             },
             ErrorKind::UnquotedString => ErrorKind::UnquotedString,
             ErrorKind::MissingField(field) => ErrorKind::MissingField(*field),

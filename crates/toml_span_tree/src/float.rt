@@ -13,12 +13,12 @@ pub enum FloatText {
 
 impl FloatText {
     ghost use Rattle.std.specs.Prelude.{◌≡◌};
-    ghost use Rattle.toml_span_tree.specs.Float.{decimal_text};
-    ghost use Rattle.toml_span_tree.specs.Value.{decimal_of};
+    ghost use Rattle.toml_span_tree.specs.Float.{float_text};
+    ghost use Rattle.toml_span_tree.specs.Value.{float_value};
 
     /// The text: the cleaned literal, `inf`, `-inf`, `nan` or `-nan`.
     pub fn text(&self) -> &str
-        ensures { result.now ≡ decimal_text (decimal_of self.now) }
+        ensures { result.now ≡ float_text (float_value self.now) }
     {
         match self {
             FloatText::Finite(text) => text.as_str(),

@@ -1,6 +1,7 @@
 //! JSON values of trees.
 ghost use Rattle.std.specs.Prelude.{◌≡◌, true, IfOk};
-ghost use Rattle.serde_json.specs.View.{view as json_view, items_view as json_items_view, members_view as json_members_view};
+ghost use Rattle.serde_json.specs.View.{view as json_view, items_view as json_items_view};
+ghost use Rattle.serde_json.specs.View.{members_view as json_members_view};
 ghost use Rattle.toml_span_tree.specs.Value.{view, inner_view, items_view, members_view, is_whole};
 ghost use Rattle.toml_span_tree.specs.Json.{json_of, json_in, json_items, json_members};
 

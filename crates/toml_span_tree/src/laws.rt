@@ -6,7 +6,7 @@ ghost use Rattle.toml_span_tree.specs.Pointer.{position_of, IsPointed, pointed, 
 ghost use Rattle.toml_span_tree.specs.Date.{IsDateText, IsDateOrTime};
 ghost use Rattle.toml_span_tree.specs.declared.date.DateText.{DateText};
 ghost use Rattle.toml_span_tree.specs.declared.float.FloatText.{FloatText};
-ghost use Rattle.toml_span_tree.specs.Value.{inner_of, span_of, is_taken, date_bytes, decimal_of};
+ghost use Rattle.toml_span_tree.specs.Value.{inner_of, span_of, is_taken, date_bytes, float_value};
 
 use crate::date::DateText;
 use crate::float::FloatText;
@@ -26,7 +26,7 @@ pub fn equal_dates()
 /// Two floats are equal exactly where their kinds are, and their texts or signs.
 pub fn equal_floats()
     ensures { (x y : FloatText)
-        → IsTrue (⟦<FloatText as PartialEq>⟧.eq x y) ↔ (decimal_of x ≡ decimal_of y) }
+        → IsTrue (⟦<FloatText as PartialEq>⟧.eq x y) ↔ (float_value x ≡ float_value y) }
 {}
 
 /// What was put at a path stands there.
@@ -37,12 +37,14 @@ pub fn put_stands()
 /// It is shown there with the span of the key that was there.
 pub fn put_keeps_the_key()
     ensures { (path : Path) (n w : Node) (p : Place) → place_at path n ≡ Some p
-        → place_at path (put path w n) ≡ Some (record { shape = shape_of (inner_of w); key_span = p.key_span; span = span_of w }) }
+        → place_at path (put path w n)
+        ≡ Some (record { shape = shape_of (inner_of w); key_span = p.key_span; span = span_of w }) }
 {}
 
 /// Every other path shows what it showed, unless it leads through the place of the change.
 pub fn put_keeps_the_rest()
-    ensures { (path other : Path) (n w : Node) → (BeginsWith path other → ⊥) → place_at other (put path w n) ≡ place_at other n }
+    ensures { (path other : Path) (n w : Node) → (BeginsWith path other → ⊥)
+        → place_at other (put path w n) ≡ place_at other n }
 {}
 
 /// A pointer names the value at the path whose steps its segments name, unless that value is taken
@@ -63,7 +65,8 @@ pub fn empty_pointer()
 
 /// What was put in a pointer's place is what the pointer names.
 pub fn pointer_names_what_was_put()
-    ensures { (pointer : List ℕ) (n m w : Node) → is_taken w ≡ false → pointed pointer n ≡ Some m → pointed pointer (put_pointed pointer w n) ≡ Some w }
+    ensures { (pointer : List ℕ) (n m w : Node) → is_taken w ≡ false → pointed pointer n ≡ Some m
+        → pointed pointer (put_pointed pointer w n) ≡ Some w }
 {}
 
 /// A pointer that parts from the one of the change names what it named.

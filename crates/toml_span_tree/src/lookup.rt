@@ -1,7 +1,8 @@
 //! Look-ups by texts that are read while the program runs.
 ghost use Rattle.std.specs.Prelude.{◌≡◌, option_map, option_and_then};
 ghost use Rattle.toml_span_tree.specs.Node.{get_member};
-ghost use Rattle.toml_span_tree.specs.Pointer.{entry, found, pointed, segments, untaken_entry};
+ghost use Rattle.toml_span_tree.specs.code.Pointer.{entry, value_named, untaken_entry};
+ghost use Rattle.toml_span_tree.specs.Pointer.{pointed, segments};
 ghost use Rattle.toml_span_tree.specs.Value.{inner_view, members_view, view};
 
 use crate::pointer::{array_entry, cut};
@@ -43,7 +44,7 @@ impl<'de> Value<'de> {
 
     /// What the segments name, from here on.
     fn found_by(&self, path: &str) -> Option<&Self>
-        ensures { option_map (λ v. view v.now) result ≡ found (segments path.now) (view self.now) }
+        ensures { option_map (λ v. view v.now) result ≡ value_named (segments path.now) (view self.now) }
     {
         let (segment, rest) = cut(path);
         let child = self.entry_of(segment)?;

@@ -2,7 +2,8 @@
 ghost use Rattle.std.specs.Prelude.{◌≡◌, map, Some, string_bytes};
 ghost use Rattle.std.specs.Fmt.{WritesOnOk};
 ghost use Rattle.toml_span_tree.specs.Error.{kind_of, marked_keys};
-ghost use Rattle.toml_span_tree.specs.Message.{code_of, deprecated_text, shown_char, text_of, unexpected_keys_text, unexpected_value_text};
+ghost use Rattle.toml_span_tree.specs.Message.{code_of, deprecated_text, shown_char, display_text};
+ghost use Rattle.toml_span_tree.specs.Message.{unexpected_keys_text, unexpected_value_text};
 
 use crate::error::{Error, ErrorKind};
 use crate::listed::{Keys, LentNames, Names, write_escaped};
@@ -100,7 +101,7 @@ fn unexpected_value<W: Write>(f: &mut Formatter<W>, expected: &[&str]) -> fmt::R
 }
 
 impl Display for Error<'_> {
-    ghost output = { λ error. Some (text_of (kind_of error.kind)) };
+    ghost output = { λ error. Some (display_text (kind_of error.kind)) };
 
     fn fmt<W: Write>(&self, f: &mut Formatter<W>) -> fmt::Result {
         match &self.kind {

@@ -3,16 +3,22 @@
 //! The empty text names the value itself. Another text begins with `/`, and names a place by the
 //! segments behind it, cut at each `/`: in a table a segment is a key's name, in an array it is a
 //! position in decimal.
-ghost use Rattle.std.specs.Prelude.{◌≡◌, ◌<◌, ◌∷◌, [], ◌^◌, option_map, option_and_then, IfOk, IfErr, IsSome, Some, None, List, ℕ, drop, false, length, slice_index_or, true, vec_len};
+ghost use Rattle.std.specs.Prelude.{◌≡◌, ◌<◌, ◌∷◌, [], ◌^◌, option_map, option_and_then, IfOk, IfErr, IsSome, Some};
+ghost use Rattle.std.specs.Prelude.{None, List, ℕ, drop, false, length, slice_index_or, true, vec_len};
 ghost use Rattle.std.specs.Borrow.{sem};
 ghost use Rattle.std.specs.Cow.{cow_str_bytes};
+ghost use Rattle.toml_span_lex.specs.Bytes.{slash};
 ghost use Rattle.toml_span_tree.specs.Value.{view, inner_view, items_view, members_view};
 ghost use Rattle.toml_span_tree.specs.Node.{get_member, get_item};
-ghost use Rattle.toml_span_tree.specs.Pointer.{PositionIs, position_of, entry, untaken_entry, segments, segments_behind, if_not_taken, set_named, set_item, Exchanged, Cut, found, pointed, put_pointed};
+ghost use Rattle.toml_span_tree.specs.code.Pointer.{PositionIs, entry, untaken_entry, segments_behind, set_named};
+ghost use Rattle.toml_span_tree.specs.code.Pointer.{set_item, Exchanged, SplitAtSlash, value_named};
+ghost use Rattle.toml_span_tree.specs.Pointer.{position_of, segments, if_not_taken, pointed, put_pointed};
 ghost use Rattle.toml_span_tree.specs.Path.{set_entry};
-ghost use Rattle.toml_span_tree.specs.Lending.{IsHeld, lends_inner, lends_member, lends_item, lends_entry, lends_child, lends_found, lends_at, lends_pointed};
+ghost use Rattle.toml_span_tree.specs.code.Lending.{IsHeld, lends_inner, lends_member, lends_item, lends_entry};
+ghost use Rattle.toml_span_tree.specs.code.Lending.{lends_child, lends_named, lends_at};
+ghost use Rattle.toml_span_tree.specs.Lending.{lends_pointed};
 
-use crate::value::{Array, Table, Value, ValueInner, named};
+use crate::value::{Array, Table, Value, ValueInner};
 use std::mem;
 use toml_span_lex::key::Key;
 
@@ -21,26 +27,18 @@ fn position(segment: &str) -> Option<usize>
     ensures { PositionIs result (position_of segment.now) }
 {
     let bytes = segment.as_bytes();
-    if bytes.is_empty() {
+    if bytes.is_empty() || bytes[0] == b'+' {
         return None;
     }
-    if bytes[0] == b'0' {
-        return if bytes.len() == 1 { Some(0) } else { None };
+    if bytes[0] == b'0' && bytes.len() > 1 {
+        return None;
     }
-    let mut position: usize = 0;
-    for byte in bytes {
-        if *byte < b'0' || *byte > b'9' {
-            return None;
-        }
-        let digit = (*byte - b'0') as usize;
-        position = position.checked_mul(10)?.checked_add(digit)?;
-    }
-    Some(position)
+    segment.parse::<usize>().ok()
 }
 
 /// The first segment, and what stands behind its slash, if one stands there.
 pub(crate) fn cut<'p>(path: &'p str) -> (&'p str, Option<&'p str>)
-    ensures { Cut path.now result.0.now (option_map (λ rest. rest.now) result.1) }
+    ensures { SplitAtSlash path.now result.0.now (option_map (λ rest. rest.now) result.1) }
 {
     match path.split_once('/') {
         Some((segment, rest)) => (segment, Some(rest)),
@@ -51,11 +49,12 @@ pub(crate) fn cut<'p>(path: &'p str) -> (&'p str, Option<&'p str>)
 fn table_entry<'v, 'de>(table: &'v Table<'de>, name: &'de str) -> Option<&'v Value<'de>>
     ensures { option_map (λ v. view v.now) result ≡ get_member name.now (members_view table.now.entries) }
 {
-    table.get(&named(name))
+    table.get(&Key::named(name))
 }
 
 pub(crate) fn array_entry<'v, 'de>(array: &'v Array<'de>, segment: &str) -> Option<&'v Value<'de>>
-    ensures { option_map (λ v. view v.now) result ≡ option_and_then (λ i. get_item i (items_view array.now.items)) (position_of segment.now) }
+    ensures { option_map (λ v. view v.now) result
+        ≡ option_and_then (λ i. get_item i (items_view array.now.items)) (position_of segment.now) }
 {
     array.get(position(segment)?)
 }
@@ -84,7 +83,7 @@ impl<'de> Value<'de> {
 
     /// What the segments name, from here on.
     fn found(&self, path: &'de str) -> Option<&Self>
-        ensures { option_map (λ v. view v.now) result ≡ found (segments path.now) (view self.now) }
+        ensures { option_map (λ v. view v.now) result ≡ value_named (segments path.now) (view self.now) }
     {
         let (segment, rest) = cut(path);
         let child = self.entry(segment)?;
@@ -119,8 +118,10 @@ impl<'de> ValueInner<'de> {
         rest: Option<&'de str>,
         new: Value<'de>,
     ) -> Result<Value<'de>, Value<'de>>
-        ensures { Exchanged result new.entry (segments_behind (option_map (λ r. r.now) rest.entry)) (option_and_then if_not_taken (entry segment.now (inner_view self.old)))
-            (λ w. inner_view self.new ≡ set_named segment.now w (inner_view self.old)) (inner_view self.new ≡ inner_view self.old) }
+        ensures { Exchanged result new.entry (segments_behind (option_map (λ r. r.now) rest.entry))
+            (option_and_then if_not_taken (entry segment.now (inner_view self.old)))
+            (λ w. inner_view self.new ≡ set_named segment.now w (inner_view self.old))
+            (inner_view self.new ≡ inner_view self.old) }
     {
         match self {
             ValueInner::Table(table) => replace_entry(table, segment, rest, new),
@@ -137,10 +138,12 @@ fn replace_entry<'de>(
     rest: Option<&'de str>,
     new: Value<'de>,
 ) -> Result<Value<'de>, Value<'de>>
-    ensures { Exchanged result new.entry (segments_behind (option_map (λ r. r.now) rest.entry)) (option_and_then if_not_taken (get_member name.now (members_view table.old.entries)))
-        (λ w. members_view table.new.entries ≡ set_entry name.now w (members_view table.old.entries)) (members_view table.new.entries ≡ members_view table.old.entries) }
+    ensures { Exchanged result new.entry (segments_behind (option_map (λ r. r.now) rest.entry))
+        (option_and_then if_not_taken (get_member name.now (members_view table.old.entries)))
+        (λ w. members_view table.new.entries ≡ set_entry name.now w (members_view table.old.entries))
+        (members_view table.new.entries ≡ members_view table.old.entries) }
 {
-    match table.get_mut(&named(name)) {
+    match table.get_mut(&Key::named(name)) {
         Some(child) => child.replace_here(rest, new),
         None => Err(new),
     }
@@ -153,8 +156,11 @@ fn replace_element<'de>(
     rest: Option<&'de str>,
     new: Value<'de>,
 ) -> Result<Value<'de>, Value<'de>>
-    ensures { Exchanged result new.entry (segments_behind (option_map (λ r. r.now) rest.entry)) (option_and_then if_not_taken (option_and_then (λ i. get_item i (items_view array.old.items)) (position_of segment.now)))
-        (λ w. items_view array.new.items ≡ set_item (position_of segment.now) w (items_view array.old.items)) (items_view array.new.items ≡ items_view array.old.items) }
+    ensures { Exchanged result new.entry (segments_behind (option_map (λ r. r.now) rest.entry))
+        (option_and_then if_not_taken
+        (option_and_then (λ i. get_item i (items_view array.old.items)) (position_of segment.now)))
+        (λ w. items_view array.new.items ≡ set_item (position_of segment.now) w (items_view array.old.items))
+        (items_view array.new.items ≡ items_view array.old.items) }
 {
     let Some(position) = position(segment) else {
         return Err(new);
@@ -184,7 +190,8 @@ impl<'de> Value<'de> {
     /// Replaces this value, or what stands below it, unless it is taken.
     #[cycle(replace)]
     fn replace_here(&mut self, rest: Option<&'de str>, new: Self) -> Result<Self, Self>
-        ensures { Exchanged result new.entry (segments_behind (option_map (λ r. r.now) rest.entry)) (if_not_taken (view self.old)) (λ w. view self.new ≡ w) (view self.new ≡ view self.old) }
+        ensures { Exchanged result new.entry (segments_behind (option_map (λ r. r.now) rest.entry))
+            (if_not_taken (view self.old)) (λ w. view self.new ≡ w) (view self.new ≡ view self.old) }
     {
         if self.is_taken() {
             return Err(new);
@@ -198,7 +205,8 @@ impl<'de> Value<'de> {
     /// Replaces what the segments name, from here on.
     #[cycle(replace)]
     fn replace_found(&mut self, path: &'de str, new: Self) -> Result<Self, Self>
-        ensures { Exchanged result new.entry (segments path.now) (Some (view self.old)) (λ w. view self.new ≡ w) (view self.new ≡ view self.old) }
+        ensures { Exchanged result new.entry (segments path.now) (Some (view self.old)) (λ w. view self.new ≡ w)
+            (view self.new ≡ view self.old) }
     {
         let (segment, rest) = cut(path);
         match &mut self.value {
@@ -212,8 +220,10 @@ impl<'de> Value<'de> {
     ///
     /// Where the pointer names no place, `new` comes back and nothing changes.
     pub fn replace(&mut self, pointer: &'de str, new: Self) -> Result<Self, Self>
-        ensures done { IfOk result (λ old. (pointed pointer.now (view self.old) ≡ Some (view old)) × (view self.new ≡ put_pointed pointer.now (view new.entry) (view self.old))) }
-        ensures refused { IfErr result (λ back. (back ≡ new.entry) × (pointed pointer.now (view self.old) ≡ None) × (view self.new ≡ view self.old)) }
+        ensures done { IfOk result (λ old. (pointed pointer.now (view self.old) ≡ Some (view old))
+            × (view self.new ≡ put_pointed pointer.now (view new.entry) (view self.old))) }
+        ensures refused { IfErr result (λ back. (back ≡ new.entry) × (pointed pointer.now (view self.old) ≡ None)
+            × (view self.new ≡ view self.old)) }
     {
         if pointer.is_empty() {
             return Ok(mem::replace(self, new));
@@ -303,7 +313,7 @@ fn step_to<'v, 'de>(value: &'v mut Value<'de>, segment: &'de str) -> &'v mut Val
     ensures* writes_back { sem 𝓛 (lends_child value.entry segment.now result) }
     ensures value { untaken_entry segment.now (view value.old) ≡ Some (view result.now) }
 {
-    let key = named(segment);
+    let key = Key::named(segment);
     let child = child_of(value, &key);
     release(key);
     child
@@ -329,7 +339,8 @@ fn is_last<'p>(path: &'p str) -> bool
 
 /// What stands behind the first segment.
 fn behind<'p>(path: &'p str) -> &'p str
-    ensures { 0 < length (drop 1 (segments path.now)) → (segments result.now ≡ drop 1 (segments path.now)) × (length result.now < length path.now) }
+    ensures { 0 < length (drop 1 (segments path.now))
+        → (segments result.now ≡ drop 1 (segments path.now)) × (length result.now < length path.now) }
 {
     match cut(path).1 {
         Some(rest) => rest,
@@ -339,9 +350,9 @@ fn behind<'p>(path: &'p str) -> &'p str
 
 /// What the segments name, from here on, to write.
 fn at_path<'v, 'de>(value: &'v mut Value<'de>, path: &'de str) -> &'v mut Value<'de>
-    requires { IsSome (found (segments path.now) (view value.old)) }
-    ensures* writes_back { sem 𝓛 (lends_found value.entry path.now result) }
-    ensures value { found (segments path.now) (view value.old) ≡ Some (view result.now) }
+    requires { IsSome (value_named (segments path.now) (view value.old)) }
+    ensures* writes_back { sem 𝓛 (lends_named value.entry path.now result) }
+    ensures value { value_named (segments path.now) (view value.old) ≡ Some (view result.now) }
 {
     let segment = first(path);
     let child = step_to(value, segment);
@@ -362,7 +373,7 @@ fn is_end<'p>(pointer: &'p str) -> bool
 
 /// What stands behind the slash with which the text begins.
 fn behind_slash<'p>(pointer: &'p str) -> &'p str
-    ensures { (path : List ℕ) → pointer.now ≡ 47 ∷ path → result.now ≡ path }
+    ensures { (path : List ℕ) → pointer.now ≡ slash ∷ path → result.now ≡ path }
 {
     match pointer.strip_prefix('/') {
         Some(path) => path,

@@ -1,5 +1,6 @@
 //! The tree of values.
-ghost use Rattle.std.specs.Prelude.{◌≡◌, Some, None, IfOk, IfErr, option_map, option_and_then, unwrap_or, is_some, codes, false};
+ghost use Rattle.std.specs.Prelude.{◌≡◌, Some, None, IfOk, IfErr, option_map, option_and_then, unwrap_or, is_some};
+ghost use Rattle.std.specs.Prelude.{codes, false};
 ghost use Rattle.std.specs.Cow.{cow_str_bytes};
 ghost use Rattle.toml_span_tree.specs.Value.{items_view, members_view, all_whole as all_whole_items, all_members_whole};
 
@@ -18,16 +19,6 @@ pub type Array<'de> = Vec<Value<'de>>;
 
 /// A table's entries, in the order of their names.
 pub type Table<'de> = BTreeMap<Key<'de>, Value<'de>>;
-
-/// A key of that name, to look a table up by. Keys compare by their names alone.
-pub(crate) fn named(name: &str) -> Key<'_>
-    ensures { cow_str_bytes result.name ≡ name.now }
-{
-    Key {
-        name: CowStr::Borrowed(name),
-        span: Span::default(),
-    }
-}
 
 /// What a value holds.
 #[cycle(tree)]
@@ -64,7 +55,10 @@ impl Debug for Value<'_> {
 impl<'de> Value<'de> {
     ghost use Rattle.toml_span_tree.specs.Error.{fault_of};
     ghost use Rattle.toml_span_tree.specs.Node.{node, taken, get_member};
-    ghost use Rattle.toml_span_tree.specs.Value.{view, inner_view, date_bytes, decimal_of, items_view, members_view, inner_of, is_taken as is_taken_node, is_whole as is_whole_node, text_in, integer_in, float_in, boolean_in, datetime_in, items_in, members_in, kind_name, not_a, has_members};
+    ghost use Rattle.toml_span_tree.specs.Value.{view, inner_view, date_bytes, float_value, items_view, members_view};
+    ghost use Rattle.toml_span_tree.specs.Value.{inner_of, is_taken as is_taken_node, is_whole as is_whole_node};
+    ghost use Rattle.toml_span_tree.specs.Value.{text_in, integer_in, float_in, boolean_in, datetime_in, items_in};
+    ghost use Rattle.toml_span_tree.specs.Value.{members_in, kind_name, wrong_kind, has_members};
 
     /// A value with the span 0..0.
     pub fn new(value: ValueInner<'de>) -> Self
@@ -139,7 +133,9 @@ impl<'de> Value<'de> {
     pub fn take_string<'s>(&mut self, msg: Option<&'s str>) -> Result<CowStr<'de>, Error<'s>>
         requires { is_taken_node (view self.old) ≡ false }
         ensures text { IfOk result (λ text. text_in (inner_of (view self.old)) ≡ Some (cow_str_bytes text)) }
-        ensures refused { IfErr result (λ error. (text_in (inner_of (view self.old)) ≡ None) × (fault_of error ≡ not_a (unwrap_or (option_map (λ m. m.now) msg.entry) (codes "a string")) (view self.old))) }
+        ensures refused { IfErr result (λ error. (text_in (inner_of (view self.old)) ≡ None)
+            × (fault_of error
+            ≡ wrong_kind (unwrap_or (option_map (λ m. m.now) msg.entry) (codes "a string")) (view self.old))) }
         ensures taken { view self.new ≡ node taken self.old.span }
     {
         let span = self.span;
@@ -171,7 +167,7 @@ impl<'de> Value<'de> {
         ensures { result ≡ is_some (option_and_then (get_member key.now) (members_in (inner_of (view self.now)))) }
     {
         match self.as_table() {
-            Some(table) => table.contains_key(&named(key)),
+            Some(table) => table.contains_key(&Key::named(key)),
             None => false,
         }
     }
@@ -228,7 +224,7 @@ impl<'de> Value<'de> {
 
     /// The float, if this is one.
     pub fn as_float(&self) -> Option<&FloatText>
-        ensures { option_map (λ x. decimal_of x.now) result ≡ float_in (inner_of (view self.now)) }
+        ensures { option_map (λ x. float_value x.now) result ≡ float_in (inner_of (view self.now)) }
     {
         match &self.value {
             Some(inner) => inner.as_float(),
@@ -258,7 +254,9 @@ impl<'de> Value<'de> {
 }
 
 impl<'de> ValueInner<'de> {
-    ghost use Rattle.toml_span_tree.specs.Value.{inner_view, holds_whole, date_bytes, decimal_of, items_view, members_view, text_in, integer_in, float_in, boolean_in, datetime_in, items_in, members_in, kind_name};
+    ghost use Rattle.toml_span_tree.specs.Value.{inner_view, holds_whole, date_bytes, float_value, items_view};
+    ghost use Rattle.toml_span_tree.specs.Value.{members_view, text_in, integer_in, float_in, boolean_in, datetime_in};
+    ghost use Rattle.toml_span_tree.specs.Value.{items_in, members_in, kind_name};
 
     /// The name of the kind: `string`, `integer`, `float`, `boolean`, `datetime`, `array` or `table`.
     pub fn type_str(&self) -> &'static str
@@ -328,7 +326,7 @@ impl<'de> ValueInner<'de> {
 
     /// The float, if this is one.
     pub fn as_float(&self) -> Option<&FloatText>
-        ensures { option_map (λ x. decimal_of x.now) result ≡ float_in (inner_view self.now) }
+        ensures { option_map (λ x. float_value x.now) result ≡ float_in (inner_view self.now) }
     {
         match self {
             ValueInner::Float(float) => Some(float),

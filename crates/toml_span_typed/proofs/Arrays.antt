@@ -4,7 +4,7 @@ use Rattle.toml_span_tree.specs.Node.{Node}
 use Rattle.toml_span_tree.specs.Value.{items_of, items_view, view}
 use Rattle.toml_span_tree.specs.declared.value.Value.{Value}
 use Rattle.toml_span_tree.specs.Error.{Fault}
-use Rattle.toml_span_typed.specs.Arrays.{AddsRead, AreRead}
+use Rattle.toml_span_typed.specs.code.Arrays.{AddsRead, AreRead}
 use Rattle.toml_span_typed.specs.Faults.{Faults, all}
 use Rattle.toml_span_typed.specs.Reads.{EachReads, ReadsAll, elements, errors, nodes_of}
 

@@ -10,7 +10,8 @@ use Rattle.toml_span_tree.proofs.Values.{Entry}
 use Rattle.toml_span_typed.proofs.Arrays.{errors_push}
 use Rattle.toml_span_typed.proofs.Whole.{left, right}
 use Rattle.toml_span_typed.specs.Faults.{Faults}
-use Rattle.toml_span_typed.specs.Maps.{AddsEntry, EntriesRead, holding, holding_read, names_of, shown_pair, values_of}
+use Rattle.toml_span_typed.specs.code.Maps.{AddsEntry}
+use Rattle.toml_span_typed.specs.Maps.{EntriesRead, holding, holding_read, names_of, shown_pair, values_of}
 use Rattle.toml_span_typed.specs.Reads.{EachReads, errors}
 
 shown-match : {T : Type 0} (o : Ordering) (a b c : List (String Global × T)) → map shown_pair (match_ordering o a b c) ≡ match_ordering o (map shown_pair a) (map shown_pair b) (map shown_pair c)

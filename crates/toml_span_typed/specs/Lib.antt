@@ -1,7 +1,7 @@
 pub mod Faults
 pub mod Reads
-pub mod Arrays
 pub mod TableHelper
 pub mod Parse
 pub mod Fields
 pub mod Maps
+pub mod code

@@ -1,5 +1,5 @@
 -- What a table is read as whose keys are not known beforehand.
-use Rattle.std.specs.Prelude.{◌≡◌, ℕ, List, [], ◌∷◌, ◌++◌, Result, Ok, Err, String, string_bytes, codes}
+use Rattle.std.specs.Prelude.{◌≡◌, ℕ, List, [], ◌∷◌, Result, Ok, Err, String, string_bytes, codes}
 use Rattle.std.specs.BTreeMap.{insert_entry}
 use Rattle.std.specs.Cmp.Lexicographic.{slice_cmp}
 use Rattle.std.specs.Ordering.{nat_cmp}
@@ -38,13 +38,6 @@ abbrev pub EntriesRead : {T : Type 0} → (Node → Result T Faults → Node →
 EntriesRead reads names values entries faults =
     (answers : List (Result _ Faults)) × EachReads reads values answers
     × (entries ≡ holding_read [] names answers) × (errors answers ≡ faults)
-
--- one more value is read
-abbrev pub AddsEntry : {T : Type 0} → (Node → Result T Faults → Node → Type 0) → List ℕ → Node
-    → List (List ℕ × T) → List Fault → List (List ℕ × T) → List Fault → Type 0
-AddsEntry reads name value entries faults more told =
-    (answer : Result _ Faults) × ((after : Node) × reads value answer after)
-    × (more ≡ holding_read entries (name ∷ []) (answer ∷ [])) × (told ≡ faults ++ errors (answer ∷ []))
 
 -- a map of the elements where no answer is an error, and else all the errors, in the order of the names
 abbrev pub ReadsEntries : {T : Type 0} → (Node → Result T Faults → Node → Type 0) → Members

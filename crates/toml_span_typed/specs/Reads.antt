@@ -1,10 +1,12 @@
 -- What a typed read may answer, and what it may leave in the value.
-use Rattle.std.specs.Prelude.{◌≡◌, ⊤, ℕ, ℤ, pos, negsuc, nat_lt, Bool, List, [], ◌∷◌, ◌++◌, Option, Some, None, Result, Ok, Err, IfOk, codes, if◌then◌else◌}
+use Rattle.std.specs.Prelude.{◌≡◌, ⊤, ℕ, ℤ, pos, negsuc, nat_lt, Bool, List, [], ◌∷◌, ◌++◌, Option, Some, None, Result}
+use Rattle.std.specs.Prelude.{Ok, Err, IfOk, codes, if◌then◌else◌}
 use Rattle.toml_span_lex.specs.declared.span.Span.{Span}
 use Rattle.toml_span_lex.specs.declared.stop.Stop.{Stop}
 use Rattle.toml_span_lex.specs.declared.stop.Stop.TheVariants as stop
-use Rattle.toml_span_tree.specs.Node.{Decimal, Node, node, taken, scalar, array, text, integer, float, boolean, datetime, Items, no_items, item}
-use Rattle.toml_span_tree.specs.Value.{not_a, span_of}
+use Rattle.toml_span_tree.specs.Node.{FloatValue, Node, node, taken, scalar, array, text, integer, float, boolean}
+use Rattle.toml_span_tree.specs.Node.{datetime, Items, no_items, item}
+use Rattle.toml_span_tree.specs.Value.{wrong_kind, span_of}
 use Rattle.toml_span_tree.specs.Error.{Fault, out_of_range}
 use Rattle.toml_span_typed.specs.Faults.{Faults, one, all}
 
@@ -14,7 +16,8 @@ result_map f (Err e) = Err e
 
 -- The call gives an answer that the type's reading allows of the value before, the answer and the
 -- value left; want of memory leaves what the type states for it.
-abbrev pub Answers : {T : Type 0} → (Node → Result T Faults → Node → Type 0) → (Node → Node → Type 0) → Node → Result T (Stop Faults) → Node → Type 0
+abbrev pub Answers : {T : Type 0} → (Node → Result T Faults → Node → Type 0) → (Node → Node → Type 0) → Node
+    → Result T (Stop Faults) → Node → Type 0
 Answers reads starved before (Ok x) after = reads before (Ok x) after
 Answers reads starved before (Err (stop.Fault faults)) after = reads before (Err faults) after
 Answers reads starved before (Err (stop.Memory error)) after = starved before after
@@ -37,29 +40,29 @@ Gives read before answer after = (answer ≡ read before) × Taken before after
 
 -- the one error that another kind of value was expected
 abbrev pub refused : {T : Type 0} → List ℕ → Node → Result T Faults
-refused expected value = Err (one (not_a expected value))
+refused expected value = Err (one (wrong_kind expected value))
 
 -- the error that the type of this name does not hold the integer
 abbrev pub beyond_range : List ℕ → Span → Fault
 beyond_range name span = record { kind = out_of_range name; span = span; line_info = None }
 
 -- the string's text
-abbrev pub string_of : Node → Result (List ℕ) Faults
-string_of (node (scalar (text s)) span) = Ok s
-string_of value = refused (codes "a string") value
+abbrev pub read_string : Node → Result (List ℕ) Faults
+read_string (node (scalar (text s)) span) = Ok s
+read_string value = refused (codes "a string") value
 
-abbrev pub boolean_of : Node → Result Bool Faults
-boolean_of (node (scalar (boolean b)) span) = Ok b
-boolean_of value = refused (codes "a bool") value
+abbrev pub read_boolean : Node → Result Bool Faults
+read_boolean (node (scalar (boolean b)) span) = Ok b
+read_boolean value = refused (codes "a bool") value
 
-abbrev pub float_of : Node → Result Decimal Faults
-float_of (node (scalar (float x)) span) = Ok x
-float_of value = refused (codes "a float") value
+abbrev pub read_float : Node → Result FloatValue Faults
+read_float (node (scalar (float x)) span) = Ok x
+read_float value = refused (codes "a float") value
 
 -- the text of the date or time
-abbrev pub datetime_of : Node → Result (List ℕ) Faults
-datetime_of (node (scalar (datetime d)) span) = Ok d
-datetime_of value = refused (codes "a datetime") value
+abbrev pub read_datetime : Node → Result (List ℕ) Faults
+read_datetime (node (scalar (datetime d)) span) = Ok d
+read_datetime value = refused (codes "a datetime") value
 
 -- the unsigned number below a limit
 abbrev pub unsigned : ℕ → ℤ → Option ℕ
@@ -76,12 +79,13 @@ or_out_of name span (Some n) = Ok n
 or_out_of name span None = Err (one (beyond_range name span))
 
 -- the integer, where the type of that name holds it
-abbrev pub integer_of : {T : Type 0} → List ℕ → (ℤ → Option T) → Node → Result T Faults
-integer_of name held (node (scalar (integer z)) span) = or_out_of name span (held z)
-integer_of name held value = refused name value
+abbrev pub read_integer : {T : Type 0} → List ℕ → (ℤ → Option T) → Node → Result T Faults
+read_integer name held (node (scalar (integer z)) span) = or_out_of name span (held z)
+read_integer name held value = refused name value
 
 -- T's reading, with the span of the value as it was beside the element
-abbrev pub spanned : {T S : Type 0} → (Node → Result T Faults → Node → Type 0) → (S → T) → (S → Span) → Node → Result S Faults → Node → Type 0
+abbrev pub spanned : {T S : Type 0} → (Node → Result T Faults → Node → Type 0) → (S → T) → (S → Span) → Node
+    → Result S Faults → Node → Type 0
 spanned reads value_in span_in before answer after =
     reads before (result_map value_in answer) after × IfOk answer (λ s. span_in s ≡ span_of before)
 
@@ -91,9 +95,11 @@ nodes_of no_items = []
 nodes_of (item value values) = value ∷ nodes_of values
 
 -- an answer for each value, that the reading allows
-abbrev pub EachReads : {T : Type 0} → (Node → Result T Faults → Node → Type 0) → List Node → List (Result T Faults) → Type 0
+abbrev pub EachReads : {T : Type 0} → (Node → Result T Faults → Node → Type 0) → List Node → List (Result T Faults)
+    → Type 0
 EachReads reads [] [] = ⊤
-EachReads reads (value ∷ values) (answer ∷ answers) = ((after : Node) × reads value answer after) × EachReads reads values answers
+EachReads reads (value ∷ values) (answer ∷ answers) =
+    ((after : Node) × reads value answer after) × EachReads reads values answers
 EachReads reads _ _ = ⊥
 
 -- the elements among the answers, in order
@@ -114,11 +120,14 @@ Joins answers (Ok xs) = (errors answers ≡ []) × (elements answers ≡ xs)
 Joins answers (Err faults) = errors answers ≡ all faults
 
 -- each value is read, and the answer joins what they gave
-abbrev pub ReadsAll : {T : Type 0} → (Node → Result T Faults → Node → Type 0) → List Node → Result (List T) Faults → Type 0
-ReadsAll reads values answer = (answers : List (Result _ Faults)) × EachReads reads values answers × Joins answers answer
+abbrev pub ReadsAll : {T : Type 0} → (Node → Result T Faults → Node → Type 0) → List Node → Result (List T) Faults
+    → Type 0
+ReadsAll reads values answer =
+    (answers : List (Result _ Faults)) × EachReads reads values answers × Joins answers answer
 
 -- T's readings of an array's elements, joined; the array is taken
-abbrev pub array_reads : {T : Type 0} → (Node → Result T Faults → Node → Type 0) → Node → Result (List T) Faults → Node → Type 0
+abbrev pub array_reads : {T : Type 0} → (Node → Result T Faults → Node → Type 0) → Node → Result (List T) Faults → Node
+    → Type 0
 array_reads reads (node (array values) span) answer after =
     ReadsAll reads (nodes_of values) answer × Taken (node (array values) span) after
 array_reads reads value answer after = (answer ≡ refused (codes "an array") value) × Taken value after

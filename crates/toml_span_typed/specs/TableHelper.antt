@@ -1,9 +1,9 @@
 -- What a helper over a table holds, and what its calls do to it.
-use Rattle.std.specs.Prelude.{◌≡◌, ◌⊎◌, ℕ, List, [], ◌∷◌, ◌++◌, map, IsTrue, cond, Option, Some, None, option_map, Result, Ok, Err, MatchOption, String, string_bytes, codes, true}
+use Rattle.std.specs.Prelude.{◌≡◌, ◌⊎◌, ℕ, List, [], ◌∷◌, ◌++◌, map, IsTrue, cond, Option, Some, None, option_map}
+use Rattle.std.specs.Prelude.{Result, Ok, Err, MatchOption, codes, true}
 use Rattle.std.specs.Borrow.{MutBor}
 use Rattle.std.specs.Cow.{cow_str_bytes}
 use Rattle.std.specs.Str.{bytes_eq}
-use Rattle.std.specs.declared.alloc.Global.{Global}
 use Rattle.std.specs.declared.alloc.AllocError.{AllocError}
 use Rattle.std.proofs.Common.{inl, inr}
 use Rattle.toml_span_lex.specs.declared.key.Key.{Key}
@@ -49,11 +49,13 @@ found name s = option_map (λ entry. entry.1) (entry_at name s.members)
 -- the entries without the one of that name
 abbrev pub without : List ℕ → Members → Members
 without name no_members = no_members
-without name (member other span value rest) = cond (bytes_eq name other) rest (member other span value (without name rest))
+without name (member other span value rest) =
+    cond (bytes_eq name other) rest (member other span value (without name rest))
 
 -- the name is recorded, and its entry is gone
 abbrev pub noted : List ℕ → State → State
-noted name s = record { members = without name s.members; asked = s.asked ++ name ∷ []; errors = s.errors; span = s.span }
+noted name s =
+    record { members = without name s.members; asked = s.asked ++ name ∷ []; errors = s.errors; span = s.span }
 
 -- errors are kept, behind those that were
 abbrev pub keeping : List Fault → State → State
@@ -74,7 +76,8 @@ Opens value answer = answer ≡ refused (codes "a table") value
 
 -- the entry is the one under the name, with its key's span
 abbrev pub IsEntry : List ℕ → State → Key × Value → Type 0
-IsEntry name s entry = (cow_str_bytes entry.0.name ≡ name) × (entry_at name s.members ≡ Some (Some entry.0.span, view entry.1))
+IsEntry name s entry =
+    (cow_str_bytes entry.0.name ≡ name) × (entry_at name s.members ≡ Some (Some entry.0.span, view entry.1))
 
 -- `take`: records the name and gives its entry; without memory for the name nothing has changed
 abbrev pub Takes : List ℕ → State → Result (Option (Key × Value)) AllocError → State → Type 0
@@ -88,9 +91,11 @@ abbrev pub Starved : List ℕ → State → State → Type 0
 Starved name before after = (after ≡ before) ⊎ (after ≡ noted name before)
 
 -- `required`: the element, or the last of the errors that are kept
-abbrev pub Requires : {T : Type 0} → (Node → Result T Faults → Node → Type 0) → List ℕ → State → Result T (Stop Error) → State → Type 0
+abbrev pub Requires : {T : Type 0} → (Node → Result T Faults → Node → Type 0) → List ℕ → State → Result T (Stop Error)
+    → State → Type 0
 Requires reads name before (Ok x) after =
-    (value : Node) × (left : Node) × (found name before ≡ Some value) × reads value (Ok x) left × (after ≡ noted name before)
+    (value : Node) × (left : Node) × (found name before ≡ Some value) × reads value (Ok x) left
+    × (after ≡ noted name before)
 Requires reads name before (Err (stop.Fault error)) after = MatchOption (found name before)
     ((fault_of error ≡ missing name before) × (after ≡ keeping (missing name before ∷ []) (noted name before)))
     (λ value. (faults : Faults) × (left : Node) × reads value (Err faults) left
@@ -99,17 +104,16 @@ Requires reads name before (Err (stop.Memory error)) after = Starved name before
 
 -- `optional`: the element; None where nothing stands under the name, and where the read failed: its
 -- errors are kept
-abbrev pub Tries : {T : Type 0} → (Node → Result T Faults → Node → Type 0) → List ℕ → State → Result (Option T) AllocError → State → Type 0
+abbrev pub Tries : {T : Type 0} → (Node → Result T Faults → Node → Type 0) → List ℕ → State
+    → Result (Option T) AllocError → State → Type 0
 Tries reads name before (Ok (Some x)) after =
-    (value : Node) × (left : Node) × (found name before ≡ Some value) × reads value (Ok x) left × (after ≡ noted name before)
+    (value : Node) × (left : Node) × (found name before ≡ Some value) × reads value (Ok x) left
+    × (after ≡ noted name before)
 Tries reads name before (Ok None) after = MatchOption (found name before)
     (after ≡ noted name before)
-    (λ value. (faults : Faults) × (left : Node) × reads value (Err faults) left × (after ≡ keeping (all faults) (noted name before)))
+    (λ value. (faults : Faults) × (left : Node) × reads value (Err faults) left
+    × (after ≡ keeping (all faults) (noted name before)))
 Tries reads name before (Err error) after = Starved name before after
-
--- a key's name and its span
-abbrev pub key_text : String Global × Span → List ℕ × Span
-key_text key = (string_bytes key.0, key.1)
 
 -- the keys that remain, with their spans, in the order of their names
 abbrev pub names_in : Members → List (List ℕ × Span)
@@ -117,8 +121,8 @@ names_in no_members = []
 names_in (member name span value rest) = (name, span) ∷ names_in rest
 
 -- the error of the keys that remain
-abbrev pub unexpected : State → Fault
-unexpected s = record { kind = unexpected_keys (names_in s.members) s.asked; span = s.span; line_info = None }
+abbrev pub unexpected_entries : State → Fault
+unexpected_entries s = record { kind = unexpected_keys (names_in s.members) s.asked; span = s.span; line_info = None }
 
 abbrev pub where_filled : Members → List Fault → List Fault
 where_filled no_members faults = []
@@ -126,7 +130,7 @@ where_filled (member name span value rest) faults = faults
 
 -- the error of the keys that remain, if any do
 abbrev pub unasked : State → List Fault
-unasked s = where_filled s.members (unexpected s ∷ [])
+unasked s = where_filled s.members (unexpected_entries s ∷ [])
 
 -- the errors in the end, where no value takes the rest
 abbrev pub with_unasked : State → List Fault
@@ -155,7 +159,8 @@ abbrev pub HoldsRest : BTreeMap Key Value → Value → Value → Type 0
 HoldsRest rest before after = view after ≡ node (table (members_view rest.entries)) (span_of (view before))
 
 -- what P says of the value behind a reference, if there is one, as it was and as it is left
-abbrev pub Leaves : {V : Type 0} → (V → V → Type 0) → Option (MutBor V) → Unit {0} ⊎ ((MutBor V × Unit {0}) ⊎ ⊥) → Type 0
+abbrev pub Leaves : {V : Type 0} → (V → V → Type 0) → Option (MutBor V) → Unit {0} ⊎ ((MutBor V × Unit {0}) ⊎ ⊥)
+    → Type 0
 Leaves P None exit = Unit {0}
 Leaves P (Some v) (inr (inl exit)) = P v.now exit.0.now
 Leaves P (Some v) _ = ⊥

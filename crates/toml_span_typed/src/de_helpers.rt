@@ -2,7 +2,7 @@
 ghost use Rattle.std.specs.Prelude.{◌≡◌, IfOk, false};
 ghost use Rattle.toml_span_tree.specs.Error.{fault_of};
 ghost use Rattle.toml_span_tree.specs.Node.{node};
-ghost use Rattle.toml_span_tree.specs.Value.{inner_view, is_taken, not_a, view};
+ghost use Rattle.toml_span_tree.specs.Value.{inner_view, is_taken, wrong_kind, view};
 ghost use Rattle.toml_span_typed.specs.Parse.{Parses, TellsRefusal};
 ghost use Rattle.toml_span_typed.specs.Reads.{Taken};
 
@@ -21,7 +21,7 @@ use toml_span_tree::{Error, ErrorKind, Value, ValueInner};
 
 /// The error that something else was expected where this value stands. Takes no memory.
 pub fn expected<'s>(expected: &'s str, found: ValueInner, span: Span) -> Error<'s>
-    ensures { fault_of result ≡ not_a expected.now (node (inner_view found.entry) span) }
+    ensures { fault_of result ≡ wrong_kind expected.now (node (inner_view found.entry) span) }
 {
     Error::from((
         ErrorKind::Wanted {

@@ -2,7 +2,8 @@
 ghost use Rattle.std.specs.Prelude.{◌≡◌, ◌++◌, length, slice_get, option_map, OnOk, OnErr, IfErr, Some, map};
 ghost use Rattle.std.specs.Iterator.{YieldsFirstBy, item_count};
 ghost use Rattle.toml_span_tree.specs.Error.{fault_of};
-ghost use Rattle.toml_span_typed.specs.Faults.{all, all_of_option};
+ghost use Rattle.toml_span_typed.specs.Faults.{all};
+ghost use Rattle.toml_span_typed.specs.code.Faults.{all_of_option};
 
 use std::alloc::{AllocError, Global};
 use std::fmt::{Display, Formatter, Write};
@@ -19,7 +20,8 @@ pub struct DeserError<'s> {
 }
 
 impl<'s> Model for DeserError<'s> {
-    ghost use Rattle.toml_span_typed.specs.Faults.{Faults, faults_in};
+    ghost use Rattle.toml_span_typed.specs.Faults.{Faults};
+    ghost use Rattle.toml_span_typed.specs.code.Faults.{faults_in};
     ghost use Rattle.toml_span_tree.specs.Error.{fault_of};
 
     ghost Value = { Faults };
@@ -188,7 +190,7 @@ pub struct ErrorIter<'a, 's> {
 impl<'a, 's> Model for ErrorIter<'a, 's> {
     ghost use Rattle.std.specs.Prelude.{List, ◌++◌, map};
     ghost use Rattle.toml_span_tree.specs.Error.{Fault, fault_of};
-    ghost use Rattle.toml_span_typed.specs.Faults.{last_left};
+    ghost use Rattle.toml_span_typed.specs.code.Faults.{last_left};
 
     ghost Value = { List Fault };
 

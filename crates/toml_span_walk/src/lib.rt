@@ -40,7 +40,11 @@ pub fn nodes<'t, 'de>(
 }
 
 /// A path with one more step.
-fn below<'t>(alloc: Global, path: &[Step<'t>], step: Step<'t>) -> Result<Vec<Step<'t>>, AllocError>
+fn with_step<'t>(
+    alloc: Global,
+    path: &[Step<'t>],
+    step: Step<'t>,
+) -> Result<Vec<Step<'t>>, AllocError>
     ensures { IfOk result (λ steps. map step_of steps.items ≡ map step_of path.now ++ step_of step.entry ∷ []) }
 {
     let mut steps = Vec::from_slice(alloc, path)?;
@@ -83,7 +87,7 @@ fn push_elements<'t, 'de>(
         ++ items_nodes (map step_of path.now) 0 (items_view elements.now)) }
 {
     for (position, element) in elements.iter().enumerate() {
-        let steps = below(alloc, path, Step::Position(position))?;
+        let steps = with_step(alloc, path, Step::Position(position))?;
         push_node(alloc, element, steps.as_slice(), list)?;
     }
     Ok(())
@@ -101,7 +105,7 @@ fn push_entries<'t, 'de>(
         ++ members_nodes (map step_of path.now) (members_view table.now.entries)) }
 {
     for (key, value) in table.iter() {
-        let steps = below(alloc, path, Step::Key(key.name.as_ref()))?;
+        let steps = with_step(alloc, path, Step::Key(key.name.as_ref()))?;
         push_node(alloc, value, steps.as_slice(), list)?;
     }
     Ok(())

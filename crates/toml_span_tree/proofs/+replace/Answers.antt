@@ -6,7 +6,8 @@ use Rattle.toml_span_tree.specs.declared.value.Value.{Value}
 use Rattle.toml_span_tree.specs.Node.{get_item, get_member, node, table}
 use Rattle.toml_span_tree.specs.Path.{set_entry, set_element}
 use Rattle.toml_span_tree.specs.Value.{view, inner_view, items_view, members_view, inner_or_taken}
-use Rattle.toml_span_tree.specs.Pointer.{set_item, segments, segments_behind, found, put_found}
+use Rattle.toml_span_tree.specs.code.Pointer.{set_item, segments_behind, value_named, put_named}
+use Rattle.toml_span_tree.specs.Pointer.{segments}
 use Rattle.toml_span_tree.proofs.Values.{view_is, inner_view-Table, view-lookup, at_name}
 use Rattle.toml_span_tree.proofs.Pointers.{view-of_mut, get_item-lent, past_all}
 use Rattle.toml_span_tree.proofs.Puts.{view-made, view-set_value, view-set, set_entry-same, set_element-same, exchanged-in, exchanged-none, exchanged-as, exchanged-cut, exchanged-table, if_not_taken-false}
@@ -54,11 +55,11 @@ pointer::replace_entry-returns-in-Some t c =
     let after = c.replace_here.new.self in
     let there : get_member name (members_view es) ≡ Some (view child.now) =
     sym (view-lookup name es)
-    ∙ ap (option_map view) (ap (λ (n : List ℕ). lookup (at_name n) es) (sym c.named.ensures) ∙ sym c.get_mut.ensures.value)
+    ∙ ap (option_map view) (ap (λ (n : List ℕ). lookup (at_name n) es) (sym c.named.ensures.0) ∙ sym c.get_mut.ensures.value)
     ∙ sym (view-of_mut c.get_mut.result)
     ∙ ap (option_map (λ v. view v.now)) c.in-Some.is in
     let written =
-    ap members_view ((c.get_mut.follows.holds after).0 ∙ ap (λ (n : List ℕ). set_value (at_name n) es after) c.named.ensures)
+    ap members_view ((c.get_mut.follows.holds after).0 ∙ ap (λ (n : List ℕ). set_value (at_name n) es after) c.named.ensures.0)
     ∙ view-set_value name es after in
     exchanged-in c.replace_here.result c.args.new (segments_behind (option_map (λ r. r.now) c.args.rest)) _ (view child.now) (view after) _ _
     there
@@ -71,7 +72,7 @@ pointer::replace_entry-returns t c =
     let es = c.args.table.now.entries in
     exchanged-none c.args.new (segments_behind (option_map (λ r. r.now) c.args.rest)) _ _
     (sym (view-lookup c.args.name.now es)
-    ∙ ap (option_map view) (ap (λ (n : List ℕ). lookup (at_name n) es) (sym c.named.ensures) ∙ sym c.get_mut.ensures.value)
+    ∙ ap (option_map view) (ap (λ (n : List ℕ). lookup (at_name n) es) (sym c.named.ensures.0) ∙ sym c.get_mut.ensures.value)
     ∙ sym (view-of_mut c.get_mut.result)
     ∙ ap (option_map (λ v. view v.now)) c.in-None.is)
     (ap (λ (m : BTreeMap Key Value). members_view m.entries) c.get_mut.follows.holds-at-none)
@@ -95,8 +96,8 @@ value::Value::replace_here-returns-in-None t c =
     let none = ap (option_map (λ r. r.now)) c.in-None.is in (
       n,
       if_not_taken-false n (sym c.is_taken.ensures ∙ c.if-is_taken.false),
-      ap (λ o. found (segments_behind o) n) none ∙ ap (λ v. Some (view v)) (sym c.replace.ensures.value),
-      ap view c.replace.ensures.after ∙ sym (ap (λ o. put_found (segments_behind o) (view c.args.new) n) none),
+      ap (λ o. value_named (segments_behind o) n) none ∙ ap (λ v. Some (view v)) (sym c.replace.ensures.value),
+      ap view c.replace.ensures.after ∙ sym (ap (λ o. put_named (segments_behind o) (view c.args.new) n) none),
     )
 
 pub value::ValueInner::replace_found-returns-in-Table :

@@ -4,7 +4,8 @@ ghost use Rattle.std.specs.Cow.{cow_str_bytes};
 ghost use Rattle.toml_span_tree.specs.Error.{fault_of, missing_field};
 ghost use Rattle.toml_span_tree.specs.Node.{entry_at};
 ghost use Rattle.toml_span_tree.specs.Value.{is_filled, members_view, span_of, view};
-ghost use Rattle.toml_span_typed.specs.TableHelper.{Closes, key_text, names_in, without};
+ghost use Rattle.toml_span_typed.specs.TableHelper.{Closes, names_in, without};
+ghost use Rattle.toml_span_typed.specs.code.TableHelper.{key_text};
 
 mod fields;
 
@@ -12,7 +13,6 @@ use crate::de_helpers::expected;
 use crate::deser_error::DeserError;
 use crate::deserialize::Deserialize;
 use std::alloc::{AllocError, Global};
-use std::borrow::CowStr;
 use toml_span_lex::key::Key;
 use toml_span_lex::span::Span;
 use toml_span_lex::spanned::Spanned;
@@ -58,7 +58,9 @@ impl<'de> TableHelper<'de> {
     ghost use Rattle.toml_span_tree.specs.Value.{is_taken, is_whole};
     ghost use Rattle.toml_span_typed.specs.Faults.{all};
     ghost use Rattle.toml_span_typed.specs.Reads.{Taken, result_map, spanned};
-    ghost use Rattle.toml_span_typed.specs.TableHelper.{AllWhole, Closes, Finalizes, HoldsRest, Leaves, Opens, Refuses, Requires, Takes, Tries, found, fresh, keeping, missing, state_of, unasked, unexpected};
+    ghost use Rattle.toml_span_typed.specs.TableHelper.{AllWhole, Closes, Finalizes, HoldsRest, Leaves, Opens, Refuses};
+    ghost use Rattle.toml_span_typed.specs.TableHelper.{Requires, Takes, Tries, found, fresh, keeping, missing};
+    ghost use Rattle.toml_span_typed.specs.TableHelper.{state_of, unasked, unexpected_entries};
 
     /// A helper over the table that a value is, from which nothing may be taken. The value is taken.
     /// Of another kind, the error is `Wanted` "a table". Takes no memory.
@@ -91,7 +93,7 @@ impl<'de> TableHelper<'de> {
     pub fn contains(&self, name: &'de str) -> bool
         ensures { result ≡ is_some (found name.now (state_of self.now)) }
     {
-        self.table.contains_key(&named(name))
+        self.table.contains_key(&Key::named(name))
     }
 
     /// Records the name, and moves its entry out, if there is one. Without memory for the name
@@ -140,7 +142,8 @@ impl<'de> TableHelper<'de> {
         name: &'de str,
     ) -> Result<Spanned<T>, Stop<Error<'de>>>
         requires { IfSome (found name.now (state_of self.old)) (λ value. IsTrue (is_whole value)) }
-        ensures answer { Requires (spanned T.reads (λ s. s.value) (λ s. s.span)) name.now (state_of self.old) result (state_of self.new) }
+        ensures answer { Requires (spanned T.reads (λ s. s.value) (λ s. s.span)) name.now (state_of self.old) result
+            (state_of self.new) }
         ensures whole { AllWhole (state_of self.old) → AllWhole (state_of self.new) }
     {
         self.required(name)
@@ -176,7 +179,8 @@ impl<'de> TableHelper<'de> {
         name: &'de str,
     ) -> Result<Option<Spanned<T>>, AllocError>
         requires { IfSome (found name.now (state_of self.old)) (λ value. IsTrue (is_whole value)) }
-        ensures answer { Tries (spanned T.reads (λ s. s.value) (λ s. s.span)) name.now (state_of self.old) result (state_of self.new) }
+        ensures answer { Tries (spanned T.reads (λ s. s.value) (λ s. s.span)) name.now (state_of self.old) result
+            (state_of self.new) }
         ensures whole { AllWhole (state_of self.old) → AllWhole (state_of self.new) }
     {
         self.optional(name)
@@ -239,7 +243,7 @@ impl<'de> TableHelper<'de> {
 
     /// The error of the keys that remain.
     fn unexpected_keys(&self) -> Result<Error<'de>, AllocError>
-        ensures { IfOk result (λ e. fault_of e ≡ unexpected (state_of self.now)) }
+        ensures { IfOk result (λ e. fault_of e ≡ unexpected_entries (state_of self.now)) }
     {
         let keys = key_names(self.alloc, &self.table)?;
         let expected = copied_texts(self.alloc, self.asked.as_slice())?;
@@ -259,7 +263,8 @@ impl<'de> TableHelper<'de> {
 
     /// Keeps the errors of a read, and gives a copy of the last one. Without memory it keeps none.
     fn keep_all(&mut self, faults: DeserError<'de>) -> Result<Error<'de>, AllocError>
-        ensures ok { IfOk result (λ e. (fault_of e ≡ faults.entry.last) × (state_of self.new ≡ keeping (all faults.entry) (state_of self.old))) }
+        ensures ok { IfOk result (λ e. (fault_of e ≡ faults.entry.last)
+            × (state_of self.new ≡ keeping (all faults.entry) (state_of self.old))) }
         ensures err { OnErr result (state_of self.new ≡ state_of self.old) }
     {
         let last = faults.last().clone(self.alloc)?;
@@ -268,23 +273,14 @@ impl<'de> TableHelper<'de> {
     }
 }
 
-/// A key of this name, to look for.
-fn named<'de>(name: &'de str) -> Key<'de>
-    ensures { cow_str_bytes result.name ≡ name.now }
-{
-    Key {
-        name: CowStr::Borrowed(name),
-        span: Span::default(),
-    }
-}
-
 /// Moves the entry of a name out of a table.
 fn remove<'de>(table: &mut Table<'de>, name: &'de str) -> Option<(Key<'de>, Value<'de>)>
     ensures rest { members_view table.new.entries ≡ without name.now (members_view table.old.entries) }
-    ensures entry { option_map (λ e. (Some e.0.span, view e.1)) result ≡ entry_at name.now (members_view table.old.entries) }
+    ensures entry { option_map (λ e. (Some e.0.span, view e.1)) result
+        ≡ entry_at name.now (members_view table.old.entries) }
     ensures name { IfSome result (λ e. cow_str_bytes e.0.name ≡ name.now) }
 {
-    table.remove_entry(&named(name))
+    table.remove_entry(&Key::named(name))
 }
 
 /// The error of a field that is not there, in the table at this span.

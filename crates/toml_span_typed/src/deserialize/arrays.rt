@@ -1,8 +1,9 @@
 //! Reads of arrays.
 ghost use Rattle.std.specs.Prelude.{◌≡◌, ◌++◌, IsTrue, OnOk};
 ghost use Rattle.toml_span_tree.specs.Value.{all_whole, is_whole, items_view, view};
-ghost use Rattle.toml_span_typed.specs.Arrays.{AddsRead, Answered};
-ghost use Rattle.toml_span_typed.specs.Faults.{all, all_of_option};
+ghost use Rattle.toml_span_typed.specs.code.Arrays.{AddsRead, Answered};
+ghost use Rattle.toml_span_typed.specs.Faults.{all};
+ghost use Rattle.toml_span_typed.specs.code.Faults.{all_of_option};
 ghost use Rattle.toml_span_typed.specs.Reads.{ReadsAll, Taken, array_reads, nodes_of, result_map};
 
 use crate::de_helpers::expected;
@@ -31,7 +32,8 @@ fn read_all<'de, T: Deserialize<'de>>(
     items: Vec<Value<'de>>,
 ) -> Result<Vec<T>, Stop<DeserError<'de>>>
     requires { IsTrue (all_whole (items_view items.items)) }
-    ensures { Answered result (λ r. ReadsAll T.reads (nodes_of (items_view items.entry.items)) (result_map (λ v. v.items) r)) }
+    ensures { Answered result (λ r. ReadsAll T.reads (nodes_of (items_view items.entry.items))
+        (result_map (λ v. v.items) r)) }
 {
     let mut read = Vec::new(alloc);
     let mut faults = None;
@@ -54,7 +56,8 @@ fn read_next<'de, T: Deserialize<'de>>(
     faults: &mut Option<DeserError<'de>>,
 ) -> Result<(), AllocError>
     requires { IsTrue (is_whole (view item)) }
-    ensures { OnOk result (AddsRead T.reads (view item.entry) read.old.items (all_of_option faults.old) read.new.items (all_of_option faults.new)) }
+    ensures { OnOk result (AddsRead T.reads (view item.entry) read.old.items (all_of_option faults.old)
+        read.new.items (all_of_option faults.new)) }
 {
     match T::deserialize(alloc, &mut item) {
         Ok(element) => match read.push(element) {

@@ -2,7 +2,7 @@
 ghost use Rattle.std.specs.Prelude.{◌≡◌, ◌^◌, codes, Some, false};
 ghost use Rattle.toml_span_tree.specs.Value.{is_taken, view};
 ghost use Rattle.toml_span_typed.specs.Faults.{one};
-ghost use Rattle.toml_span_typed.specs.Reads.{Answers, Gives, Never, integer_of, beyond_range, unsigned, signed};
+ghost use Rattle.toml_span_typed.specs.Reads.{Answers, Gives, Never, read_integer, beyond_range, unsigned, signed};
 
 use crate::de_helpers::expected;
 use crate::deser_error::DeserError;
@@ -15,7 +15,7 @@ use toml_span_tree::{Error, ErrorKind, Value, ValueInner};
 /// The integer that stands there, for the type of this name.
 fn integer<'s>(name: &'s str, value: &mut Value) -> Result<i64, Stop<DeserError<'s>>>
     requires { is_taken (view value.old) ≡ false }
-    ensures { Answers (Gives (integer_of name.now Some)) Never (view value.old) result (view value.new) }
+    ensures { Answers (Gives (read_integer name.now Some)) Never (view value.old) result (view value.new) }
 {
     match value.take() {
         ValueInner::Integer(i) => Ok(i),
@@ -44,7 +44,7 @@ macro_rules! narrowed {
 }
 
 impl<'de> Deserialize<'de> for u8 {
-    ghost reads = { Gives (integer_of (codes "u8") (unsigned (2 ^ 8))) };
+    ghost reads = { Gives (read_integer (codes "u8") (unsigned (2 ^ 8))) };
 
     ghost starved = { Never };
 
@@ -54,7 +54,7 @@ impl<'de> Deserialize<'de> for u8 {
 }
 
 impl<'de> Deserialize<'de> for u16 {
-    ghost reads = { Gives (integer_of (codes "u16") (unsigned (2 ^ 16))) };
+    ghost reads = { Gives (read_integer (codes "u16") (unsigned (2 ^ 16))) };
 
     ghost starved = { Never };
 
@@ -64,7 +64,7 @@ impl<'de> Deserialize<'de> for u16 {
 }
 
 impl<'de> Deserialize<'de> for u32 {
-    ghost reads = { Gives (integer_of (codes "u32") (unsigned (2 ^ 32))) };
+    ghost reads = { Gives (read_integer (codes "u32") (unsigned (2 ^ 32))) };
 
     ghost starved = { Never };
 
@@ -74,7 +74,7 @@ impl<'de> Deserialize<'de> for u32 {
 }
 
 impl<'de> Deserialize<'de> for u64 {
-    ghost reads = { Gives (integer_of (codes "u64") (unsigned (2 ^ 64))) };
+    ghost reads = { Gives (read_integer (codes "u64") (unsigned (2 ^ 64))) };
 
     ghost starved = { Never };
 
@@ -84,7 +84,7 @@ impl<'de> Deserialize<'de> for u64 {
 }
 
 impl<'de> Deserialize<'de> for usize {
-    ghost reads = { Gives (integer_of (codes "usize") (unsigned (2 ^ 64))) };
+    ghost reads = { Gives (read_integer (codes "usize") (unsigned (2 ^ 64))) };
 
     ghost starved = { Never };
 
@@ -94,7 +94,7 @@ impl<'de> Deserialize<'de> for usize {
 }
 
 impl<'de> Deserialize<'de> for i8 {
-    ghost reads = { Gives (integer_of (codes "i8") (signed (2 ^ 7))) };
+    ghost reads = { Gives (read_integer (codes "i8") (signed (2 ^ 7))) };
 
     ghost starved = { Never };
 
@@ -104,7 +104,7 @@ impl<'de> Deserialize<'de> for i8 {
 }
 
 impl<'de> Deserialize<'de> for i16 {
-    ghost reads = { Gives (integer_of (codes "i16") (signed (2 ^ 15))) };
+    ghost reads = { Gives (read_integer (codes "i16") (signed (2 ^ 15))) };
 
     ghost starved = { Never };
 
@@ -114,7 +114,7 @@ impl<'de> Deserialize<'de> for i16 {
 }
 
 impl<'de> Deserialize<'de> for i32 {
-    ghost reads = { Gives (integer_of (codes "i32") (signed (2 ^ 31))) };
+    ghost reads = { Gives (read_integer (codes "i32") (signed (2 ^ 31))) };
 
     ghost starved = { Never };
 
@@ -124,7 +124,7 @@ impl<'de> Deserialize<'de> for i32 {
 }
 
 impl<'de> Deserialize<'de> for i64 {
-    ghost reads = { Gives (integer_of (codes "i64") (signed (2 ^ 63))) };
+    ghost reads = { Gives (read_integer (codes "i64") (signed (2 ^ 63))) };
 
     ghost starved = { Never };
 
@@ -134,7 +134,7 @@ impl<'de> Deserialize<'de> for i64 {
 }
 
 impl<'de> Deserialize<'de> for isize {
-    ghost reads = { Gives (integer_of (codes "isize") (signed (2 ^ 63))) };
+    ghost reads = { Gives (read_integer (codes "isize") (signed (2 ^ 63))) };
 
     ghost starved = { Never };
 

@@ -1,8 +1,9 @@
 //! Reads of strings, truth values, floats and dates.
 ghost use Rattle.std.specs.Prelude.{◌≡◌, string_bytes};
 ghost use Rattle.std.specs.Cow.{cow_str_bytes};
-ghost use Rattle.toml_span_tree.specs.Value.{decimal_of, date_bytes};
-ghost use Rattle.toml_span_typed.specs.Reads.{Gives, Never, Unchanged, result_map, string_of, boolean_of, float_of, datetime_of};
+ghost use Rattle.toml_span_tree.specs.Value.{float_value, date_bytes};
+ghost use Rattle.toml_span_typed.specs.Reads.{Gives, Never, Unchanged, result_map, read_string, read_boolean};
+ghost use Rattle.toml_span_typed.specs.Reads.{read_float, read_datetime};
 
 use crate::de_helpers::expected;
 use crate::deser_error::DeserError;
@@ -13,7 +14,7 @@ use toml_span_lex::stop::Stop;
 use toml_span_tree::{DateText, FloatText, Value, ValueInner};
 
 impl<'de> Deserialize<'de> for bool {
-    ghost reads = { Gives boolean_of };
+    ghost reads = { Gives read_boolean };
 
     ghost starved = { Never };
 
@@ -26,7 +27,7 @@ impl<'de> Deserialize<'de> for bool {
 }
 
 impl<'de> Deserialize<'de> for FloatText {
-    ghost reads = { λ v r w. Gives float_of v (result_map decimal_of r) w };
+    ghost reads = { λ v r w. Gives read_float v (result_map float_value r) w };
 
     ghost starved = { Never };
 
@@ -42,7 +43,7 @@ impl<'de> Deserialize<'de> for FloatText {
 }
 
 impl<'de> Deserialize<'de> for DateText<'de> {
-    ghost reads = { λ v r w. Gives datetime_of v (result_map date_bytes r) w };
+    ghost reads = { λ v r w. Gives read_datetime v (result_map date_bytes r) w };
 
     ghost starved = { Never };
 
@@ -58,7 +59,7 @@ impl<'de> Deserialize<'de> for DateText<'de> {
 }
 
 impl<'de> Deserialize<'de> for CowStr<'de> {
-    ghost reads = { λ v r w. Gives string_of v (result_map cow_str_bytes r) w };
+    ghost reads = { λ v r w. Gives read_string v (result_map cow_str_bytes r) w };
 
     ghost starved = { Never };
 
@@ -74,7 +75,7 @@ impl<'de> Deserialize<'de> for CowStr<'de> {
 }
 
 impl<'de> Deserialize<'de> for String {
-    ghost reads = { λ v r w. Gives string_of v (result_map string_bytes r) w };
+    ghost reads = { λ v r w. Gives read_string v (result_map string_bytes r) w };
 
     ghost starved = { Unchanged };
 

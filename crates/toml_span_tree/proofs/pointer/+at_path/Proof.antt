@@ -35,7 +35,8 @@ use Rattle.toml_span_tree.specs.declared.value.Value.{Value}
 use Rattle.toml_span_tree.specs.contracts.value.Value as value
 use Rattle.toml_span_tree.specs.Node.{node}
 use Rattle.toml_span_tree.specs.Value.{view, inner_of as what_of, span_of}
-use Rattle.toml_span_tree.specs.Pointer.{segments, untaken_entry, set_named, found, put_found}
+use Rattle.toml_span_tree.specs.Pointer.{segments}
+use Rattle.toml_span_tree.specs.code.Pointer.{untaken_entry, set_named, value_named, put_named}
 use Rattle.toml_span_tree.proofs.Lent.{path-asks, path-goes, path-last, path-more, path-set-last, path-set-more}
 use Rattle.toml_span_tree.proofs.Loans.{so_weaken, so_then}
 use Rattle.toml_span_tree.proofs.Walks.{after}
@@ -75,10 +76,10 @@ module _ {M : Type 1} {𝓤 : Ura M} (𝓛 : Logic 𝓤) (at_mem : Memory → SP
 
   abbrev Left : MutBor Value → List (Item 𝓤)
   Left m = ‵ ((MutRef (named 0) κs.0 V).own_val m (mut_vals m)) ∷ (‵ (flft κs.0 qs.0) ⊛ ‵ (flft κs.1.0 qs.1.0) ⊛ ‵ ftrue)
-      ∷ ‵ (follows_so V V r.ghost_name (some' m.ghost_name) (λ w n. view n ≡ put_found (segments path.now) (view w) (view r.now)) (λ _. ⊤)) ∷ []
+      ∷ ‵ (follows_so V V r.ghost_name (some' m.ghost_name) (λ w n. view n ≡ put_named (segments path.now) (view w) (view r.now)) (λ _. ⊤)) ∷ []
 
   -- the return, with a reference m
-  leaves_with : (m : MutBor Value) → found (segments path.now) (view r.now) ≡ Some (view m.now) → ent 𝓤 (⋆ 𝓛 (Left m)) ((walk_of 𝓛 f.ended stayed (f.clauses 𝓛 at_mem run')).post Y (vptr m.ref_ptr.0 m.ref_ptr.1))
+  leaves_with : (m : MutBor Value) → value_named (segments path.now) (view r.now) ≡ Some (view m.now) → ent 𝓤 (⋆ 𝓛 (Left m)) ((walk_of 𝓛 f.ended stayed (f.clauses 𝓛 at_mem run')).post Y (vptr m.ref_ptr.0 m.ref_ptr.1))
   leaves_with m there =
       qed 𝓛 (Left m) ∵ suffices ! _ (ends_at 𝓛 f.ended stayed (f.clauses 𝓛 at_mem run') Y (vptr m.ref_ptr.0 m.ref_ptr.1) m (tt, (tt, tt)) (tt, (tt, tt))) $
       nothing ! $ nothing ! $ fjoin ! $ nothing ! $ fjoin ! $ join ! $ move ! (1 ∷ 0 ∷ []) $ join ! $ frame ! $ says ! there $ done !
@@ -104,7 +105,7 @@ unfolding tables_of
     let Path = ‵ (B.own_val path (shr_slice_vals path)) in let more = drop_l 1 (segments path.now) in
     let Y : (walk_of 𝓛 f.ended stayed c).Ghost = ((κs, qs, bounds, a, (mut_vals r, (shr_slice_vals path, tt))), y.1) in
     let Post : Val → SProp 𝓤 = (walk_of 𝓛 f.ended stayed c).post Y in
-    qed 𝓛 (((‵ (flft κ q) ⊛ ‵ (flft κ' q') ⊛ ‵ ftrue) ⊛ ‵ ((MutRef (named 0) κ V).own_val r (mut_vals r)) ⊛ Path ⊛ ‵ ftrue) ∷ raw (fact 𝓤 (IsSome (found (segments path.now) (view r.now)))) ∷ []) ∵
+    qed 𝓛 (((‵ (flft κ q) ⊛ ‵ (flft κ' q') ⊛ ‵ ftrue) ⊛ ‵ ((MutRef (named 0) κ V).own_val r (mut_vals r)) ⊛ Path ⊛ ‵ ftrue) ∷ raw (fact 𝓤 (IsSome (value_named (segments path.now) (view r.now)))) ∷ []) ∵
     move ! (1 ∷ []) $ heard ! _ (λ asked.
     split ! $ split3 ! $ move ! (3 ∷ []) $ split3 ! $ keep ! (0 ∷ 1 ∷ 3 ∷ 4 ∷ []) $ move ! (1 ∷ []) $
     use1 𝓛 (Path ⊛ Path) twice $ split ! $ use1 𝓛 (Path ⊛ Path) twice $ split ! $
@@ -127,7 +128,7 @@ unfolding tables_of
     use0 𝓛 (raw (fact 𝓤 (IsSome (untaken_entry segment.now (view r.now))))) (fact_i 𝓤 _ (emp 𝓤) (path-asks (view r.now) path.now segment.now more parts asked)) $ move ! (1 ∷ 0 ∷ []) $ use2 𝓛 (raw (G.pre zg)) (id⊢ 𝓤 _) $
     calls_at ! (framed 𝓤 𝓛.H 𝓜 𝓣) G (g-thm.met 𝓤 𝓛 𝓜 𝓡 (code.calls-toml_span_tree::pointer::step_to 𝓡.env wired)) zg (and_then ! (get ! refl) (and_then ! (get ! refl) (no_more !))) (λ v₁.
     let C : Value → Value → Type 0 = λ w n. view n ≡ node (set_named segment.now (view w) (what_of (view r.now))) (span_of (view r.now)) in
-    let F : Value → Value → Type 0 = λ w n. view n ≡ put_found (segments path.now) (view w) (view r.now) in
+    let F : Value → Value → Type 0 = λ w n. view n ≡ put_named (segments path.now) (view w) (view r.now) in
     use1 𝓛 (later (some (λ (k : MutBor Value). ((‵ (flft κ q) ⊛ ‵ (flft κ' q') ⊛ ‵ ftrue) ⊛ ‵ ((MutRef (named 0) κ V).own_val k (v₁ ∷ []))) ⊛
     some (λ (ws' : Lasts g.ended κs zg.0.3). ‵ (lasts g.ended κs zg.0.3 ws') ⊛ (‵ (follows_so V V r.ghost_name (some' k.ghost_name) C (λ _. ⊤)) ⊛ raw (fact 𝓤 (untaken_entry segment.now (view r.now) ≡ Some (view k.now)))))))) (id⊢ 𝓤 _) $
     await ! tt $ pick ! (λ k. split ! $ split ! $ move ! (2 ∷ []) $ pick ! (λ ws'. split ! $ drop ! $ split ! $ move ! (1 ∷ []) $ heard ! _ (λ there. move ! (2 ∷ []) $ fsplit ! $ feq_l ! (λ vis.
@@ -161,20 +162,20 @@ unfolding tables_of
     -- [the rest; the token of κ'; κ; nothing; the child's reference; follows]
     sets ! (addr ! (through ! refl (stop !))) refl (tt, tt) $
     let ys : S.Ghost = ((κs, qs, bounds, (k, (rest, tt)), (mut_vals k, (shr_slice_vals rest, tt))), tt) in
-    let asks : IsSome (found (segments rest.now) (view k.now)) = subst (λ (names : List (List ℕ)). IsSome (found names (view k.now))) (sym go.0) (path-goes (view r.now) (view k.now) path.now segment.now more parts there asked) in
+    let asks : IsSome (value_named (segments rest.now) (view k.now)) = subst (λ (names : List (List ℕ)). IsSome (value_named names (view k.now))) (sym go.0) (path-goes (view r.now) (view k.now) path.now segment.now more parts there asked) in
     nothing ! $ move ! (1 ∷ 0 ∷ []) $ join ! $ move ! (4 ∷ 0 ∷ []) $ join ! $ move ! (2 ∷ 1 ∷ []) $ join ! $ join ! $
-    use0 𝓛 (raw (fact 𝓤 (IsSome (found (segments rest.now) (view k.now))))) (fact_i 𝓤 _ (emp 𝓤) asks) $ move ! (1 ∷ 0 ∷ []) $ use2 𝓛 (raw (S.pre ys)) (id⊢ 𝓤 _) $
+    use0 𝓛 (raw (fact 𝓤 (IsSome (value_named (segments rest.now) (view k.now))))) (fact_i 𝓤 _ (emp 𝓤) asks) $ move ! (1 ∷ 0 ∷ []) $ use2 𝓛 (raw (S.pre ys)) (id⊢ 𝓤 _) $
     calls_from ! (framed 𝓤 𝓛.H 𝓜 𝓣) (raw (S.pre ys)) (S.args ys) (S.post ys) (below (μ ys) (subst (λ (u : ℕ). length rest.now < u) measure go.1) ys refl) (and_then ! (get ! refl) (and_then ! (get ! refl) (no_more !))) (λ v₄.
-    let F' : Value → Value → Type 0 = λ w n. view n ≡ put_found (segments rest.now) (view w) (view k.now) in
+    let F' : Value → Value → Type 0 = λ w n. view n ≡ put_named (segments rest.now) (view w) (view k.now) in
     use1 𝓛 (later (some (λ (m : MutBor Value). ((‵ (flft κ q) ⊛ ‵ (flft κ' q') ⊛ ‵ ftrue) ⊛ ‵ ((MutRef (named 0) κ V).own_val m (v₄ ∷ []))) ⊛
-    some (λ (ws₄ : Lasts f.ended κs ys.0.3). ‵ (lasts f.ended κs ys.0.3 ws₄) ⊛ (‵ (follows_so V V k.ghost_name (some' m.ghost_name) F' (λ _. ⊤)) ⊛ raw (fact 𝓤 (found (segments rest.now) (view k.now) ≡ Some (view m.now)))))))) (id⊢ 𝓤 _) $
+    some (λ (ws₄ : Lasts f.ended κs ys.0.3). ‵ (lasts f.ended κs ys.0.3 ws₄) ⊛ (‵ (follows_so V V k.ghost_name (some' m.ghost_name) F' (λ _. ⊤)) ⊛ raw (fact 𝓤 (value_named (segments rest.now) (view k.now) ≡ Some (view m.now)))))))) (id⊢ 𝓤 _) $
     await ! tt $ pick ! (λ m. split ! $ split ! $ move ! (2 ∷ []) $ pick ! (λ ws₄. split ! $ drop ! $ split ! $ move ! (1 ∷ []) $ heard ! _ (λ at. move ! (2 ∷ []) $ fsplit ! $ feq_l ! (λ vis'.
     lands_as ! (ap only vis') refl (tt, tt) $ feq_i ! (List Val) (mut_vals m) (mut_vals m) refl $ fjoin ! $
     -- [the reference; its follows; the tokens; nothing; follows]
-    let ends : found more (view k.now) ≡ Some (view m.now) = ap (λ (names : List (List ℕ)). found names (view k.now)) (sym go.0) ∙ at in
+    let ends : value_named more (view k.now) ≡ Some (view m.now) = ap (λ (names : List (List ℕ)). value_named names (view k.now)) (sym go.0) ∙ at in
     move ! (4 ∷ 1 ∷ []) $
     use2 𝓛 (‵ (follows_so V V r.ghost_name (some' m.ghost_name) F (λ _. ⊤))) (so_then 𝓛 V V V r.ghost_name k.ghost_name C (λ _. ⊤) F' (λ _. ⊤) F (λ _. ⊤)
-    (λ w u n p p'. path-set-more (view r.now) (view k.now) (view m.now) (view w) (view u) (view n) path.now segment.now more parts there ends (p ∙ ap (λ (names : List (List ℕ)). put_found names (view w) (view k.now)) go.0) p') (λ u n p p'. tt) (some' m.ghost_name)) $
+    (λ w u n p p'. path-set-more (view r.now) (view k.now) (view m.now) (view w) (view u) (view n) path.now segment.now more parts there ends (p ∙ ap (λ (names : List (List ℕ)). put_named names (view w) (view k.now)) go.0) p') (λ u n p p'. tt) (some' m.ghost_name)) $
     returns ! (look_at ! 0 refl) $ free_all ! refl $ keep ! (1 ∷ 2 ∷ 0 ∷ []) $
     by ! (leaves_with 𝓛 𝓜.mem 𝓡.returns κs qs bounds r path m (path-more (view r.now) (view k.now) (view m.now) path.now segment.now more parts there ends))))))))))))))))))))))))))))))))))
     (code.at_path-unfolded 𝓤 𝓛.H 𝓜 𝓡 wired (S.args y) (S.post y)))

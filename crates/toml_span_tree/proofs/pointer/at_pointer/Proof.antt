@@ -27,7 +27,8 @@ use Rattle.std.proofs.Common.{Some, IsSome}
 use Rattle.toml_span_tree.specs.declared.value.Value.{Value}
 use Rattle.toml_span_tree.specs.contracts.value.Value as value
 use Rattle.toml_span_tree.specs.Value.{view}
-use Rattle.toml_span_tree.specs.Pointer.{segments, found, put_found, pointed, put_pointed}
+use Rattle.toml_span_tree.specs.Pointer.{segments, pointed, put_pointed}
+use Rattle.toml_span_tree.specs.code.Pointer.{value_named, put_named}
 use Rattle.toml_span_tree.proofs.Lent.{empty-is, empty-set, slash-of, slash-is, slash-set}
 use Rattle.toml_span_tree.proofs.Loans.{so_of, so_weaken}
 use Rattle.toml_span_tree.proofs.Walks.{after}
@@ -128,11 +129,11 @@ at_pointer_spec 𝓤 𝓛 𝓜 𝓡 wired =
     let S = triple_of 𝓛 g.signature (g.spec 𝓛 𝓜.mem 𝓡.returns) in
     let ys : S.Ghost = ((κs, qs, bounds, (r, (rest, tt)), (mut_vals r, (shr_slice_vals rest, tt))), tt) in
     nothing ! $ move ! (1 ∷ 0 ∷ []) $ join ! $ move ! (2 ∷ 0 ∷ []) $ join ! $ move ! (2 ∷ 1 ∷ []) $ join ! $ join ! $
-    use0 𝓛 (raw (fact 𝓤 (IsSome (found (segments rest.now) (view r.now))))) (fact_i 𝓤 _ (emp 𝓤) (subst IsSome (slash-is path.now rest.now (view r.now) begins) asked)) $ move ! (1 ∷ 0 ∷ []) $ use2 𝓛 (raw (S.pre ys)) (id⊢ 𝓤 _) $
+    use0 𝓛 (raw (fact 𝓤 (IsSome (value_named (segments rest.now) (view r.now))))) (fact_i 𝓤 _ (emp 𝓤) (subst IsSome (slash-is path.now rest.now (view r.now) begins) asked)) $ move ! (1 ∷ 0 ∷ []) $ use2 𝓛 (raw (S.pre ys)) (id⊢ 𝓤 _) $
     calls_at ! (framed 𝓤 𝓛.H 𝓜 𝓣) S (g-thm.met 𝓤 𝓛 𝓜 𝓡 (code.calls-toml_span_tree::pointer::at_path 𝓡.env wired)) ys (and_then ! (get ! refl) (and_then ! (get ! refl) (no_more !))) (λ v₄.
-    let F' : Value → Value → Type 0 = λ w n. view n ≡ put_found (segments rest.now) (view w) (view r.now) in
+    let F' : Value → Value → Type 0 = λ w n. view n ≡ put_named (segments rest.now) (view w) (view r.now) in
     use1 𝓛 (later (some (λ (m : MutBor Value). ((‵ (flft κ q) ⊛ ‵ (flft κ' q') ⊛ ‵ ftrue) ⊛ ‵ ((MutRef (named 0) κ V).own_val m (v₄ ∷ []))) ⊛
-    some (λ (ws₄ : Lasts g.ended κs ys.0.3). ‵ (lasts g.ended κs ys.0.3 ws₄) ⊛ (‵ (follows_so V V r.ghost_name (some' m.ghost_name) F' (λ _. ⊤)) ⊛ raw (fact 𝓤 (found (segments rest.now) (view r.now) ≡ Some (view m.now)))))))) (id⊢ 𝓤 _) $
+    some (λ (ws₄ : Lasts g.ended κs ys.0.3). ‵ (lasts g.ended κs ys.0.3 ws₄) ⊛ (‵ (follows_so V V r.ghost_name (some' m.ghost_name) F' (λ _. ⊤)) ⊛ raw (fact 𝓤 (value_named (segments rest.now) (view r.now) ≡ Some (view m.now)))))))) (id⊢ 𝓤 _) $
     await ! tt $ pick ! (λ m. split ! $ split ! $ move ! (2 ∷ []) $ pick ! (λ ws₄. split ! $ drop ! $ split ! $ move ! (1 ∷ []) $ heard ! _ (λ at. move ! (2 ∷ []) $ fsplit ! $ feq_l ! (λ vis'.
     lands_as ! (ap only vis') refl (tt, tt) $ feq_i ! (List Val) (mut_vals m) (mut_vals m) refl $ fjoin ! $
     -- [the reference; its follows; the tokens]

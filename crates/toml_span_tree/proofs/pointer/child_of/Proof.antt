@@ -15,8 +15,8 @@ use Rattle.toml_span_tree.specs.contracts.value.Value as value
 use Rattle.toml_span_tree.specs.contracts.value.ValueInner as inner
 use Rattle.toml_span_tree.specs.Node.{node}
 use Rattle.toml_span_tree.specs.Value.{view, inner_view, inner_of as what_of, span_of}
-use Rattle.toml_span_tree.specs.Pointer.{entry, untaken_entry, set_named}
-use Rattle.toml_span_tree.specs.Lending.{IsHeld}
+use Rattle.toml_span_tree.specs.code.Pointer.{entry, untaken_entry, set_named}
+use Rattle.toml_span_tree.specs.code.Lending.{IsHeld}
 use Rattle.toml_span_tree.proofs.Lent.{held-of, entry-under, child-is, child-set}
 use Rattle.toml_span_tree.proofs.Loans.{so_of, so_then}
 use Rattle.toml_span_tree.specs.contracts.pointer.inner_of as g

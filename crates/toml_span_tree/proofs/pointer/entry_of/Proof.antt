@@ -33,7 +33,8 @@ use Rattle.toml_span_tree.proofs.value.ValueInner.TheLaws as laws
 use Rattle.toml_span_tree.specs.Node.{get_member}
 use Rattle.toml_span_tree.specs.Value.{view, inner_view, members_view}
 use Rattle.toml_span_tree.specs.Path.{set_entry}
-use Rattle.toml_span_tree.specs.Pointer.{entry, set_named, position_of}
+use Rattle.toml_span_tree.specs.code.Pointer.{entry, set_named}
+use Rattle.toml_span_tree.specs.Pointer.{position_of}
 use Rattle.toml_span_tree.proofs.Lent.{kind-of, table-asks, table-is, table-set, array-asks, in-vec, in-machine, array-is, array-set}
 use Rattle.toml_span_tree.proofs.Loans.{so_of, so_then}
 use Rattle.toml_span_tree.proofs.Payloads.{I, table_row, table_tags, table_Kept, table_apart, table_back, array_row, array_tags, array_Kept, array_apart, array_back}

@@ -17,7 +17,7 @@ use base.Logic.{SProp}
 use types.Logic.{Logic}
 use denote.Ref.{NamedLft}
 use contract.Lifetimes.{Lfts}
-use Rattle.toml_span_tree.specs.Lending.{IsHeld}
+use Rattle.toml_span_tree.specs.code.Lending.{IsHeld}
 use Rattle.toml_span_tree.specs.declared.value.ValueInner.{ValueInner}
 use Rattle.toml_span_tree.specs.contracts.value.ValueInner as inner
 use Rattle.toml_span_tree.proofs.value.ValueInner.TheLaws as inner_laws

@@ -25,7 +25,7 @@ use mathlib.Core.Path.{subst}
 use mathlib.Core.Option.{some as some'}
 use Rattle.std.specs.Prelude.{⊤}
 use Rattle.std.proofs.Common.{Some, IsSome}
-use Rattle.std.specs.Cow.{cow_str_bytes}
+use Rattle.std.specs.Cow.{cow_str_bytes, IsBorrowedStr}
 use Rattle.toml_span_lex.specs.declared.key.Key.{Key}
 use Rattle.toml_span_lex.specs.contracts.key.Key as key
 use Rattle.toml_span_lex.proofs.key.Key.TheLaws as key_laws
@@ -33,9 +33,9 @@ use Rattle.toml_span_tree.specs.declared.value.Value.{Value}
 use Rattle.toml_span_tree.specs.contracts.value.Value as value
 use Rattle.toml_span_tree.specs.Node.{node}
 use Rattle.toml_span_tree.specs.Value.{view, inner_of as what_of, span_of}
-use Rattle.toml_span_tree.specs.Pointer.{untaken_entry, set_named}
-use Rattle.toml_span_tree.specs.contracts.value.named as n
-use Rattle.toml_span_tree.proofs.value.named.Met as n-thm
+use Rattle.toml_span_tree.specs.code.Pointer.{untaken_entry, set_named}
+use Rattle.toml_span_lex.specs.contracts.key.Key.named as n
+use Rattle.toml_span_lex.proofs.key.Key.named.Met as n-thm
 use Rattle.toml_span_tree.specs.contracts.pointer.child_of as g
 use Rattle.toml_span_tree.proofs.pointer.child_of.Met as g-thm
 use Rattle.toml_span_tree.specs.contracts.pointer.release as h
@@ -68,10 +68,10 @@ step_to_spec 𝓤 𝓛 𝓜 𝓡 wired =
     let N = triple_of 𝓛 n.signature (n.spec 𝓛 𝓜.mem 𝓡.returns) in
     let zn : N.Ghost = (((κ', tt), (q', tt), tt, (segment, tt), (shr_slice_vals segment, tt)), tt) in
     nothing ! $ move ! (2 ∷ 0 ∷ []) $ join ! $ nothing ! $ move ! (4 ∷ 0 ∷ []) $ join ! $ join ! $ nothing ! $ move ! (1 ∷ 0 ∷ []) $ use2 𝓛 (raw (N.pre zn)) (id⊢ 𝓤 _) $
-    calls_at ! (framed 𝓤 𝓛.H 𝓜 𝓣) N (n-thm.met 𝓤 𝓛 𝓜 𝓡 (code.calls-toml_span_tree::value::named 𝓡.env wired)) zn (and_then ! (get ! refl) (no_more !)) (λ v.
+    calls_at ! (framed 𝓤 𝓛.H 𝓜 𝓣) N (n-thm.met 𝓤 𝓛 𝓜 𝓡 (code.calls-toml_span_lex::key::Key::named 𝓡.env wired)) zn (and_then ! (get ! refl) (no_more !)) (λ v.
     use1 𝓛 (later (some (λ (k : Key). ((‵ (flft κ' q') ⊛ ‵ ftrue) ⊛ ‵ (K.own_val k (v ∷ []))) ⊛
-    some (λ (ws : Lasts n.ended zn.0.0 zn.0.3). ‵ (lasts n.ended zn.0.0 zn.0.3 ws) ⊛ raw (fact 𝓤 (cow_str_bytes k.name ≡ segment.now)))))) (id⊢ 𝓤 _) $
-    await ! tt $ pick ! (λ k. split ! $ move ! (1 ∷ []) $ pick ! (λ ws. split ! $ drop ! $ heard ! _ (λ so. split ! $ move ! (1 ∷ []) $ peeks ! K (Is K) (shows 𝓛 K) k (v ∷ []) (λ ok.
+    some (λ (ws : Lasts n.ended zn.0.0 zn.0.3). ‵ (lasts n.ended zn.0.0 zn.0.3 ws) ⊛ raw (fact 𝓤 ((cow_str_bytes k.name ≡ segment.now) × (k.span ≡ record { start = 0; end = 0 }) × IsBorrowedStr k.name)))))) (id⊢ 𝓤 _) $
+    await ! tt $ pick ! (λ k. split ! $ move ! (1 ∷ []) $ pick ! (λ ws. split ! $ drop ! $ heard ! _ (λ made. let so : cow_str_bytes k.name ≡ segment.now = made.0 in split ! $ move ! (1 ∷ []) $ peeks ! K (Is K) (shows 𝓛 K) k (v ∷ []) (λ ok.
     lands_as ! refl refl ((lawful.typed k (v ∷ []) ok).0) $ sets ! (of_opd ! (get ! refl)) refl ((lawful.typed k (v ∷ []) ok).0) $
     sets ! (addr ! (through ! refl (stop !))) refl (tt, tt) $ sets ! (addr ! (from ! (stop !))) refl (tt, tt) $
     -- [what the key owns; the token of κ'; the reference; κ]

@@ -8,5 +8,5 @@ pub returns : goal.returns
 returns c =
     let es = c.args.table.now.entries in
     view-of_ref c.get.result
-    ∙ ap (option_map view) (c.get.ensures.value ∙ ap (λ (n : List ℕ). lookup (at_name n) es) c.named.ensures)
+    ∙ ap (option_map view) (c.get.ensures.value ∙ ap (λ (n : List ℕ). lookup (at_name n) es) c.named.ensures.0)
     ∙ view-lookup c.args.name.now es

@@ -9,7 +9,7 @@ returns-in-Some c =
     let name = c.args.key.now in
     let es = c.in-Some.table.now.entries in
     c.contains_key.ensures
-    ∙ ap (λ (n : List ℕ). is_some (lookup (at_name n) es)) c.named.ensures
+    ∙ ap (λ (n : List ℕ). is_some (lookup (at_name n) es)) c.named.ensures.0
     ∙ is_some-view _
     ∙ ap is_some (view-lookup name es)
     ∙ ap (λ m. is_some (option_and_then (get_member name) m)) c.in-Some.ensures

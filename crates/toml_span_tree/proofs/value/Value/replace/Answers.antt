@@ -1,7 +1,8 @@
 use Rattle.std.proofs.Common.{Some, refl, option_and_then, sym, ap, ◌∙◌, arith}
 use Rattle.std.proofs.lemmas.Str.Pattern.{strip_prefix_char}
 use Rattle.toml_span_tree.specs.Value.{view}
-use Rattle.toml_span_tree.specs.Pointer.{found, segments}
+use Rattle.toml_span_tree.specs.code.Pointer.{value_named}
+use Rattle.toml_span_tree.specs.Pointer.{segments}
 use Rattle.toml_span_tree.proofs.Pointers.{pointed-found, pointer-empty, pointer-slash, pointer-other}
 use Rattle.toml_span_tree.proofs.Puts.{put_pointed-found, exchanged-done, exchanged-refused}
 use Rattle.toml_span_tree.proofs.value.Value.replace.Goals as goal
@@ -11,7 +12,7 @@ returns-then-is_empty-clause-done c =
     let n = view c.args.self.now in
     let p = c.args.pointer.now in
     let empty = pointer-empty p (grind arith) in (
-      pointed-found p n ∙ ap (option_and_then (λ names. found names n)) empty ∙ ap (λ v. Some (view v)) (sym c.replace.ensures.value),
+      pointed-found p n ∙ ap (option_and_then (λ names. value_named names n)) empty ∙ ap (λ v. Some (view v)) (sym c.replace.ensures.value),
       ap view c.replace.ensures.after ∙ sym (put_pointed-found p _ (view c.args.new) n empty),
     )
 
@@ -34,4 +35,4 @@ returns-in-None-clause-refused c =
     let n = view c.args.self.now in
     let p = c.args.pointer.now in
     let other = rw c.in-None.is at (strip_prefix_char 47 p c.strip_prefix.result c.strip_prefix.ensures.cases (omega arith)) in
-    (refl, pointed-found p n ∙ ap (option_and_then (λ names. found names n)) (pointer-other p (grind arith) other), refl)
+    (refl, pointed-found p n ∙ ap (option_and_then (λ names. value_named names n)) (pointer-other p (grind arith) other), refl)

@@ -8,5 +8,5 @@ pub returns : goal.returns
 returns c =
     let es = c.args.self.now.table.entries in
     c.contains_key.ensures
-    ∙ ap (λ (n : List ℕ). is_some (lookup (at_name n) es)) c.named.ensures
+    ∙ ap (λ (n : List ℕ). is_some (lookup (at_name n) es)) c.named.ensures.0
     ∙ found-of_name c.args.name.now es

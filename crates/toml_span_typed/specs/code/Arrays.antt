@@ -16,10 +16,12 @@ Answered (Err (stop.Memory error)) P = ⊤
 -- the values were read, with these elements and these errors
 abbrev pub AreRead : {T : Type 0} → (Node → Result T Faults → Node → Type 0) → List Node → List T → List Fault → Type 0
 AreRead reads values xs faults =
-    (answers : List (Result _ Faults)) × EachReads reads values answers × (elements answers ≡ xs) × (errors answers ≡ faults)
+    (answers : List (Result _ Faults)) × EachReads reads values answers × (elements answers ≡ xs)
+    × (errors answers ≡ faults)
 
 -- one more value is read: its element comes behind the elements, or its errors behind the errors
-abbrev pub AddsRead : {T : Type 0} → (Node → Result T Faults → Node → Type 0) → Node → List T → List Fault → List T → List Fault → Type 0
+abbrev pub AddsRead : {T : Type 0} → (Node → Result T Faults → Node → Type 0) → Node → List T → List Fault → List T
+    → List Fault → Type 0
 AddsRead reads value xs faults ys more =
     (answer : Result _ Faults) × ((after : Node) × reads value answer after)
     × (ys ≡ xs ++ elements (answer ∷ [])) × (more ≡ faults ++ errors (answer ∷ []))

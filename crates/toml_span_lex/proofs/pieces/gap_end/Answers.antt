@@ -1,7 +1,0 @@
-use Rattle.std.proofs.Common.{arith}
-use Rattle.toml_span_lex.proofs.Runs.{boundary_gap}
-use Rattle.toml_span_lex.proofs.pieces.gap_end.Goals as goal
-
-pub returns-then-not-is_gap-clause-boundary : goal.returns-then-not-is_gap-clause-boundary
-returns-then-not-is_gap-clause-boundary c =
-    boundary_gap c.args.text.now c.args.from c.loop-at.at c.utf8.text c.requires (omega arith) (omega arith) c.loop-at.invariant

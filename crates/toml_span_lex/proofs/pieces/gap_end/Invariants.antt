@@ -1,6 +1,0 @@
-use Rattle.std.proofs.Common.{◌≡◌, ◌≤◌, ◌<◌, ℕ, true}
-use Rattle.toml_span_lex.specs.Pieces as spec
-use Rattle.toml_span_lex.proofs.pieces.gap_end.Given as goal
-
-abbrev pub invariant-loop-at : goal.invariant-loop-at
-invariant-loop-at l = (k : ℕ) → l.from ≤ k → k < l.at → spec.is_gap l.text k ≡ true
