@@ -3,7 +3,7 @@ use Rattle.std.proofs.Common.{◌≡◌, ℕ, ◌⊎◌, List, [], ◌∷◌, �
 use Rattle.std.proofs.lemmas.Bool.{cases_Bool}
 use Rattle.std.proofs.lemmas.Option.{none-some, same_Some}
 use Rattle.toml_span_tree.specs.Node.{Scalar}
-use Rattle.toml_span_tree.specs.Path.{Path, is_scalar}
+use Rattle.toml_span_tree.specs.Path.{Path, shape_scalar}
 use Rattle.toml_span_read.specs.Data.{Node, node, scalar, array, inline}
 use Rattle.toml_span_read.specs.Earlier.{span_of}
 use Rattle.toml_span_read.specs.Lines.{Block, SpellsDocument}
@@ -160,7 +160,7 @@ pub record Alone (text : List ℕ) (limit : ℕ) (c : Claim) (cs : Claims) : Typ
   pub again : ValueReadsAgain text limit value
   pub shape : c.place.shape ≡ value_shape (inner_of value)
   pub span : c.place.span ≡ span_of value
-  pub brackets : (s : Scalar) → value_shape (inner_of value) ≡ is_scalar s → ⊥
+  pub brackets : (s : Scalar) → value_shape (inner_of value) ≡ shape_scalar s → ⊥
   pub resolves : Resolves [] (value_claims value c.path)
   pub below : (d : Claim) → IsIn d (all_claims (value_claims value c.path)) → IsUnder c.path d.path
   pub only : (r : Path) → claims_at (c.path ++ r) (all_claims cs) ≡ claims_at (c.path ++ r) (c ∷ all_claims (value_claims value c.path))
@@ -178,14 +178,14 @@ among-more text limit c cs more a same = record {
   only = λ r. same r ∙ a.only r;
 }
 
-bracket-scope : (v : Node) (p : Path) → ((s : Scalar) → value_shape (inner_of v) ≡ is_scalar s → ⊥) → (inner : Claims) × (value_claims v p ≡ scope inner no_claims)
+bracket-scope : (v : Node) (p : Path) → ((s : Scalar) → value_shape (inner_of v) ≡ shape_scalar s → ⊥) → (inner : Claims) × (value_claims v p ≡ scope inner no_claims)
 unfolding value_claims inner_claims
 bracket-scope (node (scalar s) span) p brackets = absurd (brackets s refl)
 bracket-scope (node (array vs) span) p brackets = (item_claims vs 0 p, refl)
 bracket-scope (node (inline ps) span) p brackets = (pair_claims ps p, refl)
 
 alone-here : (text : List ℕ) (limit : ℕ) (base : Path) (earlier : List Claim) (x : Claim) (v : Node) (rest : Claims) → Scene base earlier (Some x) (followed (value_claims v x.path) rest)
-    → ValueReadsAgain text limit v → x.place.shape ≡ value_shape (inner_of v) → x.place.span ≡ span_of v → ((s : Scalar) → value_shape (inner_of v) ≡ is_scalar s → ⊥)
+    → ValueReadsAgain text limit v → x.place.shape ≡ value_shape (inner_of v) → x.place.span ≡ span_of v → ((s : Scalar) → value_shape (inner_of v) ≡ shape_scalar s → ⊥)
     → Alone text limit x (claimed x (followed (value_claims v x.path) rest))
 unfolding followed all_claims
 alone-here text limit base earlier x v rest h again shape span brackets =
@@ -206,13 +206,13 @@ alone-here text limit base earlier x v rest h again shape span brackets =
     }
 
 alone : (text : List ℕ) (limit : ℕ) (base : Path) (earlier : List Claim) (last : Option Claim) (cs : Claims) (c : Claim) → Scene base earlier last cs → AssignsAgain text limit cs → IsIn c (all_claims cs)
-    → c.mark.sort ≡ Assigned → ((s : Scalar) → c.place.shape ≡ is_scalar s → ⊥) → Alone text limit c cs
+    → c.mark.sort ≡ Assigned → ((s : Scalar) → c.place.shape ≡ shape_scalar s → ⊥) → Alone text limit c cs
 unfolding all_claims
 alone text limit base earlier last no_claims c h again here value brackets = absurd here
 alone text limit base earlier last (claimed x cs) c h again (inl same) value brackets =
     let (v, rest, reads, shape, span, behind) = again.0 (ap (λ y. y.mark.sort) (sym same) ∙ value) in
     let scene = scene-claimed base earlier last x cs h in
-    let plain : (s : Scalar) → value_shape (inner_of v) ≡ is_scalar s → ⊥ = λ s is. brackets s (ap (λ y. y.place.shape) same ∙ shape ∙ is) in
+    let plain : (s : Scalar) → value_shape (inner_of v) ≡ shape_scalar s → ⊥ = λ s is. brackets s (ap (λ y. y.place.shape) same ∙ shape ∙ is) in
     let found = alone-here text limit base (earlier ++ (x ∷ [])) x v rest (subst (λ t. Scene base (earlier ++ (x ∷ [])) (Some x) t) behind scene) reads shape span plain in
     subst (λ y. Alone text limit y (claimed x cs)) (sym same) (subst (λ t. Alone text limit x (claimed x t)) (sym behind) found)
 alone text limit base earlier last (claimed x cs) c h again (inr more) value brackets =
@@ -237,7 +237,7 @@ alone text limit base earlier (Some a) (scope inner cs) c h again here value bra
 -- ---- documents
 
 pub document-alone : (text : List ℕ) (limit : ℕ) (bs : List Block) (c : Claim) → SpellsDocument bs text limit → Resolves [] (claims bs) → IsIn c (all_claims (claims bs)) → c.mark.sort ≡ Assigned
-    → ((s : Scalar) → c.place.shape ≡ is_scalar s → ⊥) → Alone text limit c (claims bs) × IsUnder [] c.path
+    → ((s : Scalar) → c.place.shape ≡ shape_scalar s → ⊥) → Alone text limit c (claims bs) × IsUnder [] c.path
 document-alone text limit bs c h ok here value brackets =
     let scoped = document-scoped bs (spelled-headed bs text limit h) in (
       alone text limit [] [] None (claims bs) c (record { scoped = scoped; resolves = ok; fit = λ x no. absurd no; peaceful = tt; latest = tt }) (document-again bs text limit h) here value brackets,

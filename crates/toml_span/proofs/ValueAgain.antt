@@ -4,7 +4,7 @@ use Rattle.std.specs.Prelude.{codes}
 use Rattle.std.proofs.lemmas.List.{append_cancel_left}
 use Rattle.toml_span_lex.specs.declared.span.Span.{Span}
 use Rattle.toml_span_tree.specs.Node.{Scalar}
-use Rattle.toml_span_tree.specs.Path.{Path, Step, key, Place, is_scalar, place_at}
+use Rattle.toml_span_tree.specs.Path.{Path, Step, key, Place, shape_scalar, place_at}
 use Rattle.toml_span_tree.specs.Value.{view}
 use Rattle.toml_span_tree.specs.declared.value.Value.{Value}
 use Rattle.toml_span_read.specs.Data.{Node, node, scalar, array, inline}
@@ -76,7 +76,7 @@ below-decides c l s r =
 
 -- ---- the value at its path
 
-bracket-reads : (text : List ℕ) (limit : ℕ) (v : Node) → ((s : Scalar) → value_shape (inner_of v) ≡ is_scalar s → ⊥) → ValueReadsAgain text limit v → ReadsAgain text limit v
+bracket-reads : (text : List ℕ) (limit : ℕ) (v : Node) → ((s : Scalar) → value_shape (inner_of v) ≡ shape_scalar s → ⊥) → ValueReadsAgain text limit v → ReadsAgain text limit v
 bracket-reads text limit (node (scalar s) span) brackets h = absurd (brackets s refl)
 bracket-reads text limit (node (array vs) span) brackets h = h
 bracket-reads text limit (node (inline ps) span) brackets h = h

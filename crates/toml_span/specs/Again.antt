@@ -2,7 +2,7 @@
 use Rattle.std.specs.Prelude.{◌≡◌, ◌≢◌, ℕ, List, [], ◌∷◌, Option, codes, option_map}
 use Rattle.toml_span_lex.specs.declared.span.Span.{Span}
 use Rattle.toml_span_tree.specs.Node.{Scalar}
-use Rattle.toml_span_tree.specs.Path.{Path, Place, key, is_scalar}
+use Rattle.toml_span_tree.specs.Path.{Path, Place, key, shape_scalar}
 use Rattle.toml_span_read.specs.Lines.{Block}
 use Rattle.toml_span_read_laws.specs.Again.{assigned_again, moved_span}
 use Rattle.toml_span_claims.specs.declared.claims.Sort.TheVariants.{Assigned}
@@ -24,7 +24,7 @@ StandsMoved from to places path others other =
 -- of these sections the claim assigns an array in brackets or an inline table
 abbrev pub AssignsBrackets : List Block → Claim → Type 0
 AssignsBrackets blocks c =
-    IsIn c (all_claims (claims blocks)) × (c.mark.sort ≡ Assigned) × ((s : Scalar) → c.place.shape ≢ is_scalar s)
+    IsIn c (all_claims (claims blocks)) × (c.mark.sort ≡ Assigned) × ((s : Scalar) → c.place.shape ≢ shape_scalar s)
 
 -- `x = `, and behind it the text at the span
 abbrev pub text_again : List ℕ → Span → List ℕ
