@@ -34,7 +34,7 @@ for reads in "all errors" "rest back" absent "asked twice" entries elements; do
     calls+=("fields $reads")
 done
 taking=${#calls[@]}
-for free in tokens values reads ends; do calls+=("free $free"); done
+for free in tokens places values taken reads ends; do calls+=("free $free"); done
 
 # fail REPORT MESSAGE: shows what went wrong
 fail() {

@@ -12,7 +12,7 @@ use toml_span_tree::{DateText, FloatText, Value, ValueInner};
 use toml_span_typed::de_helpers::{TableHelper, expected};
 use toml_span_typed::{DeserError, Deserialize};
 
-/// The calls of the tokenizer, on a text without escapes.
+/// The calls of the tokenizer that give a token, on a text without escapes.
 fn tokens(alloc: Global) -> bool {
     let mut tokenizer = Tokenizer::new("a = 'b' # c\n");
     let key = tokenizer.table_key(alloc).is_ok();
@@ -28,16 +28,44 @@ fn tokens(alloc: Global) -> bool {
     key && sign && next && comma && string && comment && end
 }
 
+/// Its other calls.
+fn places(alloc: Global) -> bool {
+    let mut tokenizer = Tokenizer::new("[]a\n");
+    let open = matches!(
+        tokenizer.eat_spanned(alloc, Token::LeftBracket),
+        Ok(Some(_))
+    );
+    let shut = tokenizer.expect_spanned(alloc, Token::RightBracket).is_ok();
+    let at = tokenizer.current() == 2;
+    let one = tokenizer.one().is_some();
+    tokenizer.skip_to_newline();
+    open && shut && at && one && tokenizer.current() == 4
+}
+
 /// The calls of a value, here of an empty table and then of a truth value.
 fn values(alloc: Global) -> bool {
     let mut value = Value::new(ValueInner::Table(BTreeMap::new(alloc)));
     let absent = value.pointer("/a").is_none() && value.pointer_mut("/a").is_none();
-    let bare = value.as_table().is_some() && !value.has_key("a");
+    let bare = value.as_table().is_some() && !value.has_key("a") && !value.has_keys();
     value.set(ValueInner::Integer(7));
-    let number = value.as_integer() == Some(7);
+    let number = value.as_integer() == Some(7) && value.look_up("").is_some();
     let exchanged = value.replace("", Value::new(ValueInner::Boolean(true)));
     let flag = value.as_bool() == Some(true) && value.is_whole();
     absent && bare && number && exchanged.is_ok() && flag
+}
+
+/// The calls that take a value apart.
+fn taken(text: &'static str) -> bool {
+    let mut value = Value::new(ValueInner::String(CowStr::Borrowed(text)));
+    let string = value.as_str().is_some()
+        && value.type_str() == "string"
+        && value.as_array().is_none();
+    let refused = value.as_float().is_none() && value.as_datetime().is_none();
+    if value.is_taken() {
+        return false;
+    }
+    let given = value.take_string(None).is_ok();
+    string && refused && given && value.is_taken()
 }
 
 /// What is read of a value, if it is.
@@ -82,7 +110,9 @@ fn ends(alloc: Global) -> bool {
 pub fn case(alloc: Global, name: &str) -> Option<Outcome> {
     match name {
         "free tokens" => Some(Outcome::answered(tokens(alloc))),
+        "free places" => Some(Outcome::answered(places(alloc))),
         "free values" => Some(Outcome::answered(values(alloc))),
+        "free taken" => Some(Outcome::answered(taken("a"))),
         "free reads" => Some(Outcome::answered(reads(alloc))),
         "free ends" => Some(Outcome::answered(ends(alloc))),
         _ => None,
