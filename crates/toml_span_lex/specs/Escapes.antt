@@ -4,8 +4,8 @@ use Rattle.std.specs.Prelude.{List, take, drop, length, slice_index, Option, Som
 use Rattle.std.specs.Char.{is_digit, IsScalar}
 use Rattle.std.specs.Str.Parse.{digits_value}
 use Rattle.toml_span_lex.specs.Bytes.{backspace, tab, line_feed, form_feed, carriage_return, escape_character}
-use Rattle.toml_span_lex.specs.Bytes.{quotation_mark, backslash, capital_u, small_b, small_e, small_f, small_n}
-use Rattle.toml_span_lex.specs.Bytes.{small_r, small_t, small_u, small_x}
+use Rattle.toml_span_lex.specs.Bytes.{quotation_mark, backslash, capital_u, small_b, small_e, small_f, small_n, small_r}
+use Rattle.toml_span_lex.specs.Bytes.{small_t, small_u, small_x}
 use Rattle.toml_span_lex.specs.Text.{CharAt}
 use Rattle.toml_span_lex.specs.declared.tokens.Error.{Error}
 use Rattle.toml_span_lex.specs.declared.tokens.Error.TheVariants as errors

@@ -1,7 +1,6 @@
 -- What a pointer text names in a tree.
 use Rattle.std.specs.Prelude.{◌≡◌, ⊤, ℕ, ◌&&◌, ◌||◌, ◌==◌, nat_lt, not, length, slice_index, List, [], ◌∷◌, Bool, true}
-use Rattle.std.specs.Prelude.{false}
-use Rattle.std.specs.Prelude.{if◌then◌else◌, cond, Option, Some, None, option_map, option_and_then}
+use Rattle.std.specs.Prelude.{false, if◌then◌else◌, cond, Option, Some, None, option_map, option_and_then}
 use Rattle.std.specs.Str.{all_ascii_digits, bytes_eq}
 use Rattle.std.specs.Str.Parse.{digits_value}
 use Rattle.toml_span_lex.specs.Bytes.{slash, digit_zero}
