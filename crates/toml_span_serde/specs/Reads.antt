@@ -6,6 +6,8 @@ use Rattle.fast_float.specs.Parse.{parse_float}
 use Rattle.serde.specs.Event as event
 use Rattle.serde.specs.Names.{Finds}
 use Rattle.serde.specs.declared.name.Name.{Name}
+use Rattle.toml_span_serde.specs.Asks.{AsksStart, AsksEnd}
+use Rattle.toml_span_lex.specs.declared.span.Span.{Span}
 use Rattle.toml_span_tree.specs.Node as tree
 use Rattle.toml_span_tree.specs.Float.{float_text}
 use Rattle.toml_span_serde.specs.Pieces.{Content, Piece, value, array_begins, array_ends, table_begins, table_ends, key}
@@ -49,7 +51,18 @@ Reads old event.key_begins new = (new ≡ old) × ((s : List ℕ) × (rest : Lis
 Reads old event.key_ends new = ⊥
 Reads old event.flattens new = ⊥
 
--- a key of a table, or a text, and the name that it stands for
+-- the first piece, of which P holds, is not taken
+abbrev pub Sees : (Piece → Type 0) → List Piece → List Piece → Type 0
+Sees P old new = (new ≡ old) × ((p : Piece) × (rest : List Piece) × (old ≡ p ∷ rest) × P p)
+
+-- a key of a table, or a text, and the name that it stands for; or where the first piece starts or ends
 abbrev pub Picks : List Piece → Bool → List Name → ℕ → List Piece → Type 0
 Picks old true names at new = (s : List ℕ) × Takes (λ c. c ≡ key s) old new × Finds names s at
-Picks old false names at new = (s : List ℕ) × Takes (IsText s) old new × Finds names s at
+Picks old false names at new =
+    (AsksStart names → Sees (λ p. at ≡ p.span.start) old new)
+    × (AsksEnd names → Sees (λ p. at ≡ p.span.end) old new)
+    × (¬ AsksStart names → ¬ AsksEnd names → (s : List ℕ) × Takes (IsText s) old new × Finds names s at)
+
+-- the first piece has these bytes
+abbrev pub StandsAt : Span → List Piece → Type 0
+StandsAt span ps = (p : Piece) × (rest : List Piece) × (ps ≡ p ∷ rest) × (p.span ≡ span)

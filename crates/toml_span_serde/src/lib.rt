@@ -1,15 +1,20 @@
 //! Reads any type that derives serde's `Deserialize` from a document, or from a tree.
 #![tactic(auto)]
 
+pub mod laws;
 mod misfit;
 mod path;
 mod pieces;
 mod read;
 mod reader;
 mod row;
+mod shown;
+mod spanned;
 
 pub use misfit::{Error, Expected, Found, Misfit, Reason};
 pub use path::Step;
 pub use read::{from_str, from_value};
 pub use reader::{Misread, Reader};
 pub use row::Row;
+pub use shown::render_stop;
+pub use spanned::Spanned;

@@ -210,19 +210,23 @@ impl Error<'_> {
     pub fn span(&self) -> Span
         ensures { result ≡ (told self.now).span }
     {
-        match self {
-            Error::Refused(error) => error.span,
-            Error::Misfit(misfit) => misfit.span,
-        }
+        self.place().0
     }
 
     /// The line and the column at which the span starts, both counted from 0, if they are known.
     pub fn line_info(&self) -> Option<(usize, usize)>
         ensures { result ≡ (told self.now).line_info }
     {
+        self.place().1
+    }
+
+    /// The bytes that the error is about, and the line and the column at which they start.
+    fn place(&self) -> (Span, Option<(usize, usize)>)
+        ensures { (result.0 ≡ (told self.now).span) × (result.1 ≡ (told self.now).line_info) }
+    {
         match self {
-            Error::Refused(error) => error.line_info,
-            Error::Misfit(misfit) => misfit.line_info,
+            Error::Refused(error) => (error.span, error.line_info),
+            Error::Misfit(misfit) => (misfit.span, misfit.line_info),
         }
     }
 

@@ -8,6 +8,7 @@ ghost use Rattle.toml_span_serde.specs.Ahead.{ahead};
 
 use crate::misfit::{Expected, Found, Reason};
 use crate::pieces::{Content, Piece};
+use crate::spanned::{END, START};
 use serde::{Format, Kind, Name, find};
 use std::alloc::{AllocError, Global};
 use std::num::{nearest_i64_to_f32, nearest_i64_to_f64};
@@ -319,6 +320,13 @@ impl Format for Reader<'_, '_> {
     }
 
     fn variant(&mut self, _input: &[u8], names: &[Name<'_>]) -> Result<usize, Stop<Misread>> {
+        if let [name] = names {
+            match name.name {
+                START => return Ok(self.look()?.span.start),
+                END => return Ok(self.look()?.span.end),
+                _ => {}
+            }
+        }
         let text = self.text(Expected::Variant)?;
         Ok(find(names, text))
     }

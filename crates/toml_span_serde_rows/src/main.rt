@@ -1,19 +1,20 @@
 //! Reads documents, a row each, and writes what each gives.
 //!
 //! A row is a word and a document on one line, with `;` for a line feed. `settings` is read as `Settings`, by derive;
-//! of `limits` the tree is read, as a map of numbers. The answer is the value, or the code, the place, the line and the
-//! column of what is refused, the path to it, and why.
+//! of `limits` the tree is read, as a map of numbers and their places. The answer is the value, or the code, the place,
+//! the line and the column of what is refused, the path to it, and why. `show` shows the settings, or an error with its
+//! lines.
 #![tactic(auto)]
 
 mod settings;
 
-use settings::Settings;
+use settings::{Settings, show};
 use std::alloc::Global;
 use std::collections::BTreeMap;
 use std::fmt::Debug;
 use std::io;
 use toml_span::{Span, Stop, parse};
-use toml_span_serde::{Error, from_str, from_value};
+use toml_span_serde::{Error, Spanned, from_str, from_value};
 
 /// Writes what was read, or why nothing was.
 fn tell<T: Debug + Drop>(
@@ -38,8 +39,11 @@ fn tell_error(rt: &impl Print, alloc: Global, error: &Error<'_>) -> io::Result<(
     }
 }
 
-/// The document's tree as a map of numbers.
-fn limits_of(alloc: Global, text: &str) -> Result<BTreeMap<String, i8>, Stop<Error<'_>>> {
+/// Numbers by their names.
+type Limits = BTreeMap<Spanned<String>, Spanned<i8>>;
+
+/// The document's tree as limits.
+fn limits_of(alloc: Global, text: &str) -> Result<Limits, Stop<Error<'_>>> {
     let root = match parse(alloc, text) {
         Ok(root) => root,
         Err(Stop::Memory(e)) => return Err(Stop::Memory(e)),
@@ -65,6 +69,7 @@ fn main(rt: HostRuntime) -> io::Result<()> {
         };
         match word {
             "settings" => tell(&rt, alloc, from_str::<Settings<'_>>(alloc, text.as_str()))?,
+            "show" => show(&rt, alloc, text.as_str())?,
             "limits" => tell(&rt, alloc, limits_of(alloc, text.as_str()))?,
             _ => println!(rt; "  no such word")?,
         }

@@ -1,28 +1,37 @@
-//! Settings that are read by derive.
+//! Settings that are read by derive, and shown.
 use serde::Deserialize;
+use std::alloc::Global;
+use std::io;
+use toml_span_serde::{Spanned, from_str, render_stop};
 
 #[derive(Debug, Drop, Deserialize)]
 #[serde(deny_unknown_fields)]
 pub struct Server<'a> {
     pub host: &'a str,
-    pub port: u16,
-    #[serde(default)]
-    pub tls: bool,
+    pub port: Spanned<u16>,
 }
 
 #[derive(Debug, Drop, Deserialize)]
 #[serde(rename_all = "lowercase")]
-pub enum Level<'a> {
+pub enum Level {
     Low,
-    High(&'a str),
+    High(bool),
 }
 
 #[derive(Debug, Drop, Deserialize)]
 pub struct Settings<'a> {
     pub name: &'a str,
     pub weight: Option<f64>,
-    pub level: Option<Level<'a>>,
+    pub level: Option<Level>,
     pub since: Option<String>,
     #[serde(default)]
     pub servers: Vec<Server<'a>>,
+}
+
+/// Writes the settings, or shows why there are none.
+pub fn show(rt: &impl Print, alloc: Global, text: &str) -> io::Result<()> {
+    match from_str::<Settings<'_>>(alloc, text) {
+        Ok(settings) => println!(rt; "{settings:?}"),
+        Err(stop) => print!(rt; "{}", render_stop(alloc, stop, "settings.toml", text)?),
+    }
 }

@@ -1,0 +1,21 @@
+//! What follows from the contracts of this crate.
+ghost use Rattle.std.specs.Prelude.{◌≡◌, IfOk};
+ghost use Rattle.toml_span_serde.specs.Ahead.{ahead};
+ghost use Rattle.toml_span_serde.specs.Reads.{StandsAt};
+
+use crate::reader::{Misread, Reader};
+use crate::spanned::Spanned;
+use serde::{Deserialize, Deserializer};
+use std::alloc::Global;
+use toml_span_lex::stop::Stop;
+
+/// A `Spanned` that is read of a tree has the bytes of the value that the reader stands before, or of the key.
+pub fn spanned_has_its_bytes<'de, T: Deserialize<'de>>(
+    alloc: Global,
+    input: &'de [u8],
+    reader: &mut Reader<'_, '_>,
+) -> Result<Spanned<T>, Stop<Misread>>
+    ensures { IfOk result (λ read. StandsAt read.span (ahead reader.old)) }
+{
+    Spanned::deserialize(alloc, &mut Deserializer::new(input, reader))
+}
