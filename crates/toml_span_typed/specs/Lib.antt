@@ -5,3 +5,4 @@ pub mod TableHelper
 pub mod Parse
 pub mod Fields
 pub mod Maps
+pub mod Tuples
