@@ -11,3 +11,4 @@ pub mod Path
 pub mod Pointer
 pub mod Value
 pub mod Order
+pub mod Names
