@@ -4,13 +4,13 @@
 pub mod laws;
 mod read;
 
-pub use read::{from_str, line_and_column};
+pub use read::{from_str, line_and_byte};
 pub use toml_span_assembly::de::parse;
 pub use toml_span_lex::span::Span;
 pub use toml_span_lex::spanned::Spanned;
 pub use toml_span_lex::stop::Stop;
 pub use toml_span_tree::{Diagnostic, Error, ErrorKind, Label, Value};
-pub use toml_span_typed::{DeserError, Deserialize, ErrorIter, Unmerged};
+pub use toml_span_typed::{DeserError, Deserialize, ErrorIter, Parsed, Unmerged};
 
 /// Reads a document into a tree.
 pub mod de {
@@ -37,5 +37,7 @@ pub mod tokens {
 /// The tree of values.
 pub mod value {
     pub use toml_span_lex::key::Key;
-    pub use toml_span_tree::{Array, DateText, FloatText, Table, Value, ValueInner, in_text_order};
+    pub use toml_span_tree::{
+        Array, DateText, FloatText, Pointer, Table, Value, ValueInner, in_text_order,
+    };
 }

@@ -1,4 +1,4 @@
-//! Reads a document as a type, and tells where its errors stand.
+//! Reads a document as a type, and tells where a span stands.
 ghost use Rattle.std.specs.Prelude.{◌≡◌, ◌+◌, ℕ, IfOk, IfErr, Ok, length, min};
 ghost use Rattle.toml_span_read.specs.Faults.{IsLineInfo};
 ghost use Rattle.toml_span.specs.Reading.{IsRead, NotRead};
@@ -28,13 +28,16 @@ pub fn from_str<'de, T: Deserialize<'de>>(
     T::deserialize(alloc, &mut root)
 }
 
-/// The line and the column at which a span starts, both counted from 1: how many line feeds stand
-/// before it, and how many bytes behind the last of them, one more of each. A span that starts past
-/// the text has those of the text's end.
-pub fn line_and_column(text: &str, span: Span) -> (usize, usize)
-    ensures { (line column : ℕ) × IsLineInfo text.now (min span.start (length text.now)) line column
-        × (result ≡ (line + 1, column + 1)) }
+/// The line at which a span starts, and the byte of that line, both counted from 1: one more than the line
+/// feeds before it, and than the bytes behind the last of them. A span that starts past the text has
+/// those of the text's end.
+///
+/// These are `Error::line_info`, which counts both from 0, and one more of each. The column that editors
+/// show counts characters, not bytes: `toml_span_report::line_column` has it.
+pub fn line_and_byte(text: &str, span: Span) -> (usize, usize)
+    ensures { (line byte : ℕ) × IsLineInfo text.now (min span.start (length text.now)) line byte
+        × (result ≡ (line + 1, byte + 1)) }
 {
-    let (line, column) = line_info(text, span.start.min(text.len()));
-    (line + 1, column + 1)
+    let (line, byte) = line_info(text, span.start.min(text.len()));
+    (line + 1, byte + 1)
 }

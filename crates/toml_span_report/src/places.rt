@@ -146,8 +146,10 @@ pub(crate) fn window_end(text: &str, at: usize, end: usize) -> usize
     }
 }
 
-/// The line and the column of an offset in a text, both counted from 1, and the column in characters. An offset within
-/// a character or past the text is moved to the nearest place before it.
+/// The line and the column of an offset in a text, both counted from 1, and the column in characters, as editors show
+/// it. An offset within a character or past the text is moved to the nearest place before it.
+///
+/// `toml_span::line_and_byte` has the line and the byte in it, and `Error::line_info` these two counted from 0.
 pub fn line_column(text: &str, at: usize) -> (usize, usize)
     ensures line { result.0 ≡ spec.line_number text.now (spec.place text.now at) }
     ensures column { result.1 ≡ spec.column text.now (spec.place text.now at) }

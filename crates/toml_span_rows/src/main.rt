@@ -8,6 +8,8 @@
 mod callers;
 mod diagnostics;
 mod escapes;
+mod holders;
+mod looks;
 mod scalars;
 mod sections;
 mod spans;
@@ -56,7 +58,9 @@ fn answer_of(
         || trees::answer(alloc, call, words, text, out)?
         || diagnostics::answer(alloc, call, words, text, out)?
         || typed::answer(alloc, call, words, text, out)?
-        || callers::answer(alloc, call, words, text, out)?;
+        || callers::answer(alloc, call, words, text, out)?
+        || looks::answer(alloc, call, words, text, out)?
+        || holders::answer(alloc, call, text, out)?;
     Ok(known)
 }
 

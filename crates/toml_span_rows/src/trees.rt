@@ -22,7 +22,7 @@ pub mod shown;
 mod writes;
 
 /// Adds the line of a fault; want of memory is none.
-fn push_stop(stop: Stop<Error<'_>>, out: &mut String) -> Result<(), AllocError> {
+pub fn push_stop(stop: Stop<Error<'_>>, out: &mut String) -> Result<(), AllocError> {
     match stop {
         Stop::Fault(fault) => {
             push_fault(&fault, out)?;

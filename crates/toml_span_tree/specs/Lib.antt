@@ -12,3 +12,4 @@ pub mod Pointer
 pub mod Value
 pub mod Order
 pub mod code
+pub mod Names

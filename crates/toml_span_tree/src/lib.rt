@@ -18,5 +18,6 @@ pub use date::DateText;
 pub use diagnostic::{Diagnostic, Label};
 pub use error::{Error, ErrorKind};
 pub use float::FloatText;
+pub use lookup::Pointer;
 pub use order::in_text_order;
 pub use value::{Array, Table, Value, ValueInner};

@@ -5,8 +5,11 @@ ghost use Rattle.toml_span_tree.specs.code.Pointer.{entry, value_named, untaken_
 ghost use Rattle.toml_span_tree.specs.Pointer.{pointed, segments};
 ghost use Rattle.toml_span_tree.specs.Value.{inner_view, members_view, view};
 
+mod compiled;
+
 use crate::pointer::{array_entry, cut};
 use crate::value::{Table, Value, ValueInner};
+pub use compiled::Pointer;
 
 /// The value under a name, found by going through the entries.
 fn entry_named<'v, 'de>(table: &'v Table<'de>, name: &str) -> Option<&'v Value<'de>>
@@ -57,7 +60,9 @@ impl<'de> Value<'de> {
     /// The value that the pointer names, as `pointer` gives it, of a text that may live shorter than the
     /// tree: one that is read or put together while the program runs.
     ///
-    /// In each table on the way it goes through the entries, where `pointer` looks the name up.
+    /// In each table on the way it goes through the entries, where `pointer` looks the name up: the time grows
+    /// with the entries of the tables on the way, together. A text that is looked up many times, or in large
+    /// tables, is made a `Pointer`, for `at`.
     pub fn look_up(&self, pointer: &str) -> Option<&Self>
         ensures { option_map (λ v. view v.now) result ≡ pointed pointer.now (view self.now) }
     {

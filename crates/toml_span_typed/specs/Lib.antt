@@ -5,3 +5,4 @@ pub mod Parse
 pub mod Fields
 pub mod Maps
 pub mod code
+pub mod Tuples

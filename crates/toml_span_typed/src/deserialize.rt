@@ -11,8 +11,10 @@ mod integers;
 mod maps;
 mod scalars;
 mod spanned;
+mod tuples;
 
 use crate::deser_error::DeserError;
+pub use holders::Parsed;
 use std::alloc::Global;
 use toml_span_lex::stop::Stop;
 use toml_span_tree::Value;

@@ -7,4 +7,4 @@ mod deserialize;
 mod read_table;
 
 pub use deser_error::{DeserError, ErrorIter, Unmerged};
-pub use deserialize::Deserialize;
+pub use deserialize::{Deserialize, Parsed};

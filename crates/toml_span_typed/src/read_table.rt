@@ -7,7 +7,8 @@
 /// may stand before it:
 ///
 /// - `port: u16 = "listen-port";` reads another key;
-/// - `tags: Vec<String>, optional;` is an `Option`, and None where the key is not there;
+/// - `tags: Option<Vec<String>>;` is None where the key is not there; so is `tags: Vec<String>, optional;`,
+///   for a type that is written in another way;
 /// - `port: u16, or(80);` is the value in brackets where the key is not there, which is evaluated only
 ///   then;
 /// - `port: u16 = "listen-port", or(80);` is both.
@@ -16,27 +17,34 @@
 /// are told, in the order of the fields.
 #[macro_export]
 macro_rules! read_table {
-    ($alloc:expr, $value:expr, $table:ident {
+    ($alloc:expr, $value:expr, $table:ident { $($fields:tt)* }) => {
+        $crate::read_table!(@fields [$alloc, $value, $table] [] $($fields)*)
+    };
+
+    // each field in turn, where one of the type `Option` becomes optional
+    (@fields $read:tt [$($done:tt)*] $field:ident: Option<$ty:ty> $(= $key:literal)?; $($rest:tt)*) => {
+        $crate::read_table!(@fields $read [$($done)* $field: $ty $(= $key)?, optional;] $($rest)*)
+    };
+    (@fields $read:tt [$($done:tt)*]
+        $field:ident: $ty:ty $(= $key:literal)? $(, $how:ident $(($default:expr))?)?; $($rest:tt)*
+    ) => {
+        $crate::read_table!(
+            @fields $read [$($done)* $field: $ty $(= $key)? $(, $how $(($default))?)?;] $($rest)*
+        )
+    };
+    (@fields $read:tt $fields:tt) => { $crate::read_table!(@table $read finish() $fields) };
+    (@fields [$alloc:expr, $value:expr, $table:ident] $fields:tt ..) => {
+        $crate::read_table!(@table [$alloc, $value, $table] finish_into($value) $fields)
+    };
+
+    (@table [$alloc:expr, $value:expr, $table:ident] $finish:ident($($rest:expr)?) [
         $($field:ident: $ty:ty $(= $key:literal)? $(, $how:ident $(($default:expr))?)?;)*
-    }) => {{
+    ]) => {{
         let mut helper = $crate::de_helpers::TableHelper::new($alloc, $value)?;
         $(let $field = $crate::read_table!(
             @read helper, $ty, $crate::read_table!(@key $field $($key)?) $(, $how $($default)?)?
         );)*
-        helper.finish()?;
-        Ok($table {
-            $($field: $crate::read_table!(@field $field $($how)?),)*
-        })
-    }};
-    ($alloc:expr, $value:expr, $table:ident {
-        $($field:ident: $ty:ty $(= $key:literal)? $(, $how:ident $(($default:expr))?)?;)*
-        ..
-    }) => {{
-        let mut helper = $crate::de_helpers::TableHelper::new($alloc, $value)?;
-        $(let $field = $crate::read_table!(
-            @read helper, $ty, $crate::read_table!(@key $field $($key)?) $(, $how $($default)?)?
-        );)*
-        helper.finish_into($value)?;
+        helper.$finish($($rest)?)?;
         Ok($table {
             $($field: $crate::read_table!(@field $field $($how)?),)*
         })

@@ -1,6 +1,6 @@
-//! Reads of values behind a box, and of single characters.
+//! Reads of values behind a box or in an `Option`, and of what `FromStr` makes of strings.
 ghost use Rattle.std.specs.Prelude.{◌⊎◌};
-ghost use Rattle.toml_span_typed.specs.Fields.{AsParsed, AsRead};
+ghost use Rattle.toml_span_typed.specs.Fields.{AsParsed, AsRead, AsSome};
 ghost use Rattle.toml_span_typed.specs.Reads.{Taken, result_map};
 
 use crate::de_helpers::parsed;
@@ -29,6 +29,21 @@ impl<'de, T: Deserialize<'de>> Deserialize<'de> for Box<T> {
     }
 }
 
+/// What stands there is read as a T, and is Some. That a field may be absent is for the read of the table:
+/// `read_table!` reads a field of the type `Option<T>` as None where its key is absent.
+impl<'de, T: Deserialize<'de>> Deserialize<'de> for Option<T> {
+    ghost reads = { AsSome T.reads };
+
+    ghost starved = { T.starved };
+
+    fn deserialize(
+        alloc: Global,
+        value: &mut Value<'de>,
+    ) -> Result<Option<T>, Stop<DeserError<'de>>> {
+        Ok(Some(T::deserialize(alloc, value)?))
+    }
+}
+
 impl<'de> Deserialize<'de> for char {
     ghost reads = { λ v r w. AsParsed ⟦<char as FromStr>⟧.from_str_gives ⟦<ParseCharError as Display>⟧.output v r
         × Taken v w };
@@ -37,5 +52,26 @@ impl<'de> Deserialize<'de> for char {
 
     fn deserialize(alloc: Global, value: &mut Value<'de>) -> Result<char, Stop<DeserError<'de>>> {
         parsed(alloc, value)
+    }
+}
+
+/// What `FromStr` makes of a string: for a type that has it, and no `Deserialize` of its own.
+#[derive(Debug, Drop)]
+pub struct Parsed<T> {
+    pub value: T,
+}
+
+impl<'de, T: FromStr<Err = E> + Drop, E: Display + Drop> Deserialize<'de> for Parsed<T> {
+    ghost reads = { λ v r w. AsParsed T.from_str_gives E.output v (result_map (λ p. p.value) r) × Taken v w };
+
+    ghost starved = { Taken };
+
+    fn deserialize(
+        alloc: Global,
+        value: &mut Value<'de>,
+    ) -> Result<Parsed<T>, Stop<DeserError<'de>>> {
+        Ok(Parsed {
+            value: parsed(alloc, value)?,
+        })
     }
 }

@@ -1,0 +1,5 @@
+use Rattle.std.proofs.Common.{length}
+use Rattle.toml_span_tree.proofs.lookup.compiled.+push_segments.Given as goal
+
+abbrev pub decreases-push_segments : goal.decreases-push_segments
+decreases-push_segments l = length l.path.now

@@ -1,0 +1,109 @@
+//! Reads of arrays of two elements, each as a type of its own.
+ghost use Rattle.std.specs.Prelude.{◌≡◌, IfErr, IfOk, IsTrue};
+ghost use Rattle.toml_span_tree.specs.Value.{is_whole, view};
+ghost use Rattle.toml_span_typed.specs.Reads.{Taken};
+ghost use Rattle.toml_span_typed.specs.Tuples.{IsPair, IsReadAs, Refuses, Tells, holds_two, other_length, pair_reads};
+
+use crate::de_helpers::expected;
+use crate::deser_error::DeserError;
+use crate::deserialize::Deserialize;
+use std::alloc::{AllocError, Global};
+use std::borrow::CowStr;
+use toml_span_lex::span::Span;
+use toml_span_lex::stop::Stop;
+use toml_span_tree::{Error, ErrorKind, Value, ValueInner};
+
+/// An array of two elements. Another number of them is the error `Custom` at the array's span, with the text
+/// `expected 2 elements, found` and their number; then none of them is read.
+impl<'de, A: Deserialize<'de>, B: Deserialize<'de>> Deserialize<'de> for (A, B) {
+    ghost reads = { pair_reads A.reads B.reads };
+
+    ghost starved = { Taken };
+
+    #[tactic(auto, using(crate::proofs::Tuples::two_refused))]
+    fn deserialize(alloc: Global, value: &mut Value<'de>) -> Result<(A, B), Stop<DeserError<'de>>> {
+        let (first, second) = match two(alloc, value) {
+            Ok(elements) => elements,
+            Err(stop) => return Err(stop),
+        };
+        let first: Result<A, DeserError<'de>> = read_one(alloc, first)?;
+        let second: Result<B, DeserError<'de>> = read_one(alloc, second)?;
+        both(alloc, first, second)
+    }
+}
+
+/// The elements of an array of two. The value is taken.
+fn two<'de>(
+    alloc: Global,
+    value: &mut Value<'de>,
+) -> Result<(Value<'de>, Value<'de>), Stop<DeserError<'de>>>
+    requires { IsTrue (is_whole (view value.old)) }
+    ensures ok { IfOk result (λ pair. view value.old ≡ holds_two (view pair.0) (view pair.1) value.old.span) }
+    ensures err { IfErr result (Refuses 2 (view value.old)) }
+    ensures taken { Taken (view value.old) (view value.new) }
+{
+    let span = value.span;
+    match value.take() {
+        ValueInner::Array(mut elements) => {
+            let found = elements.len();
+            if found != 2 {
+                return Err(miscounted(alloc, 2, found, span));
+            }
+            let second = elements.pop().unwrap();
+            let first = elements.pop().unwrap();
+            Ok((first, second))
+        }
+        other => Err(Stop::Fault(expected("an array", other, span).into())),
+    }
+}
+
+/// The error of an array with another number of elements, or want of memory for its text.
+fn miscounted<'s>(alloc: Global, wanted: usize, found: usize, span: Span) -> Stop<DeserError<'s>>
+    ensures { Tells (other_length wanted found span) result }
+{
+    match format!(in alloc; "expected {wanted} elements, found {found}") {
+        Ok(text) => {
+            let kind = ErrorKind::Custom(CowStr::Owned(text));
+            Stop::Fault(Error::from((kind, span)).into())
+        }
+        Err(e) => Stop::Memory(e),
+    }
+}
+
+/// Reads an element.
+fn read_one<'de, T: Deserialize<'de>>(
+    alloc: Global,
+    mut element: Value<'de>,
+) -> Result<Result<T, DeserError<'de>>, AllocError>
+    requires { IsTrue (is_whole (view element)) }
+    ensures { IfOk result (IsReadAs T.reads (view element.entry)) }
+{
+    match T::deserialize(alloc, &mut element) {
+        Ok(read) => Ok(Ok(read)),
+        Err(Stop::Fault(faults)) => Ok(Err(faults)),
+        Err(Stop::Memory(e)) => Err(e),
+    }
+}
+
+/// Both elements, or the errors of both.
+fn both<'s, A: Drop, B: Drop>(
+    alloc: Global,
+    first: Result<A, DeserError<'s>>,
+    second: Result<B, DeserError<'s>>,
+) -> Result<(A, B), Stop<DeserError<'s>>>
+    ensures { IsPair first.entry second.entry result }
+{
+    match first {
+        Ok(a) => match second {
+            Ok(b) => Ok((a, b)),
+            Err(faults) => Err(Stop::Fault(faults)),
+        },
+        Err(mut faults) => match second {
+            Ok(_) => Err(Stop::Fault(faults)),
+            Err(more) => match faults.merge(alloc, more) {
+                Ok(()) => Err(Stop::Fault(faults)),
+                Err(refused) => Err(Stop::Memory(refused.error)),
+            },
+        },
+    }
+}
