@@ -4,14 +4,14 @@ use Rattle.toml_span_lex.specs.declared.stop.Stop.{Stop}
 use Rattle.toml_span_lex.specs.declared.stop.Stop.TheVariants as stop
 use Rattle.toml_span_tree.specs.Diagnostic.{labels_of}
 use Rattle.toml_span_tree.specs.Error.{Fault}
-use Rattle.toml_span_tree.specs.Message.{code_of, text_of}
+use Rattle.toml_span_tree.specs.Message.{code_of, display_text}
 use Rattle.toml_span_report.specs.Report.{report}
 use Rattle.toml_span_serde.specs.Misfits.{told}
 use Rattle.toml_span_serde.specs.declared.misfit.Error.{Error}
 
 -- the text that shows a fault, with the file's name
 abbrev pub shown : Fault → List ℕ → List ℕ → List ℕ
-shown f name text = report {F = ℕ} (code_of f.kind) (text_of f.kind) (labels_of 0 f.span f.kind) name text
+shown f name text = report {F = ℕ} (code_of f.kind) (display_text f.kind) (labels_of 0 f.span f.kind) name text
 
 abbrev pub IsShown : Stop Error → List ℕ → List ℕ → List ℕ → Type 0
 IsShown (stop.Memory e) name text out = ⊥

@@ -6,7 +6,7 @@ use Rattle.toml_span_lex.specs.declared.stop.Stop.{Stop}
 use Rattle.toml_span_lex.specs.declared.stop.Stop.TheVariants as stop
 use Rattle.toml_span_tree.specs.Error.{Fault, custom}
 use Rattle.toml_span_tree.specs.Node.{Node, array, item, no_items, node}
-use Rattle.toml_span_tree.specs.Value.{not_a}
+use Rattle.toml_span_tree.specs.Value.{wrong_kind}
 use Rattle.toml_span_typed.specs.Faults.{Faults, all, one}
 use Rattle.toml_span_typed.specs.Reads.{Taken, errors, nodes_of}
 
@@ -26,7 +26,7 @@ other_length wanted found span = record {
 abbrev pub Miscounts : ℕ → Node → Faults → Type 0
 Miscounts n (node (array values) span) faults =
     (length (nodes_of values) ≢ n) × (faults ≡ one (other_length n (length (nodes_of values)) span))
-Miscounts n value faults = faults ≡ one (not_a (codes "an array") value)
+Miscounts n value faults = faults ≡ one (wrong_kind (codes "an array") value)
 
 -- those, or want of memory
 abbrev pub Refuses : ℕ → Node → Stop Faults → Type 0

@@ -3,7 +3,8 @@ ghost use Rattle.std.specs.Prelude.{◌≡◌, ◌++◌, IfOk, OnOk, map, option
 ghost use Rattle.std.specs.Cow.{cow_str_bytes};
 ghost use Rattle.toml_span_tree.specs.Names.{name_in, names_in};
 ghost use Rattle.toml_span_tree.specs.Node.{get_member};
-ghost use Rattle.toml_span_tree.specs.Pointer.{entry, found, pointer_segments, segments, untaken_entry};
+ghost use Rattle.toml_span_tree.specs.code.Pointer.{entry, value_named, untaken_entry};
+ghost use Rattle.toml_span_tree.specs.Pointer.{pointer_segments, segments};
 ghost use Rattle.toml_span_tree.specs.Value.{inner_view, members_view, view};
 
 use crate::pointer::{array_entry, cut};
@@ -98,7 +99,7 @@ impl<'de> Value<'de> {
 
     /// What the names name one by one, from here on.
     fn found_at(&self, names: &[Key<'de>]) -> Option<&Self>
-        ensures { option_map (λ v. view v.now) result ≡ found (map name_in names.now) (view self.now) }
+        ensures { option_map (λ v. view v.now) result ≡ value_named (map name_in names.now) (view self.now) }
     {
         match names {
             [name, rest @ ..] => self.entry_at(name)?.found_at(rest),
@@ -110,7 +111,7 @@ impl<'de> Value<'de> {
     ///
     /// In each table on the way it looks the name up, in logarithmic time. Takes no memory.
     pub fn at(&self, pointer: &Pointer<'de>) -> Option<&Self>
-        ensures { option_map (λ v. view v.now) result ≡ found (names_in pointer.now.names) (view self.now) }
+        ensures { option_map (λ v. view v.now) result ≡ value_named (names_in pointer.now.names) (view self.now) }
     {
         self.found_at(pointer.names.as_slice())
     }

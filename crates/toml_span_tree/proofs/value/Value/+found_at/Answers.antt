@@ -2,7 +2,7 @@ use Rattle.std.proofs.Common.{◌≡◌, List, ◌∷◌, drop, map, option_and_
 use Rattle.std.proofs.lemmas.List.{drop_more, take_rest}
 use Rattle.toml_span_lex.specs.declared.key.Key.{Key}
 use Rattle.toml_span_tree.specs.Names.{name_in}
-use Rattle.toml_span_tree.specs.Pointer.{found}
+use Rattle.toml_span_tree.specs.code.Pointer.{value_named}
 use Rattle.toml_span_tree.specs.Value.{view}
 use Rattle.toml_span_tree.proofs.Pointers.{found-more}
 use Rattle.toml_span_tree.proofs.value.Value.+found_at.Goals as goal
@@ -14,7 +14,7 @@ returns-in_ok-entry_at-in-len1-up t c =
     let n = view c.args.self.now in
     let split : names ≡ name ∷ drop 1 names = drop_more names 0 name c.in-len1-up.len_at_least ∙ ap (λ x. x ∷ drop 1 names) (sym c.name-item.is) in
     c.found_at.ensures
-    ∙ ap (λ (ks : List Key). found (map name_in ks) (view c.in_ok-entry_at-in-len1-up.field-0.now)) (take_rest names 1)
-    ∙ ap (option_and_then (found (map name_in (drop 1 names)))) c.in_ok-entry_at-in-len1-up.ensures
+    ∙ ap (λ (ks : List Key). value_named (map name_in ks) (view c.in_ok-entry_at-in-len1-up.field-0.now)) (take_rest names 1)
+    ∙ ap (option_and_then (value_named (map name_in (drop 1 names)))) c.in_ok-entry_at-in-len1-up.ensures
     ∙ sym (found-more (name_in name) (map name_in (drop 1 names)) n)
-    ∙ ap (λ (ks : List Key). found (map name_in ks) n) (sym split)
+    ∙ ap (λ (ks : List Key). value_named (map name_in ks) n) (sym split)
