@@ -4,7 +4,8 @@ use Rattle.std.specs.Prelude.{⊤, true, option_map}
 use Rattle.std.proofs.lemmas.List.{append_cancel_left}
 use Rattle.std.proofs.lemmas.Option.{none-some, same_Some}
 use Rattle.toml_span_tree.specs.Path.{Path, Step, key, position}
-use Rattle.toml_span_read.specs.Lines.{Block, SpellsDocument}
+use Rattle.toml_span_read.specs.Data.{Block}
+use Rattle.toml_span_read.specs.Grammar.{SpellsDocument}
 use Rattle.toml_span_claims.specs.declared.claims.Blame.{Blame}
 use Rattle.toml_span_claims.specs.declared.claims.Blame.TheVariants.{Key}
 use Rattle.toml_span_claims.specs.declared.claims.Sort.{Sort}
@@ -14,8 +15,7 @@ use Rattle.toml_span_claims.specs.Clashes.{named, blame, meeting, meets, clash, 
 use Rattle.toml_span_claims.specs.Flat.{all_claims}
 use Rattle.toml_span_claims.specs.Paths.{same_path}
 use Rattle.toml_span_assembly.proofs.Refusals.{spelled-headed}
-use Rattle.toml_span.specs.Clashing.{IsIn, DoClash}
-use Rattle.toml_span.specs.Scopes.{own, ShareInside, ShareScope}
+use Rattle.toml_span.specs.Clashing.{IsIn, DoClash, own, ShareInside, ShareScope}
 use Rattle.toml_span.proofs.Apart.{in-left, in-right}
 use Rattle.toml_span.proofs.EntryDecides.{path-self}
 use Rattle.toml_span.proofs.FirstPair.{in-cases, free-clash}

@@ -3,12 +3,13 @@ use Rattle.std.specs.Prelude.{◌≡◌, ⊤, ℕ, suc, ◌+◌, Bool, List, [],
 use Rattle.toml_span_lex.specs.declared.span.Span.{Span}
 use Rattle.toml_span_lex.specs.Strings.{IsString, IsEmptyOnOneLine}
 use Rattle.toml_span_tree.specs.Path.{Path, key, position, Shape, is_taken, is_scalar, is_array, is_table}
-use Rattle.toml_span_read_laws.specs.Again.{ReadsAgain, ScalarReadsAgain}
-use Rattle.toml_span_read_laws.specs.Between.{CutsContent}
+use Rattle.toml_span_read.specs.Data.{span_of}
 use Rattle.toml_span_read.specs.Data as read
+use Rattle.toml_span_read_laws.specs.Places.{CutsContent}
+use Rattle.toml_span_read_laws.specs.Again.{ReadsAgain, ScalarReadsAgain}
 use Rattle.toml_span_claims.specs.declared.claims.Sort.TheVariants.{Assigned}
-use Rattle.toml_span_read.specs.Earlier.{span_of}
-use Rattle.toml_span_claims.specs.Claims.{Claim, Claims, no_claims, claimed, scope, followed, inner_of, value_claims, value_shape}
+use Rattle.toml_span_claims.specs.Claims.{Claim, Claims, no_claims, claimed, scope, followed, inner_of, value_claims}
+use Rattle.toml_span_claims.specs.Claims.{value_shape}
 
 -- how many keys a path has
 abbrev pub keys_in : Path → ℕ

@@ -1,9 +1,9 @@
 -- The order of claims and keys in the text.
-use Rattle.std.specs.Prelude.{◌≡◌, ◌⊎◌, ⊤, ℕ, ◌<◌, List, [], ◌∷◌, Option, Some, option_and_then}
+use Rattle.std.specs.Prelude.{◌≡◌, ⊤, ℕ, ◌<◌, ◌⊎◌, List, [], ◌∷◌, Option, Some, option_and_then}
 use Rattle.toml_span_lex.specs.declared.span.Span.{Span}
 use Rattle.toml_span_tree.specs.Path.{Path, Place}
-use Rattle.toml_span_claims.specs.declared.claims.Sort.TheVariants.{ArrayOfTables, Entry}
 use Rattle.toml_span_claims.specs.Claims.{Claim}
+use Rattle.toml_span_claims.specs.declared.claims.Sort.TheVariants.{ArrayOfTables, Entry}
 
 -- where the key starts that claims, or the element
 abbrev pub start_of : Claim → ℕ

@@ -2,17 +2,20 @@
 use Rattle.std.specs.Prelude.{◌≡◌, ⊤, ℕ, List, [], length, Result, Ok, Err}
 use Rattle.toml_span_lex.specs.declared.stop.Stop.{Stop}
 use Rattle.toml_span_lex.specs.declared.stop.Stop.TheVariants as stops
+use Rattle.toml_span_tree.specs.declared.error.Error.{Error}
+use Rattle.toml_span_tree.specs.declared.value.Value.{Value}
 use Rattle.toml_span_tree.specs.Error.{fault_of}
 use Rattle.toml_span_tree.specs.Path.{Path, place_at}
 use Rattle.toml_span_tree.specs.Value.{view}
-use Rattle.toml_span_tree.specs.declared.error.Error.{Error}
-use Rattle.toml_span_tree.specs.declared.value.Value.{Value}
-use Rattle.toml_span_read.specs.Faults.{IsLineInfo, Tells}
-use Rattle.toml_span_read.specs.Lines.{Block, SpellsDocument, StuckDocument}
+use Rattle.toml_span_read.specs.Data.{Block}
 use Rattle.toml_span_read.specs.declared.fault.Fault.{Fault}
-use Rattle.toml_span_claims.specs.Claims.{claims}
+use Rattle.toml_span_read.specs.Grammar.{SpellsDocument}
+use Rattle.toml_span_read.specs.Stuck.{StuckDocument}
+use Rattle.toml_span_read.specs.Places.{IsLineInfo}
+use Rattle.toml_span_read.specs.Faults.{Tells}
 use Rattle.toml_span_claims.specs.Clashes.{Told, Resolves, TellsFirst, fault_told}
-use Rattle.toml_span_assembly.specs.Parsing.{IsTreeOf, IsTree, IsRefusal}
+use Rattle.toml_span_claims.specs.Claims.{claims}
+use Rattle.toml_span_assembly.specs.Parsing.{IsTree, IsRefusal, IsTreeOf}
 
 -- the sections that it spells; those and their first clash; or the fault at which it is stuck
 pub data Outcome : Type 0 where

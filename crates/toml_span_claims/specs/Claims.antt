@@ -1,16 +1,16 @@
 -- What headers and assignments claim.
-use Rattle.std.specs.Prelude.{ℕ, zero, suc, List, [], ◌∷◌, if◌then◌else◌, Option, Some, None}
+use Rattle.std.specs.Prelude.{ℕ, zero, suc, if◌then◌else◌, List, [], ◌∷◌, Option, Some, None}
 use Rattle.toml_span_lex.specs.declared.span.Span.{Span}
-use Rattle.toml_span_tree.specs.Path.{Path, Shape, is_scalar, is_array, is_table, Place}
-use Rattle.toml_span_read.specs.Data.{Node, node, Inner, scalar, array, inline, Items, no_items, item, Pairs, no_pairs, pair, Event}
-use Rattle.toml_span_read.specs.Earlier.{span_of}
+use Rattle.toml_span_tree.specs.Path.{Path, Place, Shape, is_array, is_table, is_scalar}
 use Rattle.toml_span_read.specs.Keys.{Part}
-use Rattle.toml_span_read.specs.Lines.{Block}
-use Rattle.toml_span_claims.specs.declared.claims.Sort.{Sort}
-use Rattle.toml_span_claims.specs.declared.claims.Sort.TheVariants.{Passed, Section, ArrayOfTables, Entry, Dotted, Assigned}
+use Rattle.toml_span_read.specs.Data.{Inner, scalar, array, inline, Node, node, span_of, Items, no_items, item, Pairs}
+use Rattle.toml_span_read.specs.Data.{no_pairs, pair, Event, Block}
 use Rattle.toml_span_claims.specs.declared.claims.Mark.{Mark}
+use Rattle.toml_span_claims.specs.declared.claims.Sort.{Sort}
+use Rattle.toml_span_claims.specs.declared.claims.Sort.TheVariants.{ArrayOfTables, Entry, Dotted, Assigned, Section}
+use Rattle.toml_span_claims.specs.declared.claims.Sort.TheVariants.{Passed}
+use Rattle.toml_span_claims.specs.Paths.{below, at, enter, section_path, entries_at, opened_by}
 use Rattle.toml_span_claims.specs.declared.claims.Head.{Head}
-use Rattle.toml_span_claims.specs.Paths.{below, at, enter, entries_at, opened_by, section_path}
 
 -- A path is claimed by a key of this name. The mark says in which way, and the place is what stands there if this claim decides.
 pub record Claim : Type 0 where

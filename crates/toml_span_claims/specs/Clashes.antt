@@ -1,6 +1,6 @@
 -- Which claims clash, and what is told of two that do.
-use Rattle.std.specs.Prelude.{◌≡◌, ⊤, ℕ, List, [], ◌∷◌, ◌++◌, if◌then◌else◌, Option, Some, None, option_map}
-use Rattle.toml_span_tree.specs.Error.{Fault, Kind, duplicate_table, duplicate_key, redefine_as_array}
+use Rattle.std.specs.Prelude.{◌≡◌, ⊤, ℕ, if◌then◌else◌, List, [], ◌∷◌, ◌++◌, Option, Some, None, option_map}
+use Rattle.toml_span_tree.specs.Error.{Kind, duplicate_table, duplicate_key, redefine_as_array, Fault}
 use Rattle.toml_span_claims.specs.declared.claims.Sort.{Sort}
 use Rattle.toml_span_claims.specs.declared.claims.Sort.TheVariants.{Passed, Section, ArrayOfTables, Dotted, Assigned}
 use Rattle.toml_span_claims.specs.declared.claims.Blame.{Blame}

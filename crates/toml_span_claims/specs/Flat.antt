@@ -1,11 +1,13 @@
 -- The flat document: what stands at each path.
-use Rattle.std.specs.Prelude.{◌≡◌, ℕ, if◌then◌else◌, List, [], ◌∷◌, ◌++◌, Option, Some, None, option_map}
-use Rattle.toml_span_tree.specs.Node.{Node}
+use Rattle.std.specs.Prelude.{◌≡◌, ℕ, Bool, true, false, if◌then◌else◌, List, [], ◌∷◌, ◌++◌, Option, Some, None}
+use Rattle.std.specs.Prelude.{option_map}
 use Rattle.toml_span_tree.specs.Path.{Path, is_table, Place, place_at}
-use Rattle.toml_span_claims.specs.Clashes.{or_else}
-use Rattle.toml_span_claims.specs.Marks.{by_header}
-use Rattle.toml_span_claims.specs.Paths.{same_path}
+use Rattle.toml_span_tree.specs.Node.{Node}
 use Rattle.toml_span_claims.specs.Claims.{Claim, Claims, no_claims, claimed, scope}
+use Rattle.toml_span_claims.specs.Paths.{same_path}
+use Rattle.toml_span_claims.specs.declared.claims.Sort.{Sort}
+use Rattle.toml_span_claims.specs.declared.claims.Sort.TheVariants.{Dotted, Assigned}
+use Rattle.toml_span_claims.specs.Clashes.{or_else}
 
 -- the claims of every scope, in the order of the text
 unfoldable pub all_claims : Claims → List Claim
@@ -17,6 +19,11 @@ all_claims (scope inner cs) = all_claims inner ++ all_claims cs
 unfoldable pub claims_at : Path → List Claim → List Claim
 claims_at p [] = []
 claims_at p (c ∷ cs) = if same_path c.path p then c ∷ claims_at p cs else claims_at p cs
+
+abbrev pub by_header : Sort → Bool
+by_header Dotted = false
+by_header Assigned = false
+by_header _ = true
 
 unfoldable pub first_by_header : List Claim → Option Claim
 first_by_header [] = None

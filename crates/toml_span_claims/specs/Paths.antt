@@ -1,9 +1,10 @@
 -- Paths, and the path that a header names.
-use Rattle.std.specs.Prelude.{ℕ, zero, suc, Bool, true, false, ◌&&◌, if◌then◌else◌, List, [], ◌∷◌, ◌++◌, length, filter, nat_eq}
+use Rattle.std.specs.Prelude.{ℕ, zero, suc, Bool, true, false, ◌&&◌, nat_eq, if◌then◌else◌, List, [], ◌∷◌, ◌++◌, filter}
+use Rattle.std.specs.Prelude.{length}
 use Rattle.std.specs.Str.{bytes_eq}
 use Rattle.toml_span_tree.specs.Path.{Step, key, position, Path}
 use Rattle.toml_span_read.specs.Keys.{Part}
-use Rattle.toml_span_read.specs.Lines.{Block}
+use Rattle.toml_span_read.specs.Data.{Block}
 
 abbrev pub same_step : Step → Step → Bool
 same_step (key name) (key other) = bytes_eq name other

@@ -12,14 +12,18 @@ use Rattle.toml_span_read.specs.declared.fault.Fault.{Fault}
 use Rattle.toml_span_read.specs.declared.value.Assignment.{Assignment}
 use Rattle.toml_span_read.specs.declared.section.Section.{Section}
 use Rattle.toml_span_read.specs.declared.sections.Header.{Header}
-use Rattle.toml_span_read.specs.Data.{Node, Event, event}
-use Rattle.toml_span_read.specs.Earlier.{Clear, Crossing, AddsClear}
+use Rattle.toml_span_read.specs.Data.{Node, Event, event, Block, block}
+use Rattle.toml_span_read.specs.Earlier.{Clear, Crossing}
+use Rattle.toml_span_read.specs.code.Earlier.{AddsClear}
 use Rattle.toml_span_read.specs.Gaps.{MaximalGap, Equals, Tail, NoTail}
-use Rattle.toml_span_read.specs.Grammar.{Spells}
-use Rattle.toml_span_read.specs.Keys.{Part, part, Dotted, DottedGives, HeaderKeyGives}
-use Rattle.toml_span_read.specs.Lines.{SpellsEvent, SpellsEvents, SpellsLines, Opens, Shuts, HeaderFront, SpellsHeader, Block, block, last_end, SpellsSection, first_block, SpellsSections, SpellsDocument, StuckEvent, line_key, line_equals, line_value, StuckTail, StuckEvents, in_line, no_newline, crossing, line_on, StuckLines, NoShuts, StuckHeader, header_key, header_close, header_rest, StuckSections, in_header, in_section, section_on, StuckDocument, before_headers, behind_header, EventGives, LineGives, LinesGive, CloseGives, HeaderGives, block_of, first_blocks, SectionsGive}
-use Rattle.toml_span_read.specs.Stuck.{ValueGives}
-use Rattle.toml_span_read.specs.Wanted.{WantedGives}
+use Rattle.toml_span_read.specs.Grammar.{Spells, SpellsEvent, SpellsEvents, SpellsLines, Opens, Shuts, HeaderFront, SpellsHeader, last_end, SpellsSection, first_block, SpellsSections, SpellsDocument}
+use Rattle.toml_span_read.specs.Keys.{Part, part, Dotted}
+use Rattle.toml_span_read.specs.code.Keys.{DottedGives, HeaderKeyGives}
+use Rattle.toml_span_read.specs.Stuck.{StuckEvent, line_key, line_equals, line_value, StuckEvents, in_line, no_newline, crossing, line_on, StuckLines, StuckHeader, header_key, header_close, header_rest, StuckSections, in_header, in_section, section_on, StuckDocument, before_headers, behind_header}
+use Rattle.toml_span_read.specs.Faults.{StuckTail, NoShuts}
+use Rattle.toml_span_read.specs.code.Sections.{EventGives, LineGives, LinesGive, CloseGives, HeaderGives, block_of, first_blocks, SectionsGive}
+use Rattle.toml_span_read.specs.code.Values.{ValueGives}
+use Rattle.toml_span_read.specs.code.Wanted.{WantedGives}
 use Rattle.toml_span_read.proofs.KeyLemmas.{map_more}
 
 -- ---- assignments

@@ -1,15 +1,9 @@
--- White space, comments and line ends.
-use Rattle.std.specs.Prelude.{◌≡◌, ℕ, ◌+◌, ◌<◌, ◌≤◌, ◌⊎◌, Bool, true, false, ◌||◌, ◌==◌, List, [], ◌∷◌, length, slice_index, Option, Some, None, Result, Ok, Err}
-use Rattle.std.specs.Str.{IsCharBoundary}
+-- White space, comments and line ends (TOML 1.1, "Comment", "Whitespace", "Newline").
+use Rattle.std.specs.Prelude.{◌≡◌, ℕ, ◌+◌, ◌<◌, ◌≤◌, ◌⊎◌, Bool, true, false, ◌||◌, ◌==◌, List, [], ◌∷◌, length}
+use Rattle.std.specs.Prelude.{slice_index}
 use Rattle.toml_span_lex.specs.Bytes.{is_blank, is_printed, MaximalRun}
-use Rattle.toml_span_lex.specs.Text.{is_crlf, LineEnd, NoLineEnd}
-use Rattle.toml_span_read.specs.declared.gaps.Behind.{Behind}
+use Rattle.toml_span_lex.specs.Text.{LineEnd, is_crlf, NoLineEnd}
 use Rattle.toml_span_read.specs.declared.gaps.Behind.TheVariants as behind
-
--- j is behind i, and a character begins there or the text ends
-pub record Further (text : List ℕ) (i j : ℕ) : Type 0 where
-  pub on : i < j
-  pub boundary : IsCharBoundary text j
 
 -- a space or a tab, a line end, or a comment
 abbrev pub GapPiece : List ℕ → ℕ → ℕ → Type 0
@@ -21,10 +15,6 @@ GapPiece text i j =
 -- whether a piece of a gap begins at a place
 abbrev pub begins_gap : List ℕ → ℕ → Bool
 begins_gap text i = ((is_blank (slice_index text i) || slice_index text i == 10) || is_crlf text i) || slice_index text i == 35
-
-abbrev pub GapPieceGives : List ℕ → ℕ → Option ℕ → Type 0
-GapPieceGives text i None = begins_gap text i ≡ false
-GapPieceGives text i (Some j) = GapPiece text i j × Further text i j
 
 -- pieces of a gap from i to j, with their ends
 abbrev pub GapBy : List ℕ → ℕ → List ℕ → ℕ → Type 0
@@ -52,9 +42,17 @@ Tail text i j = (k : ℕ) × Skipped text i k × (LineEnd text k j ⊎ ((k ≡ l
 abbrev pub NoTail : List ℕ → ℕ → ℕ → Type 0
 NoTail text i k = Skipped text i k × (k < length text) × NoLineEnd text k
 
-abbrev pub TailGives : List ℕ → ℕ → Result ℕ ℕ → Type 0
-TailGives text i (Ok j) = Tail text i j × (i ≤ j) × IsCharBoundary text j
-TailGives text i (Err k) = NoTail text i k × IsCharBoundary text k
+-- `expression = ws [ comment ]`: from i to j stand lines, with these ends, that hold nothing else. A gap before a form is blank
+-- lines and the spaces and tabs before it.
+abbrev pub BlankLines : List ℕ → ℕ → List ℕ → ℕ → Type 0
+BlankLines text i [] j = i ≡ j
+BlankLines text i (k ∷ ks) j = Tail text i k × BlankLines text k ks j
+
+-- a character stands at i that a comment can hold, or the text ends there: no comment ends at a control character before it
+abbrev pub BehindLines : List ℕ → ℕ → Type 0
+BehindLines text i = (i ≡ length text) ⊎ (is_printed (slice_index text i) ≡ true)
+
+-- ---- signs, with what may stand round them
 
 -- a dot, with spaces and tabs round it
 pub record Dot (text : List ℕ) (i j : ℕ) : Type 0 where
@@ -67,10 +65,6 @@ pub record NoDot (text : List ℕ) (i : ℕ) : Type 0 where
   pub at : ℕ
   pub before : MaximalRun is_blank text i at
   pub here : (slice_index text at == 46) ≡ false
-
-abbrev pub DotGives : List ℕ → ℕ → Option ℕ → Type 0
-DotGives text i None = NoDot text i
-DotGives text i (Some j) = Dot text i j × Further text i j
 
 -- a sign, with gaps round it
 pub record Sign (c : ℕ) (text : List ℕ) (i j : ℕ) : Type 0 where
@@ -92,23 +86,9 @@ pub record Neither (c : ℕ) (text : List ℕ) (i j : ℕ) : Type 0 where
   pub no_comma : (slice_index text j == 44) ≡ false
   pub no_bracket : (slice_index text j == c) ≡ false
 
-abbrev pub BehindGives : ℕ → List ℕ → ℕ → Behind → Type 0
-BehindGives c text i (behind.Comma j) = Sign 44 text i j × Further text i j
-BehindGives c text i (behind.Closed j) = Closes c text i j × Further text i j
-BehindGives c text i (behind.Neither j) = Neither c text i j × IsCharBoundary text j
-
--- a sign with gaps round it, or where it is due
-abbrev pub SignGives : ℕ → List ℕ → ℕ → Result ℕ ℕ → Type 0
-SignGives c text i (Ok j) = Sign c text i j × Further text i j
-SignGives c text i (Err k) = MaximalGap text i k × ((slice_index text k == c) ≡ false) × IsCharBoundary text k
-
 -- an equals sign, with spaces and tabs round it
 pub record Equals (text : List ℕ) (i j : ℕ) : Type 0 where
   pub at : ℕ
   pub before : MaximalRun is_blank text i at
   pub here : slice_index text at ≡ 61
   pub behind : MaximalRun is_blank text (at + 1) j
-
-abbrev pub EqualsGives : List ℕ → ℕ → Result ℕ ℕ → Type 0
-EqualsGives text i (Ok j) = Equals text i j × Further text i j
-EqualsGives text i (Err k) = MaximalRun is_blank text i k × ((slice_index text k == 61) ≡ false) × IsCharBoundary text k

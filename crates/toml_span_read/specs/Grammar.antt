@@ -1,17 +1,23 @@
--- The grammar of values (TOML 1.1, "Key/Value Pair", "Array", "Inline Table").
-use Rattle.std.specs.Prelude.{◌≡◌, ℕ, ◌+◌, ◌≤◌, ◌⊎◌, Bool, true, false, List, [], ◌∷◌, ◌++◌, length, slice_index, slice_range, codes}
+-- The grammar of values, lines and the document (TOML 1.1, "Overall Structure", "Key/Value Pair", "Array",
+-- "Inline Table", "Table", "Array of Tables").
+use Rattle.std.specs.Prelude.{◌≡◌, ℕ, ◌+◌, ◌≤◌, ◌⊎◌, Bool, true, false, ◌==◌, List, [], ◌∷◌, ◌++◌, length, slice_index}
+use Rattle.std.specs.Prelude.{slice_range, codes}
 use Rattle.toml_span_lex.specs.declared.span.Span.{Span}
-use Rattle.toml_span_lex.specs.Bytes.{is_keylike}
+use Rattle.toml_span_lex.specs.Bytes.{is_keylike, left_bracket, right_bracket, is_blank, MaximalRun}
 use Rattle.toml_span_lex.specs.Strings.{IsString}
 use Rattle.toml_span_lex.specs.Tokens.{RunAt}
+use Rattle.toml_span_lex.specs.Tokenizer.{FirstPlace}
 use Rattle.toml_span_tree.specs.Date.{IsDateText}
-use Rattle.toml_span_tree.specs.Node.{Scalar, text, integer, float, boolean, datetime}
-use Rattle.toml_span_read.specs.Gaps.{MaximalGap, Sign, Closes}
-use Rattle.toml_span_read.specs.Keys.{Dotted}
+use Rattle.toml_span_tree.specs.Node.{Scalar, integer, float, boolean, datetime, text as text_scalar}
 use Rattle.toml_span_read.specs.Dates.{begins_date, IsCandidate}
 use Rattle.toml_span_read.specs.Numbers.{IsNumber}
-use Rattle.toml_span_read.specs.Data.{Node, node, Inner, scalar, array, inline, Items, no_items, item, Pairs, no_pairs, pair, Event}
+use Rattle.toml_span_read.specs.Gaps.{MaximalGap, Sign, Closes, Equals, Tail}
+use Rattle.toml_span_read.specs.Keys.{Dotted, Part}
+use Rattle.toml_span_read.specs.Data.{Node, node, Inner, scalar, Items, no_items, item, Pairs, no_pairs, pair, Event}
+use Rattle.toml_span_read.specs.Data.{array as array_node, inline as inline_node, Block}
 use Rattle.toml_span_read.specs.Earlier.{Clear}
+
+-- ---- values
 
 -- `boolean = true / false`
 abbrev pub truth_text : Bool → List ℕ
@@ -25,7 +31,7 @@ from_to i j = record { start = i; end = j }
 -- The text from i to j is this string, number, truth value or date, with this span: of a string its content's. A number is read
 -- where no date begins.
 abbrev pub IsScalar : Scalar → Span → List ℕ → ℕ → ℕ → Type 0
-IsScalar (text value) span t i j = (source : List ℕ) × (multi : Bool) × IsString t i j span source value multi
+IsScalar (text_scalar value) span t i j = (source : List ℕ) × (multi : Bool) × IsString t i j span source value multi
 IsScalar (boolean b) span t i j = RunAt is_keylike t i j (truth_text b) × (span ≡ from_to i j)
 IsScalar (datetime date) span t i j =
     (begins_date t i ≡ true) × IsCandidate t i j × IsDateText date × (date ≡ slice_range t i j) × (span ≡ from_to i j)
@@ -42,9 +48,9 @@ abbrev mutual
   -- `inline-table = inline-table-open [ inline-table-keyvals ] ws-comment-newline inline-table-close`
   pub SpellsInner : Inner → Span → List ℕ → ℕ → ℕ → ℕ → ℕ → Type 0
   SpellsInner (scalar s) span t limit d i j = IsScalar s span t i j
-  SpellsInner (array vs) span t limit d i j =
+  SpellsInner (array_node vs) span t limit d i j =
       (slice_index t i ≡ 91) × (span ≡ from_to i j) × (k : ℕ) × MaximalGap t (i + 1) k × SpellsItems vs t limit (d + 1) k j
-  SpellsInner (inline ps) span t limit d i j =
+  SpellsInner (inline_node ps) span t limit d i j =
       (slice_index t i ≡ 123) × (span ≡ from_to i j) × (k : ℕ) × MaximalGap t (i + 1) k × SpellsPairs ps [] t limit (d + 1) k j
 
   -- values with commas between them, one more comma or none, and the closing bracket
@@ -69,3 +75,96 @@ abbrev mutual
 abbrev pub SpellsPair : Event → List ℕ → ℕ → ℕ → ℕ → ℕ → Type 0
 SpellsPair e t limit d i j =
     (a b : ℕ) × Dotted e.parts t i a × (length e.parts ≤ limit) × Sign 61 t a b × Spells e.value t limit (d + length e.parts) b j × (e.extent ≡ from_to i j)
+
+-- ---- assignments
+
+-- `keyval = key keyval-sep val`: the text from i to j is this assignment
+pub record SpellsEvent (ev : Event) (text : List ℕ) (limit i j : ℕ) : Type 0 where
+  pub key_end : ℕ
+  pub from : ℕ
+  pub key : Dotted ev.parts text i key_end
+  pub few : length ev.parts ≤ limit
+  pub sign : Equals text key_end from
+  pub spelled : Spells ev.value text limit (length ev.parts) from j
+  pub extent : ev.extent ≡ record { start = i; end = j }
+
+-- `expression = ws keyval ws [ comment ]`: from i to j stand these assignments, each with the rest of its line and the
+-- blank lines behind it. No key goes through one of the earlier values of its section.
+abbrev pub SpellsEvents : List Event → List Event → List ℕ → ℕ → ℕ → ℕ → Type 0
+SpellsEvents [] earlier text limit i j = j ≡ i
+SpellsEvents (ev ∷ evs) earlier text limit i j =
+    (m n k : ℕ) × SpellsEvent ev text limit i m × Tail text m n × Clear earlier ev × MaximalGap text n k × SpellsEvents evs (earlier ++ (ev ∷ [])) text limit k j
+
+-- from i to j stand blank lines and these assignments
+abbrev pub SpellsLines : List Event → List ℕ → ℕ → ℕ → ℕ → Type 0
+SpellsLines evs text limit i j = (k : ℕ) × MaximalGap text i k × SpellsEvents evs [] text limit k j
+
+-- ---- headers
+
+-- `std-table-open`, one bracket, or `array-table-open`, two of them
+abbrev pub Opens : Bool → List ℕ → ℕ → ℕ → Type 0
+Opens false text i j = (slice_index text i ≡ left_bracket) × ((slice_index text (i + 1) == left_bracket) ≡ false) × (j ≡ i + 1)
+Opens true text i j = (slice_index text i ≡ left_bracket) × (slice_index text (i + 1) ≡ left_bracket) × (j ≡ i + 2)
+
+-- `std-table-close`, or `array-table-close`
+abbrev pub Shuts : Bool → List ℕ → ℕ → ℕ → Type 0
+Shuts false text i j = (slice_index text i ≡ right_bracket) × (j ≡ i + 1)
+Shuts true text i j = (slice_index text i ≡ right_bracket) × (slice_index text (i + 1) ≡ right_bracket) × (j ≡ i + 2)
+
+-- an opening bracket, one or two, with the spaces and tabs behind it, and the parts of the key with those behind it
+pub record HeaderFront (parts : List Part) (array : Bool) (text : List ℕ) (limit i j : ℕ) : Type 0 where
+  pub inside : ℕ
+  pub start : ℕ
+  pub end : ℕ
+  pub opens : Opens array text i inside
+  pub before : MaximalRun is_blank text inside start
+  pub key : Dotted parts text start end
+  pub few : length parts ≤ limit
+  pub behind : MaximalRun is_blank text end j
+
+-- `std-table = std-table-open key std-table-close`, `array-table = array-table-open key array-table-close`: the text
+-- from i to j is a header of these parts with the rest of its line
+pub record SpellsHeader (parts : List Part) (array : Bool) (text : List ℕ) (limit i j : ℕ) : Type 0 where
+  pub close : ℕ
+  pub end : ℕ
+  pub front : HeaderFront parts array text limit i close
+  pub shuts : Shuts array text close end
+  pub rest : Tail text end j
+
+-- ---- sections
+
+-- where the last of these assignments ends, or, without one, n
+abbrev pub last_end : ℕ → List Event → ℕ
+last_end n [] = n
+last_end n (ev ∷ evs) = last_end ev.extent.end evs
+
+-- From i to j stands this section: its header, and its assignments. The header's span is the header with the rest of
+-- its line. The extent is from the header to the end of the last assignment, or, without one, the header's span.
+pub record SpellsSection (b : Block) (text : List ℕ) (limit i j : ℕ) : Type 0 where
+  pub end : ℕ
+  pub header : SpellsHeader b.header b.array text limit i end
+  pub header_span : b.header_span ≡ record { start = i; end = end }
+  pub lines : SpellsLines b.events text limit end j
+  pub extent : b.extent ≡ record { start = i; end = last_end end b.events }
+
+-- the assignments before the first header, if there are any, are a section of their own
+abbrev pub first_block : List Event → List Block
+first_block [] = []
+first_block (ev ∷ evs) =
+    record { header = []; array = false; header_span = record { start = 0; end = 0 }; extent = record { start = ev.extent.start; end = last_end ev.extent.end evs }; events = ev ∷ evs } ∷ []
+
+-- from i to the end of the text stand these sections
+abbrev pub SpellsSections : List Block → List ℕ → ℕ → ℕ → Type 0
+SpellsSections [] text limit i = i ≡ length text
+SpellsSections (b ∷ bs) text limit i = (j : ℕ) × SpellsSection b text limit i j × SpellsSections bs text limit j
+
+-- `toml = expression *( newline expression )`: the text, behind a byte order mark, spells these sections
+pub record SpellsDocument (bs : List Block) (text : List ℕ) (limit : ℕ) : Type 0 where
+  pub start : ℕ
+  pub end : ℕ
+  pub first : List Event
+  pub rest : List Block
+  pub begins : FirstPlace text start
+  pub lines : SpellsLines first text limit start end
+  pub sections : SpellsSections rest text limit end
+  pub all : bs ≡ first_block first ++ rest

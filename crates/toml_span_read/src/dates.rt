@@ -2,9 +2,11 @@
 ghost use Rattle.std.specs.Prelude.{◌≡◌, ◌≤◌, true, length, slice_index};
 ghost use Rattle.std.specs.Str.{IsCharBoundary};
 ghost use Rattle.toml_span_lex.specs.Bytes.{MaximalRun};
+ghost use Rattle.std.specs.Char.{is_ascii_digit};
 ghost use Rattle.toml_span_read.specs.Dates as spec;
-ghost use Rattle.toml_span_read.specs.Dates.{IsCandidate, DateGives};
-ghost use Rattle.toml_span_read.specs.Numbers.{IsPlacedFault};
+ghost use Rattle.toml_span_read.specs.Dates.{IsCandidate};
+ghost use Rattle.toml_span_read.specs.code.Dates.{DateGives};
+ghost use Rattle.toml_span_read.specs.code.Numbers.{IsPlacedFault};
 
 use crate::fault::{Fault, FaultKind};
 use crate::gaps::byte_at;
@@ -15,7 +17,7 @@ use toml_span_tree::DateText;
 /// Whether a decimal digit is at a place.
 #[inline]
 fn is_decimal_at(text: &str, at: usize) -> bool
-    ensures { result ≡ spec.is_decimal (slice_index text.now at) }
+    ensures { result ≡ is_ascii_digit (slice_index text.now at) }
 {
     byte_at(text, at).is_ascii_digit()
 }

@@ -1,7 +1,9 @@
 //! White space, comments and line ends between tokens.
 ghost use Rattle.std.specs.Prelude.{◌≡◌, ◌+◌, ◌<◌, slice_index};
 ghost use Rattle.std.specs.Str.{IsCharBoundary};
-ghost use Rattle.toml_span_read.specs.Gaps.{GapPieceGives, MaximalGap, TailGives, DotGives, BehindGives, SignGives, EqualsGives, Further};
+ghost use Rattle.toml_span_read.specs.code.Gaps.{GapPieceGives, TailGives, DotGives, BehindGives, SignGives};
+ghost use Rattle.toml_span_read.specs.code.Gaps.{EqualsGives, Further};
+ghost use Rattle.toml_span_read.specs.Gaps.{MaximalGap};
 
 use toml_span_lex::bytes::{blanks_end, printed_end};
 use toml_span_lex::text::line_end;

@@ -3,9 +3,8 @@ ghost use Rattle.std.specs.Prelude.{◌≡◌, ◌<◌, ◌≤◌, ◌⊎◌, le
 ghost use Rattle.std.specs.Str.{IsCharBoundary};
 ghost use Rattle.toml_span_lex.specs.Strings.{BorrowsWhereSame};
 ghost use Rattle.toml_span_read.specs.Borrowed.{AreRight, dotted_written, keys_written};
-ghost use Rattle.toml_span_read.specs.Keys as spec;
-ghost use Rattle.toml_span_read.specs.Keys.{KeyGives, DottedGives, HeaderKeyGives};
-ghost use Rattle.toml_span_read.specs.Faults.{Advances};
+ghost use Rattle.toml_span_read.specs.code.Keys.{KeyGives, DottedGives, HeaderKeyGives};
+ghost use Rattle.toml_span_read.specs.code.Faults.{Advances};
 
 use crate::fault::{Due, Fault, FaultKind, fault_at};
 use crate::gaps::{byte_at, dot};

@@ -2,15 +2,22 @@
 ghost use Rattle.std.specs.Prelude.{◌≡◌, ℕ, ◌+◌, ◌*◌, ◌<◌, ◌≤◌, ◌||◌, ◌&&◌, ◌==◌, ◌⊎◌, not, true, false, length, slice_index, filter, string_bytes, IfOk, IfSome, Ok};
 ghost use Rattle.std.specs.Str.{IsCharBoundary};
 ghost use Rattle.toml_span_lex.specs.Bytes.{is_keylike, MaximalRun};
-ghost use Rattle.toml_span_read.specs.Dates.{is_decimal};
-ghost use Rattle.toml_span_read.specs.Gaps.{Further};
-ghost use Rattle.toml_span_read.specs.Stuck.{BareGives};
-ghost use Rattle.toml_span_read.specs.Faults.{Advances, IsPlaced};
-ghost use Rattle.toml_span_read.specs.Data.{IsScalarKind, kind_view, scalar};
+ghost use Rattle.std.specs.Char.{is_ascii_digit};
+ghost use Rattle.toml_span_read.specs.code.Gaps.{Further};
+ghost use Rattle.toml_span_read.specs.code.Values.{BareGives, IsScalarKind};
+ghost use Rattle.toml_span_read.specs.code.Faults.{Advances};
+ghost use Rattle.toml_span_read.specs.Places.{IsPlaced};
+ghost use Rattle.toml_span_read.specs.Data.{kind_view, scalar};
 ghost use Rattle.toml_span_tree.specs.Node.{integer, float};
 ghost use Rattle.toml_span_tree.specs.Value.{decimal_of};
 ghost use Rattle.toml_span_read.specs.Numbers as spec;
-ghost use Rattle.toml_span_read.specs.Numbers.{IsRun, Run, IsSpecial, UnsignedDecimal, NoDecimal, DigitsEnd, NumberEnds, DecimalEnds, IsPlacedFault, DigitGives, DigitsGive, WithinGives, sum_of_digits, is_digit, SignedGives, IntegerGives, RadixIntegerGives, IntegerPartGives, ExponentDigitsGive, ExponentGives, FractionGives, DecimalGives, SpecialGives, UnsignedGives, NumberGives, behind_sign, is_negative};
+ghost use Rattle.toml_span_read.specs.code.Numbers.{IsRun, DigitsEnd, NumberEnds, DecimalEnds, IsPlacedFault};
+ghost use Rattle.toml_span_read.specs.code.Numbers.{DigitGives, DigitsGive, WithinGives, SignedGives, IntegerGives};
+ghost use Rattle.toml_span_read.specs.code.Numbers.{RadixIntegerGives, IntegerPartGives, ExponentDigitsGive};
+ghost use Rattle.toml_span_read.specs.code.Numbers.{ExponentGives, FractionGives, DecimalGives, SpecialGives};
+ghost use Rattle.toml_span_read.specs.code.Numbers.{UnsignedGives, NumberGives};
+ghost use Rattle.toml_span_read.specs.Faults.{Run, IsSpecial, NoDecimal};
+ghost use Rattle.toml_span_read.specs.Numbers.{UnsignedDecimal, sum_of_digits, is_digit, behind_sign, is_negative};
 
 use crate::fault::{Fault, invalid_number};
 use crate::gaps::byte_at;
@@ -334,7 +341,7 @@ fn few_digits(text: &str, from: usize) -> (u64, usize)
     requires { from ≤ length text.now }
     ensures forward { from ≤ result.1 }
     ensures within { result.1 ≤ length text.now }
-    ensures digits { (k : ℕ) → from ≤ k → k < result.1 → is_decimal (slice_index text.now k) ≡ true }
+    ensures digits { (k : ℕ) → from ≤ k → k < result.1 → is_ascii_digit (slice_index text.now k) ≡ true }
     ensures value { result.0 ≡ spec.magnitude 10 text.now from result.1 }
 {
     let bytes = text.as_bytes();

@@ -1,15 +1,21 @@
 //! Lines, headers and sections.
 ghost use Rattle.std.specs.Prelude.{◌≡◌, ℕ, ◌<◌, ◌≤◌, ◌+◌, ◌++◌, ◌⊎◌, map, length, slice_index, IfSome, IfOk};
 ghost use Rattle.std.specs.Str.{IsCharBoundary};
-ghost use Rattle.toml_span_read.specs.Borrowed.{AreRight, keys_written, assignment_written, assignments_written, section_written, sections_written};
-ghost use Rattle.toml_span_read.specs.Data.{event};
-ghost use Rattle.toml_span_read.specs.Lines as spec;
-ghost use Rattle.toml_span_read.specs.Lines.{Opens, EventGives, LineGives, LinesGive, CloseGives, HeaderGives, SectionsGive, KeepsForm, ReadsDocument, block, block_of, first_block, first_blocks};
-ghost use Rattle.toml_span_read.specs.Gaps.{Further};
+ghost use Rattle.toml_span_read.specs.Borrowed.{AreRight, keys_written, assignment_written, assignments_written};
+ghost use Rattle.toml_span_read.specs.Borrowed.{section_written, sections_written};
+ghost use Rattle.toml_span_read.specs.Data.{event, block};
+ghost use Rattle.toml_span_read.specs.Grammar as spec;
+ghost use Rattle.toml_span_read.specs.Grammar.{Opens, first_block};
+ghost use Rattle.toml_span_read.specs.code.Sections.{EventGives, LineGives, LinesGive, CloseGives, HeaderGives};
+ghost use Rattle.toml_span_read.specs.code.Sections.{SectionsGive, block_of, first_blocks, FirstReads, FirstGives};
+ghost use Rattle.toml_span_read.specs.code.Sections.{SectionReads, SectionGives};
+ghost use Rattle.toml_span_read.specs.Stuck.{KeepsForm, ReadsDocument};
+ghost use Rattle.toml_span_read.specs.code.Gaps.{Further};
 ghost use Rattle.toml_span_lex.specs.Tokenizer.{FirstPlace};
-ghost use Rattle.toml_span_read.specs.Inside.{SectionsInside};
-ghost use Rattle.toml_span_read.specs.Stepwise.{FirstReads, FirstGives, SectionReads, SectionGives};
-ghost use Rattle.toml_span_read.specs.Limits.{AssignmentReads, AssignmentsRead, LineReads, HeaderReads, SectionsRead, WithinSection, WithinEvents, EndsAtHeader, Reads};
+ghost use Rattle.toml_span_read.specs.Places.{SectionsInside};
+ghost use Rattle.toml_span_read.specs.code.Limits.{AssignmentReads, AssignmentsRead, LineReads, HeaderReads};
+ghost use Rattle.toml_span_read.specs.code.Limits.{SectionsRead, EndsAtHeader};
+ghost use Rattle.toml_span_read.specs.Limits.{WithinSection, WithinEvents, Reads};
 
 use crate::earlier::{Earlier, add_clear};
 use crate::fault::{Due, Fault, error_of};

@@ -2,17 +2,21 @@
 ghost use Rattle.std.specs.Prelude.{◌≡◌, ◌+◌, ◌<◌, ◌≤◌, ◌||◌, ◌==◌, ◌⊎◌, ◌++◌, ◌∷◌, [], true, false, length, slice_index, map, IfOk};
 ghost use Rattle.std.specs.Str.{IsCharBoundary};
 ghost use Rattle.toml_span_lex.specs.Bytes.{is_keylike};
-ghost use Rattle.toml_span_read.specs.Faults.{Advances, IsPlaced, IsPlacedStop};
+ghost use Rattle.toml_span_read.specs.code.Faults.{Advances, IsPlacedStop};
+ghost use Rattle.toml_span_read.specs.Places.{IsPlaced};
 ghost use Rattle.std.specs.Cow.{cow_str_bytes};
 ghost use Rattle.toml_span_tree.specs.Node.{text as text_node, boolean, datetime};
 ghost use Rattle.toml_span_tree.specs.Value.{date_bytes};
-ghost use Rattle.toml_span_read.specs.Borrowed.{AreRight, string as string_written, written, kind_written, joined, assignment_written, assignments_written, dotted_written};
+ghost use Rattle.toml_span_read.specs.Borrowed.{AreRight, string as string_written, written, kind_written, joined};
+ghost use Rattle.toml_span_read.specs.Borrowed.{assignment_written, assignments_written, dotted_written};
 ghost use Rattle.toml_span_read.specs.Keys as spec;
-ghost use Rattle.toml_span_read.specs.Limits.{ValueReads, AssignmentReads};
-ghost use Rattle.toml_span_read.specs.Stuck.{opens_nested, begins_bare, begins_number, IsRunOf, IsTooDeep, ValueGives, BareGives, PairGives};
+ghost use Rattle.toml_span_read.specs.code.Limits.{ValueReads, AssignmentReads};
+ghost use Rattle.toml_span_read.specs.Faults.{opens_nested, begins_bare, begins_number};
+ghost use Rattle.toml_span_read.specs.code.Values.{IsRunOf, IsTooDeep, ValueGives, BareGives, PairGives};
 ghost use Rattle.toml_span_read.specs.Dates as date_spec;
 ghost use Rattle.toml_span_read.specs.Keys.{opens_string};
-ghost use Rattle.toml_span_read.specs.Data.{view, kind_view, event, node, scalar as scalar_node, array as array_node, inline as inline_node, onto, pairs_onto, no_items, no_pairs};
+ghost use Rattle.toml_span_read.specs.Data.{view, kind_view, event, node, scalar as scalar_node, array as array_node};
+ghost use Rattle.toml_span_read.specs.Data.{inline as inline_node, onto, pairs_onto, no_items, no_pairs};
 
 use crate::dates::{begins_date, date};
 use crate::earlier::{Earlier, add_clear};

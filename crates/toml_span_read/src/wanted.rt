@@ -4,8 +4,8 @@ ghost use Rattle.std.specs.Str.{IsCharBoundary};
 ghost use Rattle.toml_span_lex.specs.Strings.{BorrowsWhereSame};
 ghost use Rattle.toml_span_lex.specs.Tokens.{lexeme};
 ghost use Rattle.toml_span_read.specs.Faults as faults;
-ghost use Rattle.toml_span_read.specs.Wanted as spec;
-ghost use Rattle.toml_span_read.specs.Wanted.{StringReads, FoundGives, WantedGives, NoValueGives, Bounded};
+ghost use Rattle.toml_span_read.specs.code.Faults as faults_code;
+ghost use Rattle.toml_span_read.specs.code.Wanted.{StringReads, FoundGives, WantedGives, NoValueGives, Bounded};
 
 use crate::fault::{Due, Fault, FaultKind, Found, fault_at};
 use crate::gaps::byte_at;
@@ -86,7 +86,7 @@ fn pieced_string<'de>(
     requires quote { (slice_index text.now at ≡ 34) ⊎ (slice_index text.now at ≡ 39) }
     ensures gives { StringReads text.now at result }
     ensures borrows { IfOk result (λ token. BorrowsWhereSame text.now token.span token.content) }
-    ensures placed { faults.IsPlacedEnd text.now result }
+    ensures placed { faults_code.IsPlacedEnd text.now result }
 {
     match string_at(alloc, text, at) {
         Ok((span, token, end)) => match token {
@@ -118,7 +118,7 @@ pub fn string<'de>(
     requires quote { (slice_index text.now at ≡ 34) ⊎ (slice_index text.now at ≡ 39) }
     ensures gives { StringReads text.now at result }
     ensures borrows { IfOk result (λ token. BorrowsWhereSame text.now token.span token.content) }
-    ensures placed { faults.IsPlacedEnd text.now result }
+    ensures placed { faults_code.IsPlacedEnd text.now result }
 {
     match short_string(text, at) {
         Some(token) => Ok(token),
@@ -128,7 +128,7 @@ pub fn string<'de>(
 
 /// What a token is called where another one is due.
 fn found_of(token: &Token<'_>) -> Found
-    ensures { result ≡ spec.found_of (lexeme token.now) }
+    ensures { result ≡ faults.found_of (lexeme token.now) }
 {
     match token {
         Token::Whitespace(_) => Found::Whitespace,
@@ -171,7 +171,7 @@ pub fn opens_string(byte: u8) -> bool
 fn found_at(alloc: Global, text: &str, at: usize) -> Result<(Found, usize), Stop<Fault>>
     requires { IsCharBoundary text.now at }
     ensures gives { FoundGives text.now at result }
-    ensures placed { faults.IsPlacedEnd text.now result }
+    ensures placed { faults_code.IsPlacedEnd text.now result }
 {
     if at == text.len() {
         return Ok((Found::EndOfText, at));
@@ -192,7 +192,7 @@ fn found_at(alloc: Global, text: &str, at: usize) -> Result<(Found, usize), Stop
 pub fn wanted(alloc: Global, text: &str, at: usize, expected: Due) -> Stop<Fault>
     requires { IsCharBoundary text.now at }
     ensures gives { WantedGives text.now at expected result }
-    ensures placed { faults.IsPlacedStop text.now result }
+    ensures placed { faults_code.IsPlacedStop text.now result }
 {
     match found_at(alloc, text, at) {
         Ok((found, _)) => {
@@ -214,7 +214,7 @@ pub fn wanted(alloc: Global, text: &str, at: usize, expected: Due) -> Stop<Fault
 pub fn no_value(alloc: Global, text: &str, at: usize) -> Stop<Fault>
     requires { IsCharBoundary text.now at }
     ensures gives { NoValueGives text.now at result }
-    ensures placed { faults.IsPlacedStop text.now result }
+    ensures placed { faults_code.IsPlacedStop text.now result }
 {
     if at == text.len() {
         return Stop::Fault(fault_at(FaultKind::UnexpectedEof, at));

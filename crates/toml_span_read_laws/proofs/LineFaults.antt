@@ -4,12 +4,12 @@ use Rattle.toml_span_lex.specs.Bytes.{is_blank, MaximalRun}
 use Rattle.toml_span_lex.proofs.Unique.{run_unique}
 use Rattle.toml_span_read.specs.declared.fault.Due.TheVariants as dues
 use Rattle.toml_span_read.specs.declared.fault.Fault.{Fault}
-use Rattle.toml_span_read.specs.Data.{Node, Event}
+use Rattle.toml_span_read.specs.Data.{Node, Event, Block}
 use Rattle.toml_span_read.specs.Earlier.{Clear, Crossing}
-use Rattle.toml_span_read.specs.Grammar.{Spells}
-use Rattle.toml_span_read.specs.Keys.{Part, StuckHeaderKey}
-use Rattle.toml_span_read.specs.Lines.{SpellsLines, Opens, HeaderFront, SpellsHeader, Block, SpellsSection, StuckEvent, line_key, line_equals, line_value, StuckTail, StuckEvents, in_line, no_newline, crossing, line_on, StuckLines, NoShuts, StuckHeader, header_key, header_close, header_rest, StuckSections, in_header, in_section, section_on, StuckDocument, before_headers, behind_header}
-use Rattle.toml_span_read.specs.Stuck.{StuckValue}
+use Rattle.toml_span_read.specs.Grammar.{Spells, SpellsLines, Opens, HeaderFront, SpellsHeader, SpellsSection}
+use Rattle.toml_span_read.specs.Keys.{Part}
+use Rattle.toml_span_read.specs.Stuck.{StuckHeaderKey, StuckEvent, line_key, line_equals, line_value, StuckEvents, in_line, no_newline, crossing, line_on, StuckLines, StuckHeader, header_key, header_close, header_rest, StuckSections, in_header, in_section, section_on, StuckDocument, before_headers, behind_header, StuckValue}
+use Rattle.toml_span_read.specs.Faults.{StuckTail, NoShuts}
 use Rattle.toml_span_read_laws.proofs.EarlierLaws.{clear_crossing, crossing_one}
 use Rattle.toml_span_read_laws.proofs.KeyLaws.{not_here, gap_unique, dotted_unique, dotted_excluded}
 use Rattle.toml_span_read_laws.proofs.ValueLaws.{value_unique, value_excluded}

@@ -1,26 +1,26 @@
 -- What is due at a place, by the text before it, and the faults that are told there.
-use Rattle.std.specs.Prelude.{◌≡◌, ℕ, ◌+◌, ◌<◌, ◌≤◌, ◌⊎◌, Bool, true, false, ◌||◌, ◌==◌, List, [], ◌∷◌, ◌++◌, length, slice_index, Vec, Result, Ok, Err}
+use Rattle.std.specs.Prelude.{◌≡◌, ℕ, ◌+◌, ◌<◌, ◌≤◌, ◌⊎◌, Bool, true, false, ◌||◌, ◌==◌, List, [], ◌∷◌, ◌++◌, length}
+use Rattle.std.specs.Prelude.{slice_index, Vec, Result, Ok, Err}
 use Rattle.std.specs.Global.{Global}
+use Rattle.toml_span_lex.specs.Bytes.{is_blank, equals, comma, left_bracket, right_bracket, left_brace, right_brace}
+use Rattle.toml_span_lex.specs.Bytes.{MaximalRun}
+use Rattle.toml_span_lex.specs.Tokenizer.{FirstPlace}
+use Rattle.toml_span_lex.specs.Text.{NoLineEnd}
 use Rattle.toml_span_lex.specs.declared.stop.Stop.{Stop}
 use Rattle.toml_span_lex.specs.declared.stop.Stop.TheVariants as stops
-use Rattle.toml_span_lex.specs.Bytes.{is_blank, equals, comma, left_bracket, right_bracket, left_brace, right_brace, MaximalRun}
-use Rattle.toml_span_lex.specs.Text.{NoLineEnd}
-use Rattle.toml_span_lex.specs.Tokenizer.{FirstPlace}
 use Rattle.toml_span_tree.specs.Error.{fault_of}
 use Rattle.toml_span_tree.specs.declared.error.Error.{Error}
-use Rattle.toml_span_read.specs.declared.section.Section.{Section}
+use Rattle.toml_span_read.specs.Data.{Event, Node}
+use Rattle.toml_span_read.specs.Earlier.{Clear, Crossing}
+use Rattle.toml_span_read.specs.Gaps.{MaximalGap, Skipped, Tail, Dot}
+use Rattle.toml_span_read.specs.Grammar.{Spells, SpellsPair, SpellsEvent, Opens, HeaderFront, SpellsHeader}
+use Rattle.toml_span_read.specs.Keys.{Part, IsKey, Dotted, opens_string}
 use Rattle.toml_span_read.specs.declared.fault.Due.TheVariants as dues
 use Rattle.toml_span_read.specs.declared.fault.Fault.{Fault}
 use Rattle.toml_span_read.specs.declared.fault.FaultKind.TheVariants as kinds
-use Rattle.toml_span_read.specs.Data.{Node, Event}
-use Rattle.toml_span_read.specs.Earlier.{Clear, Crossing}
-use Rattle.toml_span_read.specs.Faults.{fault_at, Tells}
-use Rattle.toml_span_read.specs.Gaps.{MaximalGap, Skipped, Tail, Dot}
-use Rattle.toml_span_read.specs.Grammar.{Spells, SpellsPair}
-use Rattle.toml_span_read.specs.Keys.{Part, IsKey, Dotted, NoKey, opens_string}
-use Rattle.toml_span_read.specs.Lines.{SpellsEvent, Opens, HeaderFront, SpellsHeader}
-use Rattle.toml_span_read.specs.Stuck.{opens_nested, begins_bare, Begins, NoBare}
-use Rattle.toml_span_read.specs.Wanted.{IsWanted, IsNoValue, IsTokenFault}
+use Rattle.toml_span_read.specs.Faults.{fault_at, NoKey, opens_nested, begins_bare, Begins, NoBare, IsWanted, IsNoValue}
+use Rattle.toml_span_read.specs.Faults.{IsTokenFault, Tells}
+use Rattle.toml_span_read.specs.declared.section.Section.{Section}
 
 -- what stands round a place, from the inside: the assignments of a section before it, an open array, an open inline table with its
 -- pairs before it, and the key, of so many parts, of a value

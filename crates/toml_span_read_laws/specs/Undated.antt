@@ -4,16 +4,16 @@ use Rattle.std.specs.Prelude.{◌≡◌, ℕ, ◌+◌, ◌≤◌, ◌⊎◌, Boo
 use Rattle.toml_span_lex.specs.declared.span.Span.{Span}
 use Rattle.toml_span_lex.specs.Bytes.{is_keylike}
 use Rattle.toml_span_lex.specs.Strings.{IsString}
-use Rattle.toml_span_lex.specs.Tokenizer.{FirstPlace}
 use Rattle.toml_span_lex.specs.Tokens.{RunAt}
+use Rattle.toml_span_lex.specs.Tokenizer.{FirstPlace}
 use Rattle.toml_span_tree.specs.Node.{Scalar, text, integer, float, boolean, datetime}
-use Rattle.toml_span_read.specs.Data.{Node, node, Inner, scalar, array, inline, Items, no_items, item, Pairs, no_pairs, pair, Event}
+use Rattle.toml_span_read.specs.Grammar.{truth_text, from_to, SpellsHeader, last_end, first_block}
+use Rattle.toml_span_read.specs.Numbers.{IsNumber}
+use Rattle.toml_span_read.specs.Data.{Node, node, Inner, scalar, array, inline, Items, no_items, item, Pairs, no_pairs}
+use Rattle.toml_span_read.specs.Data.{pair, Event, Block}
 use Rattle.toml_span_read.specs.Earlier.{Clear}
 use Rattle.toml_span_read.specs.Gaps.{MaximalGap, Sign, Closes, Equals, Tail}
-use Rattle.toml_span_read.specs.Grammar.{truth_text, from_to}
 use Rattle.toml_span_read.specs.Keys.{Dotted}
-use Rattle.toml_span_read.specs.Lines.{SpellsHeader, Block, last_end, first_block}
-use Rattle.toml_span_read.specs.Numbers.{IsNumber}
 
 -- The text from i to j is this string, number or truth value, with this span: of a string its content's.
 abbrev pub UndatedScalar : Scalar → Span → List ℕ → ℕ → ℕ → Type 0

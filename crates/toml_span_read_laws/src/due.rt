@@ -6,7 +6,9 @@ ghost use Rattle.toml_span_tree.specs.declared.error.Error.{Error};
 ghost use Rattle.toml_span_read.specs.declared.section.Section.{Section};
 ghost use Rattle.toml_span_read.specs.declared.fault.Fault.{Fault};
 ghost use Rattle.toml_span_read_laws.specs.Due.{IsDue, RefusedWhereDue};
-ghost use Rattle.toml_span_read.specs.Lines.{Block, SpellsDocument, StuckDocument, ReadsDocument};
+ghost use Rattle.toml_span_read.specs.Data.{Block};
+ghost use Rattle.toml_span_read.specs.Grammar.{SpellsDocument};
+ghost use Rattle.toml_span_read.specs.Stuck.{StuckDocument, ReadsDocument};
 
 /// Each fault of a document is one that is told where something is due.
 pub fn faults_are_due()

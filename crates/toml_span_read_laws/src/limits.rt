@@ -4,7 +4,9 @@ ghost use Rattle.std.specs.Global.{Global};
 ghost use Rattle.toml_span_lex.specs.declared.stop.Stop.{Stop};
 ghost use Rattle.toml_span_tree.specs.declared.error.Error.{Error};
 ghost use Rattle.toml_span_read.specs.declared.section.Section.{Section};
-ghost use Rattle.toml_span_read.specs.Lines.{Block, block, SpellsDocument, ReadsDocument, AreRead};
+ghost use Rattle.toml_span_read.specs.Data.{Block, block};
+ghost use Rattle.toml_span_read.specs.Grammar.{SpellsDocument};
+ghost use Rattle.toml_span_read.specs.Stuck.{ReadsDocument, AreRead};
 
 /// A text that spells a document within a limit spells the same document within each greater one.
 pub fn wider_document()

@@ -6,10 +6,13 @@ ghost use Rattle.toml_span_tree.specs.declared.error.Error.{Error};
 ghost use Rattle.toml_span_read.specs.declared.section.Section.{Section};
 ghost use Rattle.toml_span_lex.specs.Bytes.{is_blank, MaximalRun};
 ghost use Rattle.toml_span_read.specs.declared.fault.Fault.{Fault};
-ghost use Rattle.toml_span_read.specs.Gaps.{MaximalGap, begins_gap};
+ghost use Rattle.toml_span_read.specs.Gaps.{MaximalGap, begins_gap, BlankLines, BehindLines};
 ghost use Rattle.toml_span_read.specs.Keys.{Part};
-ghost use Rattle.toml_span_read_laws.specs.Order.{BlocksAscend};
-ghost use Rattle.toml_span_read.specs.Lines.{Block, SpellsDocument, ReadsDocument, AreRead, StuckDocument, BlankLines, BehindLines, SpellsHeader, StuckHeader, StuckEvent, StuckTail};
+ghost use Rattle.toml_span_read_laws.specs.Places.{BlocksAscend};
+ghost use Rattle.toml_span_read.specs.Data.{Block};
+ghost use Rattle.toml_span_read.specs.Grammar.{SpellsDocument, SpellsHeader};
+ghost use Rattle.toml_span_read.specs.Stuck.{ReadsDocument, AreRead, StuckDocument, StuckHeader, StuckEvent};
+ghost use Rattle.toml_span_read.specs.Faults.{StuckTail};
 
 /// A text spells at most one document.
 pub fn one_document()

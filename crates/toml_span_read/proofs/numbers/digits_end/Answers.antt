@@ -1,7 +1,8 @@
 use Rattle.std.proofs.Common.{rules, arith, ◌≡◌, ◌≤◌, ◌<◌, sym, ◌∙◌, true, false, get_or, length}
 use Rattle.std.specs.Prelude.{◌==◌}
 use Rattle.std.proofs.lemmas.Bool.{false≢true}
-use Rattle.toml_span_read.specs.Numbers.{is_digit, underscore_first}
+use Rattle.toml_span_read.specs.Numbers.{is_digit}
+use Rattle.toml_span_read.specs.Faults.{underscore_first}
 use Rattle.toml_span_read.proofs.NumberLemmas.{digit_some, digit_none, no_figure, reading_digit, reading_underscore, digits_read, no_digits_inside, no_digits_at_end}
 use Rattle.toml_span_read.proofs.numbers.digits_end.Goals as goal
 use Rattle.toml_span_read.proofs.numbers.digits_end.Goals.{then-is_some, else-is_some+then-bytes-at-eq95+then-was_digit, else-bytes-at-eq95-via-then-bytes-at-eq95+else-was_digit, else-bytes-at-eq95-via-else-bytes-at-eq95}

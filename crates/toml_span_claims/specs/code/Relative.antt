@@ -1,13 +1,14 @@
 -- What headers and assignments claim, seen from the node at which they start.
-use Rattle.std.specs.Prelude.{ℕ, zero, suc, List, [], ◌∷◌, if◌then◌else◌}
+use Rattle.std.specs.Prelude.{ℕ, zero, suc, if◌then◌else◌, List, [], ◌∷◌}
 use Rattle.toml_span_tree.specs.Path.{Step, key, position, Path}
 use Rattle.toml_span_read.specs.Data.{Node}
 use Rattle.toml_span_read.specs.Keys.{Part}
+use Rattle.toml_span_claims.specs.Claims.{Claim, Claims, no_claims, claimed, scope, assigned, dotted, value_claims}
+use Rattle.toml_span_claims.specs.Claims.{header_claim, array_claims}
 use Rattle.toml_span_claims.specs.declared.claims.Sort.{Sort}
 use Rattle.toml_span_claims.specs.declared.claims.Sort.TheVariants.{Passed, Section, ArrayOfTables, Entry}
 use Rattle.toml_span_claims.specs.declared.claims.Head.{Head}
-use Rattle.toml_span_claims.specs.Claims.{Claim, Claims, no_claims, claimed, scope, assigned, dotted, header_claim, array_claims, value_claims}
-use Rattle.toml_span_claims.specs.Machine.{graft}
+use Rattle.toml_span_claims.specs.code.Machine.{graft}
 
 -- a claim below a step, and all claims below it
 abbrev pub step_down : Step → Claim → Claim

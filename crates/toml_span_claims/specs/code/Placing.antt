@@ -1,38 +1,37 @@
 -- What the functions that place claims give.
-use Rattle.std.specs.Prelude.{◌≡◌, ⊤, ◌⊎◌, false, ℕ, List, [], ◌∷◌, Option, Some, None, option_map, Result, Ok, Err}
+use Rattle.std.specs.Prelude.{◌≡◌, ⊤, ℕ, ◌⊎◌, false, List, [], ◌∷◌, Result, Ok, Err, Option, Some, None, option_map}
 use Rattle.std.specs.BTreeMap.{BTreeMap}
-use Rattle.std.specs.Global.{Box, Vec}
 use Rattle.std.specs.Cmp.Lexicographic.{slice_cmp}
 use Rattle.std.specs.Cow.{cow_str_bytes}
-use Rattle.std.specs.List.{AllZip}
 use Rattle.std.specs.List.Sorted.{IsStrictlySortedBy}
 use Rattle.std.specs.Map.{keys_of}
 use Rattle.std.specs.Ordering.{nat_cmp}
+use Rattle.std.specs.Global.{Vec, Box}
 use Rattle.std.specs.declared.alloc.AllocError.{AllocError}
-use Rattle.toml_span_lex.specs.declared.key.Key.{Key}
+use Rattle.std.specs.List.{AllZip}
 use Rattle.toml_span_lex.specs.declared.span.Span.{Span}
-use Rattle.toml_span_tree.specs.Node as tree
-use Rattle.toml_span_tree.specs.Path.{Step, Path, Place, reached, place_of as tree_place}
+use Rattle.toml_span_lex.specs.declared.key.Key.{Key}
+use Rattle.toml_span_tree.specs.Path.{Path, Step, place_of as tree_place, Place, reached}
 use Rattle.toml_span_tree.specs.Value.{view, inner_view, inner_of as tree_inner}
 use Rattle.toml_span_tree.specs.declared.value.Value.{Value}
+use Rattle.toml_span_tree.specs.Node as tree
 use Rattle.toml_span_tree.specs.declared.value.ValueInner.TheVariants.{Table as table_inner}
-use Rattle.toml_span_read.specs.Data.{Node as Read}
-use Rattle.toml_span_read.specs.Earlier.{span_of}
-use Rattle.toml_span_read.specs.Lines.{Block}
+use Rattle.toml_span_read.specs.Data.{Node as Read, span_of, Block}
+use Rattle.toml_span_claims.specs.declared.claims.Halt.{Halt}
+use Rattle.toml_span_claims.specs.declared.node.Node.{Node}
+use Rattle.toml_span_claims.specs.Claims.{Claims, value_claims, value_shape, inner_of, shape_of, claims}
+use Rattle.toml_span_claims.specs.code.Machine.{Gives, told, put_all, nothing, show_all, Cell, State, told_by}
+use Rattle.toml_span_claims.specs.code.Tree.{entries, cells, counts, marks, IsScope, IsChild, IsHeld, Sound}
+use Rattle.toml_span_claims.specs.code.Tree.{value_shows}
 use Rattle.toml_span_claims.specs.declared.claims.Mark.{Mark}
+use Rattle.toml_span_claims.specs.code.Marks.{remember, deciding}
 use Rattle.toml_span_claims.specs.declared.claims.Sort.{Sort}
 use Rattle.toml_span_claims.specs.declared.claims.Sort.TheVariants.{Section, Entry}
-use Rattle.toml_span_claims.specs.declared.claims.Halt.{Halt}
-use Rattle.toml_span_claims.specs.declared.claims.Halt.TheVariants.{Memory, Clash}
-use Rattle.toml_span_claims.specs.declared.node.Node.{Node}
+use Rattle.toml_span_claims.specs.Ordered.{IsOrdered, HoldsOrdered}
 use Rattle.toml_span_claims.specs.declared.node.Node.TheViews.{out-Node}
-use Rattle.toml_span_claims.specs.Claims.{Claims, value_claims, value_shape, inner_of, shape_of, claims}
+use Rattle.toml_span_claims.specs.declared.claims.Halt.TheVariants.{Memory, Clash}
 use Rattle.toml_span_claims.specs.Clashes.{Resolves, TellsFirst}
 use Rattle.toml_span_claims.specs.Flat.{Shows, flat}
-use Rattle.toml_span_claims.specs.Marks.{remember, deciding}
-use Rattle.toml_span_claims.specs.Ordered.{IsOrdered, HoldsOrdered}
-use Rattle.toml_span_claims.specs.Machine.{Cell, State, nothing, Gives, told, told_by, put_all, show_all}
-use Rattle.toml_span_claims.specs.Tree.{marks, entries, cells, counts, value_shows, IsScope, IsChild, IsHeld, Sound}
 
 -- The claims are placed from a node on, which then has so many entries, or else the first clash is told.
 abbrev pub Reaches : (Node → Type 0) → (Node → Type 0) → Node → Node → Result (Unit {0}) Halt → Claims → (Path → ℕ) → Type 0

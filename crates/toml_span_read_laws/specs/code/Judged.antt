@@ -1,15 +1,19 @@
 -- What stands at a place of a text: a form, or what is wrong where it is due.
-use Rattle.std.specs.Prelude.{◌≡◌, ℕ, ◌+◌, ◌⊎◌, true, ◌||◌, ◌==◌, List, slice_index, Option, Some, None, Result, Ok, Err}
+use Rattle.std.specs.Prelude.{◌≡◌, ℕ, ◌+◌, ◌⊎◌, true, ◌||◌, ◌==◌, List, slice_index, Result, Ok, Err, Option, Some}
+use Rattle.std.specs.Prelude.{None}
 use Rattle.std.specs.Str.{IsCharBoundary}
 use Rattle.toml_span_lex.specs.Bytes.{is_blank, is_keylike, MaximalRun}
 use Rattle.toml_span_lex.specs.Laws.{SomethingStands}
 use Rattle.toml_span_tree.specs.Node.{Scalar}
 use Rattle.toml_span_tree.specs.declared.date.DateText.{DateText}
 use Rattle.toml_span_read.specs.declared.fault.Fault.{Fault}
+use Rattle.toml_span_read.specs.Numbers.{IsNumber, radix_at}
+use Rattle.toml_span_read.specs.Faults.{NoRadixInteger, NoDecimal, NoNumber}
+use Rattle.toml_span_read.specs.code.Gaps.{Further, DotGives, BehindGives, SignGives, EqualsGives, TailGives}
 use Rattle.toml_span_read.specs.declared.gaps.Behind.{Behind}
-use Rattle.toml_span_read.specs.Gaps.{Further, MaximalGap, DotGives, BehindGives, SignGives, EqualsGives, TailGives}
-use Rattle.toml_span_read.specs.Dates.{begins_date, DateGives}
-use Rattle.toml_span_read.specs.Numbers.{IsNumber, NoNumber, NoRadixInteger, NoDecimal, radix_at}
+use Rattle.toml_span_read.specs.Gaps.{MaximalGap}
+use Rattle.toml_span_read.specs.Dates.{begins_date}
+use Rattle.toml_span_read.specs.code.Dates.{DateGives}
 
 -- the number whose run is from a to b, behind its plus, if it has one, at i
 abbrev pub UnsignedStands : List ℕ → ℕ → ℕ → ℕ → Result ℕ Fault → Type 0
