@@ -17,8 +17,8 @@ keys_in [] = 0
 keys_in (key name ∷ p) = suc (keys_in p)
 keys_in (position i ∷ p) = keys_in p
 
--- The text from i to j is a string with this value. The span is all that stands between its quotes, or, of two quotes alone,
--- the first of them.
+-- The text from i to j is a string with this value. The span is all that stands between its quotes, or, of two quotes
+-- alone, the first of them.
 pub record ShowsString (text value : List ℕ) (span : Span) : Type 0 where
   pub i : ℕ
   pub j : ℕ
@@ -28,18 +28,21 @@ pub record ShowsString (text value : List ℕ) (span : Span) : Type 0 where
   pub content : (IsEmptyOnOneLine i j → ⊥) → CutsContent text i j span value multi
   pub opening : IsEmptyOnOneLine i j → (value ≡ []) × (span ≡ record { start = i; end = i + 1 })
 
--- The text at the span is read again as something of this shape: a number, a truth value or a date as itself. Of a string
--- nothing is said.
+-- The text at the span is read again as something of this shape: a number, a truth value or a date as itself. Of a
+-- string nothing is said.
 abbrev pub ShapeReadsAgain : List ℕ → ℕ → Shape → Span → Type 0
 ShapeReadsAgain text limit is_taken span = ⊥
 ShapeReadsAgain text limit (is_scalar s) span = ScalarReadsAgain text limit s span
-ShapeReadsAgain text limit is_array span = (items : read.Items) × ReadsAgain text limit (read.node (read.array items) span)
-ShapeReadsAgain text limit is_table span = (pairs : read.Pairs) × ReadsAgain text limit (read.node (read.inline pairs) span)
+ShapeReadsAgain text limit is_array span =
+    (items : read.Items) × ReadsAgain text limit (read.node (read.array items) span)
+ShapeReadsAgain text limit is_table span =
+    (pairs : read.Pairs) × ReadsAgain text limit (read.node (read.inline pairs) span)
 
 -- so is what each of these claims assigns
 abbrev pub AssignedReadAgain : List ℕ → ℕ → List Claim → Type 0
 AssignedReadAgain text limit [] = ⊤
-AssignedReadAgain text limit (c ∷ cs) = (c.mark.sort ≡ Assigned → ShapeReadsAgain text limit c.place.shape c.place.span) × AssignedReadAgain text limit cs
+AssignedReadAgain text limit (c ∷ cs) =
+    (c.mark.sort ≡ Assigned → ShapeReadsAgain text limit c.place.shape c.place.span) × AssignedReadAgain text limit cs
 
 -- the text at the value's span is read again as that value; of a string nothing is said
 abbrev pub ValueReadsAgain : List ℕ → ℕ → read.Node → Type 0

@@ -35,17 +35,20 @@ IsTree text limit root = (blocks : List Block) × SpellsDocument blocks text lim
 abbrev pub IsRoot : ℕ → Value → Type 0
 IsRoot length root = (members : Members) × (view root ≡ node (table members) (record { start = 0; end = length }))
 
--- Each string value is borrowed exactly where it equals the text at its span, and so is the key of each scalar. The name of a table
--- or of an array is borrowed exactly where it equals the text at some key of that name. An empty string on one line is borrowed.
+-- Each string value is borrowed exactly where it equals the text at its span, and so is the key of each scalar. The
+-- name of a table or of an array is borrowed exactly where it equals the text at some key of that name. An empty string
+-- on one line is borrowed.
 abbrev pub IsBorrowedTree : List ℕ → ℕ → Value → Type 0
 IsBorrowedTree text limit root =
-    (sections : List Section) × SpellsDocument (map block sections) text limit × AreRight text (keys_of (sections_written sections)) (value_standing root)
+    (sections : List Section) × SpellsDocument (map block sections) text limit
+    × AreRight text (keys_of (sections_written sections)) (value_standing root)
 
 -- ---- refusals
 
 -- the text is stuck where the error says, and that is a place of the text
 abbrev pub IsFault : List ℕ → ℕ → Error → Type 0
-IsFault text limit error = (fault : Fault) × StuckDocument text limit fault × IsPlaced text fault × Tells text fault (fault_of error)
+IsFault text limit error =
+    (fault : Fault) × StuckDocument text limit fault × IsPlaced text fault × Tells text fault (fault_of error)
 
 -- The error tells the first clash of the sections' claims, at a place in the text, with its line and its column.
 pub record IsClashOf (blocks : List Block) (text : List ℕ) (error : Error) : Type 0 where

@@ -1,5 +1,6 @@
--- Which of the strings and keys of a tree are borrowed. A key of a scalar value is so by its own span. That of a table or an array
--- may have the span of one claim, and a name that was written at another one: it is so by the span of some key of its name.
+-- Which of the strings and keys of a tree are borrowed. A key of a scalar value is so by its own span. That of a table
+-- or an array may have the span of one claim, and a name that was written at another one: it is so by the span of some
+-- key of its name.
 use Rattle.std.specs.Global.{Global}
 use Rattle.std.specs.declared.borrow.CowStr.{CowStr}
 use Rattle.std.specs.Prelude.{◌≡◌, ℕ, ◌⊎◌, Bool, true, false, List, [], ◌∷◌, ◌++◌, Option, Some, None}
@@ -70,12 +71,14 @@ IsKeyOf p (q ∷ qs) = (p ≡ q) ⊎ IsKeyOf p qs
 
 -- where one of these keys stands that has the name: borrowed exactly where the name equals the text there
 abbrev pub IsNamedBy : List ℕ → List Part → CowStr Global → Type 0
-IsNamedBy text ps s = (at : Span) × IsKeyOf (record { name = cow_str_bytes s; span = at }) ps × BorrowsWhereSame text at s
+IsNamedBy text ps s =
+    (at : Span) × IsKeyOf (record { name = cow_str_bytes s; span = at }) ps × BorrowsWhereSame text at s
 
 -- in a tree whose keys are of these
 abbrev pub IsRight : List ℕ → List Part → Standing → Type 0
 IsRight text ps (string s span) = BorrowsWhereSame text span s
-IsRight text ps (key s span) = BorrowsWhereSame text span s × IsKeyOf (record { name = cow_str_bytes s; span = span }) ps
+IsRight text ps (key s span) =
+    BorrowsWhereSame text span s × IsKeyOf (record { name = cow_str_bytes s; span = span }) ps
 IsRight text ps (title s) = IsNamedBy text ps s
 
 abbrev pub AreRight : List ℕ → List Part → List Standing → Type 0

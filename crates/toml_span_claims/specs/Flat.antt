@@ -33,12 +33,13 @@ abbrev pub first : List Claim → Option Claim
 first [] = None
 first (c ∷ cs) = Some c
 
--- The first header that reaches or passes through the path decides, or else the first assignment through it. (Where the claims
--- resolve those of a path are of one scope.)
+-- The first header that reaches or passes through the path decides, or else the first assignment through it. (Where the
+-- claims resolve those of a path are of one scope.)
 abbrev pub decides : List Claim → Option Claim
 decides cs = or_else (first_by_header cs) (first cs)
 
--- What stands at each path of a document that is so many bytes long: at the empty path the root, at another one what is claimed there.
+-- What stands at each path of a document that is so many bytes long: at the empty path the root, at another one what is
+-- claimed there.
 unfoldable pub flat : ℕ → Claims → Path → Option Place
 flat length cs [] = Some (record { shape = is_table; key_span = None; span = record { start = 0; end = length } })
 flat length cs (s ∷ p) = option_map (λ c. c.place) (decides (claims_at (s ∷ p) (all_claims cs)))

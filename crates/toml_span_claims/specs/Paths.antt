@@ -35,7 +35,8 @@ unfoldable pub enter : ℕ → Path → Path
 enter zero p = p
 enter (suc latest) p = at p latest
 
--- The path of a header from p on, without the position of its own entry. `entries` counts the entries of each array so far.
+-- The path of a header from p on, without the position of its own entry. `entries` counts the entries of each array so
+-- far.
 unfoldable pub target : (Path → ℕ) → Path → List Part → Path
 target entries p [] = p
 target entries p (k ∷ []) = below p k

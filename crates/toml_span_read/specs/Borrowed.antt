@@ -65,7 +65,8 @@ abbrev pub kind_written : ValKind → Span → List Written
 kind_written = fold-ValKind (Span → List Written) (List Written) (List Written) kind_step assignment_step val_step
 
 abbrev pub assignment_written : Assignment → List Written
-assignment_written = fold-Assignment (Span → List Written) (List Written) (List Written) kind_step assignment_step val_step
+assignment_written =
+    fold-Assignment (Span → List Written) (List Written) (List Written) kind_step assignment_step val_step
 
 abbrev pub assignments_written : List Assignment → List Written
 assignments_written found = joined (map assignment_written found)

@@ -87,4 +87,10 @@ abbrev pub event : Assignment → Event
 event = fold-Assignment Inner Event Node kind_step assignment_step val_step
 
 abbrev pub block : Section → Block
-block s = record { header = map part s.header.items; array = s.array; header_span = s.header_span; extent = s.extent; events = map event s.assignments.items }
+block s = record {
+  header = map part s.header.items;
+  array = s.array;
+  header_span = s.header_span;
+  extent = s.extent;
+  events = map event s.assignments.items;
+}

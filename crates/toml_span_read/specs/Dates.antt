@@ -18,9 +18,10 @@ is_date_byte c = ((is_keylike c || c == 58) || c == 46) || c == 43
 abbrev pub continues_date : List ℕ → ℕ → Bool
 continues_date text i = slice_index text i == 32 && is_ascii_digit (slice_index text (i + 1))
 
--- The text from i to j is to be a date or a time: all such bytes from i on, and where ten of them are followed by a space with a
--- digit behind it, those from that digit on.
+-- The text from i to j is to be a date or a time: all such bytes from i on, and where ten of them are followed by a
+-- space with a digit behind it, those from that digit on.
 abbrev pub IsCandidate : List ℕ → ℕ → ℕ → Type 0
 IsCandidate text i j =
     (MaximalRun is_date_byte text i j × (((j == i + 10) && continues_date text j) ≡ false))
-    ⊎ (MaximalRun is_date_byte text i (i + 10) × (continues_date text (i + 10) ≡ true) × MaximalRun is_date_byte text (i + 11) j)
+    ⊎ (MaximalRun is_date_byte text i (i + 10) × (continues_date text (i + 10) ≡ true)
+    × MaximalRun is_date_byte text (i + 11) j)

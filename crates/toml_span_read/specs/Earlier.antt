@@ -31,7 +31,8 @@ pub record EarliestAt (names : List (List ℕ)) (events : List Event) (first : S
 -- whichever of the parts is taken: none of the assignments is of the path that ends with it
 abbrev pub NoneThrough : List Part → List Event → Type 0
 NoneThrough parts events =
-    (outer : List Part) (p : Part) (rest : List Part) → parts ≡ outer ++ (p ∷ rest) → NoneAt (path (outer ++ (p ∷ []))) events
+    (outer : List Part) (p : Part) (rest : List Part) → parts ≡ outer ++ (p ∷ rest)
+    → NoneAt (path (outer ++ (p ∷ []))) events
 
 -- no inner part of the next key names the path of an earlier value
 abbrev pub Clear : List Event → Event → Type 0

@@ -95,11 +95,13 @@ abbrev pub token_fault : Error → Fault
 token_fault (tokens.InvalidCharInString at c) = fault_at (kinds.InvalidCharInString c) at
 token_fault (tokens.InvalidEscape at c) = fault_at (kinds.InvalidEscape c) at
 token_fault (tokens.InvalidHexEscape at c) = fault_at (kinds.InvalidHexEscape c) at
-token_fault (tokens.InvalidEscapeValue at len value) = record { kind = kinds.InvalidEscapeValue value; span = record { start = at; end = at + len } }
+token_fault (tokens.InvalidEscapeValue at len value) =
+    record { kind = kinds.InvalidEscapeValue value; span = record { start = at; end = at + len } }
 token_fault (tokens.NewlineInString at) = fault_at (kinds.InvalidCharInString 10) at
 token_fault (tokens.Unexpected at c) = fault_at (kinds.Unexpected c) at
 token_fault (tokens.UnterminatedString at) = fault_at kinds.UnterminatedString at
-token_fault (tokens.MultilineStringKey start end) = record { kind = kinds.MultilineStringKey; span = record { start = start; end = end } }
+token_fault (tokens.MultilineStringKey start end) =
+    record { kind = kinds.MultilineStringKey; span = record { start = start; end = end } }
 token_fault (tokens.Wanted at expected found) = fault_at kinds.UnexpectedEof at
 
 -- no token stands at i: this fault does
@@ -134,10 +136,11 @@ IsFound text i j found =
 
 -- where one token is due another one stands, or the text ends
 abbrev pub wanted_fault : Due → Found → ℕ → Fault
-wanted_fault expected found i = record { kind = kinds.Wanted expected found; span = record { start = i; end = i + length (found_words found) } }
+wanted_fault expected found i =
+    record { kind = kinds.Wanted expected found; span = record { start = i; end = i + length (found_words found) } }
 
--- What stands at i is told where this is due: a token, the end of the text, or the fault of no token. That it is another one than
--- the one that is due, is said where this is used.
+-- What stands at i is told where this is due: a token, the end of the text, or the fault of no token. That it is
+-- another one than the one that is due, is said where this is used.
 abbrev pub IsWanted : List ℕ → ℕ → Due → Fault → Type 0
 IsWanted text i expected fault =
     ((j : ℕ) × (found : Found) × IsFound text i j found × (fault ≡ wanted_fault expected found i))
@@ -159,7 +162,8 @@ abbrev pub NoKey : List ℕ → ℕ → Fault → Type 0
 NoKey text i fault =
     IsMultilineKey text i fault
     ⊎ ((opens_string (slice_index text i) ≡ true) × IsTokenFault text i fault)
-    ⊎ (((is_keylike (slice_index text i) || opens_string (slice_index text i)) ≡ false) × IsWanted text i dues.TableKey fault)
+    ⊎ (((is_keylike (slice_index text i) || opens_string (slice_index text i)) ≡ false)
+    × IsWanted text i dues.TableKey fault)
 
 -- ---- where a number is due: the forms before the fault, and what stands there
 
@@ -173,47 +177,62 @@ pub data NoDigits (radix : ℕ) (text : List ℕ) (start from end : ℕ) : Fault
   -- an underscore before any digit
   underscore_first : slice_index text from ≡ underscore → NoDigits radix text start from end (invalid_number from end)
   -- the piece is empty, or its first byte is neither a digit nor an underscore
-  no_digit : is_figure radix (slice_index text from) ≡ false → NoDigits radix text start from end (invalid_number start end)
+  no_digit : is_figure radix (slice_index text from) ≡ false
+      → NoDigits radix text start from end (invalid_number start end)
   -- two underscores in a row, or an underscore as the last of the digits
-  loose_underscore : (k : ℕ) → is_digit radix (slice_index text from) ≡ true → from ≤ k → ((l : ℕ) → from ≤ l → l ≤ k → is_figure radix (slice_index text l) ≡ true)
+  loose_underscore : (k : ℕ) → is_digit radix (slice_index text from) ≡ true → from ≤ k
+      → ((l : ℕ) → from ≤ l → l ≤ k → is_figure radix (slice_index text l) ≡ true)
       → slice_index text k ≡ underscore → is_digit radix (slice_index text (k + 1)) ≡ false
       → NoDigits radix text start from end (invalid_number start end)
 
 -- no integer part is read in the run that begins at `start`, behind its minus, if it has one, at `from`
 pub data NoIntegerPart (text : List ℕ) (start from end : ℕ) : Fault → Type 0 where
   no_integer_digits : (fault : Fault) → NoDigits 10 text start from end fault → NoIntegerPart text start from end fault
-  -- The digits stand as those of a literal do, and behind a leading 0 stands a digit, with an underscore between them or not: an
-  -- underscore that is out of place among the digits is told before a 0 that leads them.
-  zero_before : (m : ℕ) → Digits 10 text from m → slice_index text from ≡ 48 → is_digit 10 (slice_index text (from + 1)) ≡ true
+  -- The digits stand as those of a literal do, and behind a leading 0 stands a digit, with an underscore between them
+  -- or not: an underscore that is out of place among the digits is told before a 0 that leads them.
+  zero_before : (m : ℕ) → Digits 10 text from m → slice_index text from ≡ 48
+      → is_digit 10 (slice_index text (from + 1)) ≡ true
       → NoIntegerPart text start from end (invalid_number (from + 1) end)
-  zero_underscore_before : (m : ℕ) → Digits 10 text from m → slice_index text from ≡ 48 → slice_index text (from + 1) ≡ underscore
-      → is_digit 10 (slice_index text (from + 2)) ≡ true → NoIntegerPart text start from end (invalid_number (from + 2) end)
+  zero_underscore_before : (m : ℕ) → Digits 10 text from m → slice_index text from ≡ 48
+      → slice_index text (from + 1) ≡ underscore
+      → is_digit 10 (slice_index text (from + 2)) ≡ true
+      → NoIntegerPart text start from end (invalid_number (from + 2) end)
 
 -- a piece of an exponent is not digits throughout; the integer part is the run from a to b
 pub data NoExponentDigits (text : List ℕ) (a b start from end : ℕ) : Fault → Type 0 where
-  no_exponent_digits : (fault : Fault) → NoDigits 10 text start from end fault → NoExponentDigits text a b start from end fault
-  left_in_exponent : (m : ℕ) → Digits 10 text from m → m < end → NoExponentDigits text a b start from end (invalid_number a b)
+  no_exponent_digits : (fault : Fault) → NoDigits 10 text start from end fault
+      → NoExponentDigits text a b start from end fault
+  left_in_exponent : (m : ℕ) → Digits 10 text from m → m < end
+      → NoExponentDigits text a b start from end (invalid_number a b)
 
--- no exponent is read whose letter stands at `letter`, in a run that ends at `end`; the integer part is the run from a to b
+-- no exponent is read whose letter stands at `letter`, in a run that ends at `end`; the integer part is the run from a
+-- to b
 pub data NoExponent (text : List ℕ) (a b letter end : ℕ) : Fault → Type 0 where
   -- neither a run nor a plus and a run behind the letter
-  letter_last : end ≡ letter + 1 → (slice_index text end == plus && is_keylike (slice_index text (end + 1))) ≡ false → NoExponent text a b letter end (invalid_number a b)
-  in_run : (fault : Fault) → letter + 1 < end → NoExponentDigits text a b (letter + 1) (behind_sign text (letter + 1)) end fault → NoExponent text a b letter end fault
+  letter_last : end ≡ letter + 1 → (slice_index text end == plus && is_keylike (slice_index text (end + 1))) ≡ false
+      → NoExponent text a b letter end (invalid_number a b)
+  in_run : (fault : Fault) → letter + 1 < end
+      → NoExponentDigits text a b (letter + 1) (behind_sign text (letter + 1)) end fault
+      → NoExponent text a b letter end fault
   behind_plus : (stop : ℕ) (fault : Fault) → end ≡ letter + 1 → slice_index text end ≡ plus → Run text (end + 1) stop
       → NoExponentDigits text a b (end + 1) (end + 1) stop fault → NoExponent text a b letter end fault
 
 -- no fraction is read behind the dot at b; the number begins at i, its integer part is the run from a to b
 pub data NoFraction (text : List ℕ) (i a b : ℕ) : Fault → Type 0 where
   dot_alone : is_keylike (slice_index text (b + 1)) ≡ false → NoFraction text i a b (invalid_number i (b + 1))
-  no_fraction_digits : (end : ℕ) (fault : Fault) → Run text (b + 1) end → NoDigits 10 text (b + 1) (b + 1) end fault → NoFraction text i a b fault
-  left_in_fraction : (m end : ℕ) → Run text (b + 1) end → Digits 10 text (b + 1) m → m < end → is_exponent (slice_index text m) ≡ false
+  no_fraction_digits : (end : ℕ) (fault : Fault) → Run text (b + 1) end → NoDigits 10 text (b + 1) (b + 1) end fault
+      → NoFraction text i a b fault
+  left_in_fraction : (m end : ℕ) → Run text (b + 1) end → Digits 10 text (b + 1) m → m < end
+      → is_exponent (slice_index text m) ≡ false
       → NoFraction text i a b (invalid_number a b)
-  no_fraction_exponent : (m end : ℕ) (fault : Fault) → Run text (b + 1) end → Digits 10 text (b + 1) m → m < end → is_exponent (slice_index text m) ≡ true
+  no_fraction_exponent : (m end : ℕ) (fault : Fault) → Run text (b + 1) end → Digits 10 text (b + 1) m → m < end
+      → is_exponent (slice_index text m) ≡ true
       → NoExponent text a b m end fault → NoFraction text i a b fault
 
 -- inf or nan from a to b, with a minus or without
 abbrev pub IsSpecial : List ℕ → ℕ → ℕ → Type 0
-IsSpecial text a b = (slice_range text (behind_sign text a) b ≡ codes "inf") ⊎ (slice_range text (behind_sign text a) b ≡ codes "nan")
+IsSpecial text a b =
+    (slice_range text (behind_sign text a) b ≡ codes "inf") ⊎ (slice_range text (behind_sign text a) b ≡ codes "nan")
 
 -- past 64 bits
 abbrev pub IsOutside : Bool → ℕ → Type 0
@@ -222,38 +241,56 @@ IsOutside true m = 2 ^ 63 < m
 
 -- no number without a prefix is read, which begins at i; its integer part is the run from a to b
 pub data NoDecimal (text : List ℕ) (i a b : ℕ) : Fault → Type 0 where
-  no_integer_part : (fault : Fault) → (IsSpecial text a b → ⊥) → NoIntegerPart text a (behind_sign text a) b fault → NoDecimal text i a b fault
-  left_in_integer : (m : ℕ) → UnsignedDecimal text (behind_sign text a) m → m < b → is_exponent (slice_index text m) ≡ false → NoDecimal text i a b (invalid_number a b)
-  no_integer_exponent : (m : ℕ) (fault : Fault) → UnsignedDecimal text (behind_sign text a) m → m < b → is_exponent (slice_index text m) ≡ true
+  no_integer_part : (fault : Fault) → (IsSpecial text a b → ⊥) → NoIntegerPart text a (behind_sign text a) b fault
+      → NoDecimal text i a b fault
+  left_in_integer : (m : ℕ) → UnsignedDecimal text (behind_sign text a) m → m < b
+      → is_exponent (slice_index text m) ≡ false → NoDecimal text i a b (invalid_number a b)
+  no_integer_exponent : (m : ℕ) (fault : Fault) → UnsignedDecimal text (behind_sign text a) m → m < b
+      → is_exponent (slice_index text m) ≡ true
       → NoExponent text a b m b fault → NoDecimal text i a b fault
-  no_fraction : (fault : Fault) → UnsignedDecimal text (behind_sign text a) b → slice_index text b ≡ period → NoFraction text i a b fault → NoDecimal text i a b fault
-  outside : UnsignedDecimal text (behind_sign text a) b → (slice_index text b == period) ≡ false → IsOutside (is_negative text a) (magnitude 10 text (behind_sign text a) b)
+  no_fraction : (fault : Fault) → UnsignedDecimal text (behind_sign text a) b → slice_index text b ≡ period
+      → NoFraction text i a b fault → NoDecimal text i a b fault
+  outside : UnsignedDecimal text (behind_sign text a) b → (slice_index text b == period) ≡ false
+      → IsOutside (is_negative text a) (magnitude 10 text (behind_sign text a) b)
       → NoDecimal text i a b (invalid_number a b)
   -- inf and nan have no fraction
-  special_dot_alone : IsSpecial text a b → slice_index text b ≡ period → is_keylike (slice_index text (b + 1)) ≡ false → NoDecimal text i a b (invalid_number i (b + 1))
-  special_dot : IsSpecial text a b → slice_index text b ≡ period → is_keylike (slice_index text (b + 1)) ≡ true → NoDecimal text i a b (invalid_number a b)
+  special_dot_alone : IsSpecial text a b → slice_index text b ≡ period → is_keylike (slice_index text (b + 1)) ≡ false
+      → NoDecimal text i a b (invalid_number i (b + 1))
+  special_dot : IsSpecial text a b → slice_index text b ≡ period → is_keylike (slice_index text (b + 1)) ≡ true
+      → NoDecimal text i a b (invalid_number a b)
 
 -- no integer of this radix is read behind its prefix, in a run that ends at `end`
 pub data NoRadixInteger (radix : ℕ) (text : List ℕ) (start end : ℕ) : Fault → Type 0 where
-  no_radix_digits : (fault : Fault) → NoDigits radix text start start end fault → NoRadixInteger radix text start end fault
-  left_in_radix : (m : ℕ) → Digits radix text start m → m < end → NoRadixInteger radix text start end (invalid_number start end)
-  outside_radix : Digits radix text start end → IsOutside false (magnitude radix text start end) → NoRadixInteger radix text start end (invalid_number start end)
+  no_radix_digits : (fault : Fault) → NoDigits radix text start start end fault
+      → NoRadixInteger radix text start end fault
+  left_in_radix : (m : ℕ) → Digits radix text start m → m < end
+      → NoRadixInteger radix text start end (invalid_number start end)
+  outside_radix : Digits radix text start end → IsOutside false (magnitude radix text start end)
+      → NoRadixInteger radix text start end (invalid_number start end)
 
 -- a number is due at i, none is read, and this is the fault
 pub data NoNumber (text : List ℕ) (i : ℕ) : Fault → Type 0 where
-  plus_alone : slice_index text i ≡ plus → is_keylike (slice_index text (i + 1)) ≡ false → NoNumber text i (invalid_number (i + 1) (i + 1))
-  plus_before_minus : (b : ℕ) → slice_index text i ≡ plus → Run text (i + 1) b → slice_index text (i + 1) ≡ dash → NoNumber text i (invalid_number i b)
-  plus_before_prefix : (b radix : ℕ) → slice_index text i ≡ plus → Run text (i + 1) b → radix_at text (i + 1) ≡ Some radix → NoNumber text i (invalid_number i b)
-  no_radix_integer : (b radix : ℕ) (fault : Fault) → radix_at text i ≡ Some radix → Run text i b → NoRadixInteger radix text (i + 2) b fault → NoNumber text i fault
-  no_decimal : (b : ℕ) (fault : Fault) → (slice_index text i == plus) ≡ false → Run text i b → radix_at text i ≡ None → NoDecimal text i i b fault → NoNumber text i fault
-  no_decimal_behind_plus : (b : ℕ) (fault : Fault) → slice_index text i ≡ plus → Run text (i + 1) b → (slice_index text (i + 1) == dash) ≡ false → radix_at text (i + 1) ≡ None
+  plus_alone : slice_index text i ≡ plus → is_keylike (slice_index text (i + 1)) ≡ false
+      → NoNumber text i (invalid_number (i + 1) (i + 1))
+  plus_before_minus : (b : ℕ) → slice_index text i ≡ plus → Run text (i + 1) b → slice_index text (i + 1) ≡ dash
+      → NoNumber text i (invalid_number i b)
+  plus_before_prefix : (b radix : ℕ) → slice_index text i ≡ plus → Run text (i + 1) b
+      → radix_at text (i + 1) ≡ Some radix → NoNumber text i (invalid_number i b)
+  no_radix_integer : (b radix : ℕ) (fault : Fault) → radix_at text i ≡ Some radix → Run text i b
+      → NoRadixInteger radix text (i + 2) b fault → NoNumber text i fault
+  no_decimal : (b : ℕ) (fault : Fault) → (slice_index text i == plus) ≡ false → Run text i b → radix_at text i ≡ None
+      → NoDecimal text i i b fault → NoNumber text i fault
+  no_decimal_behind_plus : (b : ℕ) (fault : Fault) → slice_index text i ≡ plus → Run text (i + 1) b
+      → (slice_index text (i + 1) == dash) ≡ false → radix_at text (i + 1) ≡ None
       → NoDecimal text i (i + 1) b fault → NoNumber text i fault
 
 -- ---- where a value is due
 
 -- a date is due at i, and no date text stands there
 abbrev pub IsNoDate : List ℕ → ℕ → Fault → Type 0
-IsNoDate text i fault = (j : ℕ) × IsCandidate text i j × (IsDateText (slice_range text i j) → ⊥) × (fault ≡ record { kind = kinds.InvalidDatetime; span = record { start = i; end = j } })
+IsNoDate text i fault =
+    (j : ℕ) × IsCandidate text i j × (IsDateText (slice_range text i j) → ⊥)
+    × (fault ≡ record { kind = kinds.InvalidDatetime; span = record { start = i; end = j } })
 
 -- a byte of a bare run, or a plus
 abbrev pub begins_bare : ℕ → Bool
@@ -271,13 +308,15 @@ begins_number c = (is_ascii_digit c || c == 45) || c == 43
 abbrev pub Begins : List ℕ → ℕ → Type 0
 Begins text i =
     ((opens_nested (slice_index text i) || begins_bare (slice_index text i)) ≡ true)
-    ⊎ ((j : ℕ) × (span : Span) × (source : List ℕ) × (value : List ℕ) × (multi : Bool) × IsString text i j span source value multi)
+    ⊎ ((j : ℕ) × (span : Span) × (source : List ℕ) × (value : List ℕ) × (multi : Bool)
+    × IsString text i j span source value multi)
 
 -- a number begins at i: no date does, and a digit, a dash or a plus stands there, or the run inf or nan
 abbrev pub BeginsNumber : List ℕ → ℕ → Type 0
 BeginsNumber text i =
     (begins_date text i ≡ false)
-    × ((begins_number (slice_index text i) ≡ true) ⊎ ((j : ℕ) × (RunAt is_keylike text i j (codes "inf") ⊎ RunAt is_keylike text i j (codes "nan"))))
+    × ((begins_number (slice_index text i) ≡ true)
+    ⊎ ((j : ℕ) × (RunAt is_keylike text i j (codes "inf") ⊎ RunAt is_keylike text i j (codes "nan"))))
 
 -- neither a truth value nor a number of letters
 pub record IsOther (word : List ℕ) : Type 0 where
@@ -321,4 +360,5 @@ abbrev pub NoShuts : Bool → List ℕ → ℕ → Fault → Type 0
 NoShuts false text i e = ((slice_index text i == right_bracket) ≡ false) × IsWanted text i dues.RightBracket e
 NoShuts true text i e =
     (((slice_index text i == right_bracket) ≡ false) × IsWanted text i dues.RightBracket e)
-    ⊎ ((slice_index text i ≡ right_bracket) × ((slice_index text (i + 1) == right_bracket) ≡ false) × IsWanted text (i + 1) dues.RightBracket e)
+    ⊎ ((slice_index text i ≡ right_bracket) × ((slice_index text (i + 1) == right_bracket) ≡ false)
+    × IsWanted text (i + 1) dues.RightBracket e)

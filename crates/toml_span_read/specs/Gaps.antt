@@ -14,7 +14,8 @@ GapPiece text i j =
 
 -- whether a piece of a gap begins at a place
 abbrev pub begins_gap : List ℕ → ℕ → Bool
-begins_gap text i = ((is_blank (slice_index text i) || slice_index text i == 10) || is_crlf text i) || slice_index text i == 35
+begins_gap text i =
+    ((is_blank (slice_index text i) || slice_index text i == 10) || is_crlf text i) || slice_index text i == 35
 
 -- pieces of a gap from i to j, with their ends
 abbrev pub GapBy : List ℕ → ℕ → List ℕ → ℕ → Type 0
@@ -32,7 +33,8 @@ pub record MaximalGap (text : List ℕ) (i j : ℕ) : Type 0 where
 pub record Skipped (text : List ℕ) (i j : ℕ) : Type 0 where
   pub at : ℕ
   pub blank : MaximalRun is_blank text i at
-  pub comment : ((slice_index text at ≡ 35) × MaximalRun is_printed text at j) ⊎ (((slice_index text at == 35) ≡ false) × (j ≡ at))
+  pub comment : ((slice_index text at ≡ 35) × MaximalRun is_printed text at j)
+      ⊎ (((slice_index text at == 35) ≡ false) × (j ≡ at))
 
 -- the rest of a line: spaces and tabs, a comment, and a line end or the end of the text
 abbrev pub Tail : List ℕ → ℕ → ℕ → Type 0
@@ -42,13 +44,14 @@ Tail text i j = (k : ℕ) × Skipped text i k × (LineEnd text k j ⊎ ((k ≡ l
 abbrev pub NoTail : List ℕ → ℕ → ℕ → Type 0
 NoTail text i k = Skipped text i k × (k < length text) × NoLineEnd text k
 
--- `expression = ws [ comment ]`: from i to j stand lines, with these ends, that hold nothing else. A gap before a form is blank
--- lines and the spaces and tabs before it.
+-- `expression = ws [ comment ]`: from i to j stand lines, with these ends, that hold nothing else. A gap before a form
+-- is blank lines and the spaces and tabs before it.
 abbrev pub BlankLines : List ℕ → ℕ → List ℕ → ℕ → Type 0
 BlankLines text i [] j = i ≡ j
 BlankLines text i (k ∷ ks) j = Tail text i k × BlankLines text k ks j
 
--- a character stands at i that a comment can hold, or the text ends there: no comment ends at a control character before it
+-- a character stands at i that a comment can hold, or the text ends there: no comment ends at a control character
+-- before it
 abbrev pub BehindLines : List ℕ → ℕ → Type 0
 BehindLines text i = (i ≡ length text) ⊎ (is_printed (slice_index text i) ≡ true)
 

@@ -28,8 +28,8 @@ truth_text false = codes "false"
 abbrev pub from_to : ℕ → ℕ → Span
 from_to i j = record { start = i; end = j }
 
--- The text from i to j is this string, number, truth value or date, with this span: of a string its content's. A number is read
--- where no date begins.
+-- The text from i to j is this string, number, truth value or date, with this span: of a string its content's. A number
+-- is read where no date begins.
 abbrev pub IsScalar : Scalar → Span → List ℕ → ℕ → ℕ → Type 0
 IsScalar (text_scalar value) span t i j = (source : List ℕ) × (multi : Bool) × IsString t i j span source value multi
 IsScalar (boolean b) span t i j = RunAt is_keylike t i j (truth_text b) × (span ≡ from_to i j)
@@ -39,8 +39,8 @@ IsScalar (integer n) span t i j = (begins_date t i ≡ false) × IsNumber (integ
 IsScalar (float x) span t i j = (begins_date t i ≡ false) × IsNumber (float x) t i j × (span ≡ from_to i j)
 
 abbrev mutual
-  -- The text from i to j spells this value, with its spans. d is the number of brackets and braces open round it plus that of the
-  -- parts of its own key and of those round it, at most the limit.
+  -- The text from i to j spells this value, with its spans. d is the number of brackets and braces open round it plus
+  -- that of the parts of its own key and of those round it, at most the limit.
   pub Spells : Node → List ℕ → ℕ → ℕ → ℕ → ℕ → Type 0
   Spells (node k span) t limit d i j = (d ≤ limit) × SpellsInner k span t limit d i j
 
@@ -49,32 +49,39 @@ abbrev mutual
   pub SpellsInner : Inner → Span → List ℕ → ℕ → ℕ → ℕ → ℕ → Type 0
   SpellsInner (scalar s) span t limit d i j = IsScalar s span t i j
   SpellsInner (array_node vs) span t limit d i j =
-      (slice_index t i ≡ 91) × (span ≡ from_to i j) × (k : ℕ) × MaximalGap t (i + 1) k × SpellsItems vs t limit (d + 1) k j
+      (slice_index t i ≡ 91) × (span ≡ from_to i j) × (k : ℕ) × MaximalGap t (i + 1) k
+      × SpellsItems vs t limit (d + 1) k j
   SpellsInner (inline_node ps) span t limit d i j =
-      (slice_index t i ≡ 123) × (span ≡ from_to i j) × (k : ℕ) × MaximalGap t (i + 1) k × SpellsPairs ps [] t limit (d + 1) k j
+      (slice_index t i ≡ 123) × (span ≡ from_to i j) × (k : ℕ) × MaximalGap t (i + 1) k
+      × SpellsPairs ps [] t limit (d + 1) k j
 
   -- values with commas between them, one more comma or none, and the closing bracket
   pub SpellsItems : Items → List ℕ → ℕ → ℕ → ℕ → ℕ → Type 0
   SpellsItems no_items t limit d i j = (slice_index t i ≡ 93) × (j ≡ i + 1)
   SpellsItems (item v vs) t limit d i j =
-      (m : ℕ) × Spells v t limit d i m × (((vs ≡ no_items) × Closes 93 t m j) ⊎ ((p : ℕ) × Sign 44 t m p × SpellsItems vs t limit d p j))
+      (m : ℕ) × Spells v t limit d i m
+      × (((vs ≡ no_items) × Closes 93 t m j) ⊎ ((p : ℕ) × Sign 44 t m p × SpellsItems vs t limit d p j))
 
-  -- `keyval = key keyval-sep val`, with gaps round the equals sign: pairs behind these earlier ones, each a key of at most limit
-  -- parts that goes through the value of no earlier pair, and its value, with commas between them, one more comma or none, and the
-  -- closing brace
+  -- `keyval = key keyval-sep val`, with gaps round the equals sign: pairs behind these earlier ones, each a key of at
+  -- most limit parts that goes through the value of no earlier pair, and its value, with commas between them, one more
+  -- comma or none, and the closing brace
   pub SpellsPairs : Pairs → List Event → List ℕ → ℕ → ℕ → ℕ → ℕ → Type 0
   SpellsPairs no_pairs es t limit d i j = (slice_index t i ≡ 125) × (j ≡ i + 1)
   SpellsPairs (pair ss v extent ps) es t limit d i j =
       (m : ℕ)
-      × ((a b : ℕ) × Dotted ss t i a × (length ss ≤ limit) × Sign 61 t a b × Spells v t limit (d + length ss) b m × (extent ≡ from_to i m))
+      × ((a b : ℕ) × Dotted ss t i a × (length ss ≤ limit) × Sign 61 t a b × Spells v t limit (d + length ss) b m
+      × (extent ≡ from_to i m))
       × Clear es (record { parts = ss; value = v; extent = extent })
       × (((ps ≡ no_pairs) × Closes 125 t m j)
-      ⊎ ((p : ℕ) × Sign 44 t m p × SpellsPairs ps (es ++ (record { parts = ss; value = v; extent = extent } ∷ [])) t limit d p j))
+      ⊎ ((p : ℕ) × Sign 44 t m p
+      × SpellsPairs ps (es ++ (record { parts = ss; value = v; extent = extent } ∷ [])) t limit d p j))
 
--- a pair from i to j: a key of at most limit parts, an equals sign, and a value; its extent runs from the key to behind the value
+-- a pair from i to j: a key of at most limit parts, an equals sign, and a value; its extent runs from the key to behind
+-- the value
 abbrev pub SpellsPair : Event → List ℕ → ℕ → ℕ → ℕ → ℕ → Type 0
 SpellsPair e t limit d i j =
-    (a b : ℕ) × Dotted e.parts t i a × (length e.parts ≤ limit) × Sign 61 t a b × Spells e.value t limit (d + length e.parts) b j × (e.extent ≡ from_to i j)
+    (a b : ℕ) × Dotted e.parts t i a × (length e.parts ≤ limit) × Sign 61 t a b
+    × Spells e.value t limit (d + length e.parts) b j × (e.extent ≡ from_to i j)
 
 -- ---- assignments
 
@@ -93,7 +100,8 @@ pub record SpellsEvent (ev : Event) (text : List ℕ) (limit i j : ℕ) : Type 0
 abbrev pub SpellsEvents : List Event → List Event → List ℕ → ℕ → ℕ → ℕ → Type 0
 SpellsEvents [] earlier text limit i j = j ≡ i
 SpellsEvents (ev ∷ evs) earlier text limit i j =
-    (m n k : ℕ) × SpellsEvent ev text limit i m × Tail text m n × Clear earlier ev × MaximalGap text n k × SpellsEvents evs (earlier ++ (ev ∷ [])) text limit k j
+    (m n k : ℕ) × SpellsEvent ev text limit i m × Tail text m n × Clear earlier ev × MaximalGap text n k
+    × SpellsEvents evs (earlier ++ (ev ∷ [])) text limit k j
 
 -- from i to j stand blank lines and these assignments
 abbrev pub SpellsLines : List Event → List ℕ → ℕ → ℕ → ℕ → Type 0
@@ -103,7 +111,8 @@ SpellsLines evs text limit i j = (k : ℕ) × MaximalGap text i k × SpellsEvent
 
 -- `std-table-open`, one bracket, or `array-table-open`, two of them
 abbrev pub Opens : Bool → List ℕ → ℕ → ℕ → Type 0
-Opens false text i j = (slice_index text i ≡ left_bracket) × ((slice_index text (i + 1) == left_bracket) ≡ false) × (j ≡ i + 1)
+Opens false text i j =
+    (slice_index text i ≡ left_bracket) × ((slice_index text (i + 1) == left_bracket) ≡ false) × (j ≡ i + 1)
 Opens true text i j = (slice_index text i ≡ left_bracket) × (slice_index text (i + 1) ≡ left_bracket) × (j ≡ i + 2)
 
 -- `std-table-close`, or `array-table-close`

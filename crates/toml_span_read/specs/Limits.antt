@@ -29,7 +29,8 @@ abbrev mutual
 
   pub WithinPairs : ℕ → ℕ → Pairs → Type 0
   WithinPairs limit d no_pairs = Unit {0}
-  WithinPairs limit d (pair ps v extent rest) = (length ps ≤ limit) × Within limit (d + length ps) v × WithinPairs limit d rest
+  WithinPairs limit d (pair ps v extent rest) =
+      (length ps ≤ limit) × Within limit (d + length ps) v × WithinPairs limit d rest
 
 -- an assignment under so many brackets and key parts
 abbrev pub WithinEvent : ℕ → ℕ → Event → Type 0

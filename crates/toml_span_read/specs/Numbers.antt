@@ -21,12 +21,13 @@ is_digit radix c = is_ascii_hexdigit c && nat_lt (digit_value c) radix
 abbrev pub is_figure : ℕ → ℕ → Bool
 is_figure radix c = is_digit radix c || c == underscore
 
--- DIGIT *( DIGIT / underscore DIGIT ), of this radix: all the digits and underscores from i on end at j; the first is a digit, and
--- behind each underscore stands a digit
+-- DIGIT *( DIGIT / underscore DIGIT ), of this radix: all the digits and underscores from i on end at j; the first is a
+-- digit, and behind each underscore stands a digit
 pub record Digits (radix : ℕ) (text : List ℕ) (i j : ℕ) : Type 0 where
   pub begins : is_digit radix (slice_index text i) ≡ true
   pub run : MaximalRun (is_figure radix) text i j
-  pub between : (k : ℕ) → i ≤ k → k < j → slice_index text k ≡ underscore → is_digit radix (slice_index text (k + 1)) ≡ true
+  pub between : (k : ℕ) → i ≤ k → k < j → slice_index text k ≡ underscore
+      → is_digit radix (slice_index text (k + 1)) ≡ true
 
 -- the sum of digits times the powers of the radix
 abbrev pub sum_of_digits : ℕ → List ℕ → ℕ
@@ -121,7 +122,8 @@ abbrev pub IsNumber : Scalar → List ℕ → ℕ → ℕ → Type 0
 IsNumber (integer n) text i j = DecimalInteger n text i j ⊎ RadixInteger n text i j
 IsNumber (float (finite digits)) text i j = FloatLiteral text i j × (digits ≡ cleaned (slice_range text i j))
 IsNumber (float (infinite negative)) text i j = SpecialFloat (codes "inf") text i j × (negative ≡ is_negative text i)
-IsNumber (float (not_a_number negative)) text i j = SpecialFloat (codes "nan") text i j × (negative ≡ is_negative text i)
+IsNumber (float (not_a_number negative)) text i j =
+    SpecialFloat (codes "nan") text i j × (negative ≡ is_negative text i)
 IsNumber (text_scalar s) text i j = ⊥
 IsNumber (boolean b) text i j = ⊥
 IsNumber (datetime d) text i j = ⊥

@@ -61,7 +61,8 @@ EventsInside n (e ∷ es) = EventInside n e × EventsInside n es
 
 -- a section's header with its parts, and the keys of its assignments
 abbrev pub SectionInside : ℕ → Section → Type 0
-SectionInside n s = IsInside n s.header_span × PartsInside n (map part s.header.items) × EventsInside n (map event s.assignments.items)
+SectionInside n s =
+    IsInside n s.header_span × PartsInside n (map part s.header.items) × EventsInside n (map event s.assignments.items)
 
 abbrev pub SectionsInside : ℕ → List Section → Type 0
 SectionsInside n [] = Unit {0}
@@ -77,7 +78,8 @@ Ascend (p ∷ ps) i j = (i ≤ p.span.start) × (p.span.start < p.span.end) × A
 abbrev mutual
   -- the span of a value lies from i to j, and those of the values and keys in it lie within its own
   pub Inside : Node → ℕ → ℕ → Type 0
-  Inside (node k span) i j = (i ≤ span.start) × (span.start ≤ span.end) × (span.end ≤ j) × InsideInner k span.start span.end
+  Inside (node k span) i j =
+      (i ≤ span.start) × (span.start ≤ span.end) × (span.end ≤ j) × InsideInner k span.start span.end
 
   pub InsideInner : Inner → ℕ → ℕ → Type 0
   InsideInner (scalar s) i j = Unit {0}

@@ -26,19 +26,24 @@ use Rattle.toml_span_read.specs.declared.section.Section.{Section}
 -- behind n parts of a dotted key, the last of which ends at m, this fault stands
 pub data StuckOnward (text : List ℕ) (limit : ℕ) : ℕ → ℕ → Fault → Type 0 where
   no_part : (n m p : ℕ) (e : Fault) → Dot text m p → NoKey text p e → StuckOnward text limit n m e
-  too_many : (n m p q : ℕ) (s : Part) → Dot text m p → IsKey s text p q → limit ≤ n → StuckOnward text limit n m (fault_at kinds.ExceededDepthLimit p)
-  dotted_on : (n m p q : ℕ) (s : Part) (e : Fault) → Dot text m p → IsKey s text p q → n < limit → StuckOnward text limit (n + 1) q e → StuckOnward text limit n m e
+  too_many : (n m p q : ℕ) (s : Part) → Dot text m p → IsKey s text p q → limit ≤ n
+      → StuckOnward text limit n m (fault_at kinds.ExceededDepthLimit p)
+  dotted_on : (n m p q : ℕ) (s : Part) (e : Fault) → Dot text m p → IsKey s text p q → n < limit
+      → StuckOnward text limit (n + 1) q e → StuckOnward text limit n m e
 
 -- a dotted key of at most so many parts is due at i, and this fault stands there or behind its first parts
 pub data StuckDotted (text : List ℕ) (limit : ℕ) : ℕ → Fault → Type 0 where
   no_first : (i : ℕ) (e : Fault) → NoKey text i e → StuckDotted text limit i e
-  onward : (i m : ℕ) (s : Part) (e : Fault) → IsKey s text i m → StuckOnward text limit 1 m e → StuckDotted text limit i e
+  onward : (i m : ℕ) (s : Part) (e : Fault) → IsKey s text i m → StuckOnward text limit 1 m e
+      → StuckDotted text limit i e
 
 -- behind n parts of a header another one is due at i, and this fault stands there or further on
 pub data StuckHeaderKey (text : List ℕ) (limit : ℕ) : ℕ → ℕ → Fault → Type 0 where
   no_header_part : (n i : ℕ) (e : Fault) → NoKey text i e → StuckHeaderKey text limit n i e
-  header_too_many : (n i m : ℕ) (s : Part) → IsKey s text i m → limit ≤ n → StuckHeaderKey text limit n i (record { kind = kinds.ExceededDepthLimit; span = s.span })
-  header_on : (n i m p : ℕ) (s : Part) (e : Fault) → IsKey s text i m → n < limit → Dot text m p → StuckHeaderKey text limit (n + 1) p e → StuckHeaderKey text limit n i e
+  header_too_many : (n i m : ℕ) (s : Part) → IsKey s text i m → limit ≤ n
+      → StuckHeaderKey text limit n i (record { kind = kinds.ExceededDepthLimit; span = s.span })
+  header_on : (n i m p : ℕ) (s : Part) (e : Fault) → IsKey s text i m → n < limit → Dot text m p
+      → StuckHeaderKey text limit (n + 1) p e → StuckHeaderKey text limit n i e
 
 -- ---- values
 
@@ -46,29 +51,41 @@ mutual
   -- a value is due at i, at this depth, and this fault stands there or within it
   pub data StuckValue (text : List ℕ) (limit : ℕ) : ℕ → ℕ → Fault → Type 0 where
     -- no value begins at i
-    no_value : (d i : ℕ) (e : Fault) → (opens_nested (slice_index text i) || begins_bare (slice_index text i) || opens_string (slice_index text i)) ≡ false → IsNoValue text i e → StuckValue text limit d i e
+    no_value : (d i : ℕ) (e : Fault)
+        → (opens_nested (slice_index text i) || begins_bare (slice_index text i)
+        || opens_string (slice_index text i)) ≡ false
+        → IsNoValue text i e → StuckValue text limit d i e
     -- quotes open at i, and no string is there
-    no_string : (d i : ℕ) (e : Fault) → opens_string (slice_index text i) ≡ true → IsTokenFault text i e → StuckValue text limit d i e
+    no_string : (d i : ℕ) (e : Fault) → opens_string (slice_index text i) ≡ true → IsTokenFault text i e
+        → StuckValue text limit d i e
     -- a value begins at i, past the limit
-    too_deep : (d i : ℕ) (e : Fault) → limit < d → Begins text i → e ≡ fault_at kinds.ExceededDepthLimit i → StuckValue text limit d i e
+    too_deep : (d i : ℕ) (e : Fault) → limit < d → Begins text i → e ≡ fault_at kinds.ExceededDepthLimit i
+        → StuckValue text limit d i e
     no_bare : (d i : ℕ) (e : Fault) → d ≤ limit → NoBare text i e → StuckValue text limit d i e
     -- a bracket opens at i, and an element or the closing bracket is stuck
-    in_array : (d i k : ℕ) (e : Fault) → d ≤ limit → slice_index text i ≡ 91 → MaximalGap text (i + 1) k → StuckItems text limit (d + 1) k e → StuckValue text limit d i e
+    in_array : (d i k : ℕ) (e : Fault) → d ≤ limit → slice_index text i ≡ 91 → MaximalGap text (i + 1) k
+        → StuckItems text limit (d + 1) k e → StuckValue text limit d i e
     -- a brace opens at i, and a pair or the closing brace is stuck
-    in_inline : (d i k : ℕ) (e : Fault) → d ≤ limit → slice_index text i ≡ 123 → MaximalGap text (i + 1) k → StuckPairs text limit [] (d + 1) k e → StuckValue text limit d i e
+    in_inline : (d i k : ℕ) (e : Fault) → d ≤ limit → slice_index text i ≡ 123 → MaximalGap text (i + 1) k
+        → StuckPairs text limit [] (d + 1) k e → StuckValue text limit d i e
 
   -- an element or the closing bracket is due at i
   pub data StuckItems (text : List ℕ) (limit : ℕ) : ℕ → ℕ → Fault → Type 0 where
-    in_item : (d i : ℕ) (e : Fault) → (slice_index text i == 93) ≡ false → StuckValue text limit d i e → StuckItems text limit d i e
+    in_item : (d i : ℕ) (e : Fault) → (slice_index text i == 93) ≡ false → StuckValue text limit d i e
+        → StuckItems text limit d i e
     -- behind an element stands neither a comma nor the closing bracket
-    behind_item : (d i m n : ℕ) (v : Node) (e : Fault) → Spells v text limit d i m → Neither 93 text m n → IsWanted text n dues.RightBracket e → StuckItems text limit d i e
-    item_on : (d i m p : ℕ) (v : Node) (e : Fault) → Spells v text limit d i m → Sign 44 text m p → StuckItems text limit d p e → StuckItems text limit d i e
+    behind_item : (d i m n : ℕ) (v : Node) (e : Fault) → Spells v text limit d i m → Neither 93 text m n
+        → IsWanted text n dues.RightBracket e → StuckItems text limit d i e
+    item_on : (d i m p : ℕ) (v : Node) (e : Fault) → Spells v text limit d i m → Sign 44 text m p
+        → StuckItems text limit d p e → StuckItems text limit d i e
 
   -- a pair or the closing brace is due at i, behind these earlier pairs
   pub data StuckPairs (text : List ℕ) (limit : ℕ) : List Event → ℕ → ℕ → Fault → Type 0 where
-    in_pair : (es : List Event) (d i : ℕ) (e : Fault) → (slice_index text i == 125) ≡ false → StuckPair text limit d i e → StuckPairs text limit es d i e
+    in_pair : (es : List Event) (d i : ℕ) (e : Fault) → (slice_index text i == 125) ≡ false → StuckPair text limit d i e
+        → StuckPairs text limit es d i e
     -- the key of a whole pair goes through the value of an earlier one
-    crosses : (es : List Event) (d i m : ℕ) (p : Event) (e : Fault) → SpellsPair p text limit d i m → Crossing es p e → StuckPairs text limit es d i e
+    crosses : (es : List Event) (d i m : ℕ) (p : Event) (e : Fault) → SpellsPair p text limit d i m → Crossing es p e
+        → StuckPairs text limit es d i e
     -- behind a pair stands neither a comma nor the closing brace
     behind_pair : (es : List Event) (d i m n : ℕ) (p : Event) (e : Fault) → SpellsPair p text limit d i m → Clear es p
         → Neither 125 text m n → IsWanted text n dues.Comma e → StuckPairs text limit es d i e
@@ -79,29 +96,37 @@ mutual
   pub data StuckPair (text : List ℕ) (limit : ℕ) : ℕ → ℕ → Fault → Type 0 where
     in_key : (d i : ℕ) (e : Fault) → StuckDotted text limit i e → StuckPair text limit d i e
     -- behind the key stands no equals sign
-    no_equals : (d i a n : ℕ) (ss : List Part) (e : Fault) → Dotted ss text i a → length ss ≤ limit → MaximalGap text a n → (slice_index text n == 61) ≡ false → IsWanted text n dues.Equals e
+    no_equals : (d i a n : ℕ) (ss : List Part) (e : Fault) → Dotted ss text i a → length ss ≤ limit
+        → MaximalGap text a n → (slice_index text n == 61) ≡ false → IsWanted text n dues.Equals e
         → StuckPair text limit d i e
-    in_value : (d i a b : ℕ) (ss : List Part) (e : Fault) → Dotted ss text i a → length ss ≤ limit → Sign 61 text a b → StuckValue text limit (d + length ss) b e → StuckPair text limit d i e
+    in_value : (d i a b : ℕ) (ss : List Part) (e : Fault) → Dotted ss text i a → length ss ≤ limit → Sign 61 text a b
+        → StuckValue text limit (d + length ss) b e → StuckPair text limit d i e
 
 -- ---- assignments
 
 -- an assignment is due at i, and this fault stands there or further on
 pub data StuckEvent (text : List ℕ) (limit : ℕ) : ℕ → Fault → Type 0 where
   line_key : (i : ℕ) (e : Fault) → StuckDotted text limit i e → StuckEvent text limit i e
-  line_equals : (i a n : ℕ) (ps : List Part) (e : Fault) → Dotted ps text i a → length ps ≤ limit → MaximalRun is_blank text a n
+  line_equals : (i a n : ℕ) (ps : List Part) (e : Fault) → Dotted ps text i a → length ps ≤ limit
+      → MaximalRun is_blank text a n
       → (slice_index text n == equals) ≡ false → IsWanted text n dues.Equals e → StuckEvent text limit i e
-  line_value : (i a b : ℕ) (ps : List Part) (e : Fault) → Dotted ps text i a → length ps ≤ limit → Equals text a b → StuckValue text limit (length ps) b e
+  line_value : (i a b : ℕ) (ps : List Part) (e : Fault) → Dotted ps text i a → length ps ≤ limit → Equals text a b
+      → StuckValue text limit (length ps) b e
       → StuckEvent text limit i e
 
 -- Behind these earlier values of a section this fault stands, where no header is next. A key that goes through one of
 -- them is told once the rest of its line has been read.
 pub data StuckEvents (text : List ℕ) (limit : ℕ) : List Event → ℕ → Fault → Type 0 where
-  in_line : (earlier : List Event) (i : ℕ) (e : Fault) → i < length text → (slice_index text i == left_bracket) ≡ false → StuckEvent text limit i e
+  in_line : (earlier : List Event) (i : ℕ) (e : Fault) → i < length text → (slice_index text i == left_bracket) ≡ false
+      → StuckEvent text limit i e
       → StuckEvents text limit earlier i e
-  no_newline : (earlier : List Event) (i m : ℕ) (ev : Event) (e : Fault) → SpellsEvent ev text limit i m → StuckTail text m e → StuckEvents text limit earlier i e
-  crossing : (earlier : List Event) (i m n : ℕ) (ev : Event) (e : Fault) → SpellsEvent ev text limit i m → Tail text m n → Crossing earlier ev e
+  no_newline : (earlier : List Event) (i m : ℕ) (ev : Event) (e : Fault) → SpellsEvent ev text limit i m
+      → StuckTail text m e → StuckEvents text limit earlier i e
+  crossing : (earlier : List Event) (i m n : ℕ) (ev : Event) (e : Fault) → SpellsEvent ev text limit i m → Tail text m n
+      → Crossing earlier ev e
       → StuckEvents text limit earlier i e
-  line_on : (earlier : List Event) (i m n k : ℕ) (ev : Event) (e : Fault) → SpellsEvent ev text limit i m → Tail text m n → Clear earlier ev → MaximalGap text n k
+  line_on : (earlier : List Event) (i m n k : ℕ) (ev : Event) (e : Fault) → SpellsEvent ev text limit i m
+      → Tail text m n → Clear earlier ev → MaximalGap text n k
       → StuckEvents text limit (earlier ++ (ev ∷ [])) k e → StuckEvents text limit earlier i e
 
 -- behind blank lines and assignments from i on this fault stands
@@ -112,21 +137,27 @@ StuckLines text limit i e = (k : ℕ) × MaximalGap text i k × StuckEvents text
 
 -- a header begins at i, and this fault stands in it
 pub data StuckHeader (text : List ℕ) (limit : ℕ) : ℕ → Fault → Type 0 where
-  header_key : (i m k : ℕ) (array : Bool) (e : Fault) → Opens array text i m → MaximalRun is_blank text m k → StuckHeaderKey text limit 0 k e → StuckHeader text limit i e
-  header_close : (i k : ℕ) (array : Bool) (ps : List Part) (e : Fault) → HeaderFront ps array text limit i k → NoShuts array text k e → StuckHeader text limit i e
-  header_rest : (i k m : ℕ) (array : Bool) (ps : List Part) (e : Fault) → HeaderFront ps array text limit i k → Shuts array text k m → StuckTail text m e
+  header_key : (i m k : ℕ) (array : Bool) (e : Fault) → Opens array text i m → MaximalRun is_blank text m k
+      → StuckHeaderKey text limit 0 k e → StuckHeader text limit i e
+  header_close : (i k : ℕ) (array : Bool) (ps : List Part) (e : Fault) → HeaderFront ps array text limit i k
+      → NoShuts array text k e → StuckHeader text limit i e
+  header_rest : (i k m : ℕ) (array : Bool) (ps : List Part) (e : Fault) → HeaderFront ps array text limit i k
+      → Shuts array text k m → StuckTail text m e
       → StuckHeader text limit i e
 
 -- from i on, where a header is next, this fault stands
 pub data StuckSections (text : List ℕ) (limit : ℕ) : ℕ → Fault → Type 0 where
   in_header : (i : ℕ) (e : Fault) → StuckHeader text limit i e → StuckSections text limit i e
-  in_section : (i m : ℕ) (array : Bool) (ps : List Part) (e : Fault) → SpellsHeader ps array text limit i m → StuckLines text limit m e → StuckSections text limit i e
-  section_on : (i j : ℕ) (b : Block) (e : Fault) → SpellsSection b text limit i j → StuckSections text limit j e → StuckSections text limit i e
+  in_section : (i m : ℕ) (array : Bool) (ps : List Part) (e : Fault) → SpellsHeader ps array text limit i m
+      → StuckLines text limit m e → StuckSections text limit i e
+  section_on : (i j : ℕ) (b : Block) (e : Fault) → SpellsSection b text limit i j → StuckSections text limit j e
+      → StuckSections text limit i e
 
 -- the forms before it, then the fault
 pub data StuckDocument (text : List ℕ) (limit : ℕ) : Fault → Type 0 where
   before_headers : (i : ℕ) (e : Fault) → FirstPlace text i → StuckLines text limit i e → StuckDocument text limit e
-  behind_header : (i j : ℕ) (evs : List Event) (e : Fault) → FirstPlace text i → SpellsLines evs text limit i j → StuckSections text limit j e → StuckDocument text limit e
+  behind_header : (i j : ℕ) (evs : List Event) (e : Fault) → FirstPlace text i → SpellsLines evs text limit i j
+      → StuckSections text limit j e → StuckDocument text limit e
 
 -- ---- what is read of a text
 
@@ -134,7 +165,8 @@ pub data StuckDocument (text : List ℕ) (limit : ℕ) : Fault → Type 0 where
 abbrev pub ReadsDocument : List ℕ → ℕ → Result (Vec Section Global) (Stop Error) → Type 0
 ReadsDocument text limit (Ok found) = SpellsDocument (map block found.items) text limit
 ReadsDocument text limit (Err (stops.Memory e)) = Unit {0}
-ReadsDocument text limit (Err (stops.Fault error)) = (fault : Fault) × StuckDocument text limit fault × Tells text fault (fault_of error)
+ReadsDocument text limit (Err (stops.Fault error)) =
+    (fault : Fault) × StuckDocument text limit fault × Tells text fault (fault_of error)
 
 -- these sections, unless memory ran out
 abbrev pub AreRead : List Block → Result (Vec Section Global) (Stop Error) → Type 0

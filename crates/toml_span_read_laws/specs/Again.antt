@@ -30,13 +30,15 @@ abbrev mutual
 
   pub moved_pairs : ℕ → ℕ → Pairs → Pairs
   moved_pairs from to no_pairs = no_pairs
-  moved_pairs from to (pair parts v extent ps) = pair (moved_parts from to parts) (moved from to v) (moved_span from to extent) (moved_pairs from to ps)
+  moved_pairs from to (pair parts v extent ps) =
+      pair (moved_parts from to parts) (moved from to v) (moved_span from to extent) (moved_pairs from to ps)
 
 -- a document of one assignment: `x = `, and behind it the text from i to j
 abbrev pub assigned_again : List ℕ → ℕ → ℕ → List ℕ
 assigned_again t i j = codes "x = " ++ slice_range t i j
 
--- that assignment: its key is x, its value is that which was spelled from i to j, moved to 4, and its extent is the whole text
+-- that assignment: its key is x, its value is that which was spelled from i to j, moved to 4, and its extent is the
+-- whole text
 abbrev pub event_again : Node → ℕ → ℕ → Event
 event_again v i j =
     record { parts = record { name = codes "x"; span = record { start = 0; end = 1 } } ∷ []; value = moved i 4 v; extent = record { start = 0; end = (j + 4) - i } }

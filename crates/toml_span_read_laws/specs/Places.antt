@@ -9,17 +9,20 @@ use Rattle.toml_span_read.specs.Keys.{Part}
 
 -- ---- one behind the other
 
--- from i to j stand these assignments, each behind the one before it: the parts of its key ascend, and its value stands behind them
+-- from i to j stand these assignments, each behind the one before it: the parts of its key ascend, and its value stands
+-- behind them
 abbrev pub EventsAscend : List Event → ℕ → ℕ → Type 0
 EventsAscend [] i j = i ≤ j
 EventsAscend (ev ∷ evs) i j =
-    (i ≤ ev.extent.start) × (a : ℕ) × Ascend ev.parts ev.extent.start a × Inside ev.value a ev.extent.end × EventsAscend evs ev.extent.end j
+    (i ≤ ev.extent.start) × (a : ℕ) × Ascend ev.parts ev.extent.start a × Inside ev.value a ev.extent.end
+    × EventsAscend evs ev.extent.end j
 
 -- from i to j stand these sections, each behind the one before it, and in each its header and then its assignments
 abbrev pub BlocksAscend : List Block → ℕ → ℕ → Type 0
 BlocksAscend [] i j = i ≤ j
 BlocksAscend (b ∷ bs) i j =
-    (i ≤ b.header_span.start) × Ascend b.header b.header_span.start b.header_span.end × EventsAscend b.events b.header_span.end b.extent.end × BlocksAscend bs b.extent.end j
+    (i ≤ b.header_span.start) × Ascend b.header b.header_span.start b.header_span.end
+    × EventsAscend b.events b.header_span.end b.extent.end × BlocksAscend bs b.extent.end j
 
 -- ---- where keys start
 
@@ -58,7 +61,8 @@ block_key_starts (b ∷ bs) = part_starts b.header ++ (event_key_starts b.events
 
 -- ---- where keys and brackets start
 
--- of the arrays, the inline tables and the parts of keys in a value, and of the value itself where it is an array or an inline table
+-- of the arrays, the inline tables and the parts of keys in a value, and of the value itself where it is an array or an
+-- inline table
 abbrev mutual
   pub starts : Node → List ℕ
   starts (node k span) = inner_starts k span
@@ -93,8 +97,8 @@ block_starts (b ∷ bs) = header_starts b.header b.header_span ++ (event_starts 
 
 -- ---- between the quotes of a string
 
--- The span is all that stands between the quotes of the string from i to j, but for a line end right behind three opening
--- quotes, and the value is what it stands for.
+-- The span is all that stands between the quotes of the string from i to j, but for a line end right behind three
+-- opening quotes, and the value is what it stands for.
 pub record CutsContent (text : List ℕ) (i j : ℕ) (span : Span) (value : List ℕ) (multi : Bool) : Type 0 where
   pub begins : ContentFrom multi text i span.start
   pub forward : span.start ≤ span.end

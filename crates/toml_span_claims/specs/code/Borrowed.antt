@@ -55,7 +55,8 @@ entries_of ns = joined (map standing ns)
 -- among what was read, the keys of which are these
 abbrev pub IsFrom : List ℕ → List Part → Written → Type 0
 IsFrom text ps (string_written s span) = BorrowsWhereSame text span s
-IsFrom text ps (name_written s span) = BorrowsWhereSame text span s × IsKeyOf (record { name = cow_str_bytes s; span = span }) ps
+IsFrom text ps (name_written s span) =
+    BorrowsWhereSame text span s × IsKeyOf (record { name = cow_str_bytes s; span = span }) ps
 
 abbrev pub AreFrom : List ℕ → List Part → List Written → Type 0
 AreFrom text ps ws = AllByRecursion (IsFrom text ps) ws

@@ -34,9 +34,11 @@ use Rattle.toml_span_claims.specs.Clashes.{Resolves, TellsFirst}
 use Rattle.toml_span_claims.specs.Flat.{Shows, flat}
 
 -- The claims are placed from a node on, which then has so many entries, or else the first clash is told.
-abbrev pub Reaches : (Node → Type 0) → (Node → Type 0) → Node → Node → Result (Unit {0}) Halt → Claims → (Path → ℕ) → Type 0
+abbrev pub Reaches : (Node → Type 0) → (Node → Type 0) → Node → Node → Result (Unit {0}) Halt → Claims → (Path → ℕ)
+    → Type 0
 Reaches Before After old new r cs entries =
-    Before old → Gives r (told (cells old) cs) (λ _. (cells new ≡ put_all (cells old) cs) × (counts new ≡ entries) × After new)
+    Before old
+    → Gives r (told (cells old) cs) (λ _. (cells new ≡ put_all (cells old) cs) × (counts new ≡ entries) × After new)
 
 -- below a table, whose own claims stay
 abbrev pub Places : Node → Node → Result (Unit {0}) Halt → Claims → (Path → ℕ) → Type 0
@@ -48,7 +50,8 @@ Passes old new r cs entries = Reaches IsChild IsHeld old new r cs entries
 
 -- from a table on, which is claimed
 abbrev pub Opening : (Node → Type 0) → Mark → Node → Node → Result (Unit {0}) Halt → Claims → (Path → ℕ) → Type 0
-Opening Before m old new r cs entries = Reaches Before (λ n. IsScope n × (marks n ≡ remember (marks old) m)) old new r cs entries
+Opening Before m old new r cs entries =
+    Reaches Before (λ n. IsScope n × (marks n ≡ remember (marks old) m)) old new r cs entries
 
 -- a node that is claimed for a section, or a table that is claimed for an entry
 abbrev pub Opens : Sort → Node → Type 0
@@ -59,7 +62,8 @@ Opens sort n = Sound n × ((sort ≡ Section) ⊎ ((sort ≡ Entry) × (entries 
 -- the finished value shows what was read, itself and below it what it claims, and its tables are in order
 abbrev pub IsFinished : Read → Value → Type 0
 IsFinished v x =
-    ((at : Option Span) → tree_place (at, view x) ≡ record { shape = value_shape (inner_of v); key_span = at; span = span_of v })
+    ((at : Option Span)
+    → tree_place (at, view x) ≡ record { shape = value_shape (inner_of v); key_span = at; span = span_of v })
     × ((s : Step) (p : Path) → value_shows None (view x) (s ∷ p) ≡ (show_all nothing (value_claims v []) (s ∷ p)).shown)
     × IsOrdered (view x)
 
@@ -74,15 +78,18 @@ place_shown x = option_map (λ d. d.place) x.shown
 -- below it a tree shows what a state shows
 abbrev pub ShowsBelow : tree.Inner → State → Type 0
 ShowsBelow i st =
-    (s : Step) (p : Path) → option_map tree_place (reached (s ∷ p) (None, tree.node i (record { start = 0; end = 0 }))) ≡ place_shown (st (s ∷ p))
+    (s : Step) (p : Path)
+    → option_map tree_place (reached (s ∷ p) (None, tree.node i (record { start = 0; end = 0 }))) ≡ place_shown (st (s ∷ p))
 
 -- the same, with what decides, which no header does
 abbrev pub ShowsPlain : tree.Inner → State → Type 0
-ShowsPlain i st = (s : Step) (p : Path) → value_shows None (tree.node i (record { start = 0; end = 0 })) (s ∷ p) ≡ (st (s ∷ p)).shown
+ShowsPlain i st =
+    (s : Step) (p : Path) → value_shows None (tree.node i (record { start = 0; end = 0 })) (s ∷ p) ≡ (st (s ∷ p)).shown
 
 -- what a scope of an inline table, or of an array, gives
 abbrev pub ScopeGives : {A : Type 0} → Result A Halt → (A → tree.Inner) → Claims → Type 0
-ScopeGives r seen cs = Gives r (told nothing cs) (λ x. ShowsPlain (seen x) (show_all nothing cs) × HoldsOrdered (seen x))
+ScopeGives r seen cs =
+    Gives r (told nothing cs) (λ x. ShowsPlain (seen x) (show_all nothing cs) × HoldsOrdered (seen x))
 
 -- ---- finishing
 
@@ -91,7 +98,8 @@ Table = BTreeMap Key Value
 
 -- the names of a table ascend
 abbrev pub NamesAscend : Table → Type 0
-NamesAscend t = IsStrictlySortedBy (λ k l. slice_cmp nat_cmp (cow_str_bytes k.name) (cow_str_bytes l.name)) (keys_of t.entries)
+NamesAscend t =
+    IsStrictlySortedBy (λ k l. slice_cmp nat_cmp (cow_str_bytes k.name) (cow_str_bytes l.name)) (keys_of t.entries)
 
 abbrev pub Array : Type 0
 Array = Vec Value
@@ -128,8 +136,10 @@ abbrev pub AreSections : List Block → Type 0
 AreSections [] = ⊤
 AreSections (b ∷ bs) = (b.header ≡ [] → b.array ≡ false) × AreSections bs
 
--- The tree is given exactly where no two claims clash, shows the flat document, and is in order. Or the first clash is told.
+-- The tree is given exactly where no two claims clash, shows the flat document, and is in order. Or the first clash is
+-- told.
 abbrev pub Assembles : List Block → ℕ → Result Value Halt → Type 0
-Assembles bs length (Ok root) = Resolves [] (claims bs) × Shows (view root) (flat length (claims bs)) × IsOrdered (view root)
+Assembles bs length (Ok root) =
+    Resolves [] (claims bs) × Shows (view root) (flat length (claims bs)) × IsOrdered (view root)
 Assembles bs length (Err (Clash c)) = TellsFirst [] (claims bs) (told_by c)
 Assembles bs length (Err (Memory e)) = ⊤

@@ -9,5 +9,7 @@ use Rattle.toml_span_read.specs.Dates.{IsCandidate}
 use Rattle.toml_span_read.specs.Faults.{IsNoDate}
 
 abbrev pub DateGives : List ℕ → ℕ → Result (DateText × ℕ) Fault → Type 0
-DateGives text i (Ok (date, j)) = IsCandidate text i j × IsDateText (slice_range text i j) × (date_bytes date ≡ slice_range text i j) × Further text i j
+DateGives text i (Ok (date, j)) =
+    IsCandidate text i j × IsDateText (slice_range text i j) × (date_bytes date ≡ slice_range text i j)
+    × Further text i j
 DateGives text i (Err fault) = IsNoDate text i fault

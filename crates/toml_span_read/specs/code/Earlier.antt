@@ -54,18 +54,23 @@ holds = fold-Node Holds holds_step
 
 -- at one path a span is put where there was none, and nothing else changes
 abbrev pub Puts : List (List ℕ) → Span → Holds → Holds → Type 0
-Puts names first old new = (new names ≡ Some (unwrap_or (old names) first)) × ((other : List (List ℕ)) → (other ≡ names → ⊥) → new other ≡ old other)
+Puts names first old new =
+    (new names ≡ Some (unwrap_or (old names) first))
+    × ((other : List (List ℕ)) → (other ≡ names → ⊥) → new other ≡ old other)
 
 -- the tree holds nothing at the path that ends with one of the parts
 abbrev pub HoldsNone : Holds → List Part → Type 0
-HoldsNone tree parts = (outer : List Part) (p : Part) (rest : List Part) → parts ≡ outer ++ (p ∷ rest) → tree (path (outer ++ (p ∷ []))) ≡ None
+HoldsNone tree parts =
+    (outer : List Part) (p : Part) (rest : List Part) → parts ≡ outer ++ (p ∷ rest)
+    → tree (path (outer ++ (p ∷ []))) ≡ None
 
 -- the outermost of the parts at whose path the tree holds a span starts at `found.0`, and the span is `found.1`
 abbrev pub FindsOutermost : Holds → List Part → Option (ℕ × Span) → Type 0
 FindsOutermost tree parts None = HoldsNone tree parts
 FindsOutermost tree parts (Some found) =
     (outer : List Part) × (p : Part) × (rest : List Part)
-    × (parts ≡ outer ++ (p ∷ rest)) × HoldsNone tree outer × (tree (path (outer ++ (p ∷ []))) ≡ Some found.1) × (found.0 ≡ p.span.start)
+    × (parts ≡ outer ++ (p ∷ rest)) × HoldsNone tree outer × (tree (path (outer ++ (p ∷ []))) ≡ Some found.1)
+    × (found.0 ≡ p.span.start)
 
 -- of the assignments at the path, the earliest is told, if there is one
 abbrev pub TellsEarliest : List (List ℕ) → List Event → Option Span → Type 0

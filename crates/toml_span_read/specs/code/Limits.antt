@@ -23,11 +23,14 @@ ValueReads text limit d i (Ok (v, j)) = Within limit d (view v) × Further text 
 ValueReads text limit d i (Err stop) = IsPlacedStop text stop
 
 abbrev pub AssignmentReads : List ℕ → ℕ → ℕ → ℕ → Result (Assignment × ℕ) (Stop Fault) → Type 0
-AssignmentReads text limit d i (Ok (a, j)) = WithinEvent limit d (event a) × Further text i j × (k : ℕ) × StartBefore k (event a).parts × IsSpanned (event a).value k j
+AssignmentReads text limit d i (Ok (a, j)) =
+    WithinEvent limit d (event a) × Further text i j × (k : ℕ) × StartBefore k (event a).parts
+    × IsSpanned (event a).value k j
 AssignmentReads text limit d i (Err stop) = IsPlacedStop text stop
 
 abbrev pub AssignmentsRead : List ℕ → ℕ → ℕ → Result (Vec Assignment Global × ℕ) (Stop Fault) → Type 0
-AssignmentsRead text limit i (Ok (found, j)) = WithinEvents limit (map event found.items) × (i ≤ j) × IsCharBoundary text j
+AssignmentsRead text limit i (Ok (found, j)) =
+    WithinEvents limit (map event found.items) × (i ≤ j) × IsCharBoundary text j
 AssignmentsRead text limit i (Err stop) = IsPlacedStop text stop
 
 -- the assignments end where a header begins, or with the text

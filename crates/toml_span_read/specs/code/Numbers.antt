@@ -42,7 +42,8 @@ IntegerGives negative m start end (Ok n) = IsSigned negative m n
 IntegerGives negative m start end (Err fault) = IsOutside negative m × (fault ≡ invalid_number start end)
 
 abbrev pub RadixIntegerGives : ℕ → List ℕ → ℕ → ℕ → Result ℤ Fault → Type 0
-RadixIntegerGives radix text start end (Ok n) = Digits radix text start end × IsSigned false (magnitude radix text start end) n
+RadixIntegerGives radix text start end (Ok n) =
+    Digits radix text start end × IsSigned false (magnitude radix text start end) n
 RadixIntegerGives radix text start end (Err fault) = NoRadixInteger radix text start end fault
 
 abbrev pub IntegerPartGives : List ℕ → ℕ → ℕ → ℕ → Result ℕ Fault → Type 0
@@ -58,7 +59,8 @@ ExponentGives text a b letter end (Ok j) = Exponent text letter j × (is_keylike
 ExponentGives text a b letter end (Err fault) = NoExponent text a b letter end fault
 
 abbrev pub FractionGives : List ℕ → ℕ → ℕ → ℕ → Result ℕ Fault → Type 0
-FractionGives text i a b (Ok j) = ((m : ℕ) × Fraction text b m × ((j ≡ m) ⊎ Exponent text m j)) × (is_keylike (slice_index text j) ≡ false)
+FractionGives text i a b (Ok j) =
+    ((m : ℕ) × Fraction text b m × ((j ≡ m) ⊎ Exponent text m j)) × (is_keylike (slice_index text j) ≡ false)
 FractionGives text i a b (Err fault) = NoFraction text i a b fault
 
 abbrev pub DecimalGives : List ℕ → ℕ → ℕ → ℕ → Result NumberDecimal Fault → Type 0
@@ -72,14 +74,16 @@ SpecialGives word None =
     (word ≡ codes "inf" → ⊥) × (word ≡ codes "-inf" → ⊥) × (word ≡ codes "nan" → ⊥) × (word ≡ codes "-nan" → ⊥)
 SpecialGives word (Some x) =
     ((word ≡ codes "inf") × (decimal_of x ≡ infinite false)) ⊎ ((word ≡ codes "-inf") × (decimal_of x ≡ infinite true))
-    ⊎ ((word ≡ codes "nan") × (decimal_of x ≡ not_a_number false)) ⊎ ((word ≡ codes "-nan") × (decimal_of x ≡ not_a_number true))
+    ⊎ ((word ≡ codes "nan") × (decimal_of x ≡ not_a_number false))
+    ⊎ ((word ≡ codes "-nan") × (decimal_of x ≡ not_a_number true))
 
 -- the number whose run is from a to b, behind its plus, if it has one, at i
 abbrev pub UnsignedGives : List ℕ → ℕ → ℕ → ℕ → Result (ValKind × ℕ) (Stop Fault) → Type 0
 UnsignedGives text i a b (Ok found) = (s : Scalar) × (kind_view found.0 ≡ scalar s) × IsNumber s text a found.1
 UnsignedGives text i a b (Err (stops.Memory e)) = Unit {0}
 UnsignedGives text i a b (Err (stops.Fault fault)) =
-    ((radix : ℕ) × (radix_at text a ≡ Some radix) × NoRadixInteger radix text (a + 2) b fault) ⊎ ((radix_at text a ≡ None) × NoDecimal text i a b fault)
+    ((radix : ℕ) × (radix_at text a ≡ Some radix) × NoRadixInteger radix text (a + 2) b fault)
+    ⊎ ((radix_at text a ≡ None) × NoDecimal text i a b fault)
 
 -- a number is read, or one is wanting
 abbrev pub NumberGives : List ℕ → ℕ → Result (ValKind × ℕ) (Stop Fault) → Type 0

@@ -45,13 +45,20 @@ CloseGives array text i (Err (stops.Memory e)) = Unit {0}
 CloseGives array text i (Err (stops.Fault e)) = (k : ℕ) × MaximalRun is_blank text i k × NoShuts array text k e
 
 abbrev pub HeaderGives : List ℕ → ℕ → ℕ → Result Header (Stop Fault) → Type 0
-HeaderGives text limit i (Ok h) = SpellsHeader (map part h.parts.items) h.array text limit i h.extent.end × (h.extent.start ≡ i)
+HeaderGives text limit i (Ok h) =
+    SpellsHeader (map part h.parts.items) h.array text limit i h.extent.end × (h.extent.start ≡ i)
 HeaderGives text limit i (Err (stops.Memory e)) = Unit {0}
 HeaderGives text limit i (Err (stops.Fault e)) = StuckHeader text limit i e
 
 -- the section of a header and the assignments behind it
 abbrev pub block_of : Header → List Event → Block
-block_of h evs = record { header = map part h.parts.items; array = h.array; header_span = h.extent; extent = record { start = h.extent.start; end = last_end h.extent.end evs }; events = evs }
+block_of h evs = record {
+  header = map part h.parts.items;
+  array = h.array;
+  header_span = h.extent;
+  extent = record { start = h.extent.start; end = last_end h.extent.end evs };
+  events = evs;
+}
 
 abbrev pub first_blocks : Option Section → List Block
 first_blocks None = []

@@ -19,7 +19,8 @@ use Rattle.toml_span_read.specs.code.Dates.{DateGives}
 abbrev pub UnsignedStands : List ℕ → ℕ → ℕ → ℕ → Result ℕ Fault → Type 0
 UnsignedStands text i a b (Ok j) = (s : Scalar) × IsNumber s text a j
 UnsignedStands text i a b (Err fault) =
-    ((radix : ℕ) × (radix_at text a ≡ Some radix) × NoRadixInteger radix text (a + 2) b fault) ⊎ ((radix_at text a ≡ None) × NoDecimal text i a b fault)
+    ((radix : ℕ) × (radix_at text a ≡ Some radix) × NoRadixInteger radix text (a + 2) b fault)
+    ⊎ ((radix_at text a ≡ None) × NoDecimal text i a b fault)
 
 -- the literal of a number, or the fault of none
 abbrev pub NumberStands : List ℕ → ℕ → Result ℕ Fault → Type 0
@@ -44,4 +45,5 @@ pub record Judged (text : List ℕ) (i : ℕ) : Type 0 where
   pub equals : (found : Result ℕ ℕ) × EqualsGives text i found
   pub tail : (found : Result ℕ ℕ) × TailGives text i found
   pub date : begins_date text i ≡ true → (found : Result (DateText × ℕ) Fault) × DateGives text i found
-  pub number : (is_keylike (slice_index text i) || slice_index text i == 43) ≡ true → (found : Result ℕ Fault) × NumberStands text i found × EndsFurther text i found
+  pub number : (is_keylike (slice_index text i) || slice_index text i == 43) ≡ true
+      → (found : Result ℕ Fault) × NumberStands text i found × EndsFurther text i found
