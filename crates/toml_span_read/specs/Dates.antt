@@ -1,22 +1,22 @@
 -- Where dates and times begin and end (TOML 1.1, "Offset Date-Time" to "Local Time").
 use Rattle.std.specs.Prelude.{◌≡◌, ℕ, ◌+◌, ◌⊎◌, Bool, true, false, ◌&&◌, ◌||◌, ◌==◌, List, slice_index}
 use Rattle.std.specs.Char.{is_ascii_digit}
-use Rattle.toml_span_lex.specs.Bytes.{is_keylike, MaximalRun}
+use Rattle.toml_span_lex.specs.Bytes.{is_keylike, MaximalRun, colon, dash, period, plus, space}
 
 -- four digits and a dash, or two digits and a colon
 abbrev pub begins_date : List ℕ → ℕ → Bool
 begins_date text i =
     (is_ascii_digit (slice_index text i) && is_ascii_digit (slice_index text (i + 1)))
-    && (slice_index text (i + 2) == 58
-    || ((is_ascii_digit (slice_index text (i + 2)) && is_ascii_digit (slice_index text (i + 3))) && slice_index text (i + 4) == 45))
+    && (slice_index text (i + 2) == colon
+    || ((is_ascii_digit (slice_index text (i + 2)) && is_ascii_digit (slice_index text (i + 3))) && slice_index text (i + 4) == dash))
 
 -- a letter, a digit, a dash, an underscore, a colon, a dot or a plus
 abbrev pub is_date_byte : ℕ → Bool
-is_date_byte c = ((is_keylike c || c == 58) || c == 46) || c == 43
+is_date_byte c = ((is_keylike c || c == colon) || c == period) || c == plus
 
 -- a space with a digit behind it
 abbrev pub continues_date : List ℕ → ℕ → Bool
-continues_date text i = slice_index text i == 32 && is_ascii_digit (slice_index text (i + 1))
+continues_date text i = slice_index text i == space && is_ascii_digit (slice_index text (i + 1))
 
 -- The text from i to j is to be a date or a time: all such bytes from i on, and where ten of them are followed by a
 -- space with a digit behind it, those from that digit on.

@@ -8,7 +8,8 @@ use Rattle.toml_span_lex.specs.Tokens.{IsFault, Lexeme, whitespace, newline, com
 use Rattle.toml_span_lex.specs.Tokens.{RunAt}
 use Rattle.toml_span_lex.specs.declared.span.Span.{Span}
 use Rattle.toml_span_lex.specs.Strings.{IsString}
-use Rattle.toml_span_lex.specs.Bytes.{is_keylike, MaximalRun, underscore, plus, period, dash, right_bracket}
+use Rattle.toml_span_lex.specs.Bytes.{is_keylike, MaximalRun, underscore, plus, period, dash, right_bracket, colon}
+use Rattle.toml_span_lex.specs.Bytes.{comma, equals, left_brace, left_bracket, line_feed, right_brace}
 use Rattle.toml_span_tree.specs.Error as tree
 use Rattle.toml_span_tree.specs.Date.{IsDateText}
 use Rattle.toml_span_read.specs.declared.fault.Due.{Due}
@@ -21,7 +22,7 @@ use Rattle.toml_span_read.specs.declared.fault.FaultKind.TheVariants as kinds
 use Rattle.toml_span_read.specs.Places.{IsLineInfo}
 use Rattle.toml_span_read.specs.Keys.{opens_string}
 use Rattle.toml_span_read.specs.Numbers.{is_digit, is_figure, Digits, behind_sign, is_exponent, magnitude, is_negative}
-use Rattle.toml_span_read.specs.Numbers.{UnsignedDecimal, radix_at}
+use Rattle.toml_span_read.specs.Numbers.{UnsignedDecimal, radix_at, digit_zero}
 use Rattle.toml_span_read.specs.Dates.{IsCandidate, begins_date}
 use Rattle.toml_span_read.specs.Grammar.{from_to}
 use Rattle.toml_span_read.specs.Gaps.{NoTail}
@@ -97,7 +98,7 @@ token_fault (tokens.InvalidEscape at c) = fault_at (kinds.InvalidEscape c) at
 token_fault (tokens.InvalidHexEscape at c) = fault_at (kinds.InvalidHexEscape c) at
 token_fault (tokens.InvalidEscapeValue at len value) =
     record { kind = kinds.InvalidEscapeValue value; span = record { start = at; end = at + len } }
-token_fault (tokens.NewlineInString at) = fault_at (kinds.InvalidCharInString 10) at
+token_fault (tokens.NewlineInString at) = fault_at (kinds.InvalidCharInString line_feed) at
 token_fault (tokens.Unexpected at c) = fault_at (kinds.Unexpected c) at
 token_fault (tokens.UnterminatedString at) = fault_at kinds.UnterminatedString at
 token_fault (tokens.MultilineStringKey start end) =
@@ -118,14 +119,14 @@ found_of (comment s) = founds.Comment
 found_of (keylike s) = founds.Keylike
 found_of (string src value multi) = if multi then founds.MultilineString else founds.OneLineString
 found_of (sign c) =
-    if c == 61 then founds.Equals
-    else if c == 46 then founds.Period
-    else if c == 44 then founds.Comma
-    else if c == 58 then founds.Colon
-    else if c == 43 then founds.Plus
-    else if c == 123 then founds.LeftBrace
-    else if c == 125 then founds.RightBrace
-    else if c == 91 then founds.LeftBracket
+    if c == equals then founds.Equals
+    else if c == period then founds.Period
+    else if c == comma then founds.Comma
+    else if c == colon then founds.Colon
+    else if c == plus then founds.Plus
+    else if c == left_brace then founds.LeftBrace
+    else if c == right_brace then founds.RightBrace
+    else if c == left_bracket then founds.LeftBracket
     else founds.RightBracket
 
 -- from i to j stands a token of this name, or the text ends at i
@@ -190,10 +191,10 @@ pub data NoIntegerPart (text : List ℕ) (start from end : ℕ) : Fault → Type
   no_integer_digits : (fault : Fault) → NoDigits 10 text start from end fault → NoIntegerPart text start from end fault
   -- The digits stand as those of a literal do, and behind a leading 0 stands a digit, with an underscore between them
   -- or not: an underscore that is out of place among the digits is told before a 0 that leads them.
-  zero_before : (m : ℕ) → Digits 10 text from m → slice_index text from ≡ 48
+  zero_before : (m : ℕ) → Digits 10 text from m → slice_index text from ≡ digit_zero
       → is_digit 10 (slice_index text (from + 1)) ≡ true
       → NoIntegerPart text start from end (invalid_number (from + 1) end)
-  zero_underscore_before : (m : ℕ) → Digits 10 text from m → slice_index text from ≡ 48
+  zero_underscore_before : (m : ℕ) → Digits 10 text from m → slice_index text from ≡ digit_zero
       → slice_index text (from + 1) ≡ underscore
       → is_digit 10 (slice_index text (from + 2)) ≡ true
       → NoIntegerPart text start from end (invalid_number (from + 2) end)
@@ -294,15 +295,15 @@ IsNoDate text i fault =
 
 -- a byte of a bare run, or a plus
 abbrev pub begins_bare : ℕ → Bool
-begins_bare c = is_keylike c || c == 43
+begins_bare c = is_keylike c || c == plus
 
 -- a bracket or a brace opens
 abbrev pub opens_nested : ℕ → Bool
-opens_nested c = c == 91 || c == 123
+opens_nested c = c == left_bracket || c == left_brace
 
 -- a digit, a dash or a plus
 abbrev pub begins_number : ℕ → Bool
-begins_number c = (is_ascii_digit c || c == 45) || c == 43
+begins_number c = (is_ascii_digit c || c == dash) || c == plus
 
 -- a value begins at i: a bracket or a brace, a bare run or a plus, or a whole string
 abbrev pub Begins : List ℕ → ℕ → Type 0

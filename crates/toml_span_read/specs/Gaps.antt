@@ -1,7 +1,7 @@
 -- White space, comments and line ends (TOML 1.1, "Comment", "Whitespace", "Newline").
 use Rattle.std.specs.Prelude.{◌≡◌, ℕ, ◌+◌, ◌<◌, ◌≤◌, ◌⊎◌, Bool, true, false, ◌||◌, ◌==◌, List, [], ◌∷◌, length}
 use Rattle.std.specs.Prelude.{slice_index}
-use Rattle.toml_span_lex.specs.Bytes.{is_blank, is_printed, MaximalRun}
+use Rattle.toml_span_lex.specs.Bytes.{is_blank, is_printed, MaximalRun, comma, equals, hash, line_feed, period}
 use Rattle.toml_span_lex.specs.Text.{LineEnd, is_crlf, NoLineEnd}
 use Rattle.toml_span_read.specs.declared.gaps.Behind.TheVariants as behind
 
@@ -10,12 +10,12 @@ abbrev pub GapPiece : List ℕ → ℕ → ℕ → Type 0
 GapPiece text i j =
     ((is_blank (slice_index text i) ≡ true) × (j ≡ i + 1))
     ⊎ LineEnd text i j
-    ⊎ ((slice_index text i ≡ 35) × MaximalRun is_printed text i j)
+    ⊎ ((slice_index text i ≡ hash) × MaximalRun is_printed text i j)
 
 -- whether a piece of a gap begins at a place
 abbrev pub begins_gap : List ℕ → ℕ → Bool
 begins_gap text i =
-    ((is_blank (slice_index text i) || slice_index text i == 10) || is_crlf text i) || slice_index text i == 35
+    ((is_blank (slice_index text i) || slice_index text i == line_feed) || is_crlf text i) || slice_index text i == hash
 
 -- pieces of a gap from i to j, with their ends
 abbrev pub GapBy : List ℕ → ℕ → List ℕ → ℕ → Type 0
@@ -33,8 +33,8 @@ pub record MaximalGap (text : List ℕ) (i j : ℕ) : Type 0 where
 pub record Skipped (text : List ℕ) (i j : ℕ) : Type 0 where
   pub at : ℕ
   pub blank : MaximalRun is_blank text i at
-  pub comment : ((slice_index text at ≡ 35) × MaximalRun is_printed text at j)
-      ⊎ (((slice_index text at == 35) ≡ false) × (j ≡ at))
+  pub comment : ((slice_index text at ≡ hash) × MaximalRun is_printed text at j)
+      ⊎ (((slice_index text at == hash) ≡ false) × (j ≡ at))
 
 -- the rest of a line: spaces and tabs, a comment, and a line end or the end of the text
 abbrev pub Tail : List ℕ → ℕ → ℕ → Type 0
@@ -61,13 +61,13 @@ BehindLines text i = (i ≡ length text) ⊎ (is_printed (slice_index text i) �
 pub record Dot (text : List ℕ) (i j : ℕ) : Type 0 where
   pub at : ℕ
   pub before : MaximalRun is_blank text i at
-  pub here : slice_index text at ≡ 46
+  pub here : slice_index text at ≡ period
   pub behind : MaximalRun is_blank text (at + 1) j
 
 pub record NoDot (text : List ℕ) (i : ℕ) : Type 0 where
   pub at : ℕ
   pub before : MaximalRun is_blank text i at
-  pub here : (slice_index text at == 46) ≡ false
+  pub here : (slice_index text at == period) ≡ false
 
 -- a sign, with gaps round it
 pub record Sign (c : ℕ) (text : List ℕ) (i j : ℕ) : Type 0 where
@@ -86,12 +86,12 @@ pub record Closes (c : ℕ) (text : List ℕ) (i j : ℕ) : Type 0 where
 -- behind a gap stands neither a comma nor this bracket
 pub record Neither (c : ℕ) (text : List ℕ) (i j : ℕ) : Type 0 where
   pub before : MaximalGap text i j
-  pub no_comma : (slice_index text j == 44) ≡ false
+  pub no_comma : (slice_index text j == comma) ≡ false
   pub no_bracket : (slice_index text j == c) ≡ false
 
 -- an equals sign, with spaces and tabs round it
 pub record Equals (text : List ℕ) (i j : ℕ) : Type 0 where
   pub at : ℕ
   pub before : MaximalRun is_blank text i at
-  pub here : slice_index text at ≡ 61
+  pub here : slice_index text at ≡ equals
   pub behind : MaximalRun is_blank text (at + 1) j

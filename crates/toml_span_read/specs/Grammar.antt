@@ -3,7 +3,8 @@
 use Rattle.std.specs.Prelude.{◌≡◌, ℕ, ◌+◌, ◌≤◌, ◌⊎◌, Bool, true, false, ◌==◌, List, [], ◌∷◌, ◌++◌, length, slice_index}
 use Rattle.std.specs.Prelude.{slice_range, codes}
 use Rattle.toml_span_lex.specs.declared.span.Span.{Span}
-use Rattle.toml_span_lex.specs.Bytes.{is_keylike, left_bracket, right_bracket, is_blank, MaximalRun}
+use Rattle.toml_span_lex.specs.Bytes.{is_keylike, left_bracket, right_bracket, is_blank, MaximalRun, comma, equals}
+use Rattle.toml_span_lex.specs.Bytes.{left_brace, right_brace}
 use Rattle.toml_span_lex.specs.Strings.{IsString}
 use Rattle.toml_span_lex.specs.Tokens.{RunAt}
 use Rattle.toml_span_lex.specs.Tokenizer.{FirstPlace}
@@ -49,38 +50,38 @@ abbrev mutual
   pub SpellsInner : Inner → Span → List ℕ → ℕ → ℕ → ℕ → ℕ → Type 0
   SpellsInner (scalar s) span t limit d i j = IsScalar s span t i j
   SpellsInner (array_node vs) span t limit d i j =
-      (slice_index t i ≡ 91) × (span ≡ from_to i j) × (k : ℕ) × MaximalGap t (i + 1) k
+      (slice_index t i ≡ left_bracket) × (span ≡ from_to i j) × (k : ℕ) × MaximalGap t (i + 1) k
       × SpellsItems vs t limit (d + 1) k j
   SpellsInner (inline_node ps) span t limit d i j =
-      (slice_index t i ≡ 123) × (span ≡ from_to i j) × (k : ℕ) × MaximalGap t (i + 1) k
+      (slice_index t i ≡ left_brace) × (span ≡ from_to i j) × (k : ℕ) × MaximalGap t (i + 1) k
       × SpellsPairs ps [] t limit (d + 1) k j
 
   -- values with commas between them, one more comma or none, and the closing bracket
   pub SpellsItems : Items → List ℕ → ℕ → ℕ → ℕ → ℕ → Type 0
-  SpellsItems no_items t limit d i j = (slice_index t i ≡ 93) × (j ≡ i + 1)
+  SpellsItems no_items t limit d i j = (slice_index t i ≡ right_bracket) × (j ≡ i + 1)
   SpellsItems (item v vs) t limit d i j =
       (m : ℕ) × Spells v t limit d i m
-      × (((vs ≡ no_items) × Closes 93 t m j) ⊎ ((p : ℕ) × Sign 44 t m p × SpellsItems vs t limit d p j))
+      × (((vs ≡ no_items) × Closes right_bracket t m j) ⊎ ((p : ℕ) × Sign comma t m p × SpellsItems vs t limit d p j))
 
   -- `keyval = key keyval-sep val`, with gaps round the equals sign: pairs behind these earlier ones, each a key of at
   -- most limit parts that goes through the value of no earlier pair, and its value, with commas between them, one more
   -- comma or none, and the closing brace
   pub SpellsPairs : Pairs → List Event → List ℕ → ℕ → ℕ → ℕ → ℕ → Type 0
-  SpellsPairs no_pairs es t limit d i j = (slice_index t i ≡ 125) × (j ≡ i + 1)
+  SpellsPairs no_pairs es t limit d i j = (slice_index t i ≡ right_brace) × (j ≡ i + 1)
   SpellsPairs (pair ss v extent ps) es t limit d i j =
       (m : ℕ)
-      × ((a b : ℕ) × Dotted ss t i a × (length ss ≤ limit) × Sign 61 t a b × Spells v t limit (d + length ss) b m
+      × ((a b : ℕ) × Dotted ss t i a × (length ss ≤ limit) × Sign equals t a b × Spells v t limit (d + length ss) b m
       × (extent ≡ from_to i m))
       × Clear es (record { parts = ss; value = v; extent = extent })
-      × (((ps ≡ no_pairs) × Closes 125 t m j)
-      ⊎ ((p : ℕ) × Sign 44 t m p
+      × (((ps ≡ no_pairs) × Closes right_brace t m j)
+      ⊎ ((p : ℕ) × Sign comma t m p
       × SpellsPairs ps (es ++ (record { parts = ss; value = v; extent = extent } ∷ [])) t limit d p j))
 
 -- a pair from i to j: a key of at most limit parts, an equals sign, and a value; its extent runs from the key to behind
 -- the value
 abbrev pub SpellsPair : Event → List ℕ → ℕ → ℕ → ℕ → ℕ → Type 0
 SpellsPair e t limit d i j =
-    (a b : ℕ) × Dotted e.parts t i a × (length e.parts ≤ limit) × Sign 61 t a b
+    (a b : ℕ) × Dotted e.parts t i a × (length e.parts ≤ limit) × Sign equals t a b
     × Spells e.value t limit (d + length e.parts) b j × (e.extent ≡ from_to i j)
 
 -- ---- assignments

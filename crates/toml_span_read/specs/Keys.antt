@@ -3,7 +3,7 @@ use Rattle.std.specs.Prelude.{◌≡◌, ℕ, ◌⊎◌, Bool, false, ◌||◌, 
 use Rattle.std.specs.Cow.{cow_str_bytes}
 use Rattle.toml_span_lex.specs.declared.span.Span.{Span}
 use Rattle.toml_span_lex.specs.declared.key.Key.{Key}
-use Rattle.toml_span_lex.specs.Bytes.{is_keylike}
+use Rattle.toml_span_lex.specs.Bytes.{is_keylike, apostrophe, quotation_mark}
 use Rattle.toml_span_lex.specs.Strings.{IsString}
 use Rattle.toml_span_lex.specs.Tokens.{RunAt}
 use Rattle.toml_span_read.specs.declared.value.DottedKey.{DottedKey}
@@ -27,7 +27,7 @@ IsKey p text i j =
     ⊎ ((source : List ℕ) × IsString text i j p.span source p.name false)
 
 abbrev pub opens_string : ℕ → Bool
-opens_string c = c == 34 || c == 39
+opens_string c = c == quotation_mark || c == apostrophe
 
 -- `*( dot-sep simple-key )`: from m, behind a key, to j stand these keys, each behind a dot, and no dot follows
 abbrev pub Onward : List Part → List ℕ → ℕ → ℕ → Type 0

@@ -7,6 +7,26 @@ use Rattle.toml_span_lex.specs.Bytes.{underscore, MaximalRun, plus, dash, is_key
 use Rattle.toml_span_tree.specs.Node.{finite, infinite, not_a_number, Scalar, text as text_scalar, integer, float}
 use Rattle.toml_span_tree.specs.Node.{boolean, datetime}
 
+-- ---- letters
+
+abbrev pub digit_zero : ℕ
+digit_zero = 48
+
+abbrev pub capital_e : ℕ
+capital_e = 69
+
+abbrev pub letter_b : ℕ
+letter_b = 98
+
+abbrev pub letter_e : ℕ
+letter_e = 101
+
+abbrev pub letter_o : ℕ
+letter_o = 111
+
+abbrev pub letter_x : ℕ
+letter_x = 120
+
 -- ---- digits
 
 -- what a digit is worth: 0 to 9, and a to f, of either case, 10 to 15
@@ -55,7 +75,7 @@ IsSigned true m n = (n ≡ neg_ℤ (pos m)) × (m ≤ 2 ^ 63)
 -- unsigned-dec-int = DIGIT / digit1-9 1*( DIGIT / underscore DIGIT )
 pub record UnsignedDecimal (text : List ℕ) (i j : ℕ) : Type 0 where
   pub digits : Digits 10 text i j
-  pub leading : slice_index text i ≡ 48 → j ≡ i + 1
+  pub leading : slice_index text i ≡ digit_zero → j ≡ i + 1
 
 -- what may stand neither behind an integer without a prefix nor behind inf and nan: a byte of its run, or a dot
 abbrev pub goes_on : List ℕ → ℕ → Bool
@@ -70,8 +90,8 @@ pub record DecimalInteger (n : ℤ) (text : List ℕ) (i j : ℕ) : Type 0 where
 -- hex-prefix = %x30.78 "0x", oct-prefix = %x30.6F "0o", bin-prefix = %x30.62 "0b"
 abbrev pub radix_at : List ℕ → ℕ → Option ℕ
 radix_at text i =
-    if not (slice_index text i == 48) then None
-    else (if slice_index text (i + 1) == 120 then Some 16 else (if slice_index text (i + 1) == 111 then Some 8 else (if slice_index text (i + 1) == 98 then Some 2 else None)))
+    if not (slice_index text i == digit_zero) then None
+    else (if slice_index text (i + 1) == letter_x then Some 16 else (if slice_index text (i + 1) == letter_o then Some 8 else (if slice_index text (i + 1) == letter_b then Some 2 else None)))
 
 -- hex-int, oct-int, bin-int: a prefix, and digits of its radix
 pub record RadixInteger (n : ℤ) (text : List ℕ) (i j : ℕ) : Type 0 where
@@ -85,7 +105,7 @@ pub record RadixInteger (n : ℤ) (text : List ℕ) (i j : ℕ) : Type 0 where
 
 -- "e", of either case
 abbrev pub is_exponent : ℕ → Bool
-is_exponent c = c == 101 || c == 69
+is_exponent c = c == letter_e || c == capital_e
 
 -- exp = "e" float-exp-part, float-exp-part = [ minus / plus ] zero-prefixable-int
 pub record Exponent (text : List ℕ) (i j : ℕ) : Type 0 where
@@ -106,7 +126,7 @@ pub record FloatLiteral (text : List ℕ) (i j : ℕ) : Type 0 where
 
 -- the text of a float as it is kept: without pluses and underscores, with a capital letter before the exponent
 abbrev pub cleaned : List ℕ → List ℕ
-cleaned literal = map (λ c. if c == 101 then 69 else c) (filter (λ c. not (c == plus || c == underscore)) literal)
+cleaned literal = map (λ c. if c == letter_e then capital_e else c) (filter (λ c. not (c == plus || c == underscore)) literal)
 
 -- special-float = [ minus / plus ] ( inf / nan )
 pub record SpecialFloat (word : List ℕ) (text : List ℕ) (i j : ℕ) : Type 0 where

@@ -1,6 +1,7 @@
 -- Places in a text: lines and columns, and where faults, keys, headers and values stand.
 use Rattle.std.specs.Prelude.{◌≡◌, ℕ, ◌+◌, ◌<◌, ◌≤◌, ◌⊎◌, false, ◌==◌, List, [], ◌∷◌, map, take, length, slice_index}
 use Rattle.std.specs.Prelude.{count_by}
+use Rattle.toml_span_lex.specs.Bytes.{line_feed}
 use Rattle.toml_span_lex.specs.declared.span.Span.{Span}
 use Rattle.toml_span_read.specs.declared.fault.Fault.{Fault}
 use Rattle.toml_span_read.specs.Keys.{Part, part}
@@ -12,9 +13,9 @@ use Rattle.toml_span_read.specs.declared.section.Section.{Section}
 -- many bytes behind the last of them, or behind the start of the text.
 pub record IsLineInfo (text : List ℕ) (i line column : ℕ) : Type 0 where
   pub start : ℕ
-  pub line_is : line ≡ count_by (λ c. c == 10) (take i text)
-  pub begins : (start ≡ 0) ⊎ ((k : ℕ) × (start ≡ k + 1) × (slice_index text k ≡ 10))
-  pub same_line : (k : ℕ) → start ≤ k → k < i → (slice_index text k == 10) ≡ false
+  pub line_is : line ≡ count_by (λ c. c == line_feed) (take i text)
+  pub begins : (start ≡ 0) ⊎ ((k : ℕ) × (start ≡ k + 1) × (slice_index text k ≡ line_feed))
+  pub same_line : (k : ℕ) → start ≤ k → k < i → (slice_index text k == line_feed) ≡ false
   pub column_is : start + column ≡ i
 
 -- a fault starts within the text, and does not end before it starts

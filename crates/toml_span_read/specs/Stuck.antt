@@ -2,7 +2,8 @@
 use Rattle.std.specs.Prelude.{◌≡◌, ℕ, ◌+◌, ◌<◌, ◌≤◌, Bool, true, false, ◌||◌, ◌==◌, List, [], ◌∷◌, ◌++◌, map, length}
 use Rattle.std.specs.Prelude.{slice_index, Vec, Result, Ok, Err}
 use Rattle.std.specs.Global.{Global}
-use Rattle.toml_span_lex.specs.Bytes.{is_blank, equals, MaximalRun, left_bracket}
+use Rattle.toml_span_lex.specs.Bytes.{is_blank, equals, MaximalRun, left_bracket, comma, left_brace, right_brace}
+use Rattle.toml_span_lex.specs.Bytes.{right_bracket}
 use Rattle.toml_span_lex.specs.Tokenizer.{FirstPlace}
 use Rattle.toml_span_lex.specs.declared.stop.Stop.{Stop}
 use Rattle.toml_span_lex.specs.declared.stop.Stop.TheVariants as stops
@@ -63,43 +64,43 @@ mutual
         → StuckValue text limit d i e
     no_bare : (d i : ℕ) (e : Fault) → d ≤ limit → NoBare text i e → StuckValue text limit d i e
     -- a bracket opens at i, and an element or the closing bracket is stuck
-    in_array : (d i k : ℕ) (e : Fault) → d ≤ limit → slice_index text i ≡ 91 → MaximalGap text (i + 1) k
+    in_array : (d i k : ℕ) (e : Fault) → d ≤ limit → slice_index text i ≡ left_bracket → MaximalGap text (i + 1) k
         → StuckItems text limit (d + 1) k e → StuckValue text limit d i e
     -- a brace opens at i, and a pair or the closing brace is stuck
-    in_inline : (d i k : ℕ) (e : Fault) → d ≤ limit → slice_index text i ≡ 123 → MaximalGap text (i + 1) k
+    in_inline : (d i k : ℕ) (e : Fault) → d ≤ limit → slice_index text i ≡ left_brace → MaximalGap text (i + 1) k
         → StuckPairs text limit [] (d + 1) k e → StuckValue text limit d i e
 
   -- an element or the closing bracket is due at i
   pub data StuckItems (text : List ℕ) (limit : ℕ) : ℕ → ℕ → Fault → Type 0 where
-    in_item : (d i : ℕ) (e : Fault) → (slice_index text i == 93) ≡ false → StuckValue text limit d i e
+    in_item : (d i : ℕ) (e : Fault) → (slice_index text i == right_bracket) ≡ false → StuckValue text limit d i e
         → StuckItems text limit d i e
     -- behind an element stands neither a comma nor the closing bracket
-    behind_item : (d i m n : ℕ) (v : Node) (e : Fault) → Spells v text limit d i m → Neither 93 text m n
+    behind_item : (d i m n : ℕ) (v : Node) (e : Fault) → Spells v text limit d i m → Neither right_bracket text m n
         → IsWanted text n dues.RightBracket e → StuckItems text limit d i e
-    item_on : (d i m p : ℕ) (v : Node) (e : Fault) → Spells v text limit d i m → Sign 44 text m p
+    item_on : (d i m p : ℕ) (v : Node) (e : Fault) → Spells v text limit d i m → Sign comma text m p
         → StuckItems text limit d p e → StuckItems text limit d i e
 
   -- a pair or the closing brace is due at i, behind these earlier pairs
   pub data StuckPairs (text : List ℕ) (limit : ℕ) : List Event → ℕ → ℕ → Fault → Type 0 where
-    in_pair : (es : List Event) (d i : ℕ) (e : Fault) → (slice_index text i == 125) ≡ false → StuckPair text limit d i e
+    in_pair : (es : List Event) (d i : ℕ) (e : Fault) → (slice_index text i == right_brace) ≡ false → StuckPair text limit d i e
         → StuckPairs text limit es d i e
     -- the key of a whole pair goes through the value of an earlier one
     crosses : (es : List Event) (d i m : ℕ) (p : Event) (e : Fault) → SpellsPair p text limit d i m → Crossing es p e
         → StuckPairs text limit es d i e
     -- behind a pair stands neither a comma nor the closing brace
     behind_pair : (es : List Event) (d i m n : ℕ) (p : Event) (e : Fault) → SpellsPair p text limit d i m → Clear es p
-        → Neither 125 text m n → IsWanted text n dues.Comma e → StuckPairs text limit es d i e
+        → Neither right_brace text m n → IsWanted text n dues.Comma e → StuckPairs text limit es d i e
     pair_on : (es : List Event) (d i m n : ℕ) (p : Event) (e : Fault) → SpellsPair p text limit d i m → Clear es p
-        → Sign 44 text m n → StuckPairs text limit (es ++ (p ∷ [])) d n e → StuckPairs text limit es d i e
+        → Sign comma text m n → StuckPairs text limit (es ++ (p ∷ [])) d n e → StuckPairs text limit es d i e
 
   -- a pair is due at i
   pub data StuckPair (text : List ℕ) (limit : ℕ) : ℕ → ℕ → Fault → Type 0 where
     in_key : (d i : ℕ) (e : Fault) → StuckDotted text limit i e → StuckPair text limit d i e
     -- behind the key stands no equals sign
     no_equals : (d i a n : ℕ) (ss : List Part) (e : Fault) → Dotted ss text i a → length ss ≤ limit
-        → MaximalGap text a n → (slice_index text n == 61) ≡ false → IsWanted text n dues.Equals e
+        → MaximalGap text a n → (slice_index text n == equals) ≡ false → IsWanted text n dues.Equals e
         → StuckPair text limit d i e
-    in_value : (d i a b : ℕ) (ss : List Part) (e : Fault) → Dotted ss text i a → length ss ≤ limit → Sign 61 text a b
+    in_value : (d i a b : ℕ) (ss : List Part) (e : Fault) → Dotted ss text i a → length ss ≤ limit → Sign equals text a b
         → StuckValue text limit (d + length ss) b e → StuckPair text limit d i e
 
 -- ---- assignments

@@ -2,7 +2,7 @@
 -- number is read also where a date would begin, and no value is a date.
 use Rattle.std.specs.Prelude.{◌≡◌, ℕ, ◌+◌, ◌≤◌, ◌⊎◌, Bool, List, [], ◌∷◌, ◌++◌, length, slice_index}
 use Rattle.toml_span_lex.specs.declared.span.Span.{Span}
-use Rattle.toml_span_lex.specs.Bytes.{is_keylike}
+use Rattle.toml_span_lex.specs.Bytes.{is_keylike, comma, equals, left_brace, left_bracket, right_brace, right_bracket}
 use Rattle.toml_span_lex.specs.Strings.{IsString}
 use Rattle.toml_span_lex.specs.Tokens.{RunAt}
 use Rattle.toml_span_lex.specs.Tokenizer.{FirstPlace}
@@ -34,31 +34,31 @@ abbrev mutual
   pub UndatedInner : Inner → Span → List ℕ → ℕ → ℕ → ℕ → ℕ → Type 0
   UndatedInner (scalar s) span t limit d i j = UndatedScalar s span t i j
   UndatedInner (array vs) span t limit d i j =
-      (slice_index t i ≡ 91) × (span ≡ from_to i j) × (k : ℕ) × MaximalGap t (i + 1) k
+      (slice_index t i ≡ left_bracket) × (span ≡ from_to i j) × (k : ℕ) × MaximalGap t (i + 1) k
       × UndatedItems vs t limit (d + 1) k j
   UndatedInner (inline ps) span t limit d i j =
-      (slice_index t i ≡ 123) × (span ≡ from_to i j) × (k : ℕ) × MaximalGap t (i + 1) k
+      (slice_index t i ≡ left_brace) × (span ≡ from_to i j) × (k : ℕ) × MaximalGap t (i + 1) k
       × UndatedPairs ps [] t limit (d + 1) k j
 
   -- values with commas between them, one more comma or none, and the closing bracket
   pub UndatedItems : Items → List ℕ → ℕ → ℕ → ℕ → ℕ → Type 0
-  UndatedItems no_items t limit d i j = (slice_index t i ≡ 93) × (j ≡ i + 1)
+  UndatedItems no_items t limit d i j = (slice_index t i ≡ right_bracket) × (j ≡ i + 1)
   UndatedItems (item v vs) t limit d i j =
       (m : ℕ) × SpellsUndated v t limit d i m
-      × (((vs ≡ no_items) × Closes 93 t m j) ⊎ ((p : ℕ) × Sign 44 t m p × UndatedItems vs t limit d p j))
+      × (((vs ≡ no_items) × Closes right_bracket t m j) ⊎ ((p : ℕ) × Sign comma t m p × UndatedItems vs t limit d p j))
 
   -- `keyval = key keyval-sep val`, with gaps round the equals sign: pairs behind these earlier ones, each a key of at
   -- most limit parts that goes through the value of no earlier pair, and its value, with commas between them, one more
   -- comma or none, and the closing brace
   pub UndatedPairs : Pairs → List Event → List ℕ → ℕ → ℕ → ℕ → ℕ → Type 0
-  UndatedPairs no_pairs es t limit d i j = (slice_index t i ≡ 125) × (j ≡ i + 1)
+  UndatedPairs no_pairs es t limit d i j = (slice_index t i ≡ right_brace) × (j ≡ i + 1)
   UndatedPairs (pair ss v extent ps) es t limit d i j =
       (m : ℕ)
-      × ((a b : ℕ) × Dotted ss t i a × (length ss ≤ limit) × Sign 61 t a b × SpellsUndated v t limit (d + length ss) b m
+      × ((a b : ℕ) × Dotted ss t i a × (length ss ≤ limit) × Sign equals t a b × SpellsUndated v t limit (d + length ss) b m
       × (extent ≡ from_to i m))
       × Clear es (record { parts = ss; value = v; extent = extent })
-      × (((ps ≡ no_pairs) × Closes 125 t m j)
-      ⊎ ((p : ℕ) × Sign 44 t m p
+      × (((ps ≡ no_pairs) × Closes right_brace t m j)
+      ⊎ ((p : ℕ) × Sign comma t m p
       × UndatedPairs ps (es ++ (record { parts = ss; value = v; extent = extent } ∷ [])) t limit d p j))
 
 -- `keyval = key keyval-sep val`: the text from i to j is this assignment

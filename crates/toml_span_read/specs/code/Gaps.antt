@@ -1,7 +1,7 @@
 -- What the functions of gaps and signs give.
 use Rattle.std.specs.Prelude.{◌≡◌, ℕ, ◌<◌, ◌≤◌, false, ◌==◌, List, slice_index, Result, Ok, Err, Option, Some, None}
 use Rattle.std.specs.Str.{IsCharBoundary}
-use Rattle.toml_span_lex.specs.Bytes.{is_blank, MaximalRun}
+use Rattle.toml_span_lex.specs.Bytes.{is_blank, MaximalRun, comma, equals}
 use Rattle.toml_span_read.specs.Gaps.{GapPiece, begins_gap, Tail, NoTail, Dot, NoDot, Sign, Closes, Neither, MaximalGap}
 use Rattle.toml_span_read.specs.Gaps.{Equals}
 use Rattle.toml_span_read.specs.declared.gaps.Behind.{Behind}
@@ -25,7 +25,7 @@ DotGives text i None = NoDot text i
 DotGives text i (Some j) = Dot text i j × Further text i j
 
 abbrev pub BehindGives : ℕ → List ℕ → ℕ → Behind → Type 0
-BehindGives c text i (behind.Comma j) = Sign 44 text i j × Further text i j
+BehindGives c text i (behind.Comma j) = Sign comma text i j × Further text i j
 BehindGives c text i (behind.Closed j) = Closes c text i j × Further text i j
 BehindGives c text i (behind.Neither j) = Neither c text i j × IsCharBoundary text j
 
@@ -36,4 +36,4 @@ SignGives c text i (Err k) = MaximalGap text i k × ((slice_index text k == c) �
 
 abbrev pub EqualsGives : List ℕ → ℕ → Result ℕ ℕ → Type 0
 EqualsGives text i (Ok j) = Equals text i j × Further text i j
-EqualsGives text i (Err k) = MaximalRun is_blank text i k × ((slice_index text k == 61) ≡ false) × IsCharBoundary text k
+EqualsGives text i (Err k) = MaximalRun is_blank text i k × ((slice_index text k == equals) ≡ false) × IsCharBoundary text k

@@ -2,6 +2,7 @@
 use Rattle.std.specs.Prelude.{◌≡◌, ℕ, ◌≤◌, ◌⊎◌, List, map, length, slice_index, Vec, Result, Ok, Err}
 use Rattle.std.specs.Global.{Global}
 use Rattle.std.specs.Str.{IsCharBoundary}
+use Rattle.toml_span_lex.specs.Bytes.{left_bracket}
 use Rattle.toml_span_lex.specs.declared.stop.Stop.{Stop}
 use Rattle.toml_span_read.specs.Data.{Node, node, view, event}
 use Rattle.toml_span_read.specs.declared.fault.Fault.{Fault}
@@ -35,7 +36,7 @@ AssignmentsRead text limit i (Err stop) = IsPlacedStop text stop
 
 -- the assignments end where a header begins, or with the text
 abbrev pub EndsAtHeader : List ℕ → Result (Vec Assignment Global × ℕ) (Stop Fault) → Type 0
-EndsAtHeader text (Ok (found, j)) = (j ≡ length text) ⊎ (slice_index text j ≡ 91)
+EndsAtHeader text (Ok (found, j)) = (j ≡ length text) ⊎ (slice_index text j ≡ left_bracket)
 EndsAtHeader text (Err stop) = Unit {0}
 
 -- the rest of a line, or of a header, ends at a place further on, or where it is due

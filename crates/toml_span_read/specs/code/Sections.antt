@@ -5,7 +5,7 @@ use Rattle.std.specs.Global.{Global}
 use Rattle.std.specs.Str.{IsCharBoundary}
 use Rattle.toml_span_lex.specs.declared.stop.Stop.{Stop}
 use Rattle.toml_span_lex.specs.declared.stop.Stop.TheVariants as stops
-use Rattle.toml_span_lex.specs.Bytes.{is_blank, MaximalRun}
+use Rattle.toml_span_lex.specs.Bytes.{is_blank, MaximalRun, left_bracket}
 use Rattle.toml_span_lex.specs.Tokenizer.{FirstPlace}
 use Rattle.toml_span_read.specs.declared.fault.Fault.{Fault}
 use Rattle.toml_span_read.specs.declared.value.Assignment.{Assignment}
@@ -73,7 +73,7 @@ SectionsGive text limit (Err (stops.Fault e)) = StuckDocument text limit e
 
 -- sections end where a header begins, or with the text
 abbrev pub EndsSection : List ℕ → ℕ → Type 0
-EndsSection text j = IsCharBoundary text j × ((j ≡ length text) ⊎ (slice_index text j ≡ 91))
+EndsSection text j = IsCharBoundary text j × ((j ≡ length text) ⊎ (slice_index text j ≡ left_bracket))
 
 -- a section that is read is within the limit, its keys stand in the text, and what is borrowed in it is right
 pub record IsReadSection (text : List ℕ) (limit : ℕ) (s : Section) : Type 0 where

@@ -2,7 +2,7 @@
 use Rattle.std.specs.Prelude.{◌≡◌, ℕ, ◌+◌, ◌⊎◌, true, ◌||◌, ◌==◌, List, slice_index, Result, Ok, Err, Option, Some}
 use Rattle.std.specs.Prelude.{None}
 use Rattle.std.specs.Str.{IsCharBoundary}
-use Rattle.toml_span_lex.specs.Bytes.{is_blank, is_keylike, MaximalRun}
+use Rattle.toml_span_lex.specs.Bytes.{is_blank, is_keylike, MaximalRun, equals, plus, right_brace, right_bracket}
 use Rattle.toml_span_lex.specs.Laws.{SomethingStands}
 use Rattle.toml_span_tree.specs.Node.{Scalar}
 use Rattle.toml_span_tree.specs.declared.date.DateText.{DateText}
@@ -39,11 +39,11 @@ pub record Judged (text : List ℕ) (i : ℕ) : Type 0 where
   pub blank : (j : ℕ) × MaximalRun is_blank text i j × IsCharBoundary text j
   pub run : (j : ℕ) × MaximalRun is_keylike text i j × IsCharBoundary text j
   pub dot : (found : Option ℕ) × DotGives text i found
-  pub element : (found : Behind) × BehindGives 93 text i found
-  pub pair : (found : Behind) × BehindGives 125 text i found
-  pub sign : (found : Result ℕ ℕ) × SignGives 61 text i found
+  pub element : (found : Behind) × BehindGives right_bracket text i found
+  pub pair : (found : Behind) × BehindGives right_brace text i found
+  pub sign : (found : Result ℕ ℕ) × SignGives equals text i found
   pub equals : (found : Result ℕ ℕ) × EqualsGives text i found
   pub tail : (found : Result ℕ ℕ) × TailGives text i found
   pub date : begins_date text i ≡ true → (found : Result (DateText × ℕ) Fault) × DateGives text i found
-  pub number : (is_keylike (slice_index text i) || slice_index text i == 43) ≡ true
+  pub number : (is_keylike (slice_index text i) || slice_index text i == plus) ≡ true
       → (found : Result ℕ Fault) × NumberStands text i found × EndsFurther text i found
