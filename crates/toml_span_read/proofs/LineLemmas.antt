@@ -112,7 +112,7 @@ close_first true (stops.Fault e) text i k run none h = (k, run, inl (none, h))
 pub close_second : (array : Bool) (stop : Stop Fault) (text : List ℕ) (i k b : ℕ) → array ≡ true → MaximalRun is_blank text i k → get_or text k 0 ≡ 93 → b ≡ k + 1
     → (get_or text b 0 == 93) ≡ false → WantedGives text b dues.RightBracket stop → CloseGives array text i (Err stop)
 close_second array (stops.Memory e) text i k b a run here u none h = tt
-close_second array (stops.Fault e) text i k b a run here u none h = rw a (k, run, inr (here, (rw u at none), (rw u at h)))
+close_second array (stops.Fault e) text i k b a run here u none h = rw a (k, run, inr (here, ((rw u at none), (rw u at h))))
 
 pub header_key_fault : (stop : Stop Fault) (array : Bool) (text : List ℕ) (limit i m k : ℕ) → Opens array text i m → MaximalRun is_blank text m k → HeaderKeyGives text limit k (Err stop)
     → HeaderGives text limit i (Err stop)

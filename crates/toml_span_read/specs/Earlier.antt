@@ -48,4 +48,7 @@ pub record Crossing (earlier : List Event) (next : Event) (fault : Fault) : Type
   pub key : next.parts ≡ outer ++ (part ∷ more ∷ rest)
   pub outermost : NoneThrough outer earlier
   pub met : EarliestAt (path (outer ++ (part ∷ []))) earlier first
-  pub fault_is : fault ≡ record { kind = kinds.DottedKeyInvalidType first; span = record { start = part.span.start; end = (span_of next.value).end } }
+  pub fault_is : fault ≡ record {
+    kind = kinds.DottedKeyInvalidType first;
+    span = record { start = part.span.start; end = (span_of next.value).end };
+  }

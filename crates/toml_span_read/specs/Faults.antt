@@ -2,6 +2,7 @@
 use Rattle.std.specs.Prelude.{◌≡◌, ℕ, ◌+◌, ◌^◌, ◌<◌, ◌≤◌, ◌⊎◌, Bool, true, false, ◌&&◌, ◌||◌, ◌==◌, if◌then◌else◌, List}
 use Rattle.std.specs.Prelude.{length, slice_index, slice_range, Some, None, codes}
 use Rattle.std.specs.Char.{is_ascii_digit}
+use Rattle.toml_span_lex.specs.Text.{NoLineEnd}
 use Rattle.toml_span_lex.specs.declared.tokens.Error.{Error}
 use Rattle.toml_span_lex.specs.declared.tokens.Error.TheVariants as tokens
 use Rattle.toml_span_lex.specs.Tokens.{IsFault, Lexeme, whitespace, newline, comment, sign, keylike, string, Stands}
@@ -20,7 +21,7 @@ use Rattle.toml_span_read.specs.declared.fault.Fault.{Fault}
 use Rattle.toml_span_read.specs.declared.fault.FaultKind.{FaultKind}
 use Rattle.toml_span_read.specs.declared.fault.FaultKind.TheVariants as kinds
 use Rattle.toml_span_read.specs.Places.{IsLineInfo}
-use Rattle.toml_span_read.specs.Keys.{opens_string}
+use Rattle.toml_span_read.specs.Keys.{opens_string, Part, IsKey}
 use Rattle.toml_span_read.specs.Numbers.{is_digit, is_figure, Digits, behind_sign, is_exponent, magnitude, is_negative}
 use Rattle.toml_span_read.specs.Numbers.{UnsignedDecimal, radix_at, digit_zero}
 use Rattle.toml_span_read.specs.Dates.{IsCandidate, begins_date}
@@ -166,6 +167,22 @@ NoKey text i fault =
     ⊎ (((is_keylike (slice_index text i) || opens_string (slice_index text i)) ≡ false)
     × IsWanted text i dues.TableKey fault)
 
+-- the part of a dotted key is due at i, behind n others: none stands there, or one too many
+abbrev pub NoPart : List ℕ → ℕ → ℕ → ℕ → Fault → Type 0
+NoPart text limit n i e =
+    NoKey text i e ⊎ ((s : Part) × (j : ℕ) × IsKey s text i j × (limit ≤ n) × (e ≡ fault_at kinds.ExceededDepthLimit i))
+
+-- the part of a header's key: of one too many the whole key is told
+abbrev pub NoHeaderPart : List ℕ → ℕ → ℕ → ℕ → Fault → Type 0
+NoHeaderPart text limit n i e =
+    NoKey text i e
+    ⊎ ((s : Part) × (j : ℕ) × IsKey s text i j × (limit ≤ n)
+    × (e ≡ record { kind = kinds.ExceededDepthLimit; span = s.span }))
+
+-- behind a key stands no equals sign
+abbrev pub NoEquals : List ℕ → ℕ → Fault → Type 0
+NoEquals text i e = ((slice_index text i == equals) ≡ false) × IsWanted text i dues.Equals e
+
 -- ---- where a number is due: the forms before the fault, and what stands there
 
 -- all the letters, digits, dashes and underscores from i on, of which there is one
@@ -305,6 +322,10 @@ opens_nested c = c == left_bracket || c == left_brace
 abbrev pub begins_number : ℕ → Bool
 begins_number c = (is_ascii_digit c || c == dash) || c == plus
 
+-- what a value begins with: a bracket or a brace, a byte of a bare run or a plus, or a quote
+abbrev pub begins_value : ℕ → Bool
+begins_value c = opens_nested c || begins_bare c || opens_string c
+
 -- a value begins at i: a bracket or a brace, a bare run or a plus, or a whole string
 abbrev pub Begins : List ℕ → ℕ → Type 0
 Begins text i =
@@ -350,16 +371,36 @@ IsNoValue text i fault =
     × (fault ≡ record { kind = kinds.Wanted dues.Value (found_of lexeme); span = record { start = i; end = j } }))
     ⊎ IsTokenFault text i fault
 
+-- A value is due at i, at this depth: none begins there, quotes open and no string is there, one begins past the limit,
+-- or a bare one is wrong.
+abbrev pub NoValue : List ℕ → ℕ → ℕ → ℕ → Fault → Type 0
+NoValue text limit d i e =
+    ((begins_value (slice_index text i) ≡ false) × IsNoValue text i e)
+    ⊎ ((opens_string (slice_index text i) ≡ true) × IsTokenFault text i e)
+    ⊎ ((limit < d) × Begins text i × (e ≡ fault_at kinds.ExceededDepthLimit i))
+    ⊎ ((d ≤ limit) × NoBare text i e)
+
+-- behind an element or a pair stands neither a comma nor this bracket; of an array the bracket is called for, of an
+-- inline table the comma
+abbrev pub NoComma : ℕ → Due → List ℕ → ℕ → Fault → Type 0
+NoComma close expected text i e =
+    ((slice_index text i == comma) ≡ false) × ((slice_index text i == close) ≡ false) × IsWanted text i expected e
+
 -- ---- where the rest of a line is due, or a header is to close
+
+-- a line is to end at i, and another token stands there
+abbrev pub NoNewline : List ℕ → ℕ → Fault → Type 0
+NoNewline text i e = (i < length text) × NoLineEnd text i × IsWanted text i dues.Newline e
 
 -- behind the form that ends at i the rest of its line is due, and this fault stands in its place
 abbrev pub StuckTail : List ℕ → ℕ → Fault → Type 0
 StuckTail text i e = (n : ℕ) × NoTail text i n × IsWanted text n dues.Newline e
 
+-- a bracket of a header is to close at i, and another token stands there
+abbrev pub NoBracket : List ℕ → ℕ → Fault → Type 0
+NoBracket text i e = ((slice_index text i == right_bracket) ≡ false) × IsWanted text i dues.RightBracket e
+
 -- where the brackets of a header are to close, a bracket is missing
 abbrev pub NoShuts : Bool → List ℕ → ℕ → Fault → Type 0
-NoShuts false text i e = ((slice_index text i == right_bracket) ≡ false) × IsWanted text i dues.RightBracket e
-NoShuts true text i e =
-    (((slice_index text i == right_bracket) ≡ false) × IsWanted text i dues.RightBracket e)
-    ⊎ ((slice_index text i ≡ right_bracket) × ((slice_index text (i + 1) == right_bracket) ≡ false)
-    × IsWanted text (i + 1) dues.RightBracket e)
+NoShuts false text i e = NoBracket text i e
+NoShuts true text i e = NoBracket text i e ⊎ ((slice_index text i ≡ right_bracket) × NoBracket text (i + 1) e)

@@ -3,9 +3,10 @@ use Rattle.std.specs.Prelude.{◌≡◌, ℕ, ◌+◌, ◌<◌, ◌≤◌, ◌�
 use Rattle.std.specs.Prelude.{slice_index}
 use Rattle.toml_span_lex.specs.Bytes.{is_blank, is_printed, MaximalRun, comma, equals, hash, line_feed, period}
 use Rattle.toml_span_lex.specs.Text.{LineEnd, is_crlf, NoLineEnd}
-use Rattle.toml_span_read.specs.declared.gaps.Behind.TheVariants as behind
 
 -- a space or a tab, a line end, or a comment
+--
+-- `wschar = %x20 / %x09`, `newline = %x0A / %x0D.0A`, `comment = comment-start-symbol *non-eol`
 abbrev pub GapPiece : List ℕ → ℕ → ℕ → Type 0
 GapPiece text i j =
     ((is_blank (slice_index text i) ≡ true) × (j ≡ i + 1))
@@ -23,20 +24,22 @@ GapBy text i [] j = i ≡ j
 GapBy text i (k ∷ ks) j = GapPiece text i k × GapBy text k ks j
 
 -- all the spaces, tabs, line ends and comments from i on
+--
+-- `ws-comment-newline = *( wschar / [ comment ] newline )`
 pub record MaximalGap (text : List ℕ) (i j : ℕ) : Type 0 where
   pub ends : List ℕ
   pub pieces : GapBy text i ends j
   pub forward : i ≤ j
   pub stops : begins_gap text j ≡ false
 
--- spaces and tabs, and a comment if one is there
+-- spaces and tabs, and a comment if one is there: `ws [ comment ]`, where `ws = *wschar`
 pub record Skipped (text : List ℕ) (i j : ℕ) : Type 0 where
   pub at : ℕ
   pub blank : MaximalRun is_blank text i at
   pub comment : ((slice_index text at ≡ hash) × MaximalRun is_printed text at j)
       ⊎ (((slice_index text at == hash) ≡ false) × (j ≡ at))
 
--- the rest of a line: spaces and tabs, a comment, and a line end or the end of the text
+-- the rest of a line: `ws [ comment ]` and a line end or the end of the text
 abbrev pub Tail : List ℕ → ℕ → ℕ → Type 0
 Tail text i j = (k : ℕ) × Skipped text i k × (LineEnd text k j ⊎ ((k ≡ length text) × (j ≡ k)))
 
@@ -57,26 +60,28 @@ BehindLines text i = (i ≡ length text) ⊎ (is_printed (slice_index text i) �
 
 -- ---- signs, with what may stand round them
 
--- a dot, with spaces and tabs round it
+-- a dot, with spaces and tabs round it: `dot-sep = ws %x2E ws`
 pub record Dot (text : List ℕ) (i j : ℕ) : Type 0 where
   pub at : ℕ
   pub before : MaximalRun is_blank text i at
   pub here : slice_index text at ≡ period
   pub behind : MaximalRun is_blank text (at + 1) j
 
+-- behind spaces and tabs stands no dot
 pub record NoDot (text : List ℕ) (i : ℕ) : Type 0 where
   pub at : ℕ
   pub before : MaximalRun is_blank text i at
   pub here : (slice_index text at == period) ≡ false
 
--- a sign, with gaps round it
+-- a sign, with gaps round it: `array-sep = %x2C`, `inline-table-sep = %x2C`, and the `%x3D` of a pair
 pub record Sign (c : ℕ) (text : List ℕ) (i j : ℕ) : Type 0 where
   pub at : ℕ
   pub before : MaximalGap text i at
   pub here : slice_index text at ≡ c
   pub behind : MaximalGap text (at + 1) j
 
--- a closing bracket behind a gap
+-- a closing bracket behind a gap: `ws-comment-newline array-close`, where `array-close = %x5D`, or
+-- `ws-comment-newline inline-table-close`, where `inline-table-close = %x7D`
 pub record Closes (c : ℕ) (text : List ℕ) (i j : ℕ) : Type 0 where
   pub at : ℕ
   pub before : MaximalGap text i at
@@ -89,7 +94,7 @@ pub record Neither (c : ℕ) (text : List ℕ) (i j : ℕ) : Type 0 where
   pub no_comma : (slice_index text j == comma) ≡ false
   pub no_bracket : (slice_index text j == c) ≡ false
 
--- an equals sign, with spaces and tabs round it
+-- an equals sign, with spaces and tabs round it: `keyval-sep = ws %x3D ws`
 pub record Equals (text : List ℕ) (i j : ℕ) : Type 0 where
   pub at : ℕ
   pub before : MaximalRun is_blank text i at

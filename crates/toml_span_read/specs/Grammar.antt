@@ -31,6 +31,9 @@ from_to i j = record { start = i; end = j }
 
 -- The text from i to j is this string, number, truth value or date, with this span: of a string its content's. A number
 -- is read where no date begins.
+--
+-- `string = ml-basic-string / basic-string / ml-literal-string / literal-string`, `boolean = true / false`,
+-- `date-time = offset-date-time / local-date-time / local-date / local-time`
 abbrev pub IsScalar : Scalar → Span → List ℕ → ℕ → ℕ → Type 0
 IsScalar (text_scalar value) span t i j = (source : List ℕ) × (multi : Bool) × IsString t i j span source value multi
 IsScalar (boolean b) span t i j = RunAt is_keylike t i j (truth_text b) × (span ≡ from_to i j)
@@ -39,43 +42,68 @@ IsScalar (datetime date) span t i j =
 IsScalar (integer n) span t i j = (begins_date t i ≡ false) × IsNumber (integer n) t i j × (span ≡ from_to i j)
 IsScalar (float x) span t i j = (begins_date t i ≡ false) × IsNumber (float x) t i j × (span ≡ from_to i j)
 
+-- which scalars the text spells from one place to another, with their spans
+abbrev pub Scalars : Type 1
+Scalars = Scalar → Span → List ℕ → ℕ → ℕ → Type 0
+
 abbrev mutual
-  -- The text from i to j spells this value, with its spans. d is the number of brackets and braces open round it plus
-  -- that of the parts of its own key and of those round it, at most the limit.
-  pub Spells : Node → List ℕ → ℕ → ℕ → ℕ → ℕ → Type 0
-  Spells (node k span) t limit d i j = (d ≤ limit) × SpellsInner k span t limit d i j
+  -- The text from i to j spells this value, with its spans, where S says which scalars it spells. d is the number of
+  -- brackets and braces open round it plus that of the parts of its own key and of those round it, at most the limit.
+  --
+  -- `val = string / boolean / array / inline-table / date-time / float / integer`
+  pub SpellsWith : Scalars → Node → List ℕ → ℕ → ℕ → ℕ → ℕ → Type 0
+  SpellsWith S (node k span) t limit d i j = (d ≤ limit) × InnerWith S k span t limit d i j
 
   -- `array = array-open [ array-values ] ws-comment-newline array-close`
   -- `inline-table = inline-table-open [ inline-table-keyvals ] ws-comment-newline inline-table-close`
-  pub SpellsInner : Inner → Span → List ℕ → ℕ → ℕ → ℕ → ℕ → Type 0
-  SpellsInner (scalar s) span t limit d i j = IsScalar s span t i j
-  SpellsInner (array_node vs) span t limit d i j =
+  pub InnerWith : Scalars → Inner → Span → List ℕ → ℕ → ℕ → ℕ → ℕ → Type 0
+  InnerWith S (scalar s) span t limit d i j = S s span t i j
+  InnerWith S (array_node vs) span t limit d i j =
       (slice_index t i ≡ left_bracket) × (span ≡ from_to i j) × (k : ℕ) × MaximalGap t (i + 1) k
-      × SpellsItems vs t limit (d + 1) k j
-  SpellsInner (inline_node ps) span t limit d i j =
+      × ItemsWith S vs t limit (d + 1) k j
+  InnerWith S (inline_node ps) span t limit d i j =
       (slice_index t i ≡ left_brace) × (span ≡ from_to i j) × (k : ℕ) × MaximalGap t (i + 1) k
-      × SpellsPairs ps [] t limit (d + 1) k j
+      × PairsWith S ps [] t limit (d + 1) k j
 
   -- values with commas between them, one more comma or none, and the closing bracket
-  pub SpellsItems : Items → List ℕ → ℕ → ℕ → ℕ → ℕ → Type 0
-  SpellsItems no_items t limit d i j = (slice_index t i ≡ right_bracket) × (j ≡ i + 1)
-  SpellsItems (item v vs) t limit d i j =
-      (m : ℕ) × Spells v t limit d i m
-      × (((vs ≡ no_items) × Closes right_bracket t m j) ⊎ ((p : ℕ) × Sign comma t m p × SpellsItems vs t limit d p j))
+  --
+  -- `array-values =  ws-comment-newline val ws-comment-newline array-sep array-values`
+  -- `array-values =/ ws-comment-newline val ws-comment-newline [ array-sep ]`
+  pub ItemsWith : Scalars → Items → List ℕ → ℕ → ℕ → ℕ → ℕ → Type 0
+  ItemsWith S no_items t limit d i j = (slice_index t i ≡ right_bracket) × (j ≡ i + 1)
+  ItemsWith S (item v vs) t limit d i j =
+      (m : ℕ) × SpellsWith S v t limit d i m
+      × (((vs ≡ no_items) × Closes right_bracket t m j) ⊎ ((p : ℕ) × Sign comma t m p × ItemsWith S vs t limit d p j))
 
   -- `keyval = key keyval-sep val`, with gaps round the equals sign: pairs behind these earlier ones, each a key of at
   -- most limit parts that goes through the value of no earlier pair, and its value, with commas between them, one more
   -- comma or none, and the closing brace
-  pub SpellsPairs : Pairs → List Event → List ℕ → ℕ → ℕ → ℕ → ℕ → Type 0
-  SpellsPairs no_pairs es t limit d i j = (slice_index t i ≡ right_brace) × (j ≡ i + 1)
-  SpellsPairs (pair ss v extent ps) es t limit d i j =
+  --
+  -- `inline-table-keyvals =  ws-comment-newline keyval ws-comment-newline inline-table-sep inline-table-keyvals`
+  -- `inline-table-keyvals =/ ws-comment-newline keyval ws-comment-newline [ inline-table-sep ]`
+  pub PairsWith : Scalars → Pairs → List Event → List ℕ → ℕ → ℕ → ℕ → ℕ → Type 0
+  PairsWith S no_pairs es t limit d i j = (slice_index t i ≡ right_brace) × (j ≡ i + 1)
+  PairsWith S (pair ss v extent ps) es t limit d i j =
       (m : ℕ)
-      × ((a b : ℕ) × Dotted ss t i a × (length ss ≤ limit) × Sign equals t a b × Spells v t limit (d + length ss) b m
-      × (extent ≡ from_to i m))
+      × ((a b : ℕ) × Dotted ss t i a × (length ss ≤ limit) × Sign equals t a b
+      × SpellsWith S v t limit (d + length ss) b m × (extent ≡ from_to i m))
       × Clear es (record { parts = ss; value = v; extent = extent })
       × (((ps ≡ no_pairs) × Closes right_brace t m j)
       ⊎ ((p : ℕ) × Sign comma t m p
-      × SpellsPairs ps (es ++ (record { parts = ss; value = v; extent = extent } ∷ [])) t limit d p j))
+      × PairsWith S ps (es ++ (record { parts = ss; value = v; extent = extent } ∷ [])) t limit d p j))
+
+-- TOML's own values: with dates
+abbrev pub Spells : Node → List ℕ → ℕ → ℕ → ℕ → ℕ → Type 0
+Spells = SpellsWith IsScalar
+
+abbrev pub SpellsInner : Inner → Span → List ℕ → ℕ → ℕ → ℕ → ℕ → Type 0
+SpellsInner = InnerWith IsScalar
+
+abbrev pub SpellsItems : Items → List ℕ → ℕ → ℕ → ℕ → ℕ → Type 0
+SpellsItems = ItemsWith IsScalar
+
+abbrev pub SpellsPairs : Pairs → List Event → List ℕ → ℕ → ℕ → ℕ → ℕ → Type 0
+SpellsPairs = PairsWith IsScalar
 
 -- a pair from i to j: a key of at most limit parts, an equals sign, and a value; its extent runs from the key to behind
 -- the value
@@ -86,37 +114,53 @@ SpellsPair e t limit d i j =
 
 -- ---- assignments
 
--- `keyval = key keyval-sep val`: the text from i to j is this assignment
-pub record SpellsEvent (ev : Event) (text : List ℕ) (limit i j : ℕ) : Type 0 where
+-- the text from i to j is this assignment: `keyval = key keyval-sep val`
+pub record EventWith (S : Scalars) (ev : Event) (text : List ℕ) (limit i j : ℕ) : Type 0 where
   pub key_end : ℕ
   pub from : ℕ
   pub key : Dotted ev.parts text i key_end
   pub few : length ev.parts ≤ limit
   pub sign : Equals text key_end from
-  pub spelled : Spells ev.value text limit (length ev.parts) from j
+  pub spelled : SpellsWith S ev.value text limit (length ev.parts) from j
   pub extent : ev.extent ≡ record { start = i; end = j }
 
--- `expression = ws keyval ws [ comment ]`: from i to j stand these assignments, each with the rest of its line and the
--- blank lines behind it. No key goes through one of the earlier values of its section.
-abbrev pub SpellsEvents : List Event → List Event → List ℕ → ℕ → ℕ → ℕ → Type 0
-SpellsEvents [] earlier text limit i j = j ≡ i
-SpellsEvents (ev ∷ evs) earlier text limit i j =
-    (m n k : ℕ) × SpellsEvent ev text limit i m × Tail text m n × Clear earlier ev × MaximalGap text n k
-    × SpellsEvents evs (earlier ++ (ev ∷ [])) text limit k j
+-- From i to j stand these assignments, each with the rest of its line and the blank lines behind it. No key goes
+-- through one of the earlier values of its section.
+--
+-- `expression =/ ws keyval ws [ comment ]`
+abbrev pub EventsWith : Scalars → List Event → List Event → List ℕ → ℕ → ℕ → ℕ → Type 0
+EventsWith S [] earlier text limit i j = j ≡ i
+EventsWith S (ev ∷ evs) earlier text limit i j =
+    (m n k : ℕ) × EventWith S ev text limit i m × Tail text m n × Clear earlier ev × MaximalGap text n k
+    × EventsWith S evs (earlier ++ (ev ∷ [])) text limit k j
 
 -- from i to j stand blank lines and these assignments
+abbrev pub LinesWith : Scalars → List Event → List ℕ → ℕ → ℕ → ℕ → Type 0
+LinesWith S evs text limit i j = (k : ℕ) × MaximalGap text i k × EventsWith S evs [] text limit k j
+
+-- with dates
+abbrev pub SpellsEvent : Event → List ℕ → ℕ → ℕ → ℕ → Type 0
+SpellsEvent = EventWith IsScalar
+
+abbrev pub SpellsEvents : List Event → List Event → List ℕ → ℕ → ℕ → ℕ → Type 0
+SpellsEvents = EventsWith IsScalar
+
 abbrev pub SpellsLines : List Event → List ℕ → ℕ → ℕ → ℕ → Type 0
-SpellsLines evs text limit i j = (k : ℕ) × MaximalGap text i k × SpellsEvents evs [] text limit k j
+SpellsLines = LinesWith IsScalar
 
 -- ---- headers
 
--- `std-table-open`, one bracket, or `array-table-open`, two of them
+-- one bracket, or two of them
+--
+-- `std-table-open = %x5B ws`, `array-table-open = %x5B.5B ws`
 abbrev pub Opens : Bool → List ℕ → ℕ → ℕ → Type 0
 Opens false text i j =
     (slice_index text i ≡ left_bracket) × ((slice_index text (i + 1) == left_bracket) ≡ false) × (j ≡ i + 1)
 Opens true text i j = (slice_index text i ≡ left_bracket) × (slice_index text (i + 1) ≡ left_bracket) × (j ≡ i + 2)
 
--- `std-table-close`, or `array-table-close`
+-- one bracket, or two of them
+--
+-- `std-table-close = ws %x5D`, `array-table-close = ws %x5D.5D`
 abbrev pub Shuts : Bool → List ℕ → ℕ → ℕ → Type 0
 Shuts false text i j = (slice_index text i ≡ right_bracket) × (j ≡ i + 1)
 Shuts true text i j = (slice_index text i ≡ right_bracket) × (slice_index text (i + 1) ≡ right_bracket) × (j ≡ i + 2)
@@ -132,8 +176,10 @@ pub record HeaderFront (parts : List Part) (array : Bool) (text : List ℕ) (lim
   pub few : length parts ≤ limit
   pub behind : MaximalRun is_blank text end j
 
--- `std-table = std-table-open key std-table-close`, `array-table = array-table-open key array-table-close`: the text
--- from i to j is a header of these parts with the rest of its line
+-- the text from i to j is a header of these parts with the rest of its line
+--
+-- `table = std-table / array-table`, `std-table = std-table-open key std-table-close`,
+-- `array-table = array-table-open key array-table-close`, `expression =/ ws table ws [ comment ]`
 pub record SpellsHeader (parts : List Part) (array : Bool) (text : List ℕ) (limit i j : ℕ) : Type 0 where
   pub close : ℕ
   pub end : ℕ
@@ -150,31 +196,47 @@ last_end n (ev ∷ evs) = last_end ev.extent.end evs
 
 -- From i to j stands this section: its header, and its assignments. The header's span is the header with the rest of
 -- its line. The extent is from the header to the end of the last assignment, or, without one, the header's span.
-pub record SpellsSection (b : Block) (text : List ℕ) (limit i j : ℕ) : Type 0 where
+pub record SectionWith (S : Scalars) (b : Block) (text : List ℕ) (limit i j : ℕ) : Type 0 where
   pub end : ℕ
   pub header : SpellsHeader b.header b.array text limit i end
   pub header_span : b.header_span ≡ record { start = i; end = end }
-  pub lines : SpellsLines b.events text limit end j
+  pub lines : LinesWith S b.events text limit end j
   pub extent : b.extent ≡ record { start = i; end = last_end end b.events }
 
 -- the assignments before the first header, if there are any, are a section of their own
 abbrev pub first_block : List Event → List Block
 first_block [] = []
 first_block (ev ∷ evs) =
-    record { header = []; array = false; header_span = record { start = 0; end = 0 }; extent = record { start = ev.extent.start; end = last_end ev.extent.end evs }; events = ev ∷ evs } ∷ []
+    record {
+      header = [];
+      array = false;
+      header_span = from_to 0 0;
+      extent = from_to ev.extent.start (last_end ev.extent.end evs);
+      events = ev ∷ evs;
+    } ∷ []
 
 -- from i to the end of the text stand these sections
-abbrev pub SpellsSections : List Block → List ℕ → ℕ → ℕ → Type 0
-SpellsSections [] text limit i = i ≡ length text
-SpellsSections (b ∷ bs) text limit i = (j : ℕ) × SpellsSection b text limit i j × SpellsSections bs text limit j
+abbrev pub SectionsWith : Scalars → List Block → List ℕ → ℕ → ℕ → Type 0
+SectionsWith S [] text limit i = i ≡ length text
+SectionsWith S (b ∷ bs) text limit i = (j : ℕ) × SectionWith S b text limit i j × SectionsWith S bs text limit j
 
--- `toml = expression *( newline expression )`: the text, behind a byte order mark, spells these sections
-pub record SpellsDocument (bs : List Block) (text : List ℕ) (limit : ℕ) : Type 0 where
+-- the text, behind a byte order mark, spells these sections: `toml = expression *( newline expression )`
+pub record DocumentWith (S : Scalars) (bs : List Block) (text : List ℕ) (limit : ℕ) : Type 0 where
   pub start : ℕ
   pub end : ℕ
   pub first : List Event
   pub rest : List Block
   pub begins : FirstPlace text start
-  pub lines : SpellsLines first text limit start end
-  pub sections : SpellsSections rest text limit end
+  pub lines : LinesWith S first text limit start end
+  pub sections : SectionsWith S rest text limit end
   pub all : bs ≡ first_block first ++ rest
+
+-- with dates
+abbrev pub SpellsSection : Block → List ℕ → ℕ → ℕ → ℕ → Type 0
+SpellsSection = SectionWith IsScalar
+
+abbrev pub SpellsSections : List Block → List ℕ → ℕ → ℕ → Type 0
+SpellsSections = SectionsWith IsScalar
+
+abbrev pub SpellsDocument : List Block → List ℕ → ℕ → Type 0
+SpellsDocument = DocumentWith IsScalar

@@ -14,18 +14,23 @@ pub record Part : Type 0 where
   pub name : List ℕ
   pub span : Span
 
+-- a key that is read, seen so, and the parts of a dotted key
 abbrev pub part : Key → Part
 part key = record { name = cow_str_bytes key.name; span = key.span }
 
 abbrev pub parts : DottedKey → List Part
 parts key = map part key.inner.items ++ (part key.last ∷ [])
 
--- `simple-key = quoted-key / unquoted-key`: the text from i to j is this key
+-- the text from i to j is this key
+--
+-- `simple-key = quoted-key / unquoted-key`, `unquoted-key = 1*( ALPHA / DIGIT / %x2D / %x5F )`,
+-- `quoted-key = basic-string / literal-string`
 abbrev pub IsKey : Part → List ℕ → ℕ → ℕ → Type 0
 IsKey p text i j =
     (RunAt is_keylike text i j p.name × (p.span ≡ record { start = i; end = j }))
     ⊎ ((source : List ℕ) × IsString text i j p.span source p.name false)
 
+-- `quotation-mark = %x22`, `apostrophe = %x27`
 abbrev pub opens_string : ℕ → Bool
 opens_string c = c == quotation_mark || c == apostrophe
 
@@ -34,7 +39,9 @@ abbrev pub Onward : List Part → List ℕ → ℕ → ℕ → Type 0
 Onward [] text m j = (j ≡ m) × NoDot text m
 Onward (s ∷ ss) text m j = (p q : ℕ) × Dot text m p × IsKey s text p q × Onward ss text q j
 
--- `key = simple-key / dotted-key`: the text from i to j is a dotted key of these parts
+-- the text from i to j is a dotted key of these parts
+--
+-- `key = simple-key / dotted-key`, `dotted-key = simple-key 1*( dot-sep simple-key )`
 abbrev pub Dotted : List Part → List ℕ → ℕ → ℕ → Type 0
 Dotted [] text i j = ⊥
 Dotted (s ∷ ss) text i j = (m : ℕ) × IsKey s text i m × Onward ss text m j

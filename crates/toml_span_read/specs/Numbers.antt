@@ -33,7 +33,7 @@ letter_x = 120
 abbrev pub digit_value : ℕ → ℕ
 digit_value c = if nat_le c 57 then c - 48 else (if nat_le c 70 then c - 55 else c - 87)
 
--- a digit of this radix: DIGIT for 10, HEXDIG for 16, digit0-7 for 8, digit0-1 for 2
+-- a digit of this radix: `DIGIT` for 10, `HEXDIG` for 16, `digit0-7` for 8, `digit0-1` for 2
 abbrev pub is_digit : ℕ → ℕ → Bool
 is_digit radix c = is_ascii_hexdigit c && nat_lt (digit_value c) radix
 
@@ -41,8 +41,10 @@ is_digit radix c = is_ascii_hexdigit c && nat_lt (digit_value c) radix
 abbrev pub is_figure : ℕ → ℕ → Bool
 is_figure radix c = is_digit radix c || c == underscore
 
--- DIGIT *( DIGIT / underscore DIGIT ), of this radix: all the digits and underscores from i on end at j; the first is a
--- digit, and behind each underscore stands a digit
+-- all the digits and underscores from i on, which end at j; the first is a digit, and behind each underscore stands a
+-- digit
+--
+-- `zero-prefixable-int = DIGIT *( DIGIT / underscore DIGIT )`, and the same of another radix
 pub record Digits (radix : ℕ) (text : List ℕ) (i j : ℕ) : Type 0 where
   pub begins : is_digit radix (slice_index text i) ≡ true
   pub run : MaximalRun (is_figure radix) text i j
@@ -60,7 +62,7 @@ magnitude radix text i j = sum_of_digits radix (filter (is_digit radix) (slice_r
 
 -- ---- integers
 
--- [ minus / plus ]
+-- `[ minus / plus ]`
 abbrev pub behind_sign : List ℕ → ℕ → ℕ
 behind_sign text i = if slice_index text i == plus || slice_index text i == dash then i + 1 else i
 
@@ -72,7 +74,7 @@ abbrev pub IsSigned : Bool → ℕ → ℤ → Type 0
 IsSigned false m n = (n ≡ pos m) × (m < 2 ^ 63)
 IsSigned true m n = (n ≡ neg_ℤ (pos m)) × (m ≤ 2 ^ 63)
 
--- unsigned-dec-int = DIGIT / digit1-9 1*( DIGIT / underscore DIGIT )
+-- `unsigned-dec-int = DIGIT / digit1-9 1*( DIGIT / underscore DIGIT )`
 pub record UnsignedDecimal (text : List ℕ) (i j : ℕ) : Type 0 where
   pub digits : Digits 10 text i j
   pub leading : slice_index text i ≡ digit_zero → j ≡ i + 1
@@ -81,19 +83,25 @@ pub record UnsignedDecimal (text : List ℕ) (i j : ℕ) : Type 0 where
 abbrev pub goes_on : List ℕ → ℕ → Bool
 goes_on text j = is_keylike (slice_index text j) || slice_index text j == period
 
--- dec-int = [ minus / plus ] unsigned-dec-int
+-- `dec-int = [ minus / plus ] unsigned-dec-int`
 pub record DecimalInteger (n : ℤ) (text : List ℕ) (i j : ℕ) : Type 0 where
   pub digits : UnsignedDecimal text (behind_sign text i) j
   pub ends : goes_on text j ≡ false
   pub value : IsSigned (is_negative text i) (magnitude 10 text (behind_sign text i) j) n
 
--- hex-prefix = %x30.78 "0x", oct-prefix = %x30.6F "0o", bin-prefix = %x30.62 "0b"
+-- `hex-prefix = %x30.78` (0x), `oct-prefix = %x30.6F` (0o), `bin-prefix = %x30.62` (0b)
 abbrev pub radix_at : List ℕ → ℕ → Option ℕ
 radix_at text i =
     if not (slice_index text i == digit_zero) then None
-    else (if slice_index text (i + 1) == letter_x then Some 16 else (if slice_index text (i + 1) == letter_o then Some 8 else (if slice_index text (i + 1) == letter_b then Some 2 else None)))
+    else (if slice_index text (i + 1) == letter_x then Some 16
+    else (if slice_index text (i + 1) == letter_o then Some 8
+    else (if slice_index text (i + 1) == letter_b then Some 2 else None)))
 
--- hex-int, oct-int, bin-int: a prefix, and digits of its radix
+-- a prefix, and digits of its radix
+--
+-- `hex-int = hex-prefix HEXDIG *( HEXDIG / underscore HEXDIG )`,
+-- `oct-int = oct-prefix digit0-7 *( digit0-7 / underscore digit0-7 )`,
+-- `bin-int = bin-prefix digit0-1 *( digit0-1 / underscore digit0-1 )`
 pub record RadixInteger (n : ℤ) (text : List ℕ) (i j : ℕ) : Type 0 where
   pub radix : ℕ
   pub prefix : radix_at text i ≡ Some radix
@@ -103,21 +111,21 @@ pub record RadixInteger (n : ℤ) (text : List ℕ) (i j : ℕ) : Type 0 where
 
 -- ---- floats
 
--- "e", of either case
+-- `"e"`, of either case
 abbrev pub is_exponent : ℕ → Bool
 is_exponent c = c == letter_e || c == capital_e
 
--- exp = "e" float-exp-part, float-exp-part = [ minus / plus ] zero-prefixable-int
+-- `exp = "e" float-exp-part`, `float-exp-part = [ minus / plus ] zero-prefixable-int`
 pub record Exponent (text : List ℕ) (i j : ℕ) : Type 0 where
   pub letter : is_exponent (slice_index text i) ≡ true
   pub digits : Digits 10 text (behind_sign text (i + 1)) j
 
--- frac = decimal-point zero-prefixable-int
+-- `frac = decimal-point zero-prefixable-int`, `decimal-point = %x2E`
 pub record Fraction (text : List ℕ) (i j : ℕ) : Type 0 where
   pub point : slice_index text i ≡ period
   pub digits : Digits 10 text (i + 1) j
 
--- float = float-int-part ( exp / frac [ exp ] ), float-int-part = dec-int
+-- `float = float-int-part ( exp / frac [ exp ] )`, `float-int-part = dec-int`
 pub record FloatLiteral (text : List ℕ) (i j : ℕ) : Type 0 where
   pub integer_end : ℕ
   pub integer_part : UnsignedDecimal text (behind_sign text i) integer_end
@@ -126,9 +134,10 @@ pub record FloatLiteral (text : List ℕ) (i j : ℕ) : Type 0 where
 
 -- the text of a float as it is kept: without pluses and underscores, with a capital letter before the exponent
 abbrev pub cleaned : List ℕ → List ℕ
-cleaned literal = map (λ c. if c == letter_e then capital_e else c) (filter (λ c. not (c == plus || c == underscore)) literal)
+cleaned literal =
+    map (λ c. if c == letter_e then capital_e else c) (filter (λ c. not (c == plus || c == underscore)) literal)
 
--- special-float = [ minus / plus ] ( inf / nan )
+-- `special-float = [ minus / plus ] ( inf / nan )`
 pub record SpecialFloat (word : List ℕ) (text : List ℕ) (i j : ℕ) : Type 0 where
   pub letters : slice_range text (behind_sign text i) j ≡ word
   pub some : behind_sign text i < j
@@ -138,6 +147,9 @@ pub record SpecialFloat (word : List ℕ) (text : List ℕ) (i j : ℕ) : Type 0
 -- ---- numbers
 
 -- the text from i to j is the literal of this number, and the literal goes no further
+--
+-- `integer = dec-int / hex-int / oct-int / bin-int`, `float = float-int-part ( exp / frac [ exp ] )`,
+-- `float =/ special-float`
 abbrev pub IsNumber : Scalar → List ℕ → ℕ → ℕ → Type 0
 IsNumber (integer n) text i j = DecimalInteger n text i j ⊎ RadixInteger n text i j
 IsNumber (float (finite digits)) text i j = FloatLiteral text i j × (digits ≡ cleaned (slice_range text i j))

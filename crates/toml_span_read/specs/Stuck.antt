@@ -12,8 +12,8 @@ use Rattle.toml_span_tree.specs.declared.error.Error.{Error}
 use Rattle.toml_span_read.specs.declared.fault.Fault.{Fault}
 use Rattle.toml_span_read.specs.declared.fault.FaultKind.TheVariants as kinds
 use Rattle.toml_span_read.specs.Gaps.{Dot, MaximalGap, Sign, Neither, Equals, Tail}
-use Rattle.toml_span_read.specs.Faults.{fault_at, NoKey, IsWanted, IsNoValue, IsTokenFault, begins_bare, opens_nested}
-use Rattle.toml_span_read.specs.Faults.{Begins, NoBare, StuckTail, NoShuts, Tells}
+use Rattle.toml_span_read.specs.Faults.{fault_at, NoKey, IsWanted, IsNoValue, IsTokenFault, Begins, NoBare, StuckTail}
+use Rattle.toml_span_read.specs.Faults.{NoShuts, Tells, begins_value}
 use Rattle.toml_span_read.specs.Keys.{Part, IsKey, opens_string, Dotted}
 use Rattle.toml_span_read.specs.declared.fault.Due.TheVariants as dues
 use Rattle.toml_span_read.specs.Data.{Node, Event, Block, block}
@@ -52,10 +52,8 @@ mutual
   -- a value is due at i, at this depth, and this fault stands there or within it
   pub data StuckValue (text : List ℕ) (limit : ℕ) : ℕ → ℕ → Fault → Type 0 where
     -- no value begins at i
-    no_value : (d i : ℕ) (e : Fault)
-        → (opens_nested (slice_index text i) || begins_bare (slice_index text i)
-        || opens_string (slice_index text i)) ≡ false
-        → IsNoValue text i e → StuckValue text limit d i e
+    no_value : (d i : ℕ) (e : Fault) → begins_value (slice_index text i) ≡ false → IsNoValue text i e
+        → StuckValue text limit d i e
     -- quotes open at i, and no string is there
     no_string : (d i : ℕ) (e : Fault) → opens_string (slice_index text i) ≡ true → IsTokenFault text i e
         → StuckValue text limit d i e
@@ -82,8 +80,8 @@ mutual
 
   -- a pair or the closing brace is due at i, behind these earlier pairs
   pub data StuckPairs (text : List ℕ) (limit : ℕ) : List Event → ℕ → ℕ → Fault → Type 0 where
-    in_pair : (es : List Event) (d i : ℕ) (e : Fault) → (slice_index text i == right_brace) ≡ false → StuckPair text limit d i e
-        → StuckPairs text limit es d i e
+    in_pair : (es : List Event) (d i : ℕ) (e : Fault) → (slice_index text i == right_brace) ≡ false
+        → StuckPair text limit d i e → StuckPairs text limit es d i e
     -- the key of a whole pair goes through the value of an earlier one
     crosses : (es : List Event) (d i m : ℕ) (p : Event) (e : Fault) → SpellsPair p text limit d i m → Crossing es p e
         → StuckPairs text limit es d i e
@@ -100,8 +98,8 @@ mutual
     no_equals : (d i a n : ℕ) (ss : List Part) (e : Fault) → Dotted ss text i a → length ss ≤ limit
         → MaximalGap text a n → (slice_index text n == equals) ≡ false → IsWanted text n dues.Equals e
         → StuckPair text limit d i e
-    in_value : (d i a b : ℕ) (ss : List Part) (e : Fault) → Dotted ss text i a → length ss ≤ limit → Sign equals text a b
-        → StuckValue text limit (d + length ss) b e → StuckPair text limit d i e
+    in_value : (d i a b : ℕ) (ss : List Part) (e : Fault) → Dotted ss text i a → length ss ≤ limit
+        → Sign equals text a b → StuckValue text limit (d + length ss) b e → StuckPair text limit d i e
 
 -- ---- assignments
 

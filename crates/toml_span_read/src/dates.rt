@@ -23,6 +23,8 @@ fn is_decimal_at(text: &str, at: usize) -> bool
 }
 
 /// Whether a date or a time begins at a place: four digits and a dash, or two digits and a colon.
+///
+/// `date-fullyear = 4DIGIT`, `time-hour = 2DIGIT` (TOML 1.1, Local Date, Local Time)
 #[inline]
 pub fn begins_date(text: &str, at: usize) -> bool
     requires { at ≤ length text.now }
@@ -76,6 +78,8 @@ fn date_end(text: &str, at: usize) -> usize
 }
 
 /// The date or time at a place, and where it ends, or the fault.
+///
+/// `date-time = offset-date-time / local-date-time / local-date / local-time` (TOML 1.1, Offset Date-Time)
 pub fn date<'de>(text: &'de str, at: usize) -> Result<(DateText<'de>, usize), Fault>
     requires boundary { IsCharBoundary text.now at }
     requires begins { spec.begins_date text.now at ≡ true }

@@ -28,6 +28,8 @@ pub fn add<T: Drop>(items: &mut Vec<T>, item: T) -> Result<(), AllocError>
 }
 
 /// The string at a place as a key, and where it ends.
+///
+/// `quoted-key = basic-string / literal-string` (TOML 1.1, Keys)
 fn quoted_key<'de>(
     alloc: Global,
     text: &'de str,
@@ -114,6 +116,8 @@ pub fn dotted_key<'de>(
 }
 
 /// The parts of a header at a place, at most `limit`, and where they end.
+///
+/// `key = simple-key / dotted-key`, in `std-table = std-table-open key std-table-close` (TOML 1.1, Table)
 pub fn header_key<'de>(
     alloc: Global,
     text: &'de str,

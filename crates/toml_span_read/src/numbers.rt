@@ -44,6 +44,8 @@ fn digit(byte: u8, radix: u8) -> Option<u8>
 
 /// Where the digits end that begin a piece of a number at `from`, with single underscores between them,
 /// or the span of the fault.
+///
+/// `zero-prefixable-int = DIGIT *( DIGIT / underscore DIGIT )` (TOML 1.1, Float)
 fn digits_end(text: &str, piece: Span, from: usize, radix: u8) -> Result<usize, Fault>
     requires within { piece.end ≤ length text.now }
     requires start { piece.start ≤ from }
@@ -141,6 +143,8 @@ fn integer(
 }
 
 /// The radix that two bytes name.
+///
+/// `hex-prefix = %x30.78`, `oct-prefix = %x30.6F`, `bin-prefix = %x30.62` (TOML 1.1, Integer)
 #[inline]
 pub fn radix_of(text: &str, run: usize) -> Option<u8>
     requires { run < usize.MAX }
@@ -417,6 +421,8 @@ fn cleaned(alloc: Global, literal: &str) -> Result<String, AllocError>
 }
 
 /// The float that a word of letters writes.
+///
+/// `special-float = [ minus / plus ] ( inf / nan )` (TOML 1.1, Float)
 pub fn special_float(word: &[u8]) -> Option<FloatText>
     ensures { SpecialGives word.now result }
 {
@@ -500,6 +506,9 @@ fn unsigned<'de>(
 }
 
 /// The number at a place, and where it ends.
+///
+/// `integer = dec-int / hex-int / oct-int / bin-int`, `float = float-int-part ( exp / frac [ exp ] )`,
+/// `float =/ special-float` (TOML 1.1, Integer, Float)
 pub fn number<'de>(
     alloc: Global,
     text: &'de str,

@@ -63,6 +63,8 @@ fn assignment<'de>(
 }
 
 /// What is behind the line whose forms end at a place.
+///
+/// `expression =/ ws keyval ws [ comment ]`, of which `ws [ comment ]` and the line end (TOML 1.1, Overall Structure)
 fn next_line(alloc: Global, text: &str, at: usize) -> Result<usize, Stop<Fault>>
     requires { IsCharBoundary text.now at }
     ensures reads { LineReads text.now at result }
@@ -111,6 +113,8 @@ fn assignments<'de>(
 }
 
 /// Whether a header's brackets are double, and what is behind those that open it.
+///
+/// `std-table-open = %x5B ws`, `array-table-open = %x5B.5B ws` (TOML 1.1, Table, Array of Tables)
 fn header_open(text: &str, at: usize) -> (bool, usize)
     requires opens { slice_index text.now at ≡ 91 }
     ensures opens { Opens result.0 text.now at result.1 }
@@ -125,6 +129,8 @@ fn header_open(text: &str, at: usize) -> (bool, usize)
 }
 
 /// What is behind a header's closing brackets.
+///
+/// `std-table-close = ws %x5D`, `array-table-close = ws %x5D.5D` (TOML 1.1, Table, Array of Tables)
 fn header_close(alloc: Global, text: &str, at: usize, array: bool) -> Result<usize, Stop<Fault>>
     requires { IsCharBoundary text.now at }
     ensures reads { LineReads text.now at result }

@@ -71,6 +71,8 @@ fn too_deep(text: &str, at: usize) -> Stop<Fault>
 }
 
 /// The string at a place, and where it ends.
+///
+/// `string = ml-basic-string / basic-string / ml-literal-string / literal-string` (TOML 1.1, String)
 fn string_value<'de>(
     alloc: Global,
     text: &'de str,
@@ -117,6 +119,8 @@ fn scalar<'de>(
 }
 
 /// The date, number or truth value at a place, and where it ends.
+///
+/// `val =/ boolean / date-time / float / integer` (TOML 1.1, Key/Value Pair)
 fn bare<'de>(alloc: Global, text: &'de str, at: usize) -> Result<(ValKind<'de>, usize), Stop<Fault>>
     requires boundary { IsCharBoundary text.now at }
     requires begins { begins_bare (slice_index text.now at) ≡ true }

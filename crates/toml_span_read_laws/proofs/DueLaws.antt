@@ -93,7 +93,7 @@ events_due text limit some (l.line_on es i m n k ev e h t clear gap r) w =
 closing_due : (array : Bool) (text : List ℕ) (limit k : ℕ) (e : Fault) (fs : List Frame) → NoShuts array text k e → DueAt text limit (a_closing array) fs k → IsDue text limit e
 closing_due false text limit k e fs h w = (a_closing false, fs, k, w, h)
 closing_due true text limit k e fs (inl h) w = (a_closing true, fs, k, w, h)
-closing_due true text limit k e fs (inr (here, none, h)) w = (a_closing false, fs, k + 1, closes_again fs k w here, (none, h))
+closing_due true text limit k e fs (inr (here, (none, h))) w = (a_closing false, fs, k + 1, closes_again fs k w here, (none, h))
 
 closed_due : (array : Bool) (text : List ℕ) (limit k m : ℕ) (fs : List Frame) → Shuts array text k m → DueAt text limit (a_closing array) fs k → DueAt text limit a_tail fs m
 closed_due false text limit k m fs (here, u) w = rw u (header_tail fs k w here)

@@ -132,7 +132,7 @@ leads text limit (opens_header es i m k array w opens run) e r = leads text limi
 leads text limit (header_part_next fs n i m p part w key few dot) e r = leads text limit {what = a_header_part n} {fs = fs} {i = i} w e (header_on n i m p part e key few dot r)
 leads text limit (header_closes es i k array ps w front) e (inl r) = leads text limit {what = a_line} {fs = in_section es ∷ []} {i = i} w e (inr ([], i, refl, l.in_header i e (l.header_close i k array ps e front r)))
 leads text limit (header_closes es i k array ps w front) e (inr (m, shuts, r)) = leads text limit {what = a_line} {fs = in_section es ∷ []} {i = i} w e (inr ([], i, refl, l.in_header i e (l.header_rest i k m array ps e front shuts r)))
-leads text limit (closes_again fs k w h) e (inl (none, r)) = leads text limit {what = a_closing true} {fs = fs} {i = k} w e (inl (inr (h, none, r)))
+leads text limit (closes_again fs k w h) e (inl (none, r)) = leads text limit {what = a_closing true} {fs = fs} {i = k} w e (inl (inr (h, (none, r))))
 leads text limit (closes_again fs k w h) e (inr (m, (again, u), r)) = leads text limit {what = a_closing true} {fs = fs} {i = k} w e (inr (m, (h, again, omega (arith, u)), r))
 leads text limit (header_tail fs k w h) e r = leads text limit {what = a_closing false} {fs = fs} {i = k} w e (inr (k + 1, (h, refl), r))
 leads text limit (next_section es i m k array ps w h gap) e (inl r) = leads text limit {what = a_line} {fs = in_section es ∷ []} {i = i} w e (inr ([], i, refl, l.in_section i m array ps e h (k, gap, r)))

@@ -85,7 +85,7 @@ no_shuts_one false text i e f a b = wanted_one text i dues.RightBracket e f a.1 
 no_shuts_one true text i e f (inl a) (inl b) = wanted_one text i dues.RightBracket e f a.1 b.1
 no_shuts_one true text i e f (inl a) (inr b) = absurd (not_here (get_or text i 0) 93 b.0 a.0)
 no_shuts_one true text i e f (inr a) (inl b) = absurd (not_here (get_or text i 0) 93 a.0 b.0)
-no_shuts_one true text i e f (inr a) (inr b) = wanted_one text (i + 1) dues.RightBracket e f a.2 b.2
+no_shuts_one true text i e f (inr a) (inr b) = wanted_one text (i + 1) dues.RightBracket e f a.1.1 b.1.1
 
 -- where the parts of a header are stuck, no parts of one stand
 front_or_key : (ps : List Part) (array other : Bool) (text : List ℕ) (limit i j m k : ℕ) (e : Fault) → HeaderFront ps array text limit i j → Opens other text i m → MaximalRun is_blank text m k

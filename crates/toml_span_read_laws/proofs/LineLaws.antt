@@ -174,7 +174,7 @@ shuts_unique true text i j k a b = a.2 ∙ sym b.2
 pub shuts_or_none : (b : Bool) (text : List ℕ) (i j : ℕ) (e : Fault) → Shuts b text i j → NoShuts b text i e → ⊥
 shuts_or_none false text i j e a n = not_here (get_or text i 0) 93 a.0 n.0
 shuts_or_none true text i j e a (inl n) = not_here (get_or text i 0) 93 a.0 n.0
-shuts_or_none true text i j e a (inr n) = not_here (get_or text (i + 1) 0) 93 a.1 n.1
+shuts_or_none true text i j e a (inr n) = not_here (get_or text (i + 1) 0) 93 a.1 n.1.0
 
 pub front_unique : (ps qs : List Part) (b c : Bool) (text : List ℕ) (limit i j k : ℕ) → HeaderFront ps b text limit i j → HeaderFront qs c text limit i k → (ps ≡ qs) × (b ≡ c) × (j ≡ k)
 front_unique ps qs b c text limit i j k x y =

@@ -134,7 +134,7 @@ shuts_stand true text i u all b =
           let here : get_or text i 0 ≡ 93 = byte_is _ _ t in
           let next = behind_byte text i u (omega (arith, here)) (omega (arith, here)) in
           elim (bool_cases (get_or text (i + 1) 0 == 93)) [
-            | inr s ↦ let w = wanted_stands text (i + 1) dues.RightBracket (all (i + 1) next).stands in inr (w.0, inr (here, s, w.1))
+            | inr s ↦ let w = wanted_stands text (i + 1) dues.RightBracket (all (i + 1) next).stands in inr (w.0, inr (here, (s, w.1)))
             | inl s ↦
                 let there : get_or text (i + 1) 0 ≡ 93 = byte_is _ _ s in
                 let two : i + 1 + 1 ≡ i + 2 = omega arith in

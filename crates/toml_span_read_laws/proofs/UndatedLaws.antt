@@ -12,9 +12,9 @@ use Rattle.toml_span_read.specs.Data.{Node, node, Inner, scalar, array, inline, 
 use Rattle.std.specs.Char.{is_ascii_digit}
 use Rattle.toml_span_read.specs.Dates.{begins_date}
 use Rattle.toml_span_read.specs.Gaps.{GapPiece, GapBy, Sign, Closes, Tail}
-use Rattle.toml_span_read.specs.Grammar.{IsScalar, Spells, SpellsInner, SpellsItems, SpellsPairs, SpellsEvent, SpellsEvents, SpellsSection, SpellsSections, SpellsDocument}
+use Rattle.toml_span_read.specs.Grammar.{IsScalar, Spells, SpellsInner, SpellsItems, SpellsPairs, SpellsEvent, SpellsEvents, SpellsLines, SpellsSection, SpellsSections, SpellsDocument, InnerWith, ItemsWith, PairsWith, EventWith, EventsWith, LinesWith, SectionWith, SectionsWith}
 use Rattle.toml_span_read.specs.Numbers.{is_figure, is_exponent, behind_sign, Digits, Exponent, Fraction, goes_on, radix_at, SpecialFloat, IsNumber}
-use Rattle.toml_span_read_laws.specs.Undated.{UndatedScalar, SpellsUndated, UndatedInner, UndatedItems, UndatedPairs, UndatedEvent, UndatedEvents, UndatedSection, UndatedSections, SpellsUndatedDocument}
+use Rattle.toml_span_read_laws.specs.Undated.{UndatedScalar, SpellsUndated, SpellsUndatedDocument}
 use Rattle.toml_span_read.proofs.NumberLemmas.{is_false, and_left, byte_is, bool_cases, clash, none_some, slice_first}
 
 -- ---- bytes
@@ -190,18 +190,18 @@ mutual
   pub value_dated : (v : Node) (text : List ℕ) (limit d i j : ℕ) → (get_or text j 0 == 58) ≡ false → SpellsUndated v text limit d i j → Spells v text limit d i j
   value_dated (node x s) text limit d i j n (few, h) = (few, inner_dated x s text limit d i j n h)
 
-  inner_dated : (x : Inner) (s : Span) (text : List ℕ) (limit d i j : ℕ) → (get_or text j 0 == 58) ≡ false → UndatedInner x s text limit d i j → SpellsInner x s text limit d i j
+  inner_dated : (x : Inner) (s : Span) (text : List ℕ) (limit d i j : ℕ) → (get_or text j 0 == 58) ≡ false → InnerWith UndatedScalar x s text limit d i j → SpellsInner x s text limit d i j
   inner_dated (scalar y) s text limit d i j n h = scalar_dated y s text i j n h
   inner_dated (array vs) s text limit d i j n (here, span, k, gap, h) = (here, span, k, gap, items_dated vs text limit (d + 1) k j h)
   inner_dated (inline ps) s text limit d i j n (here, span, k, gap, h) = (here, span, k, gap, pairs_dated ps [] text limit (d + 1) k j h)
 
-  items_dated : (vs : Items) (text : List ℕ) (limit d i j : ℕ) → UndatedItems vs text limit d i j → SpellsItems vs text limit d i j
+  items_dated : (vs : Items) (text : List ℕ) (limit d i j : ℕ) → ItemsWith UndatedScalar vs text limit d i j → SpellsItems vs text limit d i j
   items_dated no_items text limit d i j h = h
   items_dated (item v vs) text limit d i j (m, h, inl (e, close)) = (m, value_dated v text limit d i m (closes_no_colon 93 text m j refl close) h, inl (e, close))
   items_dated (item v vs) text limit d i j (m, h, inr (p, sign, rest)) =
       (m, value_dated v text limit d i m (sign_no_colon 44 text m p refl sign) h, inr (p, sign, items_dated vs text limit d p j rest))
 
-  pairs_dated : (ps : Pairs) (es : List Event) (text : List ℕ) (limit d i j : ℕ) → UndatedPairs ps es text limit d i j → SpellsPairs ps es text limit d i j
+  pairs_dated : (ps : Pairs) (es : List Event) (text : List ℕ) (limit d i j : ℕ) → PairsWith UndatedScalar ps es text limit d i j → SpellsPairs ps es text limit d i j
   pairs_dated no_pairs es text limit d i j h = h
   pairs_dated (pair ss v x ps) es text limit d i j (m, (a, b, key, few, sign, h, extent), clear, inl (e, close)) =
       (m, (a, b, key, few, sign, value_dated v text limit (d + length ss) b m (closes_no_colon 125 text m j refl close) h, extent), clear, inl (e, close))
@@ -214,23 +214,25 @@ mutual
 
 -- ---- the document
 
-event_dated : (ev : Event) (text : List ℕ) (limit i j : ℕ) → (get_or text j 0 == 58) ≡ false → UndatedEvent ev text limit i j → SpellsEvent ev text limit i j
-event_dated ev text limit i j n (a, b, key, few, sign, h, extent) =
-    record { key_end = a; from = b; key = key; few = few; sign = sign; spelled = value_dated ev.value text limit (length ev.parts) b j n h; extent = extent }
+event_dated : (ev : Event) (text : List ℕ) (limit i j : ℕ) → (get_or text j 0 == 58) ≡ false → EventWith UndatedScalar ev text limit i j → SpellsEvent ev text limit i j
+event_dated ev text limit i j n h = record { key_end = h.key_end; from = h.from; key = h.key; few = h.few; sign = h.sign; spelled = value_dated ev.value text limit (length ev.parts) h.from j n h.spelled; extent = h.extent }
 
-events_dated : (evs earlier : List Event) (text : List ℕ) (limit i j : ℕ) → UndatedEvents evs earlier text limit i j → SpellsEvents evs earlier text limit i j
+events_dated : (evs earlier : List Event) (text : List ℕ) (limit i j : ℕ) → EventsWith UndatedScalar evs earlier text limit i j → SpellsEvents evs earlier text limit i j
 events_dated [] earlier text limit i j h = h
 events_dated (ev ∷ evs) earlier text limit i j (m, n, k, h, t, c, g, r) =
     (m, n, k, event_dated ev text limit i m (tail_no_colon text m n t) h, t, c, g, events_dated evs (earlier ++ (ev ∷ [])) text limit k j r)
 
-section_dated : (b : Block) (text : List ℕ) (limit i j : ℕ) → UndatedSection b text limit i j → SpellsSection b text limit i j
-section_dated b text limit i j (m, header, span, (k, gap, h), extent) =
-    record { end = m; header = header; header_span = span; lines = (k, gap, events_dated b.events [] text limit k j h); extent = extent }
+lines_dated : (evs : List Event) (text : List ℕ) (limit i j : ℕ) → LinesWith UndatedScalar evs text limit i j → SpellsLines evs text limit i j
+lines_dated evs text limit i j (k, gap, h) = (k, gap, events_dated evs [] text limit k j h)
 
-sections_dated : (bs : List Block) (text : List ℕ) (limit i : ℕ) → UndatedSections bs text limit i → SpellsSections bs text limit i
+section_dated : (b : Block) (text : List ℕ) (limit i j : ℕ) → SectionWith UndatedScalar b text limit i j → SpellsSection b text limit i j
+section_dated b text limit i j h =
+    record { end = h.end; header = h.header; header_span = h.header_span; lines = lines_dated b.events text limit h.end j h.lines; extent = h.extent }
+
+sections_dated : (bs : List Block) (text : List ℕ) (limit i : ℕ) → SectionsWith UndatedScalar bs text limit i → SpellsSections bs text limit i
 sections_dated [] text limit i h = h
 sections_dated (b ∷ bs) text limit i (j, s, r) = (j, section_dated b text limit i j s, sections_dated bs text limit j r)
 
 pub document_dated : (bs : List Block) (text : List ℕ) (limit : ℕ) → SpellsUndatedDocument bs text limit → SpellsDocument bs text limit
-document_dated bs text limit (start, end, first, rest, begins, (k, gap, h), sections, all) =
-    record { start = start; end = end; first = first; rest = rest; begins = begins; lines = (k, gap, events_dated first [] text limit k end h); sections = sections_dated rest text limit end sections; all = all }
+document_dated bs text limit h =
+    record { start = h.start; end = h.end; first = h.first; rest = h.rest; begins = h.begins; lines = lines_dated h.first text limit h.start h.end h.lines; sections = sections_dated h.rest text limit h.end h.sections; all = h.all }

@@ -41,7 +41,11 @@ assigned_again t i j = codes "x = " ++ slice_range t i j
 -- whole text
 abbrev pub event_again : Node → ℕ → ℕ → Event
 event_again v i j =
-    record { parts = record { name = codes "x"; span = record { start = 0; end = 1 } } ∷ []; value = moved i 4 v; extent = record { start = 0; end = (j + 4) - i } }
+    record {
+      parts = record { name = codes "x"; span = record { start = 0; end = 1 } } ∷ [];
+      value = moved i 4 v;
+      extent = record { start = 0; end = (j + 4) - i };
+    }
 
 -- the text from i to j spells the value again: behind `x = ` it is a document of that assignment alone
 abbrev pub SpellsAgain : Node → List ℕ → ℕ → ℕ → ℕ → Type 0

@@ -1,11 +1,10 @@
 -- What is due at a place, by the text before it, and the faults that are told there.
-use Rattle.std.specs.Prelude.{◌≡◌, ℕ, ◌+◌, ◌<◌, ◌≤◌, ◌⊎◌, Bool, true, false, ◌||◌, ◌==◌, List, [], ◌∷◌, ◌++◌, length}
+use Rattle.std.specs.Prelude.{◌≡◌, ℕ, ◌+◌, ◌<◌, ◌≤◌, Bool, true, false, ◌==◌, List, [], ◌∷◌, ◌++◌, length}
 use Rattle.std.specs.Prelude.{slice_index, Vec, Result, Ok, Err}
 use Rattle.std.specs.Global.{Global}
 use Rattle.toml_span_lex.specs.Bytes.{is_blank, equals, comma, left_bracket, right_bracket, left_brace, right_brace}
 use Rattle.toml_span_lex.specs.Bytes.{MaximalRun}
 use Rattle.toml_span_lex.specs.Tokenizer.{FirstPlace}
-use Rattle.toml_span_lex.specs.Text.{NoLineEnd}
 use Rattle.toml_span_lex.specs.declared.stop.Stop.{Stop}
 use Rattle.toml_span_lex.specs.declared.stop.Stop.TheVariants as stops
 use Rattle.toml_span_tree.specs.Error.{fault_of}
@@ -14,12 +13,10 @@ use Rattle.toml_span_read.specs.Data.{Event, Node}
 use Rattle.toml_span_read.specs.Earlier.{Clear, Crossing}
 use Rattle.toml_span_read.specs.Gaps.{MaximalGap, Skipped, Tail, Dot}
 use Rattle.toml_span_read.specs.Grammar.{Spells, SpellsPair, SpellsEvent, Opens, HeaderFront, SpellsHeader}
-use Rattle.toml_span_read.specs.Keys.{Part, IsKey, Dotted, opens_string}
+use Rattle.toml_span_read.specs.Keys.{Part, IsKey, Dotted}
+use Rattle.toml_span_read.specs.Faults.{NoPart, NoHeaderPart, NoEquals, NoValue, NoComma, NoBracket, NoNewline, Tells}
 use Rattle.toml_span_read.specs.declared.fault.Due.TheVariants as dues
 use Rattle.toml_span_read.specs.declared.fault.Fault.{Fault}
-use Rattle.toml_span_read.specs.declared.fault.FaultKind.TheVariants as kinds
-use Rattle.toml_span_read.specs.Faults.{fault_at, NoKey, opens_nested, begins_bare, Begins, NoBare, IsWanted, IsNoValue}
-use Rattle.toml_span_read.specs.Faults.{IsTokenFault, Tells}
 use Rattle.toml_span_read.specs.declared.section.Section.{Section}
 
 -- what stands round a place, from the inside: the assignments of a section before it, an open array, an open inline
@@ -131,30 +128,16 @@ pub data DueAt (text : List ℕ) (limit : ℕ) : What → List Frame → ℕ →
 
 -- The table: the faults that are told where this is due.
 abbrev pub Told : List ℕ → ℕ → What → List Frame → ℕ → Fault → Type 0
-Told text limit (a_part n) fs i e =
-    NoKey text i e ⊎ ((s : Part) × (j : ℕ) × IsKey s text i j × (limit ≤ n) × (e ≡ fault_at kinds.ExceededDepthLimit i))
-Told text limit (an_equals n) fs i e = ((slice_index text i == equals) ≡ false) × IsWanted text i dues.Equals e
-Told text limit a_value fs i e =
-    (((opens_nested (slice_index text i) || begins_bare (slice_index text i) || opens_string (slice_index text i)) ≡ false)
-    × IsNoValue text i e)
-    ⊎ ((opens_string (slice_index text i) ≡ true) × IsTokenFault text i e)
-    ⊎ ((limit < depth fs) × Begins text i × (e ≡ fault_at kinds.ExceededDepthLimit i))
-    ⊎ ((depth fs ≤ limit) × NoBare text i e)
-Told text limit a_comma (in_brackets ∷ fs) i e =
-    ((slice_index text i == comma) ≡ false) × ((slice_index text i == right_bracket) ≡ false)
-    × IsWanted text i dues.RightBracket e
-Told text limit a_comma (in_braces es ∷ fs) i e =
-    ((slice_index text i == comma) ≡ false) × ((slice_index text i == right_brace) ≡ false)
-    × IsWanted text i dues.Comma e
+Told text limit (a_part n) fs i e = NoPart text limit n i e
+Told text limit (an_equals n) fs i e = NoEquals text i e
+Told text limit a_value fs i e = NoValue text limit (depth fs) i e
+Told text limit a_comma (in_brackets ∷ fs) i e = NoComma right_bracket dues.RightBracket text i e
+Told text limit a_comma (in_braces es ∷ fs) i e = NoComma right_brace dues.Comma text i e
 Told text limit (a_verdict ev) (in_section es ∷ fs) i e = Crossing es ev e
 Told text limit (a_verdict ev) (in_braces es ∷ fs) i e = Crossing es ev e
-Told text limit (a_header_part n) fs i e =
-    NoKey text i e
-    ⊎ ((s : Part) × (j : ℕ) × IsKey s text i j × (limit ≤ n)
-    × (e ≡ record { kind = kinds.ExceededDepthLimit; span = s.span }))
-Told text limit (a_closing array) fs i e =
-    ((slice_index text i == right_bracket) ≡ false) × IsWanted text i dues.RightBracket e
-Told text limit a_line_end fs i e = (i < length text) × NoLineEnd text i × IsWanted text i dues.Newline e
+Told text limit (a_header_part n) fs i e = NoHeaderPart text limit n i e
+Told text limit (a_closing array) fs i e = NoBracket text i e
+Told text limit a_line_end fs i e = NoNewline text i e
 Told text limit what fs i e = ⊥
 
 -- the fault is one of the table, at a place where something is due

@@ -79,7 +79,8 @@ place_shown x = option_map (λ d. d.place) x.shown
 abbrev pub ShowsBelow : tree.Inner → State → Type 0
 ShowsBelow i st =
     (s : Step) (p : Path)
-    → option_map tree_place (reached (s ∷ p) (None, tree.node i (record { start = 0; end = 0 }))) ≡ place_shown (st (s ∷ p))
+    → option_map tree_place (reached (s ∷ p) (None, tree.node i (record { start = 0; end = 0 })))
+    ≡ place_shown (st (s ∷ p))
 
 -- the same, with what decides, which no header does
 abbrev pub ShowsPlain : tree.Inner → State → Type 0

@@ -59,7 +59,8 @@ unfoldable pub section_at : (Path → ℕ) → Head → List Part → Claims →
 section_at e h [] tail = tail
 section_at e h (k ∷ []) tail = under (key k.name) (ending h k tail (e (key k.name ∷ [])))
 section_at e h (k ∷ l ∷ more) tail =
-    under (key k.name) (entered (e (key k.name ∷ [])) (λ q. e (key k.name ∷ q)) (λ f. opening h Passed k (section_at f h (l ∷ more) tail)))
+    under (key k.name)
+    (entered (e (key k.name ∷ [])) (λ q. e (key k.name ∷ q)) (λ f. opening h Passed k (section_at f h (l ∷ more) tail)))
 
 -- from a node that the header passes through
 abbrev pub passing : Head → Part → List Part → Claims → (Path → ℕ) → Claims

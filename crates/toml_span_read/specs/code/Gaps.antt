@@ -36,4 +36,5 @@ SignGives c text i (Err k) = MaximalGap text i k × ((slice_index text k == c) �
 
 abbrev pub EqualsGives : List ℕ → ℕ → Result ℕ ℕ → Type 0
 EqualsGives text i (Ok j) = Equals text i j × Further text i j
-EqualsGives text i (Err k) = MaximalRun is_blank text i k × ((slice_index text k == equals) ≡ false) × IsCharBoundary text k
+EqualsGives text i (Err k) =
+    MaximalRun is_blank text i k × ((slice_index text k == equals) ≡ false) × IsCharBoundary text k
