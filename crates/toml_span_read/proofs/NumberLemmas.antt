@@ -18,8 +18,8 @@ use Rattle.toml_span_tree.specs.Node.{finite, infinite, not_a_number, Scalar, te
 use Rattle.toml_span_tree.specs.declared.float.FloatText.{FloatText}
 use Rattle.toml_span_tree.specs.Value.{decimal_of}
 use Rattle.toml_span_read.specs.declared.value.ValKind.{ValKind}
-use Rattle.std.specs.Char.{is_ascii_hexdigit}
-use Rattle.toml_span_read.specs.Numbers.{is_digit, is_figure, digit_value, Digits, behind_sign, is_negative, is_exponent, radix_at, IsNumber, FloatLiteral, Exponent, Fraction, sum_of_digits, cleaned, magnitude, goes_on}
+use Rattle.std.specs.Char.{is_ascii_hexdigit, digit_value}
+use Rattle.toml_span_read.specs.Numbers.{is_digit, is_figure, Digits, behind_sign, is_negative, is_exponent, radix_at, IsNumber, FloatLiteral, Exponent, Fraction, sum_of_digits, cleaned, magnitude, goes_on}
 use Rattle.toml_span_read.specs.code.Numbers.{DigitGives, SpecialGives, UnsignedGives, NumberGives, ExponentDigitsGive, ExponentGives, FractionGives, IntegerGives, RadixIntegerGives}
 
 -- ---- bytes

@@ -10,10 +10,10 @@ use Rattle.toml_span_lex.proofs.Runs.{boundary_after}
 use Rattle.toml_span_tree.specs.Node.{integer}
 use Rattle.toml_span_read.specs.declared.value.ValKind.{ValKind}
 use Rattle.toml_span_read.specs.Data.{kind_view, scalar}
-use Rattle.std.specs.Char.{is_ascii_digit}
+use Rattle.std.specs.Char.{is_ascii_digit, digit_value}
 use Rattle.toml_span_read.specs.Dates.{begins_date}
 use Rattle.toml_span_read.specs.code.Gaps.{Further}
-use Rattle.toml_span_read.specs.Numbers.{is_digit, digit_value, Digits, magnitude, DecimalInteger, IsSigned, behind_sign}
+use Rattle.toml_span_read.specs.Numbers.{is_digit, Digits, magnitude, DecimalInteger, IsSigned, behind_sign}
 use Rattle.toml_span_read.specs.code.Values.{BareGives}
 use Rattle.toml_span_read.proofs.NumberLemmas.{is_false, byte_is, and_left, and_right, digit_figure, no_keylike_figure, digit_no_underscore, no_sign, stands_alone, Summed, sum_goes_on}
 

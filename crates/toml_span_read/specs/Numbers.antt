@@ -1,8 +1,8 @@
 -- How integers and floats are spelled (TOML 1.1, "Integer", "Float").
-use Rattle.std.specs.Prelude.{◌≡◌, ℕ, ℤ, pos, neg_ℤ, ◌+◌, ◌-◌, ◌*◌, ◌^◌, ◌<◌, ◌≤◌, ◌⊎◌, Bool, true, false, not, ◌&&◌}
-use Rattle.std.specs.Prelude.{◌||◌, ◌==◌, nat_le, nat_lt, if◌then◌else◌, List, [], ◌∷◌, map, filter, length}
+use Rattle.std.specs.Prelude.{◌≡◌, ℕ, ℤ, pos, neg_ℤ, ◌+◌, ◌*◌, ◌^◌, ◌<◌, ◌≤◌, ◌⊎◌, Bool, true, false, not, ◌&&◌}
+use Rattle.std.specs.Prelude.{◌||◌, ◌==◌, nat_lt, if◌then◌else◌, List, [], ◌∷◌, map, filter, length}
 use Rattle.std.specs.Prelude.{slice_index, slice_range, Option, Some, None, codes}
-use Rattle.std.specs.Char.{is_ascii_hexdigit}
+use Rattle.std.specs.Char.{is_ascii_hexdigit, digit_value}
 use Rattle.toml_span_lex.specs.Bytes.{underscore, MaximalRun, plus, dash, is_keylike, period}
 use Rattle.toml_span_tree.specs.Node.{finite, infinite, not_a_number, Scalar, text as text_scalar, integer, float}
 use Rattle.toml_span_tree.specs.Node.{boolean, datetime}
@@ -28,10 +28,6 @@ abbrev pub letter_x : ℕ
 letter_x = 120
 
 -- ---- digits
-
--- what a digit is worth: 0 to 9, and a to f, of either case, 10 to 15
-abbrev pub digit_value : ℕ → ℕ
-digit_value c = if nat_le c 57 then c - 48 else (if nat_le c 70 then c - 55 else c - 87)
 
 -- a digit of this radix: `DIGIT` for 10, `HEXDIG` for 16, `digit0-7` for 8, `digit0-1` for 2
 abbrev pub is_digit : ℕ → ℕ → Bool

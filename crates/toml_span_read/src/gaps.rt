@@ -4,6 +4,7 @@ ghost use Rattle.std.specs.Str.{IsCharBoundary};
 ghost use Rattle.toml_span_read.specs.code.Gaps.{GapPieceGives, TailGives, DotGives, BehindGives, SignGives};
 ghost use Rattle.toml_span_read.specs.code.Gaps.{EqualsGives, Further};
 ghost use Rattle.toml_span_read.specs.Gaps.{MaximalGap};
+ghost use Rattle.toml_span_lex.specs.Bytes.{comma, equals};
 
 use toml_span_lex::bytes::{blanks_end, printed_end};
 use toml_span_lex::text::line_end;
@@ -125,7 +126,7 @@ pub fn after_element(text: &str, at: usize, close: u8) -> Behind
     requires boundary { IsCharBoundary text.now at }
     requires some { 0 < close }
     requires ascii { close < 128 }
-    requires other { close ≡ 44 → ⊥ }
+    requires other { close ≡ comma → ⊥ }
     ensures { BehindGives close text.now at result }
 {
     let end = gap_end(text, at);
@@ -144,7 +145,7 @@ pub fn after_element(text: &str, at: usize, close: u8) -> Behind
 /// `keyval-sep` in an inline table, where line ends and comments may stand round it (TOML 1.1, Inline Table)
 pub fn pair_equals(text: &str, at: usize) -> Result<usize, usize>
     requires { IsCharBoundary text.now at }
-    ensures { SignGives 61 text.now at result }
+    ensures { SignGives equals text.now at result }
 {
     let end = gap_end(text, at);
     if byte_at(text, end) == b'=' {

@@ -1,7 +1,7 @@
 //! Numbers.
 ghost use Rattle.std.specs.Prelude.{◌≡◌, ℕ, ◌+◌, ◌*◌, ◌<◌, ◌≤◌, ◌||◌, ◌&&◌, ◌==◌, ◌⊎◌, not, true, false, length, slice_index, filter, string_bytes, IfOk, IfSome, Ok};
 ghost use Rattle.std.specs.Str.{IsCharBoundary};
-ghost use Rattle.toml_span_lex.specs.Bytes.{is_keylike, MaximalRun};
+ghost use Rattle.toml_span_lex.specs.Bytes.{is_keylike, MaximalRun, period, underscore, plus};
 ghost use Rattle.std.specs.Char.{is_ascii_digit};
 ghost use Rattle.toml_span_read.specs.code.Gaps.{Further};
 ghost use Rattle.toml_span_read.specs.code.Values.{BareGives, IsScalarKind};
@@ -18,6 +18,7 @@ ghost use Rattle.toml_span_read.specs.code.Numbers.{ExponentGives, FractionGives
 ghost use Rattle.toml_span_read.specs.code.Numbers.{UnsignedGives, NumberGives};
 ghost use Rattle.toml_span_read.specs.Faults.{Run, IsSpecial, NoDecimal};
 ghost use Rattle.toml_span_read.specs.Numbers.{UnsignedDecimal, sum_of_digits, is_digit, behind_sign, is_negative};
+ghost use Rattle.toml_span_read.specs.Numbers.{letter_e};
 
 use crate::fault::{Fault, invalid_number};
 use crate::gaps::byte_at;
@@ -273,7 +274,7 @@ fn fraction_end(text: &str, start: usize, first: Span) -> Result<usize, Fault>
     requires start { start ≤ first.start }
     requires first { first.start ≤ first.end }
     requires boundary { IsCharBoundary text.now first.end }
-    requires dot { slice_index text.now first.end ≡ 46 }
+    requires dot { slice_index text.now first.end ≡ period }
     ensures ends { NumberEnds text.now first.end result }
     ensures gives { FractionGives text.now start first.start first.end result }
 {
@@ -384,7 +385,7 @@ pub(crate) fn short_integer<'de>(text: &'de str, at: usize) -> Option<(ValKind<'
 /// Whether a byte stands in the cleaned text of a float as it is.
 #[inline]
 fn is_clean(byte: u8) -> bool
-    ensures { result ≡ not ((byte == 95 || byte == 43) || byte == 101) }
+    ensures { result ≡ not ((byte == underscore || byte == plus) || byte == letter_e) }
 {
     byte != b'_' && byte != b'+' && byte != b'e'
 }
@@ -439,7 +440,7 @@ pub fn special_float(word: &[u8]) -> Option<FloatText>
 pub fn special_dot(text: &str, start: usize, first: Span) -> Fault
     requires start { start ≤ first.start }
     requires run { IsRun text.now first }
-    requires dot { slice_index text.now first.end ≡ 46 }
+    requires dot { slice_index text.now first.end ≡ period }
     requires special { IsSpecial text.now first.start first.end }
     ensures placed { IsPlaced text.now result }
     ensures gives { NoDecimal text.now start first.start first.end result }
@@ -515,7 +516,7 @@ pub fn number<'de>(
     at: usize,
 ) -> Result<(ValKind<'de>, usize), Stop<Fault>>
     requires boundary { IsCharBoundary text.now at }
-    requires begins { (is_keylike (slice_index text.now at) || slice_index text.now at == 43) ≡ true }
+    requires begins { (is_keylike (slice_index text.now at) || slice_index text.now at == plus) ≡ true }
     ensures advances { Advances text.now at result }
     ensures scalar { IsScalarKind result }
     // A literal is read exactly where one stands: otherwise the fault says what stands in its place.

@@ -11,6 +11,7 @@ ghost use Rattle.toml_span_read.specs.code.Sections.{SectionsGive, block_of, fir
 ghost use Rattle.toml_span_read.specs.code.Sections.{SectionReads, SectionGives};
 ghost use Rattle.toml_span_read.specs.Stuck.{KeepsForm, ReadsDocument};
 ghost use Rattle.toml_span_read.specs.code.Gaps.{Further};
+ghost use Rattle.toml_span_lex.specs.Bytes.{left_bracket};
 ghost use Rattle.toml_span_lex.specs.Tokenizer.{FirstPlace};
 ghost use Rattle.toml_span_read.specs.Places.{SectionsInside};
 ghost use Rattle.toml_span_read.specs.code.Limits.{AssignmentReads, AssignmentsRead, LineReads, HeaderReads};
@@ -116,7 +117,7 @@ fn assignments<'de>(
 ///
 /// `std-table-open = %x5B ws`, `array-table-open = %x5B.5B ws` (TOML 1.1, Table, Array of Tables)
 fn header_open(text: &str, at: usize) -> (bool, usize)
-    requires opens { slice_index text.now at ≡ 91 }
+    requires opens { slice_index text.now at ≡ left_bracket }
     ensures opens { Opens result.0 text.now at result.1 }
     ensures further { Further text.now at result.1 }
 {
@@ -167,7 +168,7 @@ fn read_header<'de>(
     at: usize,
     limit: usize,
 ) -> Result<Header<'de>, Stop<Fault>>
-    requires opens { slice_index text.now at ≡ 91 }
+    requires opens { slice_index text.now at ≡ left_bracket }
     requires some { 1 ≤ limit }
     ensures reads { HeaderReads text.now limit at result }
     ensures gives { HeaderGives text.now limit at result }
@@ -272,7 +273,7 @@ pub fn read_section<'de>(
     at: usize,
     limit: usize,
 ) -> Result<(Section<'de>, usize), Stop<Fault>>
-    requires opens { slice_index text.now at ≡ 91 }
+    requires opens { slice_index text.now at ≡ left_bracket }
     requires some { 1 ≤ limit }
     requires small { limit ≤ 128 }
     ensures reads { SectionReads text.now limit at result }

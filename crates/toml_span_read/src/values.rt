@@ -1,7 +1,7 @@
 //! Values.
 ghost use Rattle.std.specs.Prelude.{◌≡◌, ◌+◌, ◌<◌, ◌≤◌, ◌||◌, ◌==◌, ◌⊎◌, ◌++◌, ◌∷◌, [], true, false, length, slice_index, map, IfOk};
 ghost use Rattle.std.specs.Str.{IsCharBoundary};
-ghost use Rattle.toml_span_lex.specs.Bytes.{is_keylike};
+ghost use Rattle.toml_span_lex.specs.Bytes.{is_keylike, quotation_mark, apostrophe, left_bracket, left_brace};
 ghost use Rattle.toml_span_read.specs.code.Faults.{Advances, IsPlacedStop};
 ghost use Rattle.toml_span_read.specs.Places.{IsPlaced};
 ghost use Rattle.std.specs.Cow.{cow_str_bytes};
@@ -81,7 +81,7 @@ fn string_value<'de>(
     limit: usize,
 ) -> Result<(Val<'de>, usize), Stop<Fault>>
     requires boundary { IsCharBoundary text.now at }
-    requires quote { (slice_index text.now at ≡ 34) ⊎ (slice_index text.now at ≡ 39) }
+    requires quote { (slice_index text.now at ≡ quotation_mark) ⊎ (slice_index text.now at ≡ apostrophe) }
     ensures reads { ValueReads text.now limit depth at result }
     ensures gives { ValueGives text.now limit depth at result }
     ensures borrows { IfOk result (λ found. AreRight text.now (written found.0)) }
@@ -200,7 +200,7 @@ fn array<'de>(
     limit: usize,
 ) -> Result<(Val<'de>, usize), Stop<Fault>>
     requires boundary { IsCharBoundary text.now at }
-    requires opens { slice_index text.now at ≡ 91 }
+    requires opens { slice_index text.now at ≡ left_bracket }
     requires some { 1 ≤ limit }
     requires small { limit ≤ 128 }
     requires depth { depth ≤ limit }
@@ -243,7 +243,7 @@ fn inline_table<'de>(
     limit: usize,
 ) -> Result<(Val<'de>, usize), Stop<Fault>>
     requires boundary { IsCharBoundary text.now at }
-    requires opens { slice_index text.now at ≡ 123 }
+    requires opens { slice_index text.now at ≡ left_brace }
     requires some { 1 ≤ limit }
     requires small { limit ≤ 128 }
     requires depth { depth ≤ limit }

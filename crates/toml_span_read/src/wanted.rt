@@ -1,6 +1,7 @@
 //! What stands where another token is due.
 ghost use Rattle.std.specs.Prelude.{◌≡◌, ◌<◌, ◌≤◌, ◌||◌, ◌==◌, ◌⊎◌, if◌then◌else◌, length, slice_index, false, IfOk, IfSome, Ok};
 ghost use Rattle.std.specs.Str.{IsCharBoundary};
+ghost use Rattle.toml_span_lex.specs.Bytes.{quotation_mark, apostrophe};
 ghost use Rattle.toml_span_lex.specs.Strings.{BorrowsWhereSame};
 ghost use Rattle.toml_span_lex.specs.Tokens.{lexeme};
 ghost use Rattle.toml_span_read.specs.Faults as faults;
@@ -58,7 +59,7 @@ fn token_fault(error: Error) -> Fault
 #[inline(always)]
 pub(crate) fn short_string<'de>(text: &'de str, at: usize) -> Option<StringToken<'de>>
     requires within { at < length text.now }
-    requires quote { (slice_index text.now at ≡ 34) ⊎ (slice_index text.now at ≡ 39) }
+    requires quote { (slice_index text.now at ≡ quotation_mark) ⊎ (slice_index text.now at ≡ apostrophe) }
     ensures gives { IfSome result (λ token. StringReads text.now at (Ok token)) }
     ensures borrows { IfSome result (λ token. BorrowsWhereSame text.now token.span token.content) }
 {
@@ -83,7 +84,7 @@ fn pieced_string<'de>(
     at: usize,
 ) -> Result<StringToken<'de>, Stop<Fault>>
     requires within { at < length text.now }
-    requires quote { (slice_index text.now at ≡ 34) ⊎ (slice_index text.now at ≡ 39) }
+    requires quote { (slice_index text.now at ≡ quotation_mark) ⊎ (slice_index text.now at ≡ apostrophe) }
     ensures gives { StringReads text.now at result }
     ensures borrows { IfOk result (λ token. BorrowsWhereSame text.now token.span token.content) }
     ensures placed { faults_code.IsPlacedEnd text.now result }
@@ -115,7 +116,7 @@ pub fn string<'de>(
     at: usize,
 ) -> Result<StringToken<'de>, Stop<Fault>>
     requires within { at < length text.now }
-    requires quote { (slice_index text.now at ≡ 34) ⊎ (slice_index text.now at ≡ 39) }
+    requires quote { (slice_index text.now at ≡ quotation_mark) ⊎ (slice_index text.now at ≡ apostrophe) }
     ensures gives { StringReads text.now at result }
     ensures borrows { IfOk result (λ token. BorrowsWhereSame text.now token.span token.content) }
     ensures placed { faults_code.IsPlacedEnd text.now result }
@@ -162,7 +163,7 @@ fn string_found(is_multiline: bool) -> Found
 /// Whether a string opens with this byte.
 #[inline]
 pub fn opens_string(byte: u8) -> bool
-    ensures { result ≡ (byte == 34 || byte == 39) }
+    ensures { result ≡ (byte == quotation_mark || byte == apostrophe) }
 {
     byte == b'"' || byte == b'\''
 }

@@ -1,4 +1,5 @@
 -- What the functions of numbers give.
+use Rattle.std.specs.Char.{digit_value}
 use Rattle.std.specs.Prelude.{◌≡◌, ℕ, ℤ, ◌+◌, ◌^◌, ◌<◌, ◌≤◌, ◌⊎◌, Bool, true, false, List, slice_index, Result, Ok, Err}
 use Rattle.std.specs.Prelude.{Option, Some, None, codes}
 use Rattle.std.specs.Str.{IsCharBoundary}
@@ -9,7 +10,7 @@ use Rattle.toml_span_lex.specs.declared.span.Span.{Span}
 use Rattle.toml_span_tree.specs.Node.{infinite, not_a_number, Scalar}
 use Rattle.toml_span_tree.specs.declared.float.FloatText.{FloatText}
 use Rattle.toml_span_tree.specs.Value.{decimal_of}
-use Rattle.toml_span_read.specs.Numbers.{digit_value, is_digit, Digits, IsSigned, magnitude, UnsignedDecimal, Exponent}
+use Rattle.toml_span_read.specs.Numbers.{is_digit, Digits, IsSigned, magnitude, UnsignedDecimal, Exponent}
 use Rattle.toml_span_read.specs.Numbers.{Fraction, DecimalInteger, FloatLiteral, radix_at, IsNumber}
 use Rattle.toml_span_read.specs.declared.fault.Fault.{Fault}
 use Rattle.toml_span_read.specs.Faults.{NoDigits, IsOutside, invalid_number, NoRadixInteger, NoIntegerPart}
