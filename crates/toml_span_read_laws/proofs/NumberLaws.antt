@@ -1,6 +1,8 @@
 -- One number stands at a place, or a fault.
 use Rattle.std.proofs.Common.{◌≡◌, ℕ, ◌+◌, ◌-◌, ◌<◌, ◌≤◌, ◌⊎◌, Bool, true, false, drop, Option, Some, None, Result, Ok, Err, List, [], ◌∷◌, length, get_or, arith, inl, inr, refl, sym, ap, subst, ◌∙◌}
-use Rattle.std.specs.Prelude.{ℤ, slice_range, codes, ◌==◌, ◌||◌, ◌&&◌}
+use Rattle.std.specs.Prelude.{ℤ, slice_range, codes, ◌==◌, ◌||◌, ◌&&◌, nat_lt}
+use Rattle.std.specs.Int.{is_in_range}
+use Rattle.std.specs.Char.{digit_value}
 use Rattle.std.proofs.lemmas.Bool.{cases_lt, false≢true}
 use Rattle.std.proofs.lemmas.List.{get_or_past, length-drop, length-take-le}
 use Rattle.toml_span_lex.specs.Bytes.{is_keylike, MaximalRun}
@@ -15,7 +17,7 @@ use Rattle.toml_span_lex.specs.Tokens.{RunAt}
 use Rattle.toml_span_read.specs.declared.value.ValKind.{ValKind}
 use Rattle.toml_span_read.specs.Data.{scalar}
 use Rattle.std.specs.Char.{is_ascii_digit}
-use Rattle.toml_span_read.proofs.NumberLemmas.{is_false, clash, byte_is, same_byte, bool_cases, digit_keylike, digit_figure, underscore_figure, figure_keylike, digit_no_underscore, run_stops, run_part, no_sign, behind_either, plus_negative, behind_plus_sign, sign_on, slice_first, slice_some, none_some, or_true}
+use Rattle.toml_span_read.proofs.NumberLemmas.{is_false, clash, byte_is, same_byte, bool_cases, digit_keylike, digit_figure, underscore_figure, figure_keylike, digit_no_underscore, run_stops, run_part, no_sign, behind_either, plus_negative, behind_plus_sign, sign_on, slice_first, slice_some, none_some, or_true, and_right, and_left}
 
 -- ---- runs
 
@@ -481,8 +483,22 @@ number_read text i j s (Err (stops.Fault fault)) g h = number_excluded text i j 
 
 -- ---- how a number begins
 
+either : (a b : Bool) → (a || b) ≡ true → (a ≡ true) ⊎ (b ≡ true)
+either true b h = inl refl
+either false b h = inr h
+
+-- letters are worth ten and more
+capital_past : (c : ℕ) → is_in_range 65 70 c ≡ true → nat_lt (digit_value c) 10 ≡ true → ⊥
+capital_past c h v = grind arith
+
+small_past : (c : ℕ) → is_in_range 97 102 c ≡ true → nat_lt (digit_value c) 10 ≡ true → ⊥
+small_past c h v = grind arith
+
 digit_begins : (c : ℕ) → is_digit 10 c ≡ true → is_ascii_digit c ≡ true
-digit_begins c h = grind arith
+digit_begins c h = elim (either (is_in_range 48 57 c || is_in_range 65 70 c) (is_in_range 97 102 c) (and_left _ _ h)) [
+  | inl d ↦ elim (either (is_in_range 48 57 c) (is_in_range 65 70 c) d) [ inl e ↦ e | inr u ↦ absurd (capital_past c u (and_right _ _ h)) ]
+  | inr l ↦ absurd (small_past c l (and_right _ _ h))
+]
 
 sign_begins : (text : List ℕ) (i : ℕ) → (is_ascii_digit (get_or text (behind_sign text i) 0) ≡ true) → ((is_ascii_digit (get_or text i 0) || get_or text i 0 == 45) || get_or text i 0 == 43) ≡ true
 sign_begins text i d = elim (bool_cases (get_or text i 0 == 43)) [
