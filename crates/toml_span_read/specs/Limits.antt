@@ -1,16 +1,8 @@
 -- What is read is within the limit.
-use Rattle.std.specs.Prelude.{ℕ, ◌+◌, ◌≤◌, List, [], ◌∷◌, map, length, Vec, Result, Ok, Err}
-use Rattle.std.specs.Global.{Global}
-use Rattle.toml_span_lex.specs.declared.stop.Stop.{Stop}
-use Rattle.toml_span_lex.specs.declared.stop.Stop.TheVariants as stops
-use Rattle.toml_span_tree.specs.Error.{fault_of}
-use Rattle.toml_span_tree.specs.declared.error.Error.{Error}
+use Rattle.std.specs.Prelude.{ℕ, ◌+◌, ◌≤◌, List, [], ◌∷◌, map, length}
 use Rattle.toml_span_read.specs.Data.{Node, node, Inner, scalar, array, inline, Items, no_items, item, Pairs, no_pairs}
 use Rattle.toml_span_read.specs.Data.{pair, Event, event}
 use Rattle.toml_span_read.specs.declared.section.Section.{Section}
-use Rattle.toml_span_read.specs.declared.fault.Fault.{Fault}
-use Rattle.toml_span_read.specs.Places.{IsPlaced}
-use Rattle.toml_span_read.specs.Faults.{Tells}
 
 -- The depth of a value is the number of brackets and braces open round it plus the number of all key parts of its own
 -- assignment or pair and of those round it. It is at most the limit, and so is the number of parts of each key.
@@ -47,9 +39,3 @@ WithinSection limit s = (length s.header.items ≤ limit) × WithinEvents limit 
 abbrev pub WithinSections : ℕ → List Section → Type 0
 WithinSections limit [] = Unit {0}
 WithinSections limit (s ∷ ss) = WithinSection limit s × WithinSections limit ss
-
--- what is read is within the limit; an error tells a fault that is placed
-abbrev pub Reads : List ℕ → ℕ → Result (Vec Section Global) (Stop Error) → Type 0
-Reads text limit (Ok found) = WithinSections limit found.items
-Reads text limit (Err (stops.Memory e)) = Unit {0}
-Reads text limit (Err (stops.Fault error)) = (fault : Fault) × IsPlaced text fault × Tells text fault (fault_of error)

@@ -1,5 +1,5 @@
 -- Where a document gets stuck: the forms before the fault, and the fault that stands behind them.
-use Rattle.std.specs.Prelude.{◌≡◌, ℕ, ◌+◌, ◌<◌, ◌≤◌, Bool, true, false, ◌||◌, ◌==◌, List, [], ◌∷◌, ◌++◌, map, length}
+use Rattle.std.specs.Prelude.{◌≡◌, ℕ, ◌+◌, ◌<◌, ◌≤◌, Bool, true, false, ◌==◌, List, [], ◌∷◌, ◌++◌, map, length}
 use Rattle.std.specs.Prelude.{slice_index, Vec, Result, Ok, Err}
 use Rattle.std.specs.Global.{Global}
 use Rattle.toml_span_lex.specs.Bytes.{is_blank, equals, MaximalRun, left_bracket, comma, left_brace, right_brace}
@@ -9,6 +9,7 @@ use Rattle.toml_span_lex.specs.declared.stop.Stop.{Stop}
 use Rattle.toml_span_lex.specs.declared.stop.Stop.TheVariants as stops
 use Rattle.toml_span_tree.specs.Error.{fault_of}
 use Rattle.toml_span_tree.specs.declared.error.Error.{Error}
+use Rattle.toml_span_read.specs.Places.{IsPlaced}
 use Rattle.toml_span_read.specs.declared.fault.Fault.{Fault}
 use Rattle.toml_span_read.specs.declared.fault.FaultKind.TheVariants as kinds
 use Rattle.toml_span_read.specs.Gaps.{Dot, MaximalGap, Sign, Neither, Equals, Tail}
@@ -166,6 +167,13 @@ ReadsDocument text limit (Ok found) = SpellsDocument (map block found.items) tex
 ReadsDocument text limit (Err (stops.Memory e)) = Unit {0}
 ReadsDocument text limit (Err (stops.Fault error)) =
     (fault : Fault) × StuckDocument text limit fault × Tells text fault (fault_of error)
+
+-- what a text is refused for starts within the text, and does not end before it starts
+abbrev pub RefusedInside : List ℕ → Result (Vec Section Global) (Stop Error) → Type 0
+RefusedInside text (Ok found) = Unit {0}
+RefusedInside text (Err (stops.Memory e)) = Unit {0}
+RefusedInside text (Err (stops.Fault error)) =
+    (fault : Fault) × IsPlaced text fault × Tells text fault (fault_of error)
 
 -- these sections, unless memory ran out
 abbrev pub AreRead : List Block → Result (Vec Section Global) (Stop Error) → Type 0

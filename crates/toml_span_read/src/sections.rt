@@ -9,14 +9,13 @@ ghost use Rattle.toml_span_read.specs.Grammar.{Opens, first_block};
 ghost use Rattle.toml_span_read.specs.code.Sections.{EventGives, LineGives, LinesGive, CloseGives, HeaderGives};
 ghost use Rattle.toml_span_read.specs.code.Sections.{SectionsGive, block_of, first_blocks, FirstReads, FirstGives};
 ghost use Rattle.toml_span_read.specs.code.Sections.{SectionReads, SectionGives};
-ghost use Rattle.toml_span_read.specs.Stuck.{KeepsForm, ReadsDocument};
+ghost use Rattle.toml_span_read.specs.Stuck.{KeepsForm, ReadsDocument, RefusedInside};
 ghost use Rattle.toml_span_read.specs.code.Gaps.{Further};
 ghost use Rattle.toml_span_lex.specs.Bytes.{left_bracket};
 ghost use Rattle.toml_span_lex.specs.Tokenizer.{FirstPlace};
-ghost use Rattle.toml_span_read.specs.Places.{SectionsInside};
 ghost use Rattle.toml_span_read.specs.code.Limits.{AssignmentReads, AssignmentsRead, LineReads, HeaderReads};
 ghost use Rattle.toml_span_read.specs.code.Limits.{SectionsRead, EndsAtHeader};
-ghost use Rattle.toml_span_read.specs.Limits.{WithinSection, WithinEvents, Reads};
+ghost use Rattle.toml_span_read.specs.Limits.{WithinSection, WithinEvents};
 
 use crate::earlier::{Earlier, add_clear};
 use crate::fault::{Due, Fault, error_of};
@@ -327,13 +326,11 @@ pub fn read_sections<'de>(
 ) -> Result<Vec<Section<'de>>, Stop<Error<'de>>>
     requires some { 1 ≤ limit }
     requires small { limit ≤ 128 }
-    ensures reads { Reads text.now limit result }
     // The sections are those that the text spells. A fault stands where the forms before it lead.
     ensures document { ReadsDocument text.now limit result }
+    ensures placed { RefusedInside text.now result }
     // Memory is wanted only where more than blank lines stand in the text.
     ensures memory { (start : ℕ) × FirstPlace text.now start × KeepsForm text.now start result }
-    // Keys and headers stand inside the text.
-    ensures inside { IfOk result (λ found. SectionsInside (length text.now) found.items) }
     // Strings and keys are borrowed exactly where they equal the text at their span. Empty ones on one line are borrowed.
     ensures borrows { IfOk result (λ found. AreRight text.now (sections_written found.items)) }
 {
