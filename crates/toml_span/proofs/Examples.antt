@@ -5,7 +5,7 @@ use Rattle.toml_span_lex.specs.declared.span.Span.{Span}
 use Rattle.toml_span_tree.specs.Error.{Fault, duplicate_key}
 use Rattle.toml_span_tree.specs.Node as tree
 use Rattle.toml_span_tree.specs.Node.{text, integer}
-use Rattle.toml_span_tree.specs.Path.{Path, Step, key, position, Shape, is_scalar, is_array, is_table, Place, place_at}
+use Rattle.toml_span_tree.specs.Path.{Path, Step, key, position, Shape, shape_scalar, shape_array, shape_table, Place, place_at}
 use Rattle.toml_span_read.specs.Data.{Node, node, scalar, array, inline, no_items, item, no_pairs, pair, Event, Block}
 use Rattle.toml_span_read.specs.Keys.{Part}
 use Rattle.toml_span_read.specs.Grammar.{first_block, last_end}
@@ -159,7 +159,7 @@ in_order [] rest = rest
 in_order (first ∷ more) rest = claimed first (in_order more rest)
 
 abbrev number : ℕ → Shape
-number n = is_scalar (integer (pos n))
+number n = shape_scalar (integer (pos n))
 
 -- what stands at a key
 abbrev keyed : Shape → Span → Span → Option Place
@@ -212,10 +212,10 @@ abbrev abc_paths : List Path
 abc_paths = root ∷ /a ∷ /a/b ∷ /a/b/c ∷ /a/b/d ∷ /a/0 ∷ []
 
 abc-flat : map (flat 20 (claims abc)) abc_paths ≡
-    unkeyed is_table (at 0 20)
-    ∷ keyed is_table (at 1 2) (at 0 8)
-    ∷ keyed is_table (at 3 4) (at 0 8)
-    ∷ keyed is_table (at 5 6) (at 0 8)
+    unkeyed shape_table (at 0 20)
+    ∷ keyed shape_table (at 1 2) (at 0 8)
+    ∷ keyed shape_table (at 3 4) (at 0 8)
+    ∷ keyed shape_table (at 5 6) (at 0 8)
     ∷ keyed (number 1) (at 14 15) (at 18 19)
     ∷ None
     ∷ []
@@ -253,7 +253,7 @@ abbrev entries_claims : List Claim
 entries_claims =
     claims_table ArrayOfTables /a a (at 2 3) (at 0 6) (at 0 17)
     ∷ claims_table Entry /a/0 a (at 2 3) (at 0 6) (at 0 17)
-    ∷ claims_value /a/0/t t (at 6 7) is_table (at 10 17)
+    ∷ claims_value /a/0/t t (at 6 7) shape_table (at 10 17)
     ∷ []
 
 abbrev inside_claims : List Claim
@@ -281,15 +281,15 @@ abbrev entries_paths : List Path
 entries_paths = root ∷ /a ∷ /a/0 ∷ /a/0/b ∷ /a/0/b/0 ∷ /a/0/t ∷ /a/0/t/x ∷ /a/1 ∷ /a/1/t ∷ /a/2 ∷ []
 
 entries-flat : map (flat 38 (claims entries)) entries_paths ≡
-    unkeyed is_table (at 0 38)
-    ∷ keyed is_array (at 2 3) (at 0 17)
-    ∷ unkeyed is_table (at 0 17)
-    ∷ keyed is_array (at 22 23) (at 18 26)
-    ∷ unkeyed is_table (at 18 26)
-    ∷ keyed is_table (at 6 7) (at 10 17)
+    unkeyed shape_table (at 0 38)
+    ∷ keyed shape_array (at 2 3) (at 0 17)
+    ∷ unkeyed shape_table (at 0 17)
+    ∷ keyed shape_array (at 22 23) (at 18 26)
+    ∷ unkeyed shape_table (at 18 26)
+    ∷ keyed shape_table (at 6 7) (at 10 17)
     ∷ keyed (number 1) (at 11 12) (at 15 16)
-    ∷ unkeyed is_table (at 26 32)
-    ∷ keyed is_table (at 35 36) (at 32 38)
+    ∷ unkeyed shape_table (at 26 32)
+    ∷ keyed shape_table (at 35 36) (at 32 38)
     ∷ None
     ∷ []
 unfolding computed
@@ -350,11 +350,11 @@ inline_table-resolves : Resolves [] (claims inline_table)
 unfolding computed
 inline_table-resolves = told-none (claims inline_table) refl
 
-inline_table-at-root : flat 27 (claims inline_table) [] ≡ unkeyed is_table (at 0 27)
+inline_table-at-root : flat 27 (claims inline_table) [] ≡ unkeyed shape_table (at 0 27)
 unfolding computed
 inline_table-at-root = refl
 
-inline_table-at-t : flat 27 (claims inline_table) (key t ∷ []) ≡ keyed is_table (at 0 1) (at 4 27)
+inline_table-at-t : flat 27 (claims inline_table) (key t ∷ []) ≡ keyed shape_table (at 0 1) (at 4 27)
 unfolding computed
 inline_table-at-t = refl
 
@@ -362,7 +362,7 @@ inline_table-at-t-a : flat 27 (claims inline_table) (key t ∷ key a ∷ []) ≡
 unfolding computed
 inline_table-at-t-a = refl
 
-inline_table-at-t-b : flat 27 (claims inline_table) (key t ∷ key b ∷ []) ≡ keyed is_table (at 13 14) (at 19 20)
+inline_table-at-t-b : flat 27 (claims inline_table) (key t ∷ key b ∷ []) ≡ keyed shape_table (at 13 14) (at 19 20)
 unfolding computed
 inline_table-at-t-b = refl
 
@@ -387,15 +387,15 @@ two_entries-resolves : Resolves [] (claims two_entries)
 unfolding computed
 two_entries-resolves = told-none (claims two_entries) refl
 
-two_entries-at-a : flat 36 (claims two_entries) (key a ∷ []) ≡ keyed is_array (at 2 3) (at 0 6)
+two_entries-at-a : flat 36 (claims two_entries) (key a ∷ []) ≡ keyed shape_array (at 2 3) (at 0 6)
 unfolding computed
 two_entries-at-a = refl
 
-two_entries-at-a-0 : flat 36 (claims two_entries) (key a ∷ position 0 ∷ []) ≡ unkeyed is_table (at 0 6)
+two_entries-at-a-0 : flat 36 (claims two_entries) (key a ∷ position 0 ∷ []) ≡ unkeyed shape_table (at 0 6)
 unfolding computed
 two_entries-at-a-0 = refl
 
-two_entries-at-a-0-b : flat 36 (claims two_entries) (key a ∷ position 0 ∷ key b ∷ []) ≡ keyed is_table (at 9 10) (at 6 17)
+two_entries-at-a-0-b : flat 36 (claims two_entries) (key a ∷ position 0 ∷ key b ∷ []) ≡ keyed shape_table (at 9 10) (at 6 17)
 unfolding computed
 two_entries-at-a-0-b = refl
 
@@ -403,11 +403,11 @@ two_entries-at-a-0-b-x : flat 36 (claims two_entries) (key a ∷ position 0 ∷ 
 unfolding computed
 two_entries-at-a-0-b-x = refl
 
-two_entries-at-a-1 : flat 36 (claims two_entries) (key a ∷ position 1 ∷ []) ≡ unkeyed is_table (at 18 24)
+two_entries-at-a-1 : flat 36 (claims two_entries) (key a ∷ position 1 ∷ []) ≡ unkeyed shape_table (at 18 24)
 unfolding computed
 two_entries-at-a-1 = refl
 
-two_entries-at-a-1-b : flat 36 (claims two_entries) (key a ∷ position 1 ∷ key b ∷ []) ≡ keyed is_table (at 27 28) (at 24 35)
+two_entries-at-a-1-b : flat 36 (claims two_entries) (key a ∷ position 1 ∷ key b ∷ []) ≡ keyed shape_table (at 27 28) (at 24 35)
 unfolding computed
 two_entries-at-a-1-b = refl
 
@@ -486,11 +486,11 @@ dotted_beside_array-resolves : Resolves [] (claims dotted_beside_array)
 unfolding computed
 dotted_beside_array-resolves = told-none (claims dotted_beside_array) refl
 
-dotted_beside_array-at-x : flat 22 (claims dotted_beside_array) (key x ∷ []) ≡ keyed is_table (at 2 3) (at 0 10)
+dotted_beside_array-at-x : flat 22 (claims dotted_beside_array) (key x ∷ []) ≡ keyed shape_table (at 2 3) (at 0 10)
 unfolding computed
 dotted_beside_array-at-x = refl
 
-dotted_beside_array-at-x-a : flat 22 (claims dotted_beside_array) (key x ∷ key a ∷ []) ≡ keyed is_table (at 4 5) (at 0 10)
+dotted_beside_array-at-x-a : flat 22 (claims dotted_beside_array) (key x ∷ key a ∷ []) ≡ keyed shape_table (at 4 5) (at 0 10)
 unfolding computed
 dotted_beside_array-at-x-a = refl
 
@@ -498,11 +498,11 @@ dotted_beside_array-at-x-a-b : flat 22 (claims dotted_beside_array) (key x ∷ k
 unfolding computed
 dotted_beside_array-at-x-a-b = refl
 
-dotted_beside_array-at-x-a-c : flat 22 (claims dotted_beside_array) (key x ∷ key a ∷ key c ∷ []) ≡ keyed is_array (at 6 7) (at 0 10)
+dotted_beside_array-at-x-a-c : flat 22 (claims dotted_beside_array) (key x ∷ key a ∷ key c ∷ []) ≡ keyed shape_array (at 6 7) (at 0 10)
 unfolding computed
 dotted_beside_array-at-x-a-c = refl
 
-dotted_beside_array-at-x-a-c-0 : flat 22 (claims dotted_beside_array) (key x ∷ key a ∷ key c ∷ position 0 ∷ []) ≡ unkeyed is_table (at 0 10)
+dotted_beside_array-at-x-a-c-0 : flat 22 (claims dotted_beside_array) (key x ∷ key a ∷ key c ∷ position 0 ∷ []) ≡ unkeyed shape_table (at 0 10)
 unfolding computed
 dotted_beside_array-at-x-a-c-0 = refl
 
@@ -526,15 +526,15 @@ apple_passed-resolves : Resolves [] (claims apple_passed)
 unfolding computed
 apple_passed-resolves = told-none (claims apple_passed) refl
 
-apple_passed-at-apple : flat 36 (claims apple_passed) (key apple ∷ []) ≡ keyed is_table (at 21 26) (at 20 36)
+apple_passed-at-apple : flat 36 (claims apple_passed) (key apple ∷ []) ≡ keyed shape_table (at 21 26) (at 20 36)
 unfolding computed
 apple_passed-at-apple = refl
 
-apple_passed-at-apple-color : flat 36 (claims apple_passed) (key apple ∷ key color ∷ []) ≡ keyed (is_scalar (text red)) (at 6 11) (at 15 18)
+apple_passed-at-apple-color : flat 36 (claims apple_passed) (key apple ∷ key color ∷ []) ≡ keyed (shape_scalar (text red)) (at 6 11) (at 15 18)
 unfolding computed
 apple_passed-at-apple-color = refl
 
-apple_passed-at-apple-texture : flat 36 (claims apple_passed) (key apple ∷ key texture ∷ []) ≡ keyed is_table (at 27 34) (at 20 36)
+apple_passed-at-apple-texture : flat 36 (claims apple_passed) (key apple ∷ key texture ∷ []) ≡ keyed shape_table (at 27 34) (at 20 36)
 unfolding computed
 apple_passed-at-apple-texture = refl
 
@@ -554,19 +554,19 @@ array_of_texts-resolves : Resolves [] (claims array_of_texts)
 unfolding computed
 array_of_texts-resolves = told-none (claims array_of_texts) refl
 
-array_of_texts-at-x : flat 19 (claims array_of_texts) (key x ∷ []) ≡ keyed is_table (at 1 2) (at 0 19)
+array_of_texts-at-x : flat 19 (claims array_of_texts) (key x ∷ []) ≡ keyed shape_table (at 1 2) (at 0 19)
 unfolding computed
 array_of_texts-at-x = refl
 
-array_of_texts-at-x-y : flat 19 (claims array_of_texts) (key x ∷ key y ∷ []) ≡ keyed is_array (at 4 5) (at 8 19)
+array_of_texts-at-x-y : flat 19 (claims array_of_texts) (key x ∷ key y ∷ []) ≡ keyed shape_array (at 4 5) (at 8 19)
 unfolding computed
 array_of_texts-at-x-y = refl
 
-array_of_texts-at-x-y-0 : flat 19 (claims array_of_texts) (key x ∷ key y ∷ position 0 ∷ []) ≡ unkeyed (is_scalar (text z)) (at 10 11)
+array_of_texts-at-x-y-0 : flat 19 (claims array_of_texts) (key x ∷ key y ∷ position 0 ∷ []) ≡ unkeyed (shape_scalar (text z)) (at 10 11)
 unfolding computed
 array_of_texts-at-x-y-0 = refl
 
-array_of_texts-at-x-y-1 : flat 19 (claims array_of_texts) (key x ∷ key y ∷ position 1 ∷ []) ≡ unkeyed (is_scalar (text zz)) (at 15 17)
+array_of_texts-at-x-y-1 : flat 19 (claims array_of_texts) (key x ∷ key y ∷ position 1 ∷ []) ≡ unkeyed (shape_scalar (text zz)) (at 15 17)
 unfolding computed
 array_of_texts-at-x-y-1 = refl
 

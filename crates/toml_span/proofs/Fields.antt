@@ -11,7 +11,7 @@ use Rattle.toml_span_lex.specs.declared.stop.Stop.TheVariants as stop
 use Rattle.toml_span_tree.specs.declared.error.Error.{Error}
 use Rattle.toml_span_tree.specs.Error.{Fault}
 use Rattle.toml_span_tree.specs.Node.{Node, node, taken, scalar, array, table, Members, no_members, member, entry_at}
-use Rattle.toml_span_tree.specs.Path.{Path, key, position, Place, is_table, reached, place_of}
+use Rattle.toml_span_tree.specs.Path.{Path, key, position, Place, shape_table, reached, place_of}
 use Rattle.toml_span_claims.specs.Flat.{Shows}
 use Rattle.toml_span_claims.specs.Ordered.{IsNameBefore, EachName, MembersOrdered}
 use Rattle.toml_span_typed.specs.Faults.{Faults, all}
@@ -20,7 +20,7 @@ use Rattle.toml_span_tree.specs.Value.{is_filled}
 use Rattle.toml_span_typed.specs.declared.de_helpers.table_helper.TableHelper.{TableHelper}
 use Rattle.toml_span_typed.specs.declared.de_helpers.table_helper.Unfinished.{Unfinished}
 use Rattle.toml_span_typed.specs.declared.de_helpers.table_helper.Unfinished.TheVariants as unfinished
-use Rattle.toml_span_typed.specs.TableHelper.{State, Opens, Requires, Tries, Refuses, Starved, found, fresh, keeping, noted, unasked, unexpected, where_filled, without}
+use Rattle.toml_span_typed.specs.TableHelper.{State, Opens, Requires, Tries, Refuses, Starved, found, fresh, keeping, noted, unasked, unexpected_entries, where_filled, without}
 use Rattle.toml_span.specs.Document.{part, IsValueOf}
 use Rattle.toml_span.specs.Helpers.{hide, except, IsOver, table_of, RequiresAt, TriesAt, EndsWith, HasNoKeyBut}
 use Rattle.toml_span.proofs.OneTree.{At, shown, same-name, first-entry, later-entry, not-again}
@@ -104,7 +104,7 @@ opens-over places (node (table ms) at) s h is =
     let same : s ≡ fresh ms at = cc in
     subst (λ t. IsOver places t × (t.asked ≡ []) × (t.errors ≡ [])) (sym same) (h, refl, refl)
 
-pub opens-some : (places : Path → Option Place) (m : Node) → IsValueOf places m → ((s : State) × Opens m (Ok s)) ↔ (option_map (λ x. x.shape) (places []) ≡ Some is_table)
+pub opens-some : (places : Path → Option Place) (m : Node) → IsValueOf places m → ((s : State) × Opens m (Ok s)) ↔ (option_map (λ x. x.shape) (places []) ≡ Some shape_table)
 opens-some places (node taken at) h = (λ opened. absurd (let is = opened.1 in cc), λ is. absurd (let here = ap (option_map (λ x. x.shape)) (h.1 []) ∙ is in cc))
 opens-some places (node (scalar x) at) h = (λ opened. absurd (let is = opened.1 in cc), λ is. absurd (let here = ap (option_map (λ x. x.shape)) (h.1 []) ∙ is in cc))
 opens-some places (node (array ns) at) h = (λ opened. absurd (let is = opened.1 in cc), λ is. absurd (let here = ap (option_map (λ x. x.shape)) (h.1 []) ∙ is in cc))
@@ -194,11 +194,11 @@ pub ends-ok : (places : Path → Option Place) (s : State) (answer : Result (Uni
     → IsOk answer ↔ ((s.errors ≡ []) × HasNoKeyBut s.asked places)
 ends-ok places s (Ok done) h refuses =
     let empty = both-empty s.errors (unasked s) refuses in
-    (λ ok. (empty.0, none-left s.members s.span (except s.asked places) (unexpected s) h.1 empty.1), λ both. refl)
+    (λ ok. (empty.0, none-left s.members s.span (except s.asked places) (unexpected_entries s) h.1 empty.1), λ both. refl)
 ends-ok places s (Err (unfinished.Faults faults)) h refuses = (
   λ ok. absurd (true≢false (sym ok)),
   λ both.
-      let left = all-told s.members s.span (except s.asked places) (unexpected s ∷ []) h.1 both.1 in
+      let left = all-told s.members s.span (except s.asked places) (unexpected_entries s ∷ []) h.1 both.1 in
       absurd (never-empty faults (sym (ap (λ xs. xs ++ unasked s) both.0 ∙ left) ∙ refuses)),
 )
 ends-ok places s (Err (unfinished.Memory helper)) h refuses = (

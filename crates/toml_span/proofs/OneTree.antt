@@ -6,7 +6,7 @@ use Rattle.std.proofs.lemmas.Bool.{cases_Bool, cases_order}
 use Rattle.std.proofs.lemmas.Option.{none-some, same_Some}
 use Rattle.toml_span_lex.specs.declared.span.Span.{Span}
 use Rattle.toml_span_tree.specs.Node.{Node, node, Inner, taken, scalar, array, table, Items, no_items, item, Members, no_members, member, entry_at, element_at}
-use Rattle.toml_span_tree.specs.Path.{Path, Step, key, position, Place, shape_of, reached, below, place_of, place_at}
+use Rattle.toml_span_tree.specs.Path.{Path, Step, key, position, Place, shape_of, reached, at_step, place_of, place_at}
 use Rattle.toml_span_tree.specs.Value.{view}
 use Rattle.toml_span_tree.specs.declared.value.Value.{Value}
 use Rattle.toml_span_claims.specs.Ordered.{IsNameBefore, EachName, IsOrdered, HoldsOrdered, AreOrdered, MembersOrdered}
@@ -115,7 +115,7 @@ mutual
       let inner = inner-one i j h g (ap (λ x. x.shape) place) (λ q p. same (q ∷ p)) in
       ap (λ k. node k s) inner ∙ ap (λ u. node j u) (ap (λ x. x.span) place)
 
-  inner-one : (i j : Inner) → HoldsOrdered i → HoldsOrdered j → shape_of i ≡ shape_of j → ((q : Step) (p : Path) → shown (below q i) p ≡ shown (below q j) p) → i ≡ j
+  inner-one : (i j : Inner) → HoldsOrdered i → HoldsOrdered j → shape_of i ≡ shape_of j → ((q : Step) (p : Path) → shown (at_step q i) p ≡ shown (at_step q j) p) → i ≡ j
   inner-one taken taken h g is same = refl
   inner-one taken (scalar y) h g is same = cc
   inner-one taken (array ms) h g is same = cc

@@ -5,7 +5,7 @@ use Rattle.std.specs.Str.{bytes_eq}
 use Rattle.std.proofs.lemmas.Option.{none-some, same_Some}
 use Rattle.toml_span_lex.specs.declared.span.Span.{Span}
 use Rattle.toml_span_tree.specs.Node.{Node, node, Inner, taken, scalar, array, table, Items, no_items, item, Members, no_members, member, entry_at, element_at}
-use Rattle.toml_span_tree.specs.Path.{Path, Step, key, position, Place, reached, below, place_of, node_at}
+use Rattle.toml_span_tree.specs.Path.{Path, Step, key, position, Place, reached, at_step, place_of, node_at}
 use Rattle.toml_span_tree.specs.Pointer.{pointed, pointer_segments, NamesPath}
 use Rattle.toml_span_tree.specs.Value.{inner_of, view}
 use Rattle.toml_span_tree.specs.declared.value.Value.{Value}
@@ -30,7 +30,7 @@ further p q (Some x) on = on x
 
 reached-on : (p q : Path) (x : At) → reached (p ++ q) x ≡ option_and_then (reached q) (reached p x)
 reached-on [] q x = refl
-reached-on (s ∷ p) q x = further p q (below s (inner_of x.1)) (λ y. reached-on p q y)
+reached-on (s ∷ p) q x = further p q (at_step s (inner_of x.1)) (λ y. reached-on p q y)
 
 element-ordered : (i : ℕ) (ns : Items) (x : At) → AreOrdered ns → element_at i ns ≡ Some x → IsOrdered x.1
 element-ordered i no_items x h is = absurd (none-some x is)
@@ -45,7 +45,7 @@ entry-ordered : (name : List ℕ) (ms : Members) (x : At) → MembersOrdered ms 
 entry-ordered name no_members x h is = absurd (none-some x is)
 entry-ordered name (member other at n ms) x h is = entry-or (bytes_eq name other) at n (entry_at name ms) x h.1 (entry-ordered name ms x h.2) is
 
-below-ordered : (s : Step) (i : Inner) (x : At) → HoldsOrdered i → below s i ≡ Some x → IsOrdered x.1
+below-ordered : (s : Step) (i : Inner) (x : At) → HoldsOrdered i → at_step s i ≡ Some x → IsOrdered x.1
 below-ordered s taken x h is = absurd (none-some x is)
 below-ordered s (scalar y) x h is = absurd (none-some x is)
 below-ordered (key name) (array ns) x h is = absurd (none-some x is)
@@ -63,7 +63,7 @@ inside-ordered (node i at) h = h
 reached-ordered : (p : Path) (y x : At) → IsOrdered y.1 → reached p y ≡ Some x → IsOrdered x.1
 reached-ordered [] y x h is = subst (λ (z : At). IsOrdered z.1) (same_Some y x is) h
 reached-ordered (s ∷ p) y x h is =
-    let (z, there, on) = step-of p (below s (inner_of y.1)) x is in
+    let (z, there, on) = step-of p (at_step s (inner_of y.1)) x is in
     reached-ordered p z x (below-ordered s (inner_of y.1) z (inside-ordered y.1 h) there) on
 
 -- the value at a path shows what stands below the path

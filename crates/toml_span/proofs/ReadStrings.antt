@@ -8,7 +8,7 @@ use Rattle.toml_span_lex.specs.Strings.{content_span, ContentFrom, HasChange, Is
 use Rattle.toml_span_lex.proofs.Copies.{content_fits}
 use Rattle.toml_span_lex.proofs.PieceLemmas.{line_forward}
 use Rattle.toml_span_tree.specs.Node.{text as text_scalar}
-use Rattle.toml_span_tree.specs.Path.{Path, Place, is_scalar, place_at}
+use Rattle.toml_span_tree.specs.Path.{Path, Place, shape_scalar, place_at}
 use Rattle.toml_span_tree.specs.Value.{view}
 use Rattle.toml_span_tree.specs.declared.value.Value.{Value}
 use Rattle.toml_span_read.specs.Data.{Block}
@@ -54,11 +54,11 @@ shows text limit v span h =
     }
 
 pub flat-string : (text : List ℕ) (limit n : ℕ) (bs : List Block) (p : Path) (x : Place) (v : List ℕ) → SpellsDocument bs text limit → flat n (claims bs) p ≡ Some x
-    → x.shape ≡ is_scalar (text_scalar v) → ShowsString text v x.span
+    → x.shape ≡ shape_scalar (text_scalar v) → ShowsString text v x.span
 flat-string text limit n bs p x v h at is = shows text limit v x.span (flat-scalar text limit n bs p x (text_scalar v) h at is)
 
 pub tree-string : (text : List ℕ) (limit : ℕ) (root : Value) (p : Path) (x : Place) (v : List ℕ) → IsTree text limit root → place_at p (view root) ≡ Some x
-    → x.shape ≡ is_scalar (text_scalar v) → ShowsString text v x.span
+    → x.shape ≡ shape_scalar (text_scalar v) → ShowsString text v x.span
 tree-string text limit root p x v h at is = shows text limit v x.span (tree-scalar text limit root p x (text_scalar v) h at is)
 
 -- ---- strings that hold themselves
@@ -78,5 +78,5 @@ itself text v span h none = elim (cases_order h.j (h.i + 2)) [
     whole other = unchanged text h.i h.j span h.source v h.multi h.spelled other (no-change (get_or text h.i 0) text span.start span.end none)
 
 pub tree-itself : (text : List ℕ) (limit : ℕ) (root : Value) (p : Path) (x : Place) (v : List ℕ) → IsTree text limit root → place_at p (view root) ≡ Some x
-    → x.shape ≡ is_scalar (text_scalar v) → (HasChange quotation_mark text x.span.start x.span.end → ⊥) → (v ≡ []) ⊎ (v ≡ slice_range text x.span.start x.span.end)
+    → x.shape ≡ shape_scalar (text_scalar v) → (HasChange quotation_mark text x.span.start x.span.end → ⊥) → (v ≡ []) ⊎ (v ≡ slice_range text x.span.start x.span.end)
 tree-itself text limit root p x v h at is none = itself text v x.span (tree-string text limit root p x v h at is) none

@@ -4,7 +4,7 @@ use Rattle.std.specs.Prelude.{⊤}
 use Rattle.std.proofs.lemmas.Bool.{cases_Bool}
 use Rattle.toml_span_lex.specs.declared.span.Span.{Span}
 use Rattle.toml_span_tree.specs.Node.{Scalar}
-use Rattle.toml_span_tree.specs.Path.{Path, is_scalar}
+use Rattle.toml_span_tree.specs.Path.{Path, shape_scalar}
 use Rattle.toml_span_read.specs.Data.{Node, node, Inner, scalar, array, inline, Items, no_items, item, Pairs, no_pairs, pair, Event, span_of, Block}
 use Rattle.toml_span_read.specs.Grammar.{Spells, SpellsInner, SpellsItems, SpellsPairs, SpellsDocument, SpellsSections, SpellsEvents, first_block}
 use Rattle.toml_span_read.specs.Keys.{Part, Dotted}
@@ -36,12 +36,12 @@ pub record Assigns (text : List ℕ) (limit : ℕ) (c : Claim) : Type 0 where
 -- the claim assigns nothing: it makes a table or an array
 pub record Makes (c : Claim) : Type 0 where
   pub sort : c.mark.sort ≡ Assigned → ⊥
-  pub shape : (s : Scalar) → c.place.shape ≡ is_scalar s → ⊥
+  pub shape : (s : Scalar) → c.place.shape ≡ shape_scalar s → ⊥
 
 abbrev pub OfText : List ℕ → ℕ → Claim → Type 0
 OfText text limit c = Assigns text limit c ⊎ Makes c
 
-no-scalar : (sort : Sort) (s : Scalar) → shape_of sort ≡ is_scalar s → ⊥
+no-scalar : (sort : Sort) (s : Scalar) → shape_of sort ≡ shape_scalar s → ⊥
 no-scalar Passed s h = cc
 no-scalar Section s h = cc
 no-scalar ArrayOfTables s h = cc

@@ -2,7 +2,7 @@
 use Rattle.std.specs.Prelude.{◌≡◌, ⊤, ℕ, suc, ◌+◌, Bool, List, [], ◌∷◌}
 use Rattle.toml_span_lex.specs.declared.span.Span.{Span}
 use Rattle.toml_span_lex.specs.Strings.{IsString, IsEmptyOnOneLine}
-use Rattle.toml_span_tree.specs.Path.{Path, key, position, Shape, is_taken, is_scalar, is_array, is_table}
+use Rattle.toml_span_tree.specs.Path.{Path, key, position, Shape, shape_taken, shape_scalar, shape_array, shape_table}
 use Rattle.toml_span_read.specs.Data.{span_of}
 use Rattle.toml_span_read.specs.Data as read
 use Rattle.toml_span_read_laws.specs.Places.{CutsContent}
@@ -31,11 +31,11 @@ pub record ShowsString (text value : List ℕ) (span : Span) : Type 0 where
 -- The text at the span is read again as something of this shape: a number, a truth value or a date as itself. Of a
 -- string nothing is said.
 abbrev pub ShapeReadsAgain : List ℕ → ℕ → Shape → Span → Type 0
-ShapeReadsAgain text limit is_taken span = ⊥
-ShapeReadsAgain text limit (is_scalar s) span = ScalarReadsAgain text limit s span
-ShapeReadsAgain text limit is_array span =
+ShapeReadsAgain text limit shape_taken span = ⊥
+ShapeReadsAgain text limit (shape_scalar s) span = ScalarReadsAgain text limit s span
+ShapeReadsAgain text limit shape_array span =
     (items : read.Items) × ReadsAgain text limit (read.node (read.array items) span)
-ShapeReadsAgain text limit is_table span =
+ShapeReadsAgain text limit shape_table span =
     (pairs : read.Pairs) × ReadsAgain text limit (read.node (read.inline pairs) span)
 
 -- so is what each of these claims assigns

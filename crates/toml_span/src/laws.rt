@@ -18,7 +18,7 @@ ghost use Rattle.toml_span_read.specs.Stuck.{StuckDocument};
 ghost use Rattle.toml_span_read.specs.declared.fault.Fault.{Fault};
 ghost use Rattle.toml_span_tree.specs.Error.{fault_of};
 ghost use Rattle.toml_span_tree.specs.Node.{Node, Scalar, text as string};
-ghost use Rattle.toml_span_tree.specs.Path.{Path, Place, is_scalar, is_table, key, node_at, place_at};
+ghost use Rattle.toml_span_tree.specs.Path.{Path, Place, shape_scalar, shape_table, key, node_at, place_at};
 ghost use Rattle.toml_span_tree.specs.Pointer.{pointed};
 ghost use Rattle.toml_span_tree.specs.Value.{is_taken, is_whole, view};
 ghost use Rattle.toml_span_tree.specs.declared.error.Error.{Error};
@@ -122,17 +122,17 @@ pub fn keys_stand_apart()
 /// Each number, truth value and date of a document, and of a text's tree, is spelled again by the text at
 /// its span: behind `x = ` it is a document of one assignment of that value.
 pub fn scalars_read_again()
-    ensures flat { (text : List ℕ) (limit n : ℕ) (blocks : List Block) (path : Path) (place : Place) (s : Scalar) → SpellsDocument blocks text limit → flat n (claims blocks) path ≡ Some place → place.shape ≡ is_scalar s → ScalarReadsAgain text limit s place.span }
-    ensures tree { (text : List ℕ) (limit : ℕ) (root : Value) (path : Path) (place : Place) (s : Scalar) → IsTree text limit root → place_at path (view root) ≡ Some place → place.shape ≡ is_scalar s → ScalarReadsAgain text limit s place.span }
+    ensures flat { (text : List ℕ) (limit n : ℕ) (blocks : List Block) (path : Path) (place : Place) (s : Scalar) → SpellsDocument blocks text limit → flat n (claims blocks) path ≡ Some place → place.shape ≡ shape_scalar s → ScalarReadsAgain text limit s place.span }
+    ensures tree { (text : List ℕ) (limit : ℕ) (root : Value) (path : Path) (place : Place) (s : Scalar) → IsTree text limit root → place_at path (view root) ≡ Some place → place.shape ≡ shape_scalar s → ScalarReadsAgain text limit s place.span }
 {}
 
 /// The span of each string of a document, and of a text's tree, is what stands between its quotes, and its
 /// value is what that stands for; of two quotes alone the span is the first. Where neither a backslash nor a
 /// carriage return stands in the span, the value is the text at the span, or it is empty.
 pub fn strings_show_the_text()
-    ensures flat { (text : List ℕ) (limit n : ℕ) (blocks : List Block) (path : Path) (place : Place) (value : List ℕ) → SpellsDocument blocks text limit → flat n (claims blocks) path ≡ Some place → place.shape ≡ is_scalar (string value) → ShowsString text value place.span }
-    ensures tree { (text : List ℕ) (limit : ℕ) (root : Value) (path : Path) (place : Place) (value : List ℕ) → IsTree text limit root → place_at path (view root) ≡ Some place → place.shape ≡ is_scalar (string value) → ShowsString text value place.span }
-    ensures unchanged { (text : List ℕ) (limit : ℕ) (root : Value) (path : Path) (place : Place) (value : List ℕ) → IsTree text limit root → place_at path (view root) ≡ Some place → place.shape ≡ is_scalar (string value) → (HasChange quotation_mark text place.span.start place.span.end → ⊥) → (value ≡ []) ⊎ (value ≡ slice_range text place.span.start place.span.end) }
+    ensures flat { (text : List ℕ) (limit n : ℕ) (blocks : List Block) (path : Path) (place : Place) (value : List ℕ) → SpellsDocument blocks text limit → flat n (claims blocks) path ≡ Some place → place.shape ≡ shape_scalar (string value) → ShowsString text value place.span }
+    ensures tree { (text : List ℕ) (limit : ℕ) (root : Value) (path : Path) (place : Place) (value : List ℕ) → IsTree text limit root → place_at path (view root) ≡ Some place → place.shape ≡ shape_scalar (string value) → ShowsString text value place.span }
+    ensures unchanged { (text : List ℕ) (limit : ℕ) (root : Value) (path : Path) (place : Place) (value : List ℕ) → IsTree text limit root → place_at path (view root) ≡ Some place → place.shape ≡ shape_scalar (string value) → (HasChange quotation_mark text place.span.start place.span.end → ⊥) → (value ≡ []) ⊎ (value ≡ slice_range text place.span.start place.span.end) }
 {}
 
 /// Whatever a claim assigns, also an array or an inline table, is spelled again by the text at its span, but
@@ -163,7 +163,7 @@ pub fn pointers_name_places()
 /// A helper opens on a value exactly where the flat document has a table there, and holds the entries of that
 /// table.
 pub fn helper_opens_on_a_table()
-    ensures some { (places : Path → Option Place) (m : Node) → IsValueOf places m → ((s : State) × Opens m (Ok s)) ↔ (option_map (λ x. x.shape) (places []) ≡ Some is_table) }
+    ensures some { (places : Path → Option Place) (m : Node) → IsValueOf places m → ((s : State) × Opens m (Ok s)) ↔ (option_map (λ x. x.shape) (places []) ≡ Some shape_table) }
     ensures over { (places : Path → Option Place) (m : Node) (s : State) → IsValueOf places m → Opens m (Ok s) → IsOver places s × (s.asked ≡ []) × (s.errors ≡ []) }
 {}
 

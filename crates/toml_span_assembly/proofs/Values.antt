@@ -9,7 +9,7 @@ use Rattle.toml_span_lex.specs.declared.key.Key.{Key}
 use Rattle.toml_span_tree.specs.Node as tree
 use Rattle.toml_span_tree.specs.Node.{Scalar, text, integer, float, boolean, datetime, element_at}
 use Rattle.toml_span_tree.specs.Path.{Path, Step, key, position, reached, Shape, shape_of as tree_shape, place_of as tree_place}
-use Rattle.toml_span_tree.specs.Value.{view, inner_view, items_view, decimal_of, date_bytes}
+use Rattle.toml_span_tree.specs.Value.{view, inner_view, items_view, float_value, date_bytes}
 use Rattle.toml_span_tree.specs.declared.date.DateText.{DateText}
 use Rattle.toml_span_tree.specs.declared.float.FloatText.{FloatText}
 use Rattle.toml_span_tree.specs.declared.value.Value.{Value}
@@ -349,9 +349,9 @@ integer-gives v inner x n kind is seen =
 pub float-gives : (v : Val) (inner : ValueInner) (x : Value) (f : FloatText) → v.kind ≡ kinds.Float f → inner ≡ inners.Float f → view x ≡ tree.node (inner_view inner) v.span
     → ValueGives (Ok x) (view_read v)
 float-gives v inner x f kind is seen =
-    let read : kind_view (kinds.Float f) ≡ scalar (float (decimal_of f)) = search (rules, read_lemmas) in
-    let made : inner_view (inners.Float f) ≡ tree.scalar (float (decimal_of f)) = search (rules, tree_lemmas) in
-    scalar-gives v inner x (float (decimal_of f)) (ap kind_view kind ∙ read) (ap inner_view is ∙ made) seen
+    let read : kind_view (kinds.Float f) ≡ scalar (float (float_value f)) = search (rules, read_lemmas) in
+    let made : inner_view (inners.Float f) ≡ tree.scalar (float (float_value f)) = search (rules, tree_lemmas) in
+    scalar-gives v inner x (float (float_value f)) (ap kind_view kind ∙ read) (ap inner_view is ∙ made) seen
 
 pub boolean-gives : (v : Val) (inner : ValueInner) (x : Value) (b : Bool) → v.kind ≡ kinds.Boolean b → inner ≡ inners.Boolean b → view x ≡ tree.node (inner_view inner) v.span
     → ValueGives (Ok x) (view_read v)

@@ -1,7 +1,7 @@
 -- Nothing in a tree is taken that shows a flat document.
 use Rattle.std.proofs.Common.{◌≡◌, ℕ, zero, suc, Bool, true, false, List, [], ◌∷◌, refl, inl, inr}
 use Rattle.std.proofs.lemmas.Bool.{cases_Bool}
-use Rattle.toml_span_tree.specs.Path.{Path, Shape, is_taken, is_scalar, is_array, is_table}
+use Rattle.toml_span_tree.specs.Path.{Path, Shape, shape_taken, shape_scalar, shape_array, shape_table}
 use Rattle.toml_span_read.specs.Data.{Node as Read, node, Inner, scalar, array, inline, Items, no_items, item, Pairs, no_pairs, pair, Event, Block}
 use Rattle.toml_span_read.specs.Keys.{Part}
 use Rattle.toml_span_claims.specs.declared.claims.Sort.TheVariants.{Entry}
@@ -12,10 +12,10 @@ use Rattle.toml_span_assembly.proofs.EachClaim.{Each, each-followed}
 
 -- the shape is that of a value
 abbrev pub is_held : Shape → Bool
-is_held is_taken = false
-is_held (is_scalar s) = true
-is_held is_array = true
-is_held is_table = true
+is_held shape_taken = false
+is_held (shape_scalar s) = true
+is_held shape_array = true
+is_held shape_table = true
 
 abbrev pub IsHeldAt : Claim → Type 0
 IsHeldAt c = is_held c.place.shape ≡ true

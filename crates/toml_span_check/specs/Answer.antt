@@ -4,7 +4,7 @@ use Rattle.toml_span_tree.specs.declared.error.Error.{Error}
 use Rattle.toml_span_tree.specs.declared.value.Value.{Value}
 use Rattle.toml_span_tree.specs.Diagnostic.{labels_of}
 use Rattle.toml_span_tree.specs.Error.{kind_of}
-use Rattle.toml_span_tree.specs.Message.{code_of, text_of}
+use Rattle.toml_span_tree.specs.Message.{code_of, display_text}
 use Rattle.toml_span_tree.specs.Node.{Node}
 use Rattle.toml_span_tree.specs.Pointer.{pointed}
 use Rattle.toml_span_tree.specs.Value.{view}
@@ -36,7 +36,7 @@ given format Tagged pointer name n = found format true pointer name (pointed poi
 -- the text of an error
 abbrev pub error_text : Format → Error → List ℕ → List ℕ → List ℕ
 error_text format error name text =
-    fault_text format (code_of (kind_of error.kind)) (text_of (kind_of error.kind))
+    fault_text format (code_of (kind_of error.kind)) (display_text (kind_of error.kind))
     (labels_of 0 error.span (kind_of error.kind)) name text
 
 -- a document, and what it gives; or none, and status 1 with the fault or the first clash

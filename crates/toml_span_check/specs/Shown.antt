@@ -3,7 +3,7 @@ use Rattle.std.specs.Prelude.{ℕ, ◌==◌, ◌||◌, nat_lt, Bool, true, false
 use Rattle.std.specs.Fmt.{signed_decimal}
 use Rattle.std.specs.List.{list_any}
 use Rattle.json.specs.Print.{quoted}
-use Rattle.toml_span_tree.specs.Float.{decimal_text}
+use Rattle.toml_span_tree.specs.Float.{float_text}
 use Rattle.toml_span_tree.specs.Node.{Scalar, text, integer, float, boolean, datetime, Node, node, Inner, taken, scalar, array, table, Items, no_items, item, Members, no_members, member}
 
 -- ---- dates
@@ -32,12 +32,12 @@ tagged type value = codes "{\"type\":" ++ quoted type ++ codes ",\"value\":" ++ 
 abbrev pub scalar_text : Bool → Scalar → List ℕ
 scalar_text true (text s) = tagged (codes "string") s
 scalar_text true (integer z) = tagged (codes "integer") (signed_decimal z)
-scalar_text true (float x) = tagged (codes "float") (decimal_text x)
+scalar_text true (float x) = tagged (codes "float") (float_text x)
 scalar_text true (boolean b) = tagged (codes "bool") (truth b)
 scalar_text true (datetime d) = tagged (date_type d) d
 scalar_text false (text s) = quoted s
 scalar_text false (integer z) = signed_decimal z
-scalar_text false (float x) = quoted (decimal_text x)
+scalar_text false (float x) = quoted (float_text x)
 scalar_text false (boolean b) = truth b
 scalar_text false (datetime d) = quoted d
 

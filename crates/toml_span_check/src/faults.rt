@@ -1,7 +1,7 @@
 //! What is told of a file that is not read.
 ghost use Rattle.std.specs.Prelude.{◌≡◌, ◌++◌, false, OnOk, IfOk, map, string_bytes};
 ghost use Rattle.std.specs.Fmt.{decimal};
-ghost use Rattle.toml_span_tree.specs.Diagnostic.{mark_of};
+ghost use Rattle.toml_span_tree.specs.Diagnostic.{label_content};
 ghost use Rattle.toml_span_check.specs.Faults as spec;
 
 use crate::shown::{push_comma, push_quoted, truth};
@@ -51,7 +51,7 @@ fn push_place(out: &mut String, text: &str, at: usize) -> Result<(), AllocError>
 /// Adds the front of a label, up to its message.
 fn push_label_head(out: &mut String, text: &str, label: &Label<usize>) -> Result<(), AllocError>
     ensures { OnOk result (string_bytes out.new ≡ string_bytes out.old
-        ++ spec.label_head text.now (mark_of label.now)) }
+        ++ spec.label_head text.now (label_content label.now)) }
 {
     out.push_str("{\"primary\":")?;
     out.push_str(truth(label.primary))?;
@@ -68,7 +68,7 @@ fn push_label(
     label: &Label<usize>,
 ) -> Result<(), AllocError>
     ensures { OnOk result (string_bytes out.new ≡ string_bytes out.old
-        ++ spec.label_json text.now (mark_of label.now)) }
+        ++ spec.label_json text.now (label_content label.now)) }
 {
     push_label_head(out, text, label)?;
     out.push_str(",\"message\":")?;
@@ -84,7 +84,7 @@ fn push_labels(
     labels: &[Label<usize>],
 ) -> Result<(), AllocError>
     ensures { OnOk result (string_bytes out.new ≡ string_bytes out.old
-        ++ spec.labels_json text.now false (map mark_of labels.now)) }
+        ++ spec.labels_json text.now false (map label_content labels.now)) }
 {
     let mut later = false;
     for label in labels {
@@ -125,7 +125,7 @@ fn fault_json(
 ) -> Result<String, AllocError>
     ensures { IfOk result (λ out. string_bytes out
         ≡ spec.fault_json (string_bytes diagnostic.now.code) (string_bytes diagnostic.now.message)
-        (map mark_of diagnostic.now.labels.items) name.now text.now) }
+        (map label_content diagnostic.now.labels.items) name.now text.now) }
 {
     let mut out = String::new(alloc);
     let (code, message) = (diagnostic.code.as_str(), diagnostic.message.as_str());
@@ -146,7 +146,7 @@ pub(crate) fn fault_text(
 ) -> Result<String, AllocError>
     ensures { IfOk result (λ out. string_bytes out
         ≡ spec.fault_text format (string_bytes diagnostic.now.code) (string_bytes diagnostic.now.message)
-        (map mark_of diagnostic.now.labels.items) name.now text.now) }
+        (map label_content diagnostic.now.labels.items) name.now text.now) }
 {
     match format {
         Format::Text => render(alloc, diagnostic, name, text),

@@ -2,7 +2,7 @@
 use Rattle.std.specs.Prelude.{◌≡◌, refl, ⊤, ℕ, ◌+◌, Bool, true, false, List, [], ◌∷◌, ◌++◌, length, Option, Some, None, codes, pos}
 use Rattle.toml_span_lex.specs.declared.span.Span.{Span}
 use Rattle.toml_span_tree.specs.Node.{text, integer}
-use Rattle.toml_span_tree.specs.Path.{key, position, Shape, is_scalar, is_array, is_table, Place}
+use Rattle.toml_span_tree.specs.Path.{key, position, Shape, shape_scalar, shape_array, shape_table, Place}
 use Rattle.toml_span_read.specs.Data.{Node, node, scalar, array, inline, no_items, item, no_pairs, pair, Event, Block}
 use Rattle.toml_span_read.specs.Keys.{Part}
 use Rattle.toml_span_read.specs.Grammar.{first_block, last_end}
@@ -64,7 +64,7 @@ abbrev unkeyed : Shape → Span → Option Place
 unkeyed shape span = Some (record { shape = shape; key_span = None; span = span })
 
 abbrev number : ℕ → Shape
-number n = is_scalar (integer (pos n))
+number n = shape_scalar (integer (pos n))
 
 -- ---- names
 
@@ -117,11 +117,11 @@ inline_table-told : told nothing (claims inline_table) ≡ None
 unfolding computed
 inline_table-told = refl
 
-inline_table-at-root : flat 27 (claims inline_table) [] ≡ unkeyed is_table (at 0 27)
+inline_table-at-root : flat 27 (claims inline_table) [] ≡ unkeyed shape_table (at 0 27)
 unfolding computed
 inline_table-at-root = refl
 
-inline_table-at-t : flat 27 (claims inline_table) (key t ∷ []) ≡ keyed is_table (at 0 1) (at 4 27)
+inline_table-at-t : flat 27 (claims inline_table) (key t ∷ []) ≡ keyed shape_table (at 0 1) (at 4 27)
 unfolding computed
 inline_table-at-t = refl
 
@@ -129,7 +129,7 @@ inline_table-at-t-a : flat 27 (claims inline_table) (key t ∷ key a ∷ []) ≡
 unfolding computed
 inline_table-at-t-a = refl
 
-inline_table-at-t-b : flat 27 (claims inline_table) (key t ∷ key b ∷ []) ≡ keyed is_table (at 13 14) (at 19 20)
+inline_table-at-t-b : flat 27 (claims inline_table) (key t ∷ key b ∷ []) ≡ keyed shape_table (at 13 14) (at 19 20)
 unfolding computed
 inline_table-at-t-b = refl
 
@@ -154,15 +154,15 @@ two_entries-told : told nothing (claims two_entries) ≡ None
 unfolding computed
 two_entries-told = refl
 
-two_entries-at-a : flat 36 (claims two_entries) (key a ∷ []) ≡ keyed is_array (at 2 3) (at 0 6)
+two_entries-at-a : flat 36 (claims two_entries) (key a ∷ []) ≡ keyed shape_array (at 2 3) (at 0 6)
 unfolding computed
 two_entries-at-a = refl
 
-two_entries-at-a-0 : flat 36 (claims two_entries) (key a ∷ position 0 ∷ []) ≡ unkeyed is_table (at 0 6)
+two_entries-at-a-0 : flat 36 (claims two_entries) (key a ∷ position 0 ∷ []) ≡ unkeyed shape_table (at 0 6)
 unfolding computed
 two_entries-at-a-0 = refl
 
-two_entries-at-a-0-b : flat 36 (claims two_entries) (key a ∷ position 0 ∷ key b ∷ []) ≡ keyed is_table (at 9 10) (at 6 17)
+two_entries-at-a-0-b : flat 36 (claims two_entries) (key a ∷ position 0 ∷ key b ∷ []) ≡ keyed shape_table (at 9 10) (at 6 17)
 unfolding computed
 two_entries-at-a-0-b = refl
 
@@ -170,11 +170,11 @@ two_entries-at-a-0-b-x : flat 36 (claims two_entries) (key a ∷ position 0 ∷ 
 unfolding computed
 two_entries-at-a-0-b-x = refl
 
-two_entries-at-a-1 : flat 36 (claims two_entries) (key a ∷ position 1 ∷ []) ≡ unkeyed is_table (at 18 24)
+two_entries-at-a-1 : flat 36 (claims two_entries) (key a ∷ position 1 ∷ []) ≡ unkeyed shape_table (at 18 24)
 unfolding computed
 two_entries-at-a-1 = refl
 
-two_entries-at-a-1-b : flat 36 (claims two_entries) (key a ∷ position 1 ∷ key b ∷ []) ≡ keyed is_table (at 27 28) (at 24 35)
+two_entries-at-a-1-b : flat 36 (claims two_entries) (key a ∷ position 1 ∷ key b ∷ []) ≡ keyed shape_table (at 27 28) (at 24 35)
 unfolding computed
 two_entries-at-a-1-b = refl
 
@@ -201,15 +201,15 @@ passed_then_section-told : told nothing (claims passed_then_section) ≡ None
 unfolding computed
 passed_then_section-told = refl
 
-passed_then_section-at-a : flat 20 (claims passed_then_section) (key a ∷ []) ≡ keyed is_table (at 1 2) (at 0 8)
+passed_then_section-at-a : flat 20 (claims passed_then_section) (key a ∷ []) ≡ keyed shape_table (at 1 2) (at 0 8)
 unfolding computed
 passed_then_section-at-a = refl
 
-passed_then_section-at-a-b : flat 20 (claims passed_then_section) (key a ∷ key b ∷ []) ≡ keyed is_table (at 3 4) (at 0 8)
+passed_then_section-at-a-b : flat 20 (claims passed_then_section) (key a ∷ key b ∷ []) ≡ keyed shape_table (at 3 4) (at 0 8)
 unfolding computed
 passed_then_section-at-a-b = refl
 
-passed_then_section-at-a-b-c : flat 20 (claims passed_then_section) (key a ∷ key b ∷ key c ∷ []) ≡ keyed is_table (at 5 6) (at 0 8)
+passed_then_section-at-a-b-c : flat 20 (claims passed_then_section) (key a ∷ key b ∷ key c ∷ []) ≡ keyed shape_table (at 5 6) (at 0 8)
 unfolding computed
 passed_then_section-at-a-b-c = refl
 
@@ -280,11 +280,11 @@ dotted_beside_array-told : told nothing (claims dotted_beside_array) ≡ None
 unfolding computed
 dotted_beside_array-told = refl
 
-dotted_beside_array-at-x : flat 22 (claims dotted_beside_array) (key x ∷ []) ≡ keyed is_table (at 2 3) (at 0 10)
+dotted_beside_array-at-x : flat 22 (claims dotted_beside_array) (key x ∷ []) ≡ keyed shape_table (at 2 3) (at 0 10)
 unfolding computed
 dotted_beside_array-at-x = refl
 
-dotted_beside_array-at-x-a : flat 22 (claims dotted_beside_array) (key x ∷ key a ∷ []) ≡ keyed is_table (at 4 5) (at 0 10)
+dotted_beside_array-at-x-a : flat 22 (claims dotted_beside_array) (key x ∷ key a ∷ []) ≡ keyed shape_table (at 4 5) (at 0 10)
 unfolding computed
 dotted_beside_array-at-x-a = refl
 
@@ -292,11 +292,11 @@ dotted_beside_array-at-x-a-b : flat 22 (claims dotted_beside_array) (key x ∷ k
 unfolding computed
 dotted_beside_array-at-x-a-b = refl
 
-dotted_beside_array-at-x-a-c : flat 22 (claims dotted_beside_array) (key x ∷ key a ∷ key c ∷ []) ≡ keyed is_array (at 6 7) (at 0 10)
+dotted_beside_array-at-x-a-c : flat 22 (claims dotted_beside_array) (key x ∷ key a ∷ key c ∷ []) ≡ keyed shape_array (at 6 7) (at 0 10)
 unfolding computed
 dotted_beside_array-at-x-a-c = refl
 
-dotted_beside_array-at-x-a-c-0 : flat 22 (claims dotted_beside_array) (key x ∷ key a ∷ key c ∷ position 0 ∷ []) ≡ unkeyed is_table (at 0 10)
+dotted_beside_array-at-x-a-c-0 : flat 22 (claims dotted_beside_array) (key x ∷ key a ∷ key c ∷ position 0 ∷ []) ≡ unkeyed shape_table (at 0 10)
 unfolding computed
 dotted_beside_array-at-x-a-c-0 = refl
 
@@ -320,15 +320,15 @@ apple_passed-told : told nothing (claims apple_passed) ≡ None
 unfolding computed
 apple_passed-told = refl
 
-apple_passed-at-apple : flat 36 (claims apple_passed) (key apple ∷ []) ≡ keyed is_table (at 21 26) (at 20 36)
+apple_passed-at-apple : flat 36 (claims apple_passed) (key apple ∷ []) ≡ keyed shape_table (at 21 26) (at 20 36)
 unfolding computed
 apple_passed-at-apple = refl
 
-apple_passed-at-apple-color : flat 36 (claims apple_passed) (key apple ∷ key color ∷ []) ≡ keyed (is_scalar (text red)) (at 6 11) (at 15 18)
+apple_passed-at-apple-color : flat 36 (claims apple_passed) (key apple ∷ key color ∷ []) ≡ keyed (shape_scalar (text red)) (at 6 11) (at 15 18)
 unfolding computed
 apple_passed-at-apple-color = refl
 
-apple_passed-at-apple-texture : flat 36 (claims apple_passed) (key apple ∷ key texture ∷ []) ≡ keyed is_table (at 27 34) (at 20 36)
+apple_passed-at-apple-texture : flat 36 (claims apple_passed) (key apple ∷ key texture ∷ []) ≡ keyed shape_table (at 27 34) (at 20 36)
 unfolding computed
 apple_passed-at-apple-texture = refl
 
@@ -348,19 +348,19 @@ array_of_texts-told : told nothing (claims array_of_texts) ≡ None
 unfolding computed
 array_of_texts-told = refl
 
-array_of_texts-at-x : flat 19 (claims array_of_texts) (key x ∷ []) ≡ keyed is_table (at 1 2) (at 0 19)
+array_of_texts-at-x : flat 19 (claims array_of_texts) (key x ∷ []) ≡ keyed shape_table (at 1 2) (at 0 19)
 unfolding computed
 array_of_texts-at-x = refl
 
-array_of_texts-at-x-y : flat 19 (claims array_of_texts) (key x ∷ key y ∷ []) ≡ keyed is_array (at 4 5) (at 8 19)
+array_of_texts-at-x-y : flat 19 (claims array_of_texts) (key x ∷ key y ∷ []) ≡ keyed shape_array (at 4 5) (at 8 19)
 unfolding computed
 array_of_texts-at-x-y = refl
 
-array_of_texts-at-x-y-0 : flat 19 (claims array_of_texts) (key x ∷ key y ∷ position 0 ∷ []) ≡ unkeyed (is_scalar (text z)) (at 10 11)
+array_of_texts-at-x-y-0 : flat 19 (claims array_of_texts) (key x ∷ key y ∷ position 0 ∷ []) ≡ unkeyed (shape_scalar (text z)) (at 10 11)
 unfolding computed
 array_of_texts-at-x-y-0 = refl
 
-array_of_texts-at-x-y-1 : flat 19 (claims array_of_texts) (key x ∷ key y ∷ position 1 ∷ []) ≡ unkeyed (is_scalar (text zz)) (at 15 17)
+array_of_texts-at-x-y-1 : flat 19 (claims array_of_texts) (key x ∷ key y ∷ position 1 ∷ []) ≡ unkeyed (shape_scalar (text zz)) (at 15 17)
 unfolding computed
 array_of_texts-at-x-y-1 = refl
 

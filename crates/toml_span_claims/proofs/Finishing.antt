@@ -16,7 +16,7 @@ use Rattle.std.proofs.lemmas.Option.{none-some, same_Some}
 use Rattle.toml_span_lex.specs.declared.key.Key.{Key}
 use Rattle.toml_span_lex.specs.declared.span.Span.{Span}
 use Rattle.toml_span_tree.specs.Node as tree
-use Rattle.toml_span_tree.specs.Path.{key, position, Path, is_table, shape_of as tree_shape, reached, place_of as tree_place}
+use Rattle.toml_span_tree.specs.Path.{key, position, Path, shape_table, shape_of as tree_shape, reached, place_of as tree_place}
 use Rattle.toml_span_tree.specs.Value.{view, inner_view, items_view}
 use Rattle.toml_span_tree.specs.declared.value.Value.{Value}
 use Rattle.toml_span_tree.specs.declared.value.ValueInner.{ValueInner}
@@ -193,7 +193,7 @@ named_key Dotted at h = refl
 named_key Assigned at h = refl
 
 -- what is no array is a table
-table_shape : (sort : Sort) → is_array_sort sort ≡ false → shape_of sort ≡ is_table
+table_shape : (sort : Sort) → is_array_sort sort ≡ false → shape_of sort ≡ shape_table
 table_shape Passed h = refl
 table_shape Section h = refl
 table_shape ArrayOfTables h = absurd (false≢true (sym h))

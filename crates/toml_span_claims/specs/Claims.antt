@@ -1,7 +1,7 @@
 -- What headers and assignments claim.
 use Rattle.std.specs.Prelude.{ℕ, zero, suc, if◌then◌else◌, List, [], ◌∷◌, Option, Some, None}
 use Rattle.toml_span_lex.specs.declared.span.Span.{Span}
-use Rattle.toml_span_tree.specs.Path.{Path, Place, Shape, is_array, is_table, is_scalar}
+use Rattle.toml_span_tree.specs.Path.{Path, Place, Shape, shape_array, shape_table, shape_scalar}
 use Rattle.toml_span_read.specs.Keys.{Part}
 use Rattle.toml_span_read.specs.Data.{Inner, scalar, array, inline, Node, node, span_of, Items, no_items, item, Pairs}
 use Rattle.toml_span_read.specs.Data.{no_pairs, pair, Event, Block}
@@ -37,8 +37,8 @@ followed (scope inner cs) rest = scope inner (followed cs rest)
 
 -- what headers and dotted keys make
 abbrev pub shape_of : Sort → Shape
-shape_of ArrayOfTables = is_array
-shape_of _ = is_table
+shape_of ArrayOfTables = shape_array
+shape_of _ = shape_table
 
 -- an entry of an array stands at no key
 abbrev pub key_span_of : Sort → Span → Option Span
@@ -56,9 +56,9 @@ table_claim p k m = record { path = p; name = k.name; mark = m; place = place_of
 -- ---- assignments
 
 abbrev pub value_shape : Inner → Shape
-value_shape (scalar s) = is_scalar s
-value_shape (array vs) = is_array
-value_shape (inline ps) = is_table
+value_shape (scalar s) = shape_scalar s
+value_shape (array vs) = shape_array
+value_shape (inline ps) = shape_table
 
 abbrev pub inner_of : Node → Inner
 inner_of (node k span) = k

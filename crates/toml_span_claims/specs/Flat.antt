@@ -1,7 +1,7 @@
 -- The flat document: what stands at each path.
 use Rattle.std.specs.Prelude.{◌≡◌, ℕ, Bool, true, false, if◌then◌else◌, List, [], ◌∷◌, ◌++◌, Option, Some, None}
 use Rattle.std.specs.Prelude.{option_map}
-use Rattle.toml_span_tree.specs.Path.{Path, is_table, Place, place_at}
+use Rattle.toml_span_tree.specs.Path.{Path, shape_table, Place, place_at}
 use Rattle.toml_span_tree.specs.Node.{Node}
 use Rattle.toml_span_claims.specs.Claims.{Claim, Claims, no_claims, claimed, scope}
 use Rattle.toml_span_claims.specs.Paths.{same_path}
@@ -41,7 +41,7 @@ decides cs = or_else (first_by_header cs) (first cs)
 -- What stands at each path of a document that is so many bytes long: at the empty path the root, at another one what is
 -- claimed there.
 unfoldable pub flat : ℕ → Claims → Path → Option Place
-flat length cs [] = Some (record { shape = is_table; key_span = None; span = record { start = 0; end = length } })
+flat length cs [] = Some (record { shape = shape_table; key_span = None; span = record { start = 0; end = length } })
 flat length cs (s ∷ p) = option_map (λ c. c.place) (decides (claims_at (s ∷ p) (all_claims cs)))
 
 -- the tree has just these nodes

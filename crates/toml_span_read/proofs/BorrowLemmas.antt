@@ -9,7 +9,8 @@ use Rattle.toml_span_lex.specs.declared.key.Key.{Key}
 use Rattle.toml_span_lex.specs.declared.span.Span.{Span}
 use Rattle.toml_span_lex.specs.declared.tokens.Token.{Token}
 use Rattle.toml_span_lex.specs.declared.tokens.Token.TheVariants as tokens
-use Rattle.toml_span_lex.specs.Strings.{BorrowsWhereSame, StringBorrows}
+use Rattle.toml_span_lex.specs.Strings.{BorrowsWhereSame}
+use Rattle.toml_span_lex.specs.code.Strings.{StringBorrows}
 use Rattle.toml_span_tree.specs.Node.{Scalar, text as text_scalar}
 use Rattle.toml_span_read.specs.declared.section.Section.{Section}
 use Rattle.toml_span_read.specs.declared.value.Val.{Val}

@@ -16,7 +16,7 @@ use Rattle.toml_span_lex.specs.declared.stop.Stop.{Stop}
 use Rattle.toml_span_lex.specs.declared.stop.Stop.TheVariants as stops
 use Rattle.toml_span_tree.specs.Node.{finite, infinite, not_a_number, Scalar, text as text_scalar, integer, float, boolean, datetime}
 use Rattle.toml_span_tree.specs.declared.float.FloatText.{FloatText}
-use Rattle.toml_span_tree.specs.Value.{decimal_of}
+use Rattle.toml_span_tree.specs.Value.{float_value}
 use Rattle.toml_span_read.specs.declared.value.ValKind.{ValKind}
 use Rattle.std.specs.Char.{is_ascii_hexdigit, digit_value}
 use Rattle.toml_span_read.specs.Numbers.{is_digit, is_figure, Digits, behind_sign, is_negative, is_exponent, radix_at, IsNumber, FloatLiteral, Exponent, Fraction, sum_of_digits, cleaned, magnitude, goes_on}
@@ -437,8 +437,8 @@ pub slice_first : (text : List ℕ) (a b x : ℕ) (xs : List ℕ) → a < b → 
 slice_first text a b x xs l w h = cons_parts _ _ _ _ (sym (slice_cons text a b l w) ∙ h)
 
 pub special_is : (text : List ℕ) (a b : ℕ) (x : FloatText) → a < b → b ≤ length text → SpecialGives (slice_range text a b) (Some x)
-    → ((slice_range text (behind_sign text a) b ≡ codes "inf") × (decimal_of x ≡ infinite (is_negative text a)) × (behind_sign text a < b))
-    ⊎ ((slice_range text (behind_sign text a) b ≡ codes "nan") × (decimal_of x ≡ not_a_number (is_negative text a)) × (behind_sign text a < b))
+    → ((slice_range text (behind_sign text a) b ≡ codes "inf") × (float_value x ≡ infinite (is_negative text a)) × (behind_sign text a < b))
+    ⊎ ((slice_range text (behind_sign text a) b ≡ codes "nan") × (float_value x ≡ not_a_number (is_negative text a)) × (behind_sign text a < b))
 special_is text a b x l w (inl (h, d)) = let f = slice_first text a b _ _ l w h in inl (rw f.0 h, rw f.0 d, rw f.0 l)
 special_is text a b x l w (inr (inl (h, d))) = let f = slice_first text a b _ _ l w h in inl (rw f.0 f.1, rw f.0 d, rw f.0 (slice_some text (a + 1) b _ _ f.1))
 special_is text a b x l w (inr (inr (inl (h, d)))) = let f = slice_first text a b _ _ l w h in inr (rw f.0 h, rw f.0 d, rw f.0 l)
@@ -448,7 +448,7 @@ pub is_special : (text : List ℕ) (a b : ℕ) (x : FloatText) → a < b → b �
 is_special text a b x l w h = elim (special_is text a b x l w h) [ inl f ↦ inl f.0 | inr f ↦ inr f.0 ]
 
 pub special_number : (text : List ℕ) (a b : ℕ) (x : FloatText) → a < b → b ≤ length text → SpecialGives (slice_range text a b) (Some x) → goes_on text b ≡ false
-    → IsNumber (float (decimal_of x)) text a b
+    → IsNumber (float (float_value x)) text a b
 special_number text a b x l w h n = elim (special_is text a b x l w h) [
   | inl f ↦ rw f.1 (record { letters = f.0; some = f.2; within = w; ends = n }, refl)
   | inr f ↦ rw f.1 (record { letters = f.0; some = f.2; within = w; ends = n }, refl)

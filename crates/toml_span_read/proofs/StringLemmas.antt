@@ -7,7 +7,8 @@ use Rattle.std.specs.declared.borrow.CowStr.{CowStr}
 use Rattle.toml_span_lex.specs.declared.span.Span.{Span}
 use Rattle.toml_span_lex.specs.declared.tokens.Token.{Token}
 use Rattle.toml_span_lex.specs.declared.tokens.Token.TheVariants as tokens
-use Rattle.toml_span_lex.specs.Strings.{IsString, Borrows, StringGives}
+use Rattle.toml_span_lex.specs.Strings.{IsString, Borrows}
+use Rattle.toml_span_lex.specs.code.Strings.{StringGives}
 use Rattle.toml_span_lex.specs.Tokens.{Lexeme, whitespace, newline, comment, sign, keylike, string, IsToken, Stands}
 use Rattle.toml_span_read.specs.declared.fault.Found.{Found}
 use Rattle.toml_span_read.specs.Faults.{found_of, IsFound}

@@ -3,7 +3,7 @@ use Rattle.std.specs.Prelude.{Bool, List, [], ◌∷◌, map}
 use Rattle.std.specs.Cow.{cow_str_bytes}
 use Rattle.toml_span_lex.specs.declared.span.Span.{Span}
 use Rattle.toml_span_tree.specs.Node.{Scalar, text, integer, float, boolean, datetime}
-use Rattle.toml_span_tree.specs.Value.{decimal_of, date_bytes}
+use Rattle.toml_span_tree.specs.Value.{float_value, date_bytes}
 use Rattle.toml_span_read.specs.Keys.{Part, parts, part}
 use Rattle.toml_span_read.specs.declared.value.ValKind.TheOpen.{ValKind-F, Val-F, Assignment-F}
 use Rattle.toml_span_read.specs.declared.value.Val.{Val}
@@ -65,7 +65,7 @@ pairs_onto (p ∷ ps) rest = pair p.parts p.value p.extent (pairs_onto ps rest)
 abbrev pub kind_step : ValKind-F Inner Event Node → Inner
 kind_step (ValKind-F.String s) = scalar (text (cow_str_bytes s))
 kind_step (ValKind-F.Integer n) = scalar (integer n)
-kind_step (ValKind-F.Float x) = scalar (float (decimal_of x))
+kind_step (ValKind-F.Float x) = scalar (float (float_value x))
 kind_step (ValKind-F.Boolean b) = scalar (boolean b)
 kind_step (ValKind-F.Datetime d) = scalar (datetime (date_bytes d))
 kind_step (ValKind-F.Array v) = array (onto v.items no_items)

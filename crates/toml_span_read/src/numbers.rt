@@ -9,7 +9,7 @@ ghost use Rattle.toml_span_read.specs.code.Faults.{Advances};
 ghost use Rattle.toml_span_read.specs.Places.{IsPlaced};
 ghost use Rattle.toml_span_read.specs.Data.{kind_view, scalar};
 ghost use Rattle.toml_span_tree.specs.Node.{integer, float};
-ghost use Rattle.toml_span_tree.specs.Value.{decimal_of};
+ghost use Rattle.toml_span_tree.specs.Value.{float_value};
 ghost use Rattle.toml_span_read.specs.Numbers as spec;
 ghost use Rattle.toml_span_read.specs.code.Numbers.{IsRun, DigitsEnd, NumberEnds, DecimalEnds, IsPlacedFault};
 ghost use Rattle.toml_span_read.specs.code.Numbers.{DigitGives, DigitsGive, WithinGives, SignedGives, IntegerGives};
@@ -464,7 +464,7 @@ fn integer_kind<'de>(value: i64) -> ValKind<'de>
 /// The float of this text.
 #[inline]
 fn float_kind<'de>(text: FloatText) -> ValKind<'de>
-    ensures { kind_view result ≡ scalar (float (decimal_of text)) }
+    ensures { kind_view result ≡ scalar (float (float_value text)) }
 {
     ValKind::Float(text)
 }

@@ -10,7 +10,7 @@ use Rattle.toml_span_lex.specs.declared.pieces.Piece.TheVariants as pieces
 use Rattle.toml_span_lex.specs.Bytes.{is_blank, MaximalRun}
 use Rattle.toml_span_lex.specs.Text.{is_crlf}
 use Rattle.toml_span_lex.specs.Escapes.{is_hex, hex_len, HexRun, IsHexEscape, IsEscape}
-use Rattle.toml_span_lex.specs.Pieces.{is_plain, is_gap, MaximalGap, IsDropped, IsPiece, piece_value, IsClose}
+use Rattle.toml_span_lex.specs.Pieces.{is_plain, is_ws_or_newline, WsAndNewlines, IsDropped, IsPiece, piece_value, IsClose}
 use Rattle.toml_span_lex.specs.Strings.{Cut, content, content_end, IsContent, IsQuote, opens_multi, ContentFrom, content_span, IsString}
 use Rattle.toml_span_lex.proofs.PieceLemmas.{line_forward, piece_forward, Cut-forward, closing}
 use Rattle.toml_span_lex.proofs.Copies.{content_fits}
@@ -21,27 +21,27 @@ use Rattle.toml_span_read_laws.proofs.AgainRuns.{Copied, back, passes, byte, sam
 
 -- ---- what a backslash drops
 
-drop_back : (a b : List ℕ) (s t : ℕ) → Copied a b s t → (i k : ℕ) → s ≤ i → i + t ≡ k + s → is_gap b k ≡ true → is_gap a i ≡ true
+drop_back : (a b : List ℕ) (s t : ℕ) → Copied a b s t → (i k : ℕ) → s ≤ i → i + t ≡ k + s → is_ws_or_newline b k ≡ true → is_ws_or_newline a i ≡ true
 drop_back a b s t w i k o e h =
     elim (or_cases (is_blank (get_or b k 0) || get_or b k 0 == 10) (is_crlf b k) h) [
       | inl y ↦ or_left _ _ (back a b s t w (λ c. is_blank c || c == 10) i k o e refl y)
       | inr y ↦ or_right (is_blank (get_or a i 0) || get_or a i 0 == 10) (is_crlf a i) (crlf_back a b s t w i k o e y)
     ]
 
-drop_on : (a b : List ℕ) (s t : ℕ) → Copied a b s t → (i k : ℕ) → s ≤ i → i + t ≡ k + s → k + 1 < length b → is_gap a i ≡ true → is_gap b k ≡ true
+drop_on : (a b : List ℕ) (s t : ℕ) → Copied a b s t → (i k : ℕ) → s ≤ i → i + t ≡ k + s → k + 1 < length b → is_ws_or_newline a i ≡ true → is_ws_or_newline b k ≡ true
 drop_on a b s t w i k o e l h =
     elim (or_cases (is_blank (get_or a i 0) || get_or a i 0 == 10) (is_crlf a i) h) [
       | inl y ↦ or_left _ _ (passes a b s t w (λ c. is_blank c || c == 10) true i k o e (omega arith) y)
       | inr y ↦ or_right (is_blank (get_or b k 0) || get_or b k 0 == 10) (is_crlf b k) (crlf a b s t w true i k o e l y)
     ]
 
-dropped_gap : (a b : List ℕ) (s t : ℕ) → Copied a b s t → (i j k l : ℕ) → s ≤ i → i + t ≡ k + s → j + t ≡ l + s → l < length b → MaximalGap a i j → MaximalGap b k l
+dropped_gap : (a b : List ℕ) (s t : ℕ) → Copied a b s t → (i j k l : ℕ) → s ≤ i → i + t ≡ k + s → j + t ≡ l + s → l < length b → WsAndNewlines a i j → WsAndNewlines b k l
 dropped_gap a b s t w i j k l o e f u r =
     record {
       forward = omega (arith, r.forward);
       within = omega arith;
       passes = λ n x y. drop_on a b s t w ((n + s) - t) n (omega arith) (omega arith) (omega arith) (r.passes ((n + s) - t) (omega arith) (omega arith));
-      stops = λ x. is_false (is_gap b l) (λ y. false≢true (sym (r.stops (omega (arith, w.fits))) ∙ drop_back a b s t w j l (omega (arith, r.forward)) f y));
+      stops = λ x. is_false (is_ws_or_newline b l) (λ y. false≢true (sym (r.stops (omega (arith, w.fits))) ∙ drop_back a b s t w j l (omega (arith, r.forward)) f y));
     }
 
 dropped : (a b : List ℕ) (s t : ℕ) → Copied a b s t → (i j k l : ℕ) → s ≤ i → i + t ≡ k + s → j + t ≡ l + s → l < length b → IsDropped a i j → IsDropped b k l

@@ -5,7 +5,7 @@ use Rattle.std.specs.List.{insert}
 use Rattle.std.proofs.lemmas.Bool.{le-leb, lt-leb}
 use Rattle.std.proofs.lemmas.List.Sums.{prefix_len-le-length}
 use Rattle.std.proofs.lemmas.List.{length-map, take-map, drop-map, map-append}
-use Rattle.toml_span_tree.specs.Diagnostic.{Mark}
+use Rattle.toml_span_tree.specs.Diagnostic.{LabelContent}
 use Rattle.toml_span_report.specs.Places.{line_start, span_start, span_end}
 use Rattle.toml_span_report.specs.Strips.{Part, part, parts_of, placed, earlier}
 
@@ -24,14 +24,14 @@ earlier_within f xs n at e =
 pub placed_is : {X : Type 0} (f : X → Part) (xs ys : List X) (x : X) (n : ℕ) → n ≡ earlier (map f xs) (f x).at → ys ≡ insert xs n x → map f ys ≡ placed (map f xs) (f x)
 placed_is f xs ys x n e h = ap (map f) h ∙ map_insert f xs n x ∙ ap (λ k. insert (map f xs) k (f x)) e
 
-pub parts_of-one : {F : Type 0} (text : List ℕ) (mark : Mark F) (from to again : ℕ) → from ≡ span_start text mark.span → to ≡ span_end text mark.span → again ≡ line_start text to → again ≤ from →
+pub parts_of-one : {F : Type 0} (text : List ℕ) (mark : LabelContent F) (from to again : ℕ) → from ≡ span_start text mark.span → to ≡ span_end text mark.span → again ≡ line_start text to → again ≤ from →
     parts_of text mark ≡ part text from to mark.primary mark.message ∷ []
 unfolding parts_of
 parts_of-one text mark from to again starts ends begins before =
     let test : nat_le again from ≡ true = le-leb again from before in
     rw (sym starts, sym ends, sym begins, test) refl
 
-pub parts_of-two : {F : Type 0} (text : List ℕ) (mark : Mark F) (from to again : ℕ) → from ≡ span_start text mark.span → to ≡ span_end text mark.span → again ≡ line_start text to → from < again →
+pub parts_of-two : {F : Type 0} (text : List ℕ) (mark : LabelContent F) (from to again : ℕ) → from ≡ span_start text mark.span → to ≡ span_end text mark.span → again ≡ line_start text to → from < again →
     parts_of text mark ≡ part text from to mark.primary [] ∷ part text again to mark.primary mark.message ∷ []
 unfolding parts_of
 parts_of-two text mark from to again starts ends begins behind =

@@ -2,7 +2,7 @@
 use Rattle.std.specs.Prelude.{ℕ, ◌-◌, max, Bool, true, false, ◌==◌, List, [], ◌∷◌, ◌++◌, codes, length, Option, Some, None, if◌then◌else◌, replicate}
 use Rattle.std.specs.Fmt.{decimal}
 use Rattle.std.specs.List.{fold}
-use Rattle.toml_span_tree.specs.Diagnostic.{Mark}
+use Rattle.toml_span_tree.specs.Diagnostic.{LabelContent}
 use Rattle.toml_span_report.specs.Characters.{shown, columns}
 use Rattle.toml_span_report.specs.Strips.{Part, all_parts}
 
@@ -90,7 +90,7 @@ report_of code message name parts =
     ++ replicate (width_of parts) 32 ++ codes "--> " ++ shown name ++ shown_place (main_part parts) ++ codes "\n"
     ++ drawn (width_of parts) None parts
 
-abbrev pub report : {F : Type 0} → List ℕ → List ℕ → List (Mark F) → List ℕ → List ℕ → List ℕ
+abbrev pub report : {F : Type 0} → List ℕ → List ℕ → List (LabelContent F) → List ℕ → List ℕ → List ℕ
 report code message marks name text = report_of code message name (all_parts text marks)
 
 -- one line: `name:line:column: code: message`
@@ -98,5 +98,5 @@ abbrev pub brief_of : List ℕ → List ℕ → List ℕ → List Part → List 
 brief_of code message name parts =
     shown name ++ shown_place (main_part parts) ++ codes ": " ++ shown code ++ codes ": " ++ shown message ++ codes "\n"
 
-abbrev pub brief : {F : Type 0} → List ℕ → List ℕ → List (Mark F) → List ℕ → List ℕ → List ℕ
+abbrev pub brief : {F : Type 0} → List ℕ → List ℕ → List (LabelContent F) → List ℕ → List ℕ → List ℕ
 brief code message marks name text = brief_of code message name (all_parts text marks)

@@ -1,7 +1,7 @@
 -- What labels mark of a text: strips, each on one line.
 use Rattle.std.specs.Prelude.{ℕ, min, Bool, nat_lt, nat_le, List, [], ◌∷◌, slice_range, if◌then◌else◌}
 use Rattle.std.specs.List.{fold, insert, position_or_len}
-use Rattle.toml_span_tree.specs.Diagnostic.{Mark}
+use Rattle.toml_span_tree.specs.Diagnostic.{LabelContent}
 use Rattle.toml_span_report.specs.declared.strips.Strip.{Strip}
 use Rattle.toml_span_report.specs.Places.{line_start, line_end, line_number, column, span_start, span_end, window_start, window_end}
 
@@ -59,7 +59,7 @@ parts_between text from again to is_primary message =
     if nat_le again from then part text from to is_primary message ∷ []
     else part text from to is_primary [] ∷ part text again to is_primary message ∷ []
 
-unfoldable pub parts_of : {F : Type 0} → List ℕ → Mark F → List Part
+unfoldable pub parts_of : {F : Type 0} → List ℕ → LabelContent F → List Part
 parts_of text mark =
     let to = span_end text mark.span in
     parts_between text (span_start text mark.span) (line_start text to) to mark.primary mark.message
@@ -73,5 +73,5 @@ abbrev pub placed : List Part → Part → List Part
 placed parts p = insert parts (earlier parts p.at) p
 
 -- the parts of all labels, in the order of the text
-unfoldable pub all_parts : {F : Type 0} → List ℕ → List (Mark F) → List Part
+unfoldable pub all_parts : {F : Type 0} → List ℕ → List (LabelContent F) → List Part
 all_parts text marks = fold (λ parts mark. fold placed parts (parts_of text mark)) [] marks

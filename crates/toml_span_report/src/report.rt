@@ -1,8 +1,8 @@
 //! The text that shows a diagnostic.
 ghost use Rattle.std.specs.Prelude.{◌≡◌, ℕ, ◌++◌, IfOk, OnOk, map, length, None, option_map, string_bytes};
-ghost use Rattle.toml_span_tree.specs.Diagnostic.{labels_of, mark_of};
+ghost use Rattle.toml_span_tree.specs.Diagnostic.{labels_of, label_content};
 ghost use Rattle.toml_span_tree.specs.Error.{fault_of, kind_of};
-ghost use Rattle.toml_span_tree.specs.Message.{code_of, text_of};
+ghost use Rattle.toml_span_tree.specs.Message.{code_of, display_text};
 ghost use Rattle.toml_span_report.specs.Report as spec;
 ghost use Rattle.toml_span_report.specs.Strips.{part_of};
 
@@ -232,7 +232,7 @@ pub fn render<F>(
 ) -> Result<String, AllocError>
     ensures { IfOk result (λ out. string_bytes out
         ≡ spec.report (string_bytes diagnostic.now.code) (string_bytes diagnostic.now.message)
-        (map mark_of diagnostic.now.labels.items) name.now text.now) }
+        (map label_content diagnostic.now.labels.items) name.now text.now) }
 {
     let strips = all_strips(alloc, text, diagnostic.labels.as_slice())?;
     report(
@@ -276,7 +276,7 @@ pub fn render_line<F>(
 ) -> Result<String, AllocError>
     ensures { IfOk result (λ out. string_bytes out
         ≡ spec.brief (string_bytes diagnostic.now.code) (string_bytes diagnostic.now.message)
-        (map mark_of diagnostic.now.labels.items) name.now text.now) }
+        (map label_content diagnostic.now.labels.items) name.now text.now) }
 {
     let strips = all_strips(alloc, text, diagnostic.labels.as_slice())?;
     brief(
@@ -296,7 +296,7 @@ pub fn render_error(
     text: &str,
 ) -> Result<String, AllocError>
     ensures { IfOk result (λ out. string_bytes out
-        ≡ spec.report {F = ℕ} (code_of (kind_of error.now.kind)) (text_of (kind_of error.now.kind))
+        ≡ spec.report {F = ℕ} (code_of (kind_of error.now.kind)) (display_text (kind_of error.now.kind))
         (labels_of 0 error.now.span (kind_of error.now.kind)) name.now text.now) }
 {
     let diagnostic = error.to_diagnostic(alloc, 0usize)?;

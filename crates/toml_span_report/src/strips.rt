@@ -2,7 +2,7 @@
 ghost use Rattle.std.specs.Prelude.{◌≡◌, ◌≤◌, ◌<◌, [], IfOk, OnOk, map};
 ghost use Rattle.std.specs.List.{fold};
 ghost use Rattle.std.specs.Str.{IsCharBoundary};
-ghost use Rattle.toml_span_tree.specs.Diagnostic.{mark_of};
+ghost use Rattle.toml_span_tree.specs.Diagnostic.{label_content};
 ghost use Rattle.toml_span_report.specs.Strips as spec;
 ghost use Rattle.toml_span_report.specs.Strips.{part_of};
 
@@ -92,7 +92,7 @@ fn place_label<'a, F>(
     label: &'a Label<F>,
 ) -> Result<(), AllocError>
     ensures { OnOk result (map part_of strips.new.items
-        ≡ fold spec.placed (map part_of strips.old.items) (spec.parts_of text.now (mark_of label.now))) }
+        ≡ fold spec.placed (map part_of strips.old.items) (spec.parts_of text.now (label_content label.now))) }
 {
     let from = span_start(text, label.span);
     let to = span_end(text, label.span);
@@ -119,7 +119,7 @@ pub(crate) fn all_strips<'a, F>(
     text: &'a str,
     labels: &'a [Label<F>],
 ) -> Result<Vec<Strip<'a>>, AllocError>
-    ensures { IfOk result (λ strips. map part_of strips.items ≡ spec.all_parts text.now (map mark_of labels.now)) }
+    ensures { IfOk result (λ strips. map part_of strips.items ≡ spec.all_parts text.now (map label_content labels.now)) }
 {
     let mut strips = Vec::with_capacity(alloc, labels.len())?;
     for label in labels {

@@ -6,7 +6,7 @@ use Rattle.std.specs.Str.{bytes_eq}
 use Rattle.toml_span_lex.specs.declared.span.Span.{Span}
 use Rattle.toml_span_tree.specs.Node.{Node, node, Inner, taken, scalar, array, table, Items, no_items, item, Members, no_members, member, entry_at, element_at}
 use Rattle.toml_span_tree.specs.Value.{inner_of}
-use Rattle.toml_span_tree.specs.Path.{Step, key, position, Path, below, reached, place_of}
+use Rattle.toml_span_tree.specs.Path.{Step, key, position, Path, at_step, reached, place_of}
 use Rattle.toml_span_claims.specs.Ordered.{HasOneEach, InnerHasOneEach, ItemsHaveOneEach, MembersHaveOneEach}
 use Rattle.toml_span.proofs.OneTree.{same-name, first-entry, later-entry}
 use Rattle.toml_span_serde.specs.Misfits.{Names}
@@ -30,8 +30,8 @@ way_of-push ds es d e =
 pub walked-next : (i : ℕ) (ps : List Made) (p : Made) (way after all : Way) → i < length ps → get_or ps i p ≡ p →
     walked (map piece_of (drop i ps)) way ≡ all → after ≡ behind (content_of p.content) way →
     walked (map piece_of (drop (i + 1) ps)) after ≡ all
-walked-next i ps p way after all below here before step =
-    let split : drop i ps ≡ p ∷ drop (i + 1) ps = drop_more ps i p below ∙ ap (λ x. x ∷ drop (i + 1) ps) here in
+walked-next i ps p way after all at_step here before step =
+    let split : drop i ps ≡ p ∷ drop (i + 1) ps = drop_more ps i p at_step ∙ ap (λ x. x ∷ drop (i + 1) ps) here in
     ap (walked (map piece_of (drop (i + 1) ps))) step ∙ ap (λ l. walked (map piece_of l) way) (sym split) ∙ before
 
 walked-append : (xs ys : List Piece) (way : Way) → walked (xs ++ ys) way ≡ walked ys (walked xs way)
@@ -80,7 +80,7 @@ further p q (Some x) on = on x
 
 reached-on : (p q : Path) (x : Found) → reached (p ++ q) x ≡ option_and_then (reached q) (reached p x)
 reached-on [] q x = refl
-reached-on (s ∷ p) q x = further p q (below s (inner_of x.1)) (λ y. reached-on p q y)
+reached-on (s ∷ p) q x = further p q (at_step s (inner_of x.1)) (λ y. reached-on p q y)
 
 -- a later entry stands where it stood, behind one more of another name
 later : (other name : List ℕ) (span : Span) (n : Node) (ms : Members) (x : Found) → entry_at name ms ≡ None → entry_at other ms ≡ Some x → entry_at other (member name span n ms) ≡ Some x
@@ -93,7 +93,7 @@ module _ (root : Node) where
   abbrev Leads : Way → Found → Type 0
   Leads way x = reached (reverse way) (None, root) ≡ Some x
 
-  step-down : (s : Step) (way : Way) (k : Option Span) (i : Inner) (span : Span) (x : Found) → Leads way (k, node i span) → below s i ≡ Some x → Leads (s ∷ way) x
+  step-down : (s : Step) (way : Way) (k : Option Span) (i : Inner) (span : Span) (x : Found) → Leads way (k, node i span) → at_step s i ≡ Some x → Leads (s ∷ way) x
   step-down s way k i span x there is =
       ap (λ p. reached p (None, root)) (reverse-append (s ∷ []) way)
       ∙ reached-on (reverse way) (s ∷ []) (None, root)

@@ -7,7 +7,7 @@ use Rattle.serde.specs.Event as event
 use Rattle.serde.specs.Names.{Finds}
 use Rattle.serde.specs.declared.name.Name.{Name}
 use Rattle.toml_span_tree.specs.Node as tree
-use Rattle.toml_span_tree.specs.Float.{decimal_text}
+use Rattle.toml_span_tree.specs.Float.{float_text}
 use Rattle.toml_span_serde.specs.Pieces.{Content, Piece, value, array_begins, array_ends, table_begins, table_ends, key}
 
 -- one piece is taken, of which P holds
@@ -25,7 +25,7 @@ IsWritten s c = IsText s c ⊎ (c ≡ value (tree.datetime s))
 -- the float whose text is read as this number, or the integer to which it is nearest
 abbrev pub IsNumber : Format → Float → Content → Type 0
 IsNumber format x c =
-    ((d : tree.Decimal) × (c ≡ value (tree.float d)) × (parse_float format (decimal_text d) ≡ Some x))
+    ((d : tree.FloatValue) × (c ≡ value (tree.float d)) × (parse_float format (float_text d) ≡ Some x))
     ⊎ ((z : ℤ) × (c ≡ value (tree.integer z)) × (x ≡ Ieee.of_int format z))
 
 abbrev pub Reads : List Piece → event.Event → List Piece → Type 0

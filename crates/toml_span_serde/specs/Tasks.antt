@@ -1,7 +1,7 @@
 -- What is left to go through, while a tree becomes a row of pieces; for private clauses.
 use Rattle.std.specs.Prelude.{List, [], ◌∷◌, ◌++◌, map, reverse}
 use Rattle.toml_span_tree.specs.Node.{text, integer, float, boolean, datetime}
-use Rattle.toml_span_tree.specs.Value.{view, decimal_of}
+use Rattle.toml_span_tree.specs.Value.{view, float_value}
 use Rattle.toml_span_serde.specs.Pieces as spec
 use Rattle.toml_span_serde.specs.declared.pieces.Content.{Content}
 use Rattle.toml_span_serde.specs.declared.pieces.Content.TheVariants as is
@@ -12,7 +12,7 @@ use Rattle.toml_span_serde.specs.declared.pieces.Task.TheVariants as task
 abbrev pub content_of : Content → spec.Content
 content_of (is.Text s) = spec.value (text s.now)
 content_of (is.Integer z) = spec.value (integer z)
-content_of (is.Float x) = spec.value (float (decimal_of x.now))
+content_of (is.Float x) = spec.value (float (float_value x.now))
 content_of (is.Boolean b) = spec.value (boolean b)
 content_of (is.Datetime s) = spec.value (datetime s.now)
 content_of is.Taken = spec.nothing

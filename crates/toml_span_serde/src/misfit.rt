@@ -1,7 +1,7 @@
 //! Why a value is not read as a type.
 ghost use Rattle.std.specs.Prelude.{◌≡◌, IfOk, Some, map, string_bytes};
 ghost use Rattle.toml_span_tree.specs.Error.{fault_of, kind_of};
-ghost use Rattle.toml_span_tree.specs.Diagnostic.{labels_of, mark_of, message_of};
+ghost use Rattle.toml_span_tree.specs.Diagnostic.{labels_of, label_content, message_of};
 ghost use Rattle.toml_span_tree.specs.Message.{code_of};
 ghost use Rattle.toml_span_serde.specs.Misfits.{fault_told, kind_told, name_of, reason_text, told, words_of};
 
@@ -234,7 +234,7 @@ impl Error<'_> {
     ) -> Result<Diagnostic<F>, AllocError>
         ensures code { IfOk result (λ shown. string_bytes shown.code ≡ code_of (told self.now).kind) }
         ensures message { IfOk result (λ shown. string_bytes shown.message ≡ message_of (told self.now).kind) }
-        ensures labels { IfOk result (λ shown. map mark_of shown.labels.items
+        ensures labels { IfOk result (λ shown. map label_content shown.labels.items
             ≡ labels_of fid (told self.now).span (told self.now).kind) }
     {
         match self {

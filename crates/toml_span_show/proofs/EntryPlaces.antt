@@ -7,7 +7,7 @@ use Rattle.std.proofs.lemmas.Slice.Eq.{bytes_eq-Decides}
 use Rattle.std.proofs.lemmas.Option.{none-some, same_Some}
 use Rattle.toml_span_lex.specs.declared.span.Span.{Span}
 use Rattle.toml_span_tree.specs.Node.{Node, node, Inner, taken, scalar, array, table, Items, no_items, item, Members, no_members, member, entry_at, element_at}
-use Rattle.toml_span_tree.specs.Path.{Path, Step, key, position, Place, below, place_at, place_of, reached}
+use Rattle.toml_span_tree.specs.Path.{Path, Step, key, position, Place, at_step, place_at, place_of, reached}
 use Rattle.toml_span_tree.proofs.Paths.{bytes_same}
 use Rattle.toml_span_claims.specs.Ordered.{IsNameBefore, EachName, IsOrdered, HoldsOrdered, AreOrdered, MembersOrdered}
 use Rattle.toml_span_claims.proofs.Ordered.{not-before}
@@ -50,7 +50,7 @@ found p o = option_map place_of (option_and_then (reached p) o)
 -- what a path finds below
 abbrev found_in : Path → Inner → Option Place
 found_in [] i = None
-found_in (s ∷ p) i = found p (below s i)
+found_in (s ∷ p) i = found p (at_step s i)
 
 nothing-below : (p : Path) (x : Place) → found p None ≡ Some x → ⊥
 nothing-below p x h = none-some x h
@@ -60,7 +60,7 @@ mutual
   in-node at (node i span) [] x h = inl (ap (λ y. ([], y)) (sym (same_Some (place_of (at, node i span)) x h)))
   in-node at (node i span) (s ∷ p) x h = inr (in-inner i s p x h)
 
-  in-inner : (i : Inner) (s : Step) (p : Path) (x : Place) → found p (below s i) ≡ Some x → IsIn (s ∷ p, x) (inner_entries i)
+  in-inner : (i : Inner) (s : Step) (p : Path) (x : Place) → found p (at_step s i) ≡ Some x → IsIn (s ∷ p, x) (inner_entries i)
   in-inner taken s p x h = none-some x h
   in-inner (scalar y) s p x h = none-some x h
   in-inner (array ns) (key name) p x h = absurd (none-some x h)

@@ -3,7 +3,7 @@ use Rattle.std.specs.Prelude.{◌≡◌, ◌<◌, ◌↔◌, ◌⊎◌, ⊤, ℕ
 use Rattle.std.specs.List.{flat_map, AllByRecursion}
 use Rattle.toml_span_tree.specs.declared.error.Error.{Error}
 use Rattle.toml_span_tree.specs.Error.{fault_of}
-use Rattle.toml_span_tree.specs.Path.{Path, Step, key, position, Shape, is_taken, is_scalar, is_array, is_table, Place}
+use Rattle.toml_span_tree.specs.Path.{Path, Step, key, position, Shape, shape_taken, shape_scalar, shape_array, shape_table, Place}
 use Rattle.toml_span_tree.specs.Value.{scalar_kind}
 use Rattle.toml_span_read.specs.Data.{Block}
 use Rattle.toml_span_read.specs.Grammar.{SpellsDocument}
@@ -53,10 +53,10 @@ segment (position i) = position_segment i
 
 -- the name of the kind
 abbrev pub shape_name : Shape → List ℕ
-shape_name is_taken = []
-shape_name (is_scalar s) = scalar_kind s
-shape_name is_array = codes "array"
-shape_name is_table = codes "table"
+shape_name shape_taken = []
+shape_name (shape_scalar s) = scalar_kind s
+shape_name shape_array = codes "array"
+shape_name shape_table = codes "table"
 
 -- the path, the kind and the span
 abbrev pub entry_line : Entry → List ℕ

@@ -7,12 +7,12 @@ use Rattle.toml_span_lex.specs.declared.stop.Stop.TheVariants as stops
 use Rattle.toml_span_tree.specs.declared.error.Error.{Error}
 use Rattle.toml_span_tree.specs.declared.value.Value.{Value}
 use Rattle.toml_span_tree.specs.Node.{Node, node, Inner, taken, scalar, array, table, text, integer, float, boolean, datetime}
-use Rattle.toml_span_tree.specs.Path.{Path, Place, is_scalar, shape_of, place_of, reached}
+use Rattle.toml_span_tree.specs.Path.{Path, Place, shape_scalar, shape_of, place_of, reached}
 use Rattle.toml_span_tree.specs.Pointer.{pointed}
 use Rattle.toml_span_tree.specs.Value.{view, inner_of, span_of, integer_in, is_taken}
 use Rattle.toml_span_tree.proofs.PointerLaws.{pointed-is}
 use Rattle.toml_span_tree.proofs.Values.{view_is}
-use Rattle.toml_span_typed.specs.Reads.{integer_of, or_out_of, unsigned}
+use Rattle.toml_span_typed.specs.Reads.{read_integer, or_out_of, unsigned}
 use Rattle.toml_span_read.specs.Places.{IsLineInfo}
 use Rattle.toml_span_read.specs.Data.{Block}
 use Rattle.toml_span_claims.specs.Claims.{claims}
@@ -80,10 +80,10 @@ span-place v k span =
     let same : span_of (view v) ≡ v.span = ap span_of (view_is v) in
     (λ h. same ∙ same_Some v.span span h, λ h. ap Some (sym same ∙ h))
 
-integer-shape : (i : Inner) (z : ℤ) → (integer_in i ≡ Some z) ↔ (shape_of i ≡ is_scalar (integer z))
+integer-shape : (i : Inner) (z : ℤ) → (integer_in i ≡ Some z) ↔ (shape_of i ≡ shape_scalar (integer z))
 integer-shape taken z = (λ h. cc, λ h. cc)
 integer-shape (scalar (text s)) z = (λ h. cc, λ h. cc)
-integer-shape (scalar (integer y)) z = (λ h. ap (λ y. is_scalar (integer y)) (same_Some y z h), λ h. cc)
+integer-shape (scalar (integer y)) z = (λ h. ap (λ y. shape_scalar (integer y)) (same_Some y z h), λ h. cc)
 integer-shape (scalar (float x)) z = (λ h. cc, λ h. cc)
 integer-shape (scalar (boolean b)) z = (λ h. cc, λ h. cc)
 integer-shape (scalar (datetime d)) z = (λ h. cc, λ h. cc)
@@ -91,7 +91,7 @@ integer-shape (array ns) z = (λ h. cc, λ h. cc)
 integer-shape (table ms) z = (λ h. cc, λ h. cc)
 
 -- what `as_integer` answers
-pub integer-place : (o : Option ℤ) (i : Inner) → o ≡ integer_in i → (z : ℤ) → (o ≡ Some z) ↔ (shape_of i ≡ is_scalar (integer z))
+pub integer-place : (o : Option ℤ) (i : Inner) → o ≡ integer_in i → (z : ℤ) → (o ≡ Some z) ↔ (shape_of i ≡ shape_scalar (integer z))
 integer-place o i is z =
     let shape = integer-shape i z in
     (λ h. shape.0 (sym is ∙ h), λ h. is ∙ shape.1 h)
@@ -102,10 +102,10 @@ held-below : (b : Bool) (type : List ℕ) (span : Span) (m n : ℕ) → Ok n ≡
 held-below true type span m n h = cc
 held-below false type span m n h = cc
 
-pub number-shape : (limit : ℕ) (type : List ℕ) (value : Node) (n : ℕ) → Ok n ≡ integer_of type (unsigned limit) value → shape_of (inner_of value) ≡ is_scalar (integer (pos n))
+pub number-shape : (limit : ℕ) (type : List ℕ) (value : Node) (n : ℕ) → Ok n ≡ read_integer type (unsigned limit) value → shape_of (inner_of value) ≡ shape_scalar (integer (pos n))
 number-shape limit type (node taken span) n h = cc
 number-shape limit type (node (scalar (text s)) span) n h = cc
-number-shape limit type (node (scalar (integer (pos m))) span) n h = ap (λ m. is_scalar (integer (pos m))) (held-below (nat_lt m limit) type span m n h)
+number-shape limit type (node (scalar (integer (pos m))) span) n h = ap (λ m. shape_scalar (integer (pos m))) (held-below (nat_lt m limit) type span m n h)
 number-shape limit type (node (scalar (integer (negsuc m))) span) n h = cc
 number-shape limit type (node (scalar (float x)) span) n h = cc
 number-shape limit type (node (scalar (boolean b)) span) n h = cc

@@ -9,10 +9,10 @@ use Rattle.toml_span_tree.specs.declared.error.Error.{Error}
 use Rattle.toml_span_tree.specs.declared.value.Value.{Value}
 use Rattle.toml_span_tree.specs.Error.{Fault, fault_of, missing_field}
 use Rattle.toml_span_tree.specs.Node.{Node, node, Members, taken, scalar, array, table, text, integer, float, boolean, datetime}
-use Rattle.toml_span_tree.specs.Path.{Path, Place, Shape, is_taken, is_scalar, is_array, is_table, key, place_of, shape_of}
+use Rattle.toml_span_tree.specs.Path.{Path, Place, Shape, shape_taken, shape_scalar, shape_array, shape_table, key, place_of, shape_of}
 use Rattle.toml_span_tree.specs.Value.{view}
 use Rattle.toml_span_typed.specs.Faults.{Faults, all, one}
-use Rattle.toml_span_typed.specs.Reads.{Gives, boolean_of, integer_of, result_map, string_of, unsigned}
+use Rattle.toml_span_typed.specs.Reads.{Gives, read_boolean, read_integer, result_map, read_string, unsigned}
 use Rattle.toml_span_typed.specs.TableHelper.{State, Opens, Requires, Tries, fresh, keeping, missing, noted}
 use Rattle.toml_span_claims.specs.Claims.{claims}
 use Rattle.toml_span_claims.specs.Flat.{flat}
@@ -32,7 +32,7 @@ on-document s root P (bs, spelled, tree) ordered holds = (bs, spelled, tree.reso
 
 -- ---- what a value gives is what its place gives
 
-pub string-face : (n : Node) → string_of n ≡ string_of (face (place_of (None, n)))
+pub string-face : (n : Node) → read_string n ≡ read_string (face (place_of (None, n)))
 string-face (node taken at) = refl
 string-face (node (scalar (text s)) at) = refl
 string-face (node (scalar (integer z)) at) = refl
@@ -42,7 +42,7 @@ string-face (node (scalar (datetime d)) at) = refl
 string-face (node (array ns) at) = refl
 string-face (node (table ms) at) = refl
 
-pub boolean-face : (n : Node) → boolean_of n ≡ boolean_of (face (place_of (None, n)))
+pub boolean-face : (n : Node) → read_boolean n ≡ read_boolean (face (place_of (None, n)))
 boolean-face (node taken at) = refl
 boolean-face (node (scalar (text s)) at) = refl
 boolean-face (node (scalar (integer z)) at) = refl
@@ -52,7 +52,7 @@ boolean-face (node (scalar (datetime d)) at) = refl
 boolean-face (node (array ns) at) = refl
 boolean-face (node (table ms) at) = refl
 
-pub integer-face : (name : List ℕ) (limit : ℕ) (n : Node) → integer_of name (unsigned limit) n ≡ integer_of name (unsigned limit) (face (place_of (None, n)))
+pub integer-face : (name : List ℕ) (limit : ℕ) (n : Node) → read_integer name (unsigned limit) n ≡ read_integer name (unsigned limit) (face (place_of (None, n)))
 integer-face name limit (node taken at) = refl
 integer-face name limit (node (scalar (text s)) at) = refl
 integer-face name limit (node (scalar (integer z)) at) = refl
@@ -253,12 +253,12 @@ pub given-as : {T : Type 0} (read : Node → Result T Faults) (v w : Node) (r : 
 given-as read v w r h = unchanged r ∙ h.0
 
 face-shape : (x : Shape) → shape_of (inner_with x) ≡ x
-face-shape is_taken = refl
-face-shape (is_scalar s) = refl
-face-shape is_array = refl
-face-shape is_table = refl
+face-shape shape_taken = refl
+face-shape (shape_scalar s) = refl
+face-shape shape_array = refl
+face-shape shape_table = refl
 
-number-at : (otherwise : Faults) (o : Option Place) (n : ℕ) → read_or (Err otherwise) number o ≡ Ok n → (place : Place) × (o ≡ Some place) × (place.shape ≡ is_scalar (integer (pos n)))
+number-at : (otherwise : Faults) (o : Option Place) (n : ℕ) → read_or (Err otherwise) number o ≡ Ok n → (place : Place) × (o ≡ Some place) × (place.shape ≡ shape_scalar (integer (pos n)))
 number-at otherwise None n h = cc
 number-at otherwise (Some x) n h = (x, refl, sym (face-shape x.shape) ∙ number-shape (2 ^ 16) (codes "u16") (face x) n (sym h))
 
@@ -270,7 +270,7 @@ port-step s root places before after answer is value opens read =
 
 pub port-read : (s : List ℕ) (root : Value) (before after : State) (answer : Result ℕ (Stop Error)) → IsTree s 128 root → IsOrdered (view root) → IsRoot (length s) root → Opens (view root) (Ok before)
     → Requires (Gives number) (codes "port") before answer after
-    → IfOk answer (λ port. IsDocument s (λ places. (place : Place) × (places (key (codes "port") ∷ []) ≡ Some place) × (place.shape ≡ is_scalar (integer (pos port)))))
+    → IfOk answer (λ port. IsDocument s (λ places. (place : Place) × (places (key (codes "port") ∷ []) ≡ Some place) × (place.shape ≡ shape_scalar (integer (pos port)))))
 port-read s root before after (Ok port) tree ordered is opens read =
     on-document s root _ tree ordered (λ places value. number-at _ (places (key (codes "port") ∷ [])) port (port-step s root places before after (Ok port) is value opens read).0)
 port-read s root before after (Err stop) tree ordered is opens read = tt

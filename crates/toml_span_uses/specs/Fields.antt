@@ -6,9 +6,9 @@ use Rattle.toml_span_lex.specs.declared.stop.Stop.TheVariants as stops
 use Rattle.toml_span_tree.specs.declared.error.Error.{Error}
 use Rattle.toml_span_tree.specs.Error.{Fault, fault_of, missing_field}
 use Rattle.toml_span_tree.specs.Node.{Node, node, Inner, taken, scalar, array, table, no_items, no_members}
-use Rattle.toml_span_tree.specs.Path.{Path, Place, Shape, is_taken, is_scalar, is_array, is_table, key}
+use Rattle.toml_span_tree.specs.Path.{Path, Place, Shape, shape_taken, shape_scalar, shape_array, shape_table, key}
 use Rattle.toml_span_typed.specs.Faults.{Faults, all, one}
-use Rattle.toml_span_typed.specs.Reads.{integer_of, result_map, unsigned}
+use Rattle.toml_span_typed.specs.Reads.{read_integer, result_map, unsigned}
 use Rattle.toml_span_read.specs.Places.{IsLineInfo}
 use Rattle.toml_span_typed.specs.declared.de_helpers.table_helper.Unfinished.{Unfinished}
 use Rattle.toml_span_typed.specs.declared.de_helpers.table_helper.Unfinished.TheVariants as unfinished
@@ -16,10 +16,10 @@ use Rattle.toml_span_assembly.specs.Parsing.{IsRefusal}
 use Rattle.toml_span.specs.Document.{IsDocument}
 
 abbrev pub inner_with : Shape → Inner
-inner_with is_taken = taken
-inner_with (is_scalar s) = scalar s
-inner_with is_array = array no_items
-inner_with is_table = table no_members
+inner_with shape_taken = taken
+inner_with (shape_scalar s) = scalar s
+inner_with shape_array = array no_items
+inner_with shape_table = table no_members
 
 -- a value that stands at the place; of an array or a table an empty one
 abbrev pub face : Place → Node
@@ -51,7 +51,7 @@ abbrev pub whole : List ℕ → Span
 whole text = record { start = 0; end = length text }
 
 abbrev pub number : Node → Result ℕ Faults
-number = integer_of (codes "u16") (unsigned (2 ^ 16))
+number = read_integer (codes "u16") (unsigned (2 ^ 16))
 
 -- The text is refused with this span, line and column: the span is in the text, and they are those of its start.
 abbrev pub IsRefusedAt : List ℕ → Span → ℕ × ℕ → Type 0

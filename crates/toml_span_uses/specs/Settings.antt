@@ -9,7 +9,7 @@ use Rattle.toml_span_tree.specs.Error.{Fault, fault_of}
 use Rattle.toml_span_tree.specs.Node.{Members, node, table}
 use Rattle.toml_span_tree.specs.Path.{Path, Place}
 use Rattle.toml_span_typed.specs.Faults.{Faults, all, one}
-use Rattle.toml_span_typed.specs.Reads.{boolean_of, string_of}
+use Rattle.toml_span_typed.specs.Reads.{read_boolean, read_string}
 use Rattle.toml_span_assembly.specs.Parsing.{IsRefusal}
 use Rattle.toml_span.specs.Document.{IsDocument, IsValueOf}
 use Rattle.toml_span.specs.Helpers.{HasNoKeyBut, except, left_over}
@@ -22,17 +22,17 @@ names = codes "host" ∷ codes "port" ∷ codes "secure" ∷ []
 -- each field is what stands at its key, and there are no other keys
 abbrev pub AreSettings : Span → (Path → Option Place) → Settings → Type 0
 AreSettings span places settings =
-    (required_field string_of (codes "host") span places ≡ Ok (cow_str_bytes settings.host))
+    (required_field read_string (codes "host") span places ≡ Ok (cow_str_bytes settings.host))
     × (required_field number (codes "port") span places ≡ Ok settings.port)
-    × (optional_field boolean_of (codes "secure") places ≡ Ok settings.secure)
+    × (optional_field read_boolean (codes "secure") places ≡ Ok settings.secure)
     × HasNoKeyBut names places
 
 -- the errors of the fields in their order, and behind them that of the other keys
 abbrev pub errors_of : Span → (Path → Option Place) → Members → List Fault
 errors_of span places rest =
-    errors_in (required_field string_of (codes "host") span places)
+    errors_in (required_field read_string (codes "host") span places)
     ++ errors_in (required_field number (codes "port") span places)
-    ++ errors_in (optional_field boolean_of (codes "secure") places) ++ left_over names span rest
+    ++ errors_in (optional_field read_boolean (codes "secure") places) ++ left_over names span rest
 
 -- The text is refused, and the one error tells why; or it is read, and these are all the errors of its settings.
 abbrev pub NoSettings : List ℕ → Stop Faults → Type 0

@@ -4,7 +4,7 @@
 ghost use Rattle.std.specs.Prelude.{◌≡◌, ◌↔◌, ⊤, ◌∷◌, [], ℤ, pos, codes, Some, IfOk, IfErr, IfSome, IfNone};
 ghost use Rattle.toml_span_lex.specs.declared.span.Span.{Span as Bytes};
 ghost use Rattle.toml_span_tree.specs.Node.{integer};
-ghost use Rattle.toml_span_tree.specs.Path.{Place, key, is_scalar};
+ghost use Rattle.toml_span_tree.specs.Path.{Place, key, shape_scalar};
 ghost use Rattle.toml_span_assembly.specs.Parsing.{IsRefusal};
 ghost use Rattle.toml_span.specs.Document.{IsDocument, StandsAt};
 ghost use Rattle.toml_span_uses.specs.Fields.{IsRefusedAt, NoPort};
@@ -40,7 +40,7 @@ pub fn integer_at<'de>(
     text: &'de str,
     pointer: &'de str,
 ) -> Result<Option<i64>, Stop<Error<'de>>>
-    ensures { IfOk result (λ o. IsDocument text.now (λ places. (z : ℤ) → (o ≡ Some z) ↔ StandsAt pointer.now places (λ place. place.shape ≡ is_scalar (integer z)))) }
+    ensures { IfOk result (λ o. IsDocument text.now (λ places. (z : ℤ) → (o ≡ Some z) ↔ StandsAt pointer.now places (λ place. place.shape ≡ shape_scalar (integer z)))) }
 {
     let root = parse(alloc, text)?;
     match root.pointer(pointer) {
@@ -68,7 +68,7 @@ pub fn refused_at(alloc: Global, text: &str) -> Result<Option<(Span, usize, usiz
 /// The port that the document has, or why it has none.
 #[tactic(auto, using(toml_span_typed::proofs::Whole::found_whole))]
 pub fn port_of<'de>(alloc: Global, text: &'de str) -> Result<u16, Stop<Error<'de>>>
-    ensures port { IfOk result (λ port. IsDocument text.now (λ places. (place : Place) × (places (key (codes "port") ∷ []) ≡ Some place) × (place.shape ≡ is_scalar (integer (pos port))))) }
+    ensures port { IfOk result (λ port. IsDocument text.now (λ places. (place : Place) × (places (key (codes "port") ∷ []) ≡ Some place) × (place.shape ≡ shape_scalar (integer (pos port))))) }
     ensures refused { IfErr result (NoPort text.now) }
 {
     let mut root = parse(alloc, text)?;

@@ -9,7 +9,7 @@ use Rattle.toml_span_lex.specs.declared.stop.Stop.TheVariants as stops
 use Rattle.toml_span_lex.specs.declared.span.Span.{Span}
 use Rattle.toml_span_tree.specs.Node.{infinite, not_a_number, Scalar}
 use Rattle.toml_span_tree.specs.declared.float.FloatText.{FloatText}
-use Rattle.toml_span_tree.specs.Value.{decimal_of}
+use Rattle.toml_span_tree.specs.Value.{float_value}
 use Rattle.toml_span_read.specs.Numbers.{is_digit, Digits, IsSigned, magnitude, UnsignedDecimal, Exponent}
 use Rattle.toml_span_read.specs.Numbers.{Fraction, DecimalInteger, FloatLiteral, radix_at, IsNumber}
 use Rattle.toml_span_read.specs.declared.fault.Fault.{Fault}
@@ -74,9 +74,9 @@ abbrev pub SpecialGives : List ℕ → Option FloatText → Type 0
 SpecialGives word None =
     (word ≡ codes "inf" → ⊥) × (word ≡ codes "-inf" → ⊥) × (word ≡ codes "nan" → ⊥) × (word ≡ codes "-nan" → ⊥)
 SpecialGives word (Some x) =
-    ((word ≡ codes "inf") × (decimal_of x ≡ infinite false)) ⊎ ((word ≡ codes "-inf") × (decimal_of x ≡ infinite true))
-    ⊎ ((word ≡ codes "nan") × (decimal_of x ≡ not_a_number false))
-    ⊎ ((word ≡ codes "-nan") × (decimal_of x ≡ not_a_number true))
+    ((word ≡ codes "inf") × (float_value x ≡ infinite false)) ⊎ ((word ≡ codes "-inf") × (float_value x ≡ infinite true))
+    ⊎ ((word ≡ codes "nan") × (float_value x ≡ not_a_number false))
+    ⊎ ((word ≡ codes "-nan") × (float_value x ≡ not_a_number true))
 
 -- the number whose run is from a to b, behind its plus, if it has one, at i
 abbrev pub UnsignedGives : List ℕ → ℕ → ℕ → ℕ → Result (ValKind × ℕ) (Stop Fault) → Type 0

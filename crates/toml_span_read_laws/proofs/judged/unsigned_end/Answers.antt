@@ -2,7 +2,7 @@ use Rattle.std.proofs.Common.{rules, arith, ◌≡◌, true, false, get_or, inl,
 use Rattle.std.specs.Prelude.{◌==◌, slice_range}
 use Rattle.toml_span_lex.specs.Bytes.{is_keylike}
 use Rattle.toml_span_tree.specs.Node.{integer, float, finite}
-use Rattle.toml_span_tree.specs.Value.{decimal_of}
+use Rattle.toml_span_tree.specs.Value.{float_value}
 use Rattle.toml_span_read.specs.Numbers.{RadixInteger, DecimalInteger, FloatLiteral, cleaned, radix_at, goes_on}
 use Rattle.toml_span_read.specs.code.Numbers.{SpecialGives}
 use Rattle.toml_span_read.proofs.NumberLemmas.{run_stops, stands_alone, is_special, special_number, not_special}
@@ -34,7 +34,7 @@ returns-in-Some-special_float-clause-gives c =
     let g : SpecialGives (slice_range text c.args.first.start c.args.first.end) (Some c.in-Some-special_float._float) = search rules in
     let d : (get_or text c.args.first.end 0 == 46) ≡ false = search rules in
     let n : goes_on text c.args.first.end ≡ false = stands_alone text c.args.first.end (run_stops _ _ _ c.requires.run.run) d in
-    (float (decimal_of c.in-Some-special_float._float), special_number text _ _ _ c.requires.run.some c.requires.run.run.within g n)
+    (float (float_value c.in-Some-special_float._float), special_number text _ _ _ c.requires.run.some c.requires.run.run.within g n)
 
 pub decimal_number-requires-clause-digits : goal.decimal_number-requires-clause-digits
 decimal_number-requires-clause-digits c =

@@ -1,6 +1,6 @@
 use Rattle.std.proofs.Common.{◌∙◌, ap, sym, map}
 use Rattle.std.specs.List.{fold}
-use Rattle.toml_span_tree.specs.Diagnostic.{mark_of}
+use Rattle.toml_span_tree.specs.Diagnostic.{label_content}
 use Rattle.toml_span_report.specs.Strips.{part, part_of, placed}
 use Rattle.toml_span_report.proofs.StripLemmas.{parts_of-one, parts_of-two}
 use Rattle.toml_span_report.proofs.strips.place_label.Goals as goal
@@ -8,7 +8,7 @@ use Rattle.toml_span_report.proofs.strips.place_label.Goals as goal
 pub returns-then-again-from : goal.returns-then-again-from
 returns-then-again-from g c =
     let text = c.args.text.now in
-    let mark = mark_of c.args.label.now in
+    let mark = label_content c.args.label.now in
     let from = c.span_start-from.result in
     let to = c.span_end-to.result in
     let old = map part_of c.args.strips.now.items in
@@ -19,7 +19,7 @@ returns-then-again-from g c =
 pub returns : goal.returns
 returns g c =
     let text = c.args.text.now in
-    let mark = mark_of c.args.label.now in
+    let mark = label_content c.args.label.now in
     let from = c.span_start-from.result in
     let to = c.span_end-to.result in
     let again = c.line_start-again.result in
