@@ -4,9 +4,8 @@ use Rattle.std.proofs.lemmas.Bool.{cases_Bool}
 use Rattle.std.proofs.lemmas.Option.{none-some, same_Some}
 use Rattle.toml_span_tree.specs.Node.{Scalar}
 use Rattle.toml_span_tree.specs.Path.{Path, shape_scalar}
-use Rattle.toml_span_read.specs.Data.{Node, node, scalar, array, inline}
-use Rattle.toml_span_read.specs.Earlier.{span_of}
-use Rattle.toml_span_read.specs.Lines.{Block, SpellsDocument}
+use Rattle.toml_span_read.specs.Data.{Node, node, scalar, array, inline, span_of, Block}
+use Rattle.toml_span_read.specs.Grammar.{SpellsDocument}
 use Rattle.toml_span_claims.specs.declared.claims.Blame.TheVariants.{Key}
 use Rattle.toml_span_claims.specs.declared.claims.Sort.{Sort}
 use Rattle.toml_span_claims.specs.declared.claims.Sort.TheVariants.{Passed, Section, ArrayOfTables, Entry, Dotted, Assigned}
@@ -16,9 +15,8 @@ use Rattle.toml_span_claims.specs.Flat.{all_claims, claims_at}
 use Rattle.toml_span_claims.specs.Paths.{same_path}
 use Rattle.toml_span_assembly.proofs.EachClaim.{same_path-eq}
 use Rattle.toml_span_assembly.proofs.Refusals.{spelled-headed}
-use Rattle.toml_span.specs.Clashing.{IsIn}
+use Rattle.toml_span.specs.Clashing.{IsIn, own}
 use Rattle.toml_span.specs.Laws.{AssignsAgain, ValueReadsAgain}
-use Rattle.toml_span.specs.Scopes.{own}
 use Rattle.toml_span.proofs.Apart.{in-left, in-right}
 use Rattle.toml_span.proofs.ClaimedValues.{document-again}
 use Rattle.toml_span.proofs.EntryDecides.{at-append}

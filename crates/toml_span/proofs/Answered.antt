@@ -11,15 +11,18 @@ use Rattle.toml_span_tree.specs.Value.{view}
 use Rattle.toml_span_tree.specs.declared.error.Error.{Error}
 use Rattle.toml_span_tree.specs.declared.value.Value.{Value}
 use Rattle.toml_span_read.specs.declared.fault.Fault.{Fault}
-use Rattle.toml_span_read.specs.Faults.{IsLineInfo, Tells}
-use Rattle.toml_span_read.specs.Lines.{Block, SpellsDocument, StuckDocument}
+use Rattle.toml_span_read.specs.Places.{IsLineInfo}
+use Rattle.toml_span_read.specs.Faults.{Tells}
+use Rattle.toml_span_read.specs.Data.{Block}
+use Rattle.toml_span_read.specs.Grammar.{SpellsDocument}
+use Rattle.toml_span_read.specs.Stuck.{StuckDocument}
 use Rattle.toml_span_read_laws.proofs.LineFaults.{document_one}
 use Rattle.toml_span_read_laws.proofs.LineLaws.{document_unique, document_excluded}
 use Rattle.toml_span_read_laws.proofs.ValueLaws.{value_unique, value_excluded}
 use Rattle.toml_span_claims.specs.Claims.{Claims, claims}
 use Rattle.toml_span_claims.specs.Clashes.{fault_told, Told, Resolves, TellsFirst}
 use Rattle.toml_span_claims.specs.Flat.{flat}
-use Rattle.toml_span_claims.specs.Machine.{nothing, told}
+use Rattle.toml_span_claims.specs.code.Machine.{nothing, told}
 use Rattle.toml_span_assembly.specs.Parsing.{IsTreeOf, IsTree, IsFault, IsClashOf, IsClash, IsRefusal}
 use Rattle.toml_span.specs.Outcomes.{Outcome, resolved, clashed, stuck_at, HasOutcome, IsAnswered, TellsClash, IsAnswerOf, IsAlike}
 use Rattle.toml_span_assembly.proofs.Judged.{told-none, told-some, resolves-told, first-told}

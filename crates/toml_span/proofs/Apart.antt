@@ -7,7 +7,8 @@ use Rattle.toml_span_lex.specs.declared.span.Span.{Span}
 use Rattle.toml_span_tree.specs.Path.{Path, key, position, Place, place_at}
 use Rattle.toml_span_tree.specs.Value.{view}
 use Rattle.toml_span_tree.specs.declared.value.Value.{Value}
-use Rattle.toml_span_read.specs.Lines.{Block, SpellsDocument}
+use Rattle.toml_span_read.specs.Data.{Block}
+use Rattle.toml_span_read.specs.Grammar.{SpellsDocument}
 use Rattle.toml_span_claims.specs.declared.claims.Sort.TheVariants.{Entry}
 use Rattle.toml_span_claims.specs.Claims.{Claim, Claims, no_claims, claimed, scope, claims}
 use Rattle.toml_span_claims.specs.Flat.{all_claims, flat}

@@ -1,10 +1,9 @@
 -- What each claim of a document assigns is read again, and the claims behind it are those of that value.
 use Rattle.std.proofs.Common.{◌≡◌, ℕ, ◌⊎◌, List, inl, inr}
-use Rattle.toml_span_read.specs.Data.{Node, node, scalar, array, inline}
-use Rattle.toml_span_read.specs.Lines.{Block, SpellsDocument}
+use Rattle.toml_span_read.specs.Data.{Node, node, scalar, array, inline, span_of, Block}
+use Rattle.toml_span_read.specs.Grammar.{SpellsDocument}
 use Rattle.toml_span_claims.specs.declared.claims.Sort.TheVariants.{Assigned}
 use Rattle.toml_span_claims.specs.Claims.{Claim, Claims, no_claims, claimed, scope, followed, inner_of, value_claims, value_shape, claims}
-use Rattle.toml_span_read.specs.Earlier.{span_of}
 use Rattle.toml_span.specs.Laws.{AssignsAgain, ValueReadsAgain}
 use Rattle.toml_span.proofs.ReadAgain.{at-span, scalar-again}
 use Rattle.toml_span.proofs.SpelledClaims.{AllSpelled, Assigns, Makes, Spelled, document-spelled}

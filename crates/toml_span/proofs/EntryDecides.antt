@@ -3,12 +3,12 @@ use Rattle.std.proofs.Common.{◌≡◌, ℕ, true, List, [], ◌∷◌, ◌++�
 use Rattle.std.proofs.lemmas.Bool.{cases_Bool}
 use Rattle.std.proofs.lemmas.Option.{none-some, same_Some}
 use Rattle.toml_span_tree.specs.Path.{Path, position}
-use Rattle.toml_span_read.specs.Lines.{Block, SpellsDocument}
+use Rattle.toml_span_read.specs.Data.{Block}
+use Rattle.toml_span_read.specs.Grammar.{SpellsDocument}
 use Rattle.toml_span_claims.specs.declared.claims.Sort.TheVariants.{Passed, Entry}
 use Rattle.toml_span_claims.specs.Claims.{Claim, Claims, no_claims, claimed, scope, claims}
 use Rattle.toml_span_claims.specs.Clashes.{or_else}
-use Rattle.toml_span_claims.specs.Flat.{all_claims, claims_at, first, first_by_header, decides}
-use Rattle.toml_span_claims.specs.Marks.{by_header}
+use Rattle.toml_span_claims.specs.Flat.{all_claims, claims_at, first, first_by_header, decides, by_header}
 use Rattle.toml_span_claims.specs.Paths.{same_path}
 use Rattle.toml_span_claims.proofs.Grafts.{same_step-self}
 use Rattle.toml_span_assembly.proofs.EachClaim.{same_path-eq}

@@ -6,9 +6,9 @@ use Rattle.toml_span_tree.specs.Error.{Fault, duplicate_key}
 use Rattle.toml_span_tree.specs.Node as tree
 use Rattle.toml_span_tree.specs.Node.{text, integer}
 use Rattle.toml_span_tree.specs.Path.{Path, Step, key, position, Shape, shape_scalar, shape_array, shape_table, Place, place_at}
-use Rattle.toml_span_read.specs.Data.{Node, node, scalar, array, inline, no_items, item, no_pairs, pair, Event}
+use Rattle.toml_span_read.specs.Data.{Node, node, scalar, array, inline, no_items, item, no_pairs, pair, Event, Block}
 use Rattle.toml_span_read.specs.Keys.{Part}
-use Rattle.toml_span_read.specs.Lines.{Block, first_block, last_end}
+use Rattle.toml_span_read.specs.Grammar.{first_block, last_end}
 use Rattle.toml_span_claims.specs.declared.claims.Sort.{Sort}
 use Rattle.toml_span_claims.specs.declared.claims.Sort.TheVariants.{Passed, Section, ArrayOfTables, Entry, Dotted, Assigned}
 use Rattle.toml_span_claims.specs.declared.claims.Blame.{Blame}
@@ -17,7 +17,7 @@ use Rattle.toml_span_claims.specs.Paths.{same_path, enter, target, opened_by}
 use Rattle.toml_span_claims.specs.Claims.{Claim, Claims, no_claims, claimed, scope, table_claim, followed, key_claims, value_claims, inner_claims, item_claims, pair_claims, event_claims, end_claims, header_claims, section_claims, claims_behind, claims}
 use Rattle.toml_span_claims.specs.Clashes.{Told, Resolves, TellsFirst, fault_told}
 use Rattle.toml_span_claims.specs.Flat.{all_claims, claims_at, first_by_header, flat}
-use Rattle.toml_span_claims.specs.Machine.{change, show_all, told}
+use Rattle.toml_span_claims.specs.code.Machine.{change, show_all, told}
 use Rattle.toml_span_assembly.proofs.Judged.{told-none, told-some}
 
 -- what the examples evaluate

@@ -21,7 +21,7 @@ use Rattle.toml_span_typed.specs.declared.de_helpers.table_helper.TableHelper.{T
 use Rattle.toml_span_typed.specs.declared.de_helpers.table_helper.Unfinished.{Unfinished}
 use Rattle.toml_span_typed.specs.declared.de_helpers.table_helper.Unfinished.TheVariants as unfinished
 use Rattle.toml_span_typed.specs.TableHelper.{State, Opens, Requires, Tries, Refuses, Starved, found, fresh, keeping, noted, unasked, unexpected_entries, where_filled, without}
-use Rattle.toml_span.specs.Parts.{part, IsValueOf}
+use Rattle.toml_span.specs.Document.{part, IsValueOf}
 use Rattle.toml_span.specs.Helpers.{hide, except, IsOver, table_of, RequiresAt, TriesAt, EndsWith, HasNoKeyBut}
 use Rattle.toml_span.proofs.OneTree.{At, shown, same-name, first-entry, later-entry, not-again}
 use Rattle.toml_span.proofs.Pointed.{part-value, node-reached}

@@ -6,14 +6,12 @@ use Rattle.toml_span_lex.specs.declared.span.Span.{Span}
 use Rattle.toml_span_tree.specs.Path.{Path, key}
 use Rattle.toml_span_read.specs.Data.{Node, node, Inner, scalar, array, inline, Items, no_items, item, Pairs, no_pairs, pair, Event}
 use Rattle.toml_span_read.specs.Earlier.{Clear, NoneAt, path}
-use Rattle.toml_span_read.specs.Grammar.{Spells, SpellsInner, SpellsItems, SpellsPairs}
+use Rattle.toml_span_read.specs.Grammar.{Spells, SpellsInner, SpellsItems, SpellsPairs, SpellsEvents}
 use Rattle.toml_span_read.specs.Keys.{Part}
-use Rattle.toml_span_read.specs.Lines.{SpellsEvents}
 use Rattle.toml_span_claims.specs.declared.claims.Sort.TheVariants.{Dotted, Assigned}
 use Rattle.toml_span_claims.specs.Claims.{Claim, Claims, no_claims, claimed, scope, followed, key_claims, value_claims, inner_claims, item_claims, pair_claims, event_claims, element, assigned, dotted}
 use Rattle.toml_span_claims.specs.Paths.{below, at}
-use Rattle.toml_span.specs.Clashing.{IsIn}
-use Rattle.toml_span.specs.Scopes.{own}
+use Rattle.toml_span.specs.Clashing.{IsIn, own}
 use Rattle.toml_span.proofs.Apart.{in-left, in-right}
 use Rattle.toml_span.proofs.FirstPair.{in-cases}
 use Rattle.toml_span.proofs.OneScope.{Peaceful}

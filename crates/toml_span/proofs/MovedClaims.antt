@@ -9,8 +9,7 @@ use Rattle.toml_span_read.specs.Keys.{Part}
 use Rattle.toml_span_read_laws.specs.Again.{moved, moved_inner, moved_items, moved_pairs, moved_parts, moved_span}
 use Rattle.toml_span_claims.specs.Claims.{Claim, Claims, no_claims, claimed, scope, followed, key_claims, value_claims, inner_claims, item_claims, pair_claims, element, assigned, dotted}
 use Rattle.toml_span_claims.specs.Clashes.{blame, Resolves, or_else}
-use Rattle.toml_span_claims.specs.Flat.{all_claims, claims_at, decides, first, first_by_header}
-use Rattle.toml_span_claims.specs.Marks.{by_header}
+use Rattle.toml_span_claims.specs.Flat.{all_claims, claims_at, decides, first, first_by_header, by_header}
 use Rattle.toml_span_claims.specs.Paths.{same_path, below, at}
 use Rattle.toml_span_claims.proofs.Grafts.{same_step-self}
 use Rattle.toml_span_assembly.proofs.EachClaim.{same_path-eq}

@@ -3,7 +3,8 @@ use Rattle.std.proofs.Common.{◌≡◌, ℕ, zero, suc, ◌+◌, ◌≤◌, ◌
 use Rattle.std.specs.Prelude.{⊤}
 use Rattle.std.proofs.lemmas.Option.{none-some, same_Some}
 use Rattle.toml_span_tree.specs.Path.{Path, Step, key, position}
-use Rattle.toml_span_read.specs.Lines.{Block, SpellsDocument}
+use Rattle.toml_span_read.specs.Data.{Block}
+use Rattle.toml_span_read.specs.Grammar.{SpellsDocument}
 use Rattle.toml_span_claims.specs.declared.claims.Blame.{Blame}
 use Rattle.toml_span_claims.specs.declared.claims.Blame.TheVariants.{Key}
 use Rattle.toml_span_claims.specs.declared.claims.Sort.{Sort}
@@ -12,8 +13,7 @@ use Rattle.toml_span_claims.specs.Claims.{Claim, Claims, no_claims, claimed, sco
 use Rattle.toml_span_claims.specs.Clashes.{named, blame, meeting, clash, IsFree, Resolves}
 use Rattle.toml_span_claims.specs.Flat.{all_claims}
 use Rattle.toml_span_assembly.proofs.Refusals.{spelled-headed}
-use Rattle.toml_span.specs.Clashing.{IsIn, DoClash}
-use Rattle.toml_span.specs.Scopes.{own, ShareScope}
+use Rattle.toml_span.specs.Clashing.{IsIn, DoClash, own, ShareScope}
 use Rattle.toml_span.proofs.Apart.{in-left, in-right}
 use Rattle.toml_span.proofs.EntryDecides.{path-self}
 use Rattle.toml_span.proofs.FirstPair.{in-cases, free-clash}

@@ -13,7 +13,7 @@ use Rattle.toml_span_claims.specs.Ordered.{IsNameBefore, EachName, IsOrdered, Ho
 use Rattle.toml_span_claims.proofs.Grafts.{same_step-eq, same_step-self}
 use Rattle.toml_span_claims.proofs.Ordered.{one-each}
 use Rattle.toml_span_assembly.specs.Parsing.{IsTree}
-use Rattle.toml_span.specs.Parts.{without_key, IsValueOf}
+use Rattle.toml_span.specs.Document.{without_key, IsValueOf}
 use Rattle.toml_span.proofs.Answered.{one-tree}
 
 abbrev pub At : Type 0

@@ -4,12 +4,11 @@ use Rattle.std.proofs.lemmas.Bool.{cases_Bool}
 use Rattle.std.proofs.lemmas.Option.{none-some, same_Some}
 use Rattle.toml_span_lex.specs.declared.span.Span.{Span}
 use Rattle.toml_span_tree.specs.Path.{Path}
-use Rattle.toml_span_read.specs.Data.{Node, node, Inner, scalar, array, inline, Items, no_items, item, Pairs, no_pairs, pair, Event}
-use Rattle.toml_span_read.specs.Earlier.{span_of}
-use Rattle.toml_span_read.specs.Grammar.{from_to, Spells, SpellsInner, SpellsItems, SpellsPairs}
-use Rattle.toml_span_read.specs.Keys.{Part, Ascend}
-use Rattle.toml_span_read.specs.Lines.{SpellsEvents, Block, first_block, last_end, SpellsSections, SpellsDocument}
-use Rattle.toml_span_read_laws.specs.Order.{BlocksAscend}
+use Rattle.toml_span_read.specs.Data.{Node, node, Inner, scalar, array, inline, Items, no_items, item, Pairs, no_pairs, pair, Event, span_of, Block}
+use Rattle.toml_span_read.specs.Grammar.{from_to, Spells, SpellsInner, SpellsItems, SpellsPairs, SpellsEvents, first_block, last_end, SpellsSections, SpellsDocument}
+use Rattle.toml_span_read.specs.Keys.{Part}
+use Rattle.toml_span_read.specs.Places.{Ascend}
+use Rattle.toml_span_read_laws.specs.Places.{BlocksAscend}
 use Rattle.toml_span_read_laws.proofs.AscendLaws.{document_ascends}
 use Rattle.toml_span_read.proofs.InsideLemmas.{tail_inside}
 use Rattle.toml_span_read.proofs.KeyOrder.{dotted_ascend}

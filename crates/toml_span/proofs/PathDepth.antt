@@ -8,10 +8,10 @@ use Rattle.toml_span_tree.specs.Node as tree
 use Rattle.toml_span_tree.specs.Path.{Path, key, position, Place, reached, place_of, node_at}
 use Rattle.toml_span_tree.specs.Value.{view}
 use Rattle.toml_span_tree.specs.declared.value.Value.{Value}
-use Rattle.toml_span_read.specs.Data.{Node as Read, node, Inner, scalar, array, inline, Items, no_items, item, Pairs, no_pairs, pair, Event}
+use Rattle.toml_span_read.specs.Data.{Node as Read, node, Inner, scalar, array, inline, Items, no_items, item, Pairs, no_pairs, pair, Event, Block}
 use Rattle.toml_span_read.specs.Keys.{Part}
 use Rattle.toml_span_read.specs.Limits.{Within, WithinInner, WithinItems, WithinPairs, WithinEvents}
-use Rattle.toml_span_read.specs.Lines.{Block, SpellsDocument, SpellsSections, SpellsEvents, first_block}
+use Rattle.toml_span_read.specs.Grammar.{SpellsDocument, SpellsSections, SpellsEvents, first_block}
 use Rattle.toml_span_read_laws.proofs.DepthLaws.{value_within}
 use Rattle.toml_span_claims.specs.declared.claims.Sort.TheVariants.{Entry}
 use Rattle.toml_span_claims.specs.declared.claims.Head.{Head}
@@ -20,7 +20,7 @@ use Rattle.toml_span_claims.specs.Claims.{Claim, Claims, no_claims, claimed, key
 use Rattle.toml_span_claims.specs.Flat.{flat}
 use Rattle.toml_span.specs.Laws.{keys_in}
 use Rattle.toml_span_assembly.specs.Parsing.{IsTree}
-use Rattle.toml_span_claims.specs.Placing.{AreSections}
+use Rattle.toml_span_claims.specs.code.Placing.{AreSections}
 use Rattle.toml_span_assembly.proofs.EachClaim.{Each, each-followed, flat-decides}
 use Rattle.toml_span_assembly.proofs.Refusals.{spelled-headed}
 

@@ -10,14 +10,14 @@ use Rattle.toml_span_tree.specs.Pointer.{pointed, pointer_segments, NamesPath}
 use Rattle.toml_span_tree.specs.Value.{inner_of, view}
 use Rattle.toml_span_tree.specs.declared.value.Value.{Value}
 use Rattle.toml_span_tree.proofs.PointerLaws.{pointed-is}
-use Rattle.toml_span_read.specs.Lines.{Block, SpellsDocument}
+use Rattle.toml_span_read.specs.Data.{Block}
+use Rattle.toml_span_read.specs.Grammar.{SpellsDocument}
 use Rattle.toml_span_claims.specs.Claims.{claims}
 use Rattle.toml_span_claims.specs.Flat.{flat, Shows}
 use Rattle.toml_span_claims.specs.Ordered.{IsOrdered, HoldsOrdered, AreOrdered, MembersOrdered}
 use Rattle.toml_span_assembly.specs.Parsing.{IsTree}
 use Rattle.toml_span_assembly.proofs.ShownWhole.{shown-filled}
-use Rattle.toml_span.specs.Document.{StandsAt}
-use Rattle.toml_span.specs.Parts.{without_key, part, IsValueOf, PointsAt}
+use Rattle.toml_span.specs.Document.{StandsAt, without_key, part, IsValueOf, PointsAt}
 use Rattle.toml_span.proofs.Answered.{one-document}
 use Rattle.toml_span.proofs.OneTree.{At, one-value}
 

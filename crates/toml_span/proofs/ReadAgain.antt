@@ -7,10 +7,8 @@ use Rattle.toml_span_tree.specs.Path.{Path, Place, shape_scalar, shape_table, pl
 use Rattle.toml_span_tree.specs.Value.{view}
 use Rattle.toml_span_tree.specs.declared.value.Value.{Value}
 use Rattle.toml_span_read_laws.specs.Again.{SpellsAgain, ReadsAgain, ScalarReadsAgain}
-use Rattle.toml_span_read.specs.Data.{Node, node, scalar, array, inline}
-use Rattle.toml_span_read.specs.Earlier.{span_of}
-use Rattle.toml_span_read.specs.Grammar.{from_to, Spells}
-use Rattle.toml_span_read.specs.Lines.{Block, SpellsDocument}
+use Rattle.toml_span_read.specs.Data.{Node, node, scalar, array, inline, span_of, Block}
+use Rattle.toml_span_read.specs.Grammar.{from_to, Spells, SpellsDocument}
 use Rattle.toml_span_read_laws.proofs.AgainLines.{document_spelled}
 use Rattle.toml_span_claims.specs.Claims.{Claim, inner_of, value_shape, claims}
 use Rattle.toml_span_claims.specs.Flat.{flat}

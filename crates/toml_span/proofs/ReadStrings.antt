@@ -11,7 +11,8 @@ use Rattle.toml_span_tree.specs.Node.{text as text_scalar}
 use Rattle.toml_span_tree.specs.Path.{Path, Place, shape_scalar, place_at}
 use Rattle.toml_span_tree.specs.Value.{view}
 use Rattle.toml_span_tree.specs.declared.value.Value.{Value}
-use Rattle.toml_span_read.specs.Lines.{Block, SpellsDocument}
+use Rattle.toml_span_read.specs.Data.{Block}
+use Rattle.toml_span_read.specs.Grammar.{SpellsDocument}
 use Rattle.toml_span_read_laws.proofs.StringLaws.{span_cuts, unchanged}
 use Rattle.toml_span_claims.specs.Claims.{claims}
 use Rattle.toml_span_claims.specs.Flat.{flat}

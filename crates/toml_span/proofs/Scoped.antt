@@ -3,18 +3,16 @@ use Rattle.std.proofs.Common.{◌≡◌, ℕ, zero, suc, ◌<◌, ◌⊎◌, Boo
 use Rattle.std.specs.Prelude.{⊤, if◌then◌else◌}
 use Rattle.std.proofs.lemmas.Bool.{cases_Bool, cases_lt}
 use Rattle.toml_span_tree.specs.Path.{Path, Step, key, position}
-use Rattle.toml_span_read.specs.Data.{Node, node, Inner, scalar, array, inline, Items, no_items, item, Pairs, no_pairs, pair, Event}
+use Rattle.toml_span_read.specs.Data.{Node, node, Inner, scalar, array, inline, Items, no_items, item, Pairs, no_pairs, pair, Event, span_of, Block}
 use Rattle.toml_span_read.specs.Keys.{Part}
-use Rattle.toml_span_read.specs.Lines.{Block}
 use Rattle.toml_span_claims.specs.declared.claims.Sort.{Sort}
 use Rattle.toml_span_claims.specs.declared.claims.Sort.TheVariants.{Passed, Section, ArrayOfTables, Entry, Assigned}
 use Rattle.toml_span_claims.specs.declared.claims.Head.{Head}
 use Rattle.toml_span_claims.specs.Claims.{Claim, Claims, no_claims, claimed, scope, followed, key_claims, value_claims, inner_claims, item_claims, pair_claims, event_claims, element, assigned, dotted, head_of, header_claim, array_claims, end_claims, header_claims, section_claims, claims_behind, claims}
 use Rattle.toml_span_claims.specs.Paths.{same_path, below, at, enter, target, entries_at, opened_by, section_path}
-use Rattle.toml_span_claims.specs.Placing.{AreSections}
+use Rattle.toml_span_claims.specs.code.Placing.{AreSections}
 use Rattle.toml_span_assembly.proofs.EachClaim.{same_path-eq}
-use Rattle.toml_span.specs.Clashing.{IsIn}
-use Rattle.toml_span.specs.Scopes.{own}
+use Rattle.toml_span.specs.Clashing.{IsIn, own}
 use Rattle.toml_span.proofs.Apart.{in-left, in-right}
 
 -- ---- one claim

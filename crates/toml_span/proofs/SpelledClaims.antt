@@ -5,11 +5,9 @@ use Rattle.std.proofs.lemmas.Bool.{cases_Bool}
 use Rattle.toml_span_lex.specs.declared.span.Span.{Span}
 use Rattle.toml_span_tree.specs.Node.{Scalar}
 use Rattle.toml_span_tree.specs.Path.{Path, shape_scalar}
-use Rattle.toml_span_read.specs.Data.{Node, node, Inner, scalar, array, inline, Items, no_items, item, Pairs, no_pairs, pair, Event}
-use Rattle.toml_span_read.specs.Earlier.{span_of}
-use Rattle.toml_span_read.specs.Grammar.{Spells, SpellsInner, SpellsItems, SpellsPairs}
+use Rattle.toml_span_read.specs.Data.{Node, node, Inner, scalar, array, inline, Items, no_items, item, Pairs, no_pairs, pair, Event, span_of, Block}
+use Rattle.toml_span_read.specs.Grammar.{Spells, SpellsInner, SpellsItems, SpellsPairs, SpellsDocument, SpellsSections, SpellsEvents, first_block}
 use Rattle.toml_span_read.specs.Keys.{Part, Dotted}
-use Rattle.toml_span_read.specs.Lines.{Block, SpellsDocument, SpellsSections, SpellsEvents, first_block}
 use Rattle.toml_span_claims.specs.declared.claims.Mark.{Mark}
 use Rattle.toml_span_claims.specs.declared.claims.Sort.{Sort}
 use Rattle.toml_span_claims.specs.declared.claims.Sort.TheVariants.{Passed, Section, ArrayOfTables, Entry, Dotted as DottedTable, Assigned}
@@ -74,7 +72,7 @@ spelled-followed text limit (claimed c xs) ys h g = (
 )
 spelled-followed text limit (scope inner xs) ys h g = (h.0, spelled-followed text limit xs ys h.1 g)
 
-no-scalar : (sort : Sort) (s : Scalar) → shape_of sort ≡ is_scalar s → ⊥
+no-scalar : (sort : Sort) (s : Scalar) → shape_of sort ≡ shape_scalar s → ⊥
 no-scalar Passed s h = cc
 no-scalar Section s h = cc
 no-scalar ArrayOfTables s h = cc

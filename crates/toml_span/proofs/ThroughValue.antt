@@ -3,21 +3,19 @@ use Rattle.std.proofs.Common.{◌≡◌, ℕ, zero, suc, ◌<◌, ◌≤◌, ◌
 use Rattle.std.specs.Prelude.{⊤, if◌then◌else◌}
 use Rattle.std.proofs.lemmas.Bool.{cases_Bool}
 use Rattle.toml_span_tree.specs.Path.{Path, Step, key, position}
-use Rattle.toml_span_read.specs.Data.{Event}
+use Rattle.toml_span_read.specs.Data.{Event, Block}
 use Rattle.toml_span_read.specs.Keys.{Part, Dotted as IsDotted}
-use Rattle.toml_span_read.specs.Lines.{Block, SpellsDocument, SpellsLines, SpellsSections, first_block}
+use Rattle.toml_span_read.specs.Grammar.{SpellsDocument, SpellsLines, SpellsSections, first_block}
 use Rattle.toml_span_claims.specs.declared.claims.Blame.TheVariants.{Table, Key}
 use Rattle.toml_span_claims.specs.declared.claims.Sort.TheVariants.{Section, Entry, Dotted, Assigned}
 use Rattle.toml_span_claims.specs.declared.claims.Head.{Head}
 use Rattle.toml_span_claims.specs.Claims.{Claim, Claims, no_claims, claimed, scope, followed, event_claims, header_claim, array_claims, end_claims, header_claims, section_claims, claims_behind, claims, head_of}
 use Rattle.toml_span_claims.specs.Clashes.{Told, blame, clash, IsFree}
-use Rattle.toml_span_claims.specs.Flat.{all_claims}
-use Rattle.toml_span_claims.specs.Marks.{by_header}
+use Rattle.toml_span_claims.specs.Flat.{all_claims, by_header}
 use Rattle.toml_span_claims.specs.Paths.{same_path, below, at, enter, target, entries_at, opened_by, section_path}
 use Rattle.toml_span_assembly.proofs.EachClaim.{same_path-eq}
-use Rattle.toml_span.specs.Clashing.{IsIn, DoClash, IsPair, IsFirstPair}
+use Rattle.toml_span.specs.Clashing.{IsIn, DoClash, IsPair, IsFirstPair, own}
 use Rattle.toml_span.specs.Order.{start_of}
-use Rattle.toml_span.specs.Scopes.{own}
 use Rattle.toml_span.proofs.Apart.{in-right}
 use Rattle.toml_span.proofs.EntryDecides.{path-self}
 use Rattle.toml_span.proofs.FirstPair.{free-of, in-cases, clash-blames, later-plain, pair-in, pair-clash, Rises, rises-left, rises-right, rises-without, rising-rises, behind-claim, strictly}

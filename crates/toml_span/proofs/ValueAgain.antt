@@ -7,10 +7,9 @@ use Rattle.toml_span_tree.specs.Node.{Scalar}
 use Rattle.toml_span_tree.specs.Path.{Path, Step, key, Place, shape_scalar, place_at}
 use Rattle.toml_span_tree.specs.Value.{view}
 use Rattle.toml_span_tree.specs.declared.value.Value.{Value}
-use Rattle.toml_span_read.specs.Data.{Node, node, scalar, array, inline}
-use Rattle.toml_span_read.specs.Earlier.{span_of}
+use Rattle.toml_span_read.specs.Data.{Node, node, scalar, array, inline, span_of, Block}
 use Rattle.toml_span_read.specs.Keys.{Part}
-use Rattle.toml_span_read.specs.Lines.{Block, SpellsDocument, first_block}
+use Rattle.toml_span_read.specs.Grammar.{SpellsDocument, first_block}
 use Rattle.toml_span_read_laws.specs.Again.{ReadsAgain, event_again, moved}
 use Rattle.toml_span_claims.specs.declared.claims.Sort.TheVariants.{Assigned}
 use Rattle.toml_span_claims.specs.Claims.{Claim, Claims, no_claims, claimed, followed, assigned, key_claims, value_claims, inner_claims, value_shape, inner_of, event_claims, header_claims, section_claims, claims_behind, claims}
@@ -22,7 +21,7 @@ use Rattle.toml_span.specs.Again.{moved_place, StandsMoved, AssignsBrackets, tex
 use Rattle.toml_span.specs.Clashing.{IsIn}
 use Rattle.toml_span.specs.Laws.{ValueReadsAgain}
 use Rattle.toml_span.specs.Outcomes.{HasOutcome, resolved}
-use Rattle.toml_span.specs.Parts.{part, without_key}
+use Rattle.toml_span.specs.Document.{part, without_key}
 use Rattle.toml_span.proofs.Alone.{Alone, at-none, document-alone}
 use Rattle.toml_span.proofs.Answered.{one-document}
 use Rattle.toml_span.proofs.SpelledClaims.{followed-none}

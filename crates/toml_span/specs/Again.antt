@@ -3,13 +3,13 @@ use Rattle.std.specs.Prelude.{◌≡◌, ◌≢◌, ℕ, List, [], ◌∷◌, Op
 use Rattle.toml_span_lex.specs.declared.span.Span.{Span}
 use Rattle.toml_span_tree.specs.Node.{Scalar}
 use Rattle.toml_span_tree.specs.Path.{Path, Place, key, shape_scalar}
-use Rattle.toml_span_read.specs.Lines.{Block}
+use Rattle.toml_span_read.specs.Data.{Block}
 use Rattle.toml_span_read_laws.specs.Again.{assigned_again, moved_span}
 use Rattle.toml_span_claims.specs.declared.claims.Sort.TheVariants.{Assigned}
 use Rattle.toml_span_claims.specs.Claims.{Claim, claims}
 use Rattle.toml_span_claims.specs.Flat.{all_claims}
 use Rattle.toml_span.specs.Clashing.{IsIn}
-use Rattle.toml_span.specs.Parts.{part}
+use Rattle.toml_span.specs.Document.{part}
 
 -- the place with its spans moved, so that what stood at `from` stands at `to`
 abbrev pub moved_place : ℕ → ℕ → Place → Place

@@ -1,4 +1,4 @@
--- Which claims of one scope clash, and which two of them are the first by the places of their keys.
+-- Claims of one scope: which of them clash, and which two are the first by the places of their keys.
 use Rattle.std.specs.Prelude.{◌≡◌, ◌<◌, ◌⊎◌, List, [], ◌∷◌, ◌++◌, Some}
 use Rattle.toml_span_claims.specs.Claims.{Claim, Claims, no_claims, claimed, scope}
 use Rattle.toml_span_claims.specs.Clashes.{Told, clash}
@@ -26,3 +26,22 @@ pub record IsFirstPair (earlier : List Claim) (cs : Claims) (c d : Claim) : Type
   pub pair : IsPair earlier cs c d
   pub first : (e f : Claim) → IsPair earlier cs e f → (f ≡ d) ⊎ (start_of d < start_of f)
   pub partner : (e : Claim) → IsPair earlier cs e d → (e ≡ c) ⊎ (start_of c < start_of e)
+
+-- ---- claims of one scope
+
+-- the claims of the outer scope
+abbrev pub own : Claims → List Claim
+own no_claims = []
+own (claimed c cs) = c ∷ own cs
+own (scope inner cs) = own cs
+
+-- two claims of one of the scopes inside
+abbrev pub ShareInside : Claims → Claim → Claim → Type 0
+ShareInside no_claims c d = ⊥
+ShareInside (claimed x cs) c d = ShareInside cs c d
+ShareInside (scope inner cs) c d = (IsIn c (own inner) × IsIn d (own inner)) ⊎ ShareInside inner c d
+    ⊎ ShareInside cs c d
+
+-- two claims of one scope, the outer one or one inside
+abbrev pub ShareScope : Claims → Claim → Claim → Type 0
+ShareScope cs c d = (IsIn c (own cs) × IsIn d (own cs)) ⊎ ShareInside cs c d

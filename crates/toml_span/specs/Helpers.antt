@@ -1,17 +1,18 @@
 -- What typed reads of a table find in the flat document.
-use Rattle.std.specs.Prelude.{◌≡◌, ℕ, List, [], ◌∷◌, ◌++◌, if◌then◌else◌, Option, Some, None, MatchOption, Result, Ok, Err}
+use Rattle.std.specs.Prelude.{◌≡◌, ℕ, if◌then◌else◌, List, [], ◌∷◌, ◌++◌, Result, Ok, Err, Option, Some, None}
+use Rattle.std.specs.Prelude.{MatchOption}
 use Rattle.std.specs.Str.{bytes_eq}
 use Rattle.std.specs.declared.alloc.AllocError.{AllocError}
-use Rattle.toml_span_lex.specs.declared.span.Span.{Span}
 use Rattle.toml_span_lex.specs.declared.stop.Stop.{Stop}
 use Rattle.toml_span_lex.specs.declared.stop.Stop.TheVariants as stop
-use Rattle.toml_span_tree.specs.declared.error.Error.{Error}
-use Rattle.toml_span_tree.specs.Error.{Fault, fault_of, unexpected_keys}
-use Rattle.toml_span_tree.specs.Node.{Members, Node, node, table}
+use Rattle.toml_span_lex.specs.declared.span.Span.{Span}
 use Rattle.toml_span_tree.specs.Path.{Path, Place, key, position}
+use Rattle.toml_span_tree.specs.Node.{Node, node, table, Members}
+use Rattle.toml_span_tree.specs.declared.error.Error.{Error}
+use Rattle.toml_span_tree.specs.Error.{fault_of, Fault, unexpected_keys}
+use Rattle.toml_span_typed.specs.TableHelper.{State, Starved, keeping, missing, noted, names_in, where_filled}
 use Rattle.toml_span_typed.specs.Faults.{Faults, all}
-use Rattle.toml_span_typed.specs.TableHelper.{State, Starved, keeping, missing, names_in, noted, where_filled}
-use Rattle.toml_span.specs.Parts.{part, IsValueOf}
+use Rattle.toml_span.specs.Document.{IsValueOf, part}
 
 -- a table's places without what stands under a name
 abbrev pub hide : List ℕ → (Path → Option Place) → Path → Option Place

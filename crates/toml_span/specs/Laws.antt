@@ -3,12 +3,13 @@ use Rattle.std.specs.Prelude.{◌≡◌, ⊤, ℕ, suc, ◌+◌, Bool, List, [],
 use Rattle.toml_span_lex.specs.declared.span.Span.{Span}
 use Rattle.toml_span_lex.specs.Strings.{IsString, IsEmptyOnOneLine}
 use Rattle.toml_span_tree.specs.Path.{Path, key, position}
-use Rattle.toml_span_read_laws.specs.Again.{ReadsAgain, ScalarReadsAgain}
-use Rattle.toml_span_read_laws.specs.Between.{CutsContent}
+use Rattle.toml_span_read.specs.Data.{span_of}
 use Rattle.toml_span_read.specs.Data as read
+use Rattle.toml_span_read_laws.specs.Places.{CutsContent}
+use Rattle.toml_span_read_laws.specs.Again.{ReadsAgain, ScalarReadsAgain}
 use Rattle.toml_span_claims.specs.declared.claims.Sort.TheVariants.{Assigned}
-use Rattle.toml_span_read.specs.Earlier.{span_of}
-use Rattle.toml_span_claims.specs.Claims.{Claims, no_claims, claimed, scope, followed, inner_of, value_claims, value_shape}
+use Rattle.toml_span_claims.specs.Claims.{Claim, Claims, no_claims, claimed, scope, followed, inner_of, value_claims}
+use Rattle.toml_span_claims.specs.Claims.{value_shape}
 
 -- how many keys a path has
 abbrev pub keys_in : Path → ℕ
@@ -16,8 +17,8 @@ keys_in [] = 0
 keys_in (key name ∷ p) = suc (keys_in p)
 keys_in (position i ∷ p) = keys_in p
 
--- The text from i to j is a string with this value. The span is all that stands between its quotes, or, of two quotes alone,
--- the first of them.
+-- The text from i to j is a string with this value. The span is all that stands between its quotes, or, of two quotes
+-- alone, the first of them.
 pub record ShowsString (text value : List ℕ) (span : Span) : Type 0 where
   pub i : ℕ
   pub j : ℕ

@@ -4,13 +4,11 @@ pub use Rattle.toml_span_tree.specs.Node
 pub use Rattle.toml_span_tree.specs.Path
 pub use Rattle.toml_span_tree.specs.Pointer
 pub use Rattle.toml_span_tree.specs.Value
-pub mod Laws
-pub mod Order
 pub mod Clashing
-pub mod Scopes
-pub mod Outcomes
 pub mod Document
-pub mod Parts
+pub mod Order
+pub mod Laws
+pub mod Outcomes
 pub mod Helpers
 pub mod Reading
 pub mod Again

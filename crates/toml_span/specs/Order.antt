@@ -1,17 +1,19 @@
 -- The order of claims and keys in the text.
-use Rattle.std.specs.Prelude.{◌≡◌, ◌⊎◌, ⊤, ℕ, ◌<◌, List, [], ◌∷◌, Option, Some, option_and_then}
+use Rattle.std.specs.Prelude.{◌≡◌, ⊤, ℕ, ◌<◌, ◌⊎◌, List, [], ◌∷◌, Option, Some, option_and_then}
 use Rattle.toml_span_lex.specs.declared.span.Span.{Span}
 use Rattle.toml_span_tree.specs.Path.{Path, Place}
-use Rattle.toml_span_claims.specs.declared.claims.Sort.TheVariants.{ArrayOfTables, Entry}
 use Rattle.toml_span_claims.specs.Claims.{Claim}
+use Rattle.toml_span_claims.specs.declared.claims.Sort.TheVariants.{ArrayOfTables, Entry}
 
 -- where the key starts that claims, or the element
 abbrev pub start_of : Claim → ℕ
 start_of c = c.mark.key.start
 
--- the second claim starts behind the first; or the first is an array of tables and the second its entry, which one key claims
+-- the second claim starts behind the first; or the first is an array of tables and the second its entry, which one key
+-- claims
 abbrev pub Follows : Claim → Claim → Type 0
-Follows c d = (start_of c < start_of d) ⊎ ((c.mark.sort ≡ ArrayOfTables) × (d.mark.sort ≡ Entry) × (c.mark.key ≡ d.mark.key))
+Follows c d =
+    (start_of c < start_of d) ⊎ ((c.mark.sort ≡ ArrayOfTables) × (d.mark.sort ≡ Entry) × (c.mark.key ≡ d.mark.key))
 
 -- each claim follows the one before it
 abbrev pub Ascends : List Claim → Type 0
@@ -25,4 +27,5 @@ key_at places p = option_and_then (λ x. x.key_span) (places p)
 
 -- no two keys start at one place
 abbrev pub KeysApart : (Path → Option Place) → Type 0
-KeysApart places = (p q : Path) (k l : Span) → key_at places p ≡ Some k → key_at places q ≡ Some l → k.start ≡ l.start → p ≡ q
+KeysApart places =
+    (p q : Path) (k l : Span) → key_at places p ≡ Some k → key_at places q ≡ Some l → k.start ≡ l.start → p ≡ q

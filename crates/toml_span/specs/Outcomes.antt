@@ -2,17 +2,20 @@
 use Rattle.std.specs.Prelude.{◌≡◌, ⊤, ℕ, List, [], length, Result, Ok, Err}
 use Rattle.toml_span_lex.specs.declared.stop.Stop.{Stop}
 use Rattle.toml_span_lex.specs.declared.stop.Stop.TheVariants as stops
+use Rattle.toml_span_tree.specs.declared.error.Error.{Error}
+use Rattle.toml_span_tree.specs.declared.value.Value.{Value}
 use Rattle.toml_span_tree.specs.Error.{fault_of}
 use Rattle.toml_span_tree.specs.Path.{Path, place_at}
 use Rattle.toml_span_tree.specs.Value.{view}
-use Rattle.toml_span_tree.specs.declared.error.Error.{Error}
-use Rattle.toml_span_tree.specs.declared.value.Value.{Value}
-use Rattle.toml_span_read.specs.Faults.{IsLineInfo, Tells}
-use Rattle.toml_span_read.specs.Lines.{Block, SpellsDocument, StuckDocument}
+use Rattle.toml_span_read.specs.Data.{Block}
 use Rattle.toml_span_read.specs.declared.fault.Fault.{Fault}
-use Rattle.toml_span_claims.specs.Claims.{claims}
+use Rattle.toml_span_read.specs.Grammar.{SpellsDocument}
+use Rattle.toml_span_read.specs.Stuck.{StuckDocument}
+use Rattle.toml_span_read.specs.Places.{IsLineInfo}
+use Rattle.toml_span_read.specs.Faults.{Tells}
 use Rattle.toml_span_claims.specs.Clashes.{Told, Resolves, TellsFirst, fault_told}
-use Rattle.toml_span_assembly.specs.Parsing.{IsTreeOf, IsTree, IsRefusal}
+use Rattle.toml_span_claims.specs.Claims.{claims}
+use Rattle.toml_span_assembly.specs.Parsing.{IsTree, IsRefusal, IsTreeOf}
 
 -- the sections that it spells; those and their first clash; or the fault at which it is stuck
 pub data Outcome : Type 0 where
@@ -20,8 +23,8 @@ pub data Outcome : Type 0 where
   clashed : List Block → Told → Outcome
   stuck_at : Fault → Outcome
 
--- The text spells these sections, and no two of their claims clash; or it spells them, and this clash is their first; or it is
--- stuck at this fault.
+-- The text spells these sections, and no two of their claims clash; or it spells them, and this clash is their first;
+-- or it is stuck at this fault.
 abbrev pub HasOutcome : List ℕ → ℕ → Outcome → Type 0
 HasOutcome text limit (resolved blocks) = SpellsDocument blocks text limit × Resolves [] (claims blocks)
 HasOutcome text limit (clashed blocks clash) = SpellsDocument blocks text limit × TellsFirst [] (claims blocks) clash
@@ -35,7 +38,8 @@ IsAnswered text limit (Err stop) = IsRefusal text limit stop
 -- the error tells this clash, with its line and its column
 abbrev pub TellsClash : List ℕ → Told → Error → Type 0
 TellsClash text clash error =
-    (line column : ℕ) × IsLineInfo text clash.meeting.place.start line column × (fault_of error ≡ fault_told clash.meeting clash.name (line, column))
+    (line column : ℕ) × IsLineInfo text clash.meeting.place.start line column
+    × (fault_of error ≡ fault_told clash.meeting clash.name (line, column))
 
 -- The tree of these sections, an error that tells this clash, or one that tells this fault; or want of memory.
 abbrev pub IsAnswerOf : List ℕ → Outcome → Result Value (Stop Error) → Type 0
@@ -49,7 +53,8 @@ IsAnswerOf text (stuck_at fault) (Ok root) = ⊥
 IsAnswerOf text (stuck_at fault) (Err (stops.Memory e)) = ⊤
 IsAnswerOf text (stuck_at fault) (Err (stops.Fault error)) = Tells text fault (fault_of error)
 
--- Both are trees, which show the same at each path, or both are errors, which tell the same. Want of memory is like each answer.
+-- Both are trees, which show the same at each path, or both are errors, which tell the same. Want of memory is like
+-- each answer.
 abbrev pub IsAlike : Result Value (Stop Error) → Result Value (Stop Error) → Type 0
 IsAlike (Ok root) (Ok other) = (path : Path) → place_at path (view root) ≡ place_at path (view other)
 IsAlike (Ok root) (Err (stops.Memory f)) = ⊤

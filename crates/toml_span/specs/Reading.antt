@@ -1,14 +1,14 @@
 -- What a document is read as.
-use Rattle.std.specs.Prelude.{◌≡◌, ◌⊎◌, ⊤, ℕ, List, Result, Ok, Err}
+use Rattle.std.specs.Prelude.{◌≡◌, ⊤, ℕ, ◌⊎◌, List, Result, Err}
 use Rattle.toml_span_lex.specs.declared.stop.Stop.{Stop}
 use Rattle.toml_span_lex.specs.declared.stop.Stop.TheVariants as stops
-use Rattle.toml_span_tree.specs.declared.error.Error.{Error}
 use Rattle.toml_span_tree.specs.declared.value.Value.{Value}
-use Rattle.toml_span_tree.specs.Error.{fault_of}
 use Rattle.toml_span_tree.specs.Node.{Node}
 use Rattle.toml_span_tree.specs.Value.{view}
+use Rattle.toml_span_tree.specs.declared.error.Error.{Error}
+use Rattle.toml_span_tree.specs.Error.{fault_of}
 use Rattle.toml_span_typed.specs.Faults.{Faults, one}
-use Rattle.toml_span_assembly.specs.Parsing.{IsRefusal, IsTree}
+use Rattle.toml_span_assembly.specs.Parsing.{IsTree, IsRefusal}
 
 -- the text has a tree, of which the type's reading allows the answer
 abbrev pub IsRead : {T : Type 0} → (Node → Result T Faults → Node → Type 0) → List ℕ → Result T Faults → Type 0

@@ -12,7 +12,9 @@ ghost use Rattle.toml_span_typed.specs.declared.de_helpers.table_helper.Unfinish
 ghost use Rattle.toml_span_typed.specs.declared.de_helpers.table_helper.Unfinished.TheVariants.{Faults as unfinished, Memory as starved};
 ghost use Rattle.std.specs.declared.alloc.AllocError.{AllocError};
 ghost use Rattle.toml_span_read_laws.specs.Again.{ScalarReadsAgain};
-ghost use Rattle.toml_span_read.specs.Lines.{Block, SpellsDocument, StuckDocument};
+ghost use Rattle.toml_span_read.specs.Data.{Block};
+ghost use Rattle.toml_span_read.specs.Grammar.{SpellsDocument};
+ghost use Rattle.toml_span_read.specs.Stuck.{StuckDocument};
 ghost use Rattle.toml_span_read.specs.declared.fault.Fault.{Fault};
 ghost use Rattle.toml_span_tree.specs.Error.{fault_of};
 ghost use Rattle.toml_span_tree.specs.Node.{Node, Scalar, text as string};
@@ -24,15 +26,13 @@ ghost use Rattle.toml_span_tree.specs.declared.value.Value.{Value};
 ghost use Rattle.toml_span_claims.specs.Claims.{Claim, Claims, claims};
 ghost use Rattle.toml_span_claims.specs.Clashes.{Told, Resolves, TellsFirst};
 ghost use Rattle.toml_span_claims.specs.Flat.{Shows, all_claims, flat};
-ghost use Rattle.toml_span_claims.specs.OneEach.{HasOneEach};
+ghost use Rattle.toml_span_claims.specs.Ordered.{HasOneEach, IsOrdered};
 ghost use Rattle.toml_span.specs.Again.{AssignsBrackets, StandsMoved, at_x, text_again};
-ghost use Rattle.toml_span.specs.Document.{StandsAt};
+ghost use Rattle.toml_span.specs.Document.{StandsAt, IsValueOf, PointsAt};
 ghost use Rattle.toml_span.specs.Helpers.{EndsWith, HasNoKeyBut, IsOver, RequiresAt, TriesAt, except};
 ghost use Rattle.toml_span.specs.Laws.{AssignsAgain, keys_in, ShowsString};
-ghost use Rattle.toml_span.specs.Parts.{IsValueOf, PointsAt};
 ghost use Rattle.toml_span.specs.Order.{Ascends, key_at, KeysApart};
 ghost use Rattle.toml_span.specs.Outcomes.{HasOutcome, IsAlike, IsAnswered, IsAnswerOf, Outcome, resolved};
-ghost use Rattle.toml_span_claims.specs.Ordered.{IsOrdered};
 ghost use Rattle.toml_span_assembly.specs.Parsing.{IsClash, IsFault, IsRefusal, IsTree};
 
 pub mod clashes;

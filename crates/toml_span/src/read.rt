@@ -1,6 +1,6 @@
 //! Reads a document as a type, and tells where a span stands.
 ghost use Rattle.std.specs.Prelude.{◌≡◌, ◌+◌, ℕ, IfOk, IfErr, Ok, length, min};
-ghost use Rattle.toml_span_read.specs.Faults.{IsLineInfo};
+ghost use Rattle.toml_span_read.specs.Places.{IsLineInfo};
 ghost use Rattle.toml_span.specs.Reading.{IsRead, NotRead};
 
 use std::alloc::Global;

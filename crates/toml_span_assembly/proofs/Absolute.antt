@@ -3,15 +3,14 @@ use Rattle.std.proofs.Common.{◌≡◌, ℕ, zero, suc, false, cond, List, [], 
 use Rattle.std.specs.Prelude.{if◌then◌else◌}
 use Rattle.std.proofs.lemmas.Bool.{cases_Bool}
 use Rattle.toml_span_tree.specs.Path.{Path, Step, key, position}
-use Rattle.toml_span_read.specs.Data.{Node as Read, node, Inner, scalar, array, inline, Items, no_items, item, Pairs, no_pairs, pair, Event, pairs_onto}
+use Rattle.toml_span_read.specs.Data.{Node as Read, node, Inner, scalar, array, inline, Items, no_items, item, Pairs, no_pairs, pair, Event, pairs_onto, Block}
 use Rattle.toml_span_read.specs.Keys.{Part}
-use Rattle.toml_span_read.specs.Lines.{Block}
 use Rattle.toml_span_claims.specs.declared.claims.Sort.TheVariants.{Passed, Section, ArrayOfTables, Entry}
 use Rattle.toml_span_claims.specs.declared.claims.Head.{Head}
 use Rattle.toml_span_claims.specs.Paths.{same_step, same_path, below, at, enter, target, entries_at, opened_by}
 use Rattle.toml_span_claims.specs.Claims.{Claims, no_claims, claimed, scope, followed, key_claims, value_claims, inner_claims, item_claims, pair_claims, event_claims, section_claims, assignment_claims, element, assigned, dotted, head_of, header_claim, array_claims, end_claims, header_claims}
-use Rattle.toml_span_claims.specs.Machine.{graft}
-use Rattle.toml_span_claims.specs.Relative.{under, pair_at, opening, adding, ending, entered, through, section_at, one_more, grown_here, grown_below, grown_through, grown}
+use Rattle.toml_span_claims.specs.code.Machine.{graft}
+use Rattle.toml_span_claims.specs.code.Relative.{under, pair_at, opening, adding, ending, entered, through, section_at, one_more, grown_here, grown_below, grown_through, grown}
 use Rattle.toml_span_claims.proofs.Grafts.{fun_ext, graft-itself, same_step-eq, under-followed}
 
 -- claims that move with their path

@@ -8,9 +8,8 @@ use Rattle.toml_span_tree.specs.declared.value.Value.{Value}
 use Rattle.toml_span_tree.specs.declared.value.ValueInner.TheVariants.{Table as table_inner}
 use Rattle.toml_span_tree.proofs.Values.{inner_view-Table}
 use Rattle.toml_span_read.specs.declared.section.Section.{Section}
-use Rattle.toml_span_read.specs.Data.{event}
+use Rattle.toml_span_read.specs.Data.{event, Block, block}
 use Rattle.toml_span_read.specs.Keys.{part}
-use Rattle.toml_span_read.specs.Lines.{Block, block}
 use Rattle.toml_span_claims.specs.declared.claims.Halt.{Halt}
 use Rattle.toml_span_claims.specs.declared.claims.Halt.TheVariants.{Memory, Clash}
 use Rattle.toml_span_claims.specs.declared.node.Node.{Node}
@@ -18,12 +17,12 @@ use Rattle.toml_span_claims.specs.Paths.{entries_at, opened_by}
 use Rattle.toml_span_claims.specs.Claims.{Claims, followed, event_claims, section_claims, claims_behind, claims, head_of}
 use Rattle.toml_span_claims.specs.Clashes.{or_else}
 use Rattle.toml_span_claims.specs.Flat.{flat, Shows}
-use Rattle.toml_span_claims.specs.Machine.{nothing, told, put_all, told_by}
+use Rattle.toml_span_claims.specs.code.Machine.{nothing, told, put_all, told_by}
 use Rattle.toml_span_claims.specs.Ordered.{HoldsOrdered}
-use Rattle.toml_span_claims.specs.Placing.{Places, AreSections, Assembles, ShowsBelow, place_shown}
-use Rattle.toml_span_claims.specs.Relative.{section_at, grown}
-use Rattle.toml_span_claims.specs.Tree.{cells, counts, IsFresh, IsScope}
-use Rattle.toml_span_assembly.specs.Growing.{Placed, Remaining}
+use Rattle.toml_span_claims.specs.code.Placing.{Places, AreSections, Assembles, ShowsBelow, place_shown}
+use Rattle.toml_span_claims.specs.code.Relative.{section_at, grown}
+use Rattle.toml_span_claims.specs.code.Tree.{cells, counts, IsFresh, IsScope}
+use Rattle.toml_span_assembly.specs.code.Growing.{Placed, Remaining}
 use Rattle.toml_span_assembly.proofs.Absolute.{section_at-is, grown-is}
 use Rattle.toml_span_claims.proofs.Grafts.{told-followed, put_all-followed}
 use Rattle.toml_span_assembly.proofs.Judged.{told-none, told-some}

@@ -13,8 +13,7 @@ use Rattle.toml_span_lex.specs.declared.key.Key.{Key}
 use Rattle.toml_span_tree.specs.Path.{Path, Step, key, position}
 use Rattle.toml_span_tree.specs.Value.{view}
 use Rattle.toml_span_tree.specs.declared.value.Value.{Value}
-use Rattle.toml_span_read.specs.Data.{Node as Read, node, Inner, scalar, array, inline, Items, no_items, item as one_item, Pairs, no_pairs, pair}
-use Rattle.toml_span_read.specs.Earlier.{span_of}
+use Rattle.toml_span_read.specs.Data.{Node as Read, node, Inner, scalar, array, inline, Items, no_items, item as one_item, Pairs, no_pairs, pair, span_of}
 use Rattle.toml_span_read.specs.Keys.{Part, part}
 use Rattle.toml_span_claims.specs.declared.claims.Blame.{Blame}
 use Rattle.toml_span_claims.specs.declared.claims.Halt.{Halt}
@@ -29,11 +28,11 @@ use Rattle.toml_span_claims.specs.declared.node.Node.TheOpen.{Node-F}
 use Rattle.toml_span_claims.specs.Paths.{same_path, below, at}
 use Rattle.toml_span_claims.specs.Claims.{Claims, no_claims, claimed, scope, followed, assigned, pair_mark, key_claims, value_claims, inner_claims, item_claims, pair_claims}
 use Rattle.toml_span_claims.specs.Clashes.{Told, blame, meeting, named, or_else, partner}
-use Rattle.toml_span_claims.specs.Machine.{Cell, State, nothing, change, with_claim, with_inner, Gives, met, told, show_all, put_all, graft}
+use Rattle.toml_span_claims.specs.code.Machine.{Cell, State, nothing, change, with_claim, with_inner, Gives, met, told, show_all, put_all, graft}
 use Rattle.toml_span_claims.specs.Ordered.{IsOrdered}
-use Rattle.toml_span_claims.specs.Placing.{Places, IsFinished, ValueGives}
-use Rattle.toml_span_claims.specs.Relative.{pair_at}
-use Rattle.toml_span_claims.specs.Tree.{is_named, plain, child_in, marks, entries, child, closed, closed_marks, closed_cell, held_marks, or_closed, or_nothing, item, cells, cell_at, counts, count_at, own_cell, value_cell, or_zero, is_entry_sort, IsNamed, IsTableOrArray, AreNamed, HoldsOrderedValues, NoArray, IsScope, Sound, sound}
+use Rattle.toml_span_claims.specs.code.Placing.{Places, IsFinished, ValueGives}
+use Rattle.toml_span_claims.specs.code.Relative.{pair_at}
+use Rattle.toml_span_claims.specs.code.Tree.{is_named, plain, child_in, marks, entries, child, closed, closed_marks, closed_cell, held_marks, or_closed, or_nothing, item, cells, cell_at, counts, count_at, own_cell, value_cell, or_zero, is_entry_sort, IsNamed, IsTableOrArray, AreNamed, HoldsOrderedValues, NoArray, IsScope, Sound, sound}
 use Rattle.toml_span_claims.proofs.Grafts.{fun_ext, told-under, put_all-under}
 use Rattle.toml_span_claims.proofs.Nodes.{cells-child, cells-closed, cells-here}
 use Rattle.toml_span_claims.proofs.Placed.{gives-err, held-child, out-roll}

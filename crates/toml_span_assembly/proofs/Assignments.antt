@@ -6,8 +6,7 @@ use Rattle.toml_span_tree.specs.Path.{Place, reached, place_of as tree_place}
 use Rattle.toml_span_tree.specs.Value.{inner_view}
 use Rattle.toml_span_tree.specs.declared.value.Value.{Value}
 use Rattle.toml_span_tree.specs.declared.value.ValueInner.TheVariants.{Table}
-use Rattle.toml_span_read.specs.Data.{Event, view, event}
-use Rattle.toml_span_read.specs.Earlier.{span_of}
+use Rattle.toml_span_read.specs.Data.{Event, view, event, span_of}
 use Rattle.toml_span_read.specs.Keys.{part}
 use Rattle.toml_span_read.specs.declared.value.Assignment.{Assignment}
 use Rattle.toml_span_read.specs.declared.value.Val.{Val}
@@ -18,10 +17,10 @@ use Rattle.toml_span_claims.specs.declared.node.Node.{Node}
 use Rattle.toml_span_claims.specs.declared.node.Node.TheViews.{out-Node}
 use Rattle.toml_span_claims.specs.Claims.{Claims, followed, assignment_claims, event_claims}
 use Rattle.toml_span_claims.specs.Clashes.{or_else}
-use Rattle.toml_span_claims.specs.Machine.{State, nothing, show_all, put_all, told}
-use Rattle.toml_span_claims.specs.Placing.{Places, ScopeGives, ShowsBelow, ShowsPlain, Finishes, place_shown}
-use Rattle.toml_span_claims.specs.Relative.{pair_at}
-use Rattle.toml_span_claims.specs.Tree.{marks, cells, counts, plain, IsScope, IsFresh}
+use Rattle.toml_span_claims.specs.code.Machine.{State, nothing, show_all, put_all, told}
+use Rattle.toml_span_claims.specs.code.Placing.{Places, ScopeGives, ShowsBelow, ShowsPlain, Finishes, place_shown}
+use Rattle.toml_span_claims.specs.code.Relative.{pair_at}
+use Rattle.toml_span_claims.specs.code.Tree.{marks, cells, counts, plain, IsScope, IsFresh}
 use Rattle.toml_span_assembly.proofs.Absolute.{pair_at-is}
 use Rattle.toml_span_claims.proofs.Grafts.{told-followed, put_all-followed}
 use Rattle.toml_span_claims.proofs.Nodes.{cells-fresh, sound-fresh}

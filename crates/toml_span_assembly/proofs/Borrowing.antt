@@ -31,11 +31,13 @@ use Rattle.toml_span_claims.specs.declared.claims.Sort.TheVariants.{Assigned}
 use Rattle.toml_span_claims.specs.declared.node.Node.{Node}
 use Rattle.toml_span_claims.specs.declared.node.Node.TheOpen.{Node-F}
 use Rattle.toml_span_claims.specs.declared.node.Node.TheViews.{roll-Node, out-Node}
-use Rattle.toml_span_claims.specs.Borrowed.{string as string_standing, Held, held, inner_held, key_standing, standing, entries_of, value_standing, array_standing, table_standing, IsKeyOf, IsNamedBy, IsRight, AreRight, IsFrom, AreFrom, keys_of, Keeps}
-use Rattle.toml_span_read.specs.Lines.{SpellsDocument, block}
-use Rattle.toml_span_claims.specs.Machine.{Gives, met}
+use Rattle.toml_span_claims.specs.Borrowed.{string as string_standing, Held, held, key_standing, value_standing, IsKeyOf, IsNamedBy, IsRight, AreRight, keys_of}
+use Rattle.toml_span_claims.specs.code.Borrowed.{inner_held, standing, entries_of, array_standing, table_standing, IsFrom, AreFrom, Keeps}
+use Rattle.toml_span_read.specs.Grammar.{SpellsDocument}
+use Rattle.toml_span_read.specs.Data.{block}
+use Rattle.toml_span_claims.specs.code.Machine.{Gives, met}
 use Rattle.toml_span_assembly.specs.Parsing.{IsBorrowedTree}
-use Rattle.toml_span_claims.specs.Tree.{is_named, entries}
+use Rattle.toml_span_claims.specs.code.Tree.{is_named, entries}
 use Rattle.toml_span_claims.proofs.BorrowLemmas.{held_is, made_table, made_array, of_node, node_of, insert_new, box_found, box_set, box_insert}
 
 -- ---- results

@@ -7,7 +7,7 @@ use Rattle.toml_span_tree.proofs.Values.{view_is}
 use Rattle.toml_span_claims.specs.declared.claims.Mark.{Mark}
 use Rattle.toml_span_claims.specs.declared.claims.Sort.TheVariants.{Assigned}
 use Rattle.toml_span_claims.specs.Claims.{pair_mark}
-use Rattle.toml_span_claims.specs.Tree.{closed_marks}
+use Rattle.toml_span_claims.specs.code.Tree.{closed_marks}
 
 -- the claim of a value that stands at a name
 pub marks-found : (o : Option (Key × Value)) (k : Key) (v : Value) (m : Mark) → o ≡ Some (k, v) → m ≡ pair_mark Assigned k.span v.span → closed_marks o ≡ m ∷ []

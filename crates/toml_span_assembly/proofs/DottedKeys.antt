@@ -2,8 +2,7 @@
 use Rattle.std.proofs.Common.{◌≡◌, ℕ, List, [], ◌∷◌, Some, None, option_map, Result, Ok, Err, refl, sym, ap, ◌∙◌, subst, inl, inr}
 use Rattle.std.proofs.lemmas.Option.{none-some}
 use Rattle.toml_span_tree.specs.Path.{Path, key}
-use Rattle.toml_span_read.specs.Data.{Node as Read}
-use Rattle.toml_span_read.specs.Earlier.{span_of}
+use Rattle.toml_span_read.specs.Data.{Node as Read, span_of}
 use Rattle.toml_span_read.specs.Keys.{Part}
 use Rattle.toml_span_claims.specs.declared.claims.Blame.TheVariants.{Key}
 use Rattle.toml_span_claims.specs.declared.claims.Halt.{Halt}
@@ -12,10 +11,10 @@ use Rattle.toml_span_claims.specs.declared.claims.Sort.TheVariants.{ArrayOfTable
 use Rattle.toml_span_claims.specs.declared.node.Node.{Node}
 use Rattle.toml_span_claims.specs.Claims.{claimed, dotted, pair_mark, table_claim}
 use Rattle.toml_span_claims.specs.Clashes.{blame, meeting, named, or_else}
-use Rattle.toml_span_claims.specs.Machine.{Gives, met}
-use Rattle.toml_span_claims.specs.Placing.{Passes, Places, Reaches}
-use Rattle.toml_span_claims.specs.Relative.{pair_at, through_pair}
-use Rattle.toml_span_claims.specs.Tree.{is_array_sort, is_entry_sort, child, closed, closed_marks, counts, entries, marks, IsChild, IsFresh, IsHeld, IsNamed, IsScope, IsTableOrArray, Sound}
+use Rattle.toml_span_claims.specs.code.Machine.{Gives, met}
+use Rattle.toml_span_claims.specs.code.Placing.{Passes, Places, Reaches}
+use Rattle.toml_span_claims.specs.code.Relative.{pair_at, through_pair}
+use Rattle.toml_span_claims.specs.code.Tree.{is_array_sort, is_entry_sort, child, closed, closed_marks, counts, entries, marks, IsChild, IsFresh, IsHeld, IsNamed, IsScope, IsTableOrArray, Sound}
 use Rattle.toml_span_claims.proofs.Claimed.{Marked, counts-marked, named-fresh, named-remember, reaches-claim-err, reaches-claimed, scope-marked, sound-shape}
 use Rattle.toml_span_claims.proofs.Grafts.{graft-itself}
 use Rattle.toml_span_claims.proofs.Placed.{SetsChild, gives-map, places-beside, places-found, places-new, places-new-err, unclosed}

@@ -6,8 +6,7 @@ use Rattle.std.proofs.lemmas.Option.{none-some, same_Some}
 use Rattle.toml_span_tree.specs.Path.{Path, Step, Place}
 use Rattle.toml_span_claims.specs.Claims.{Claim, Claims, no_claims, claimed, scope, followed}
 use Rattle.toml_span_claims.specs.Clashes.{or_else}
-use Rattle.toml_span_claims.specs.Flat.{flat, all_claims, claims_at, first_by_header, first, decides}
-use Rattle.toml_span_claims.specs.Marks.{by_header}
+use Rattle.toml_span_claims.specs.Flat.{flat, all_claims, claims_at, first_by_header, first, decides, by_header}
 use Rattle.toml_span_claims.specs.Paths.{same_path, same_step}
 use Rattle.toml_span_claims.proofs.Grafts.{same_step-eq}
 

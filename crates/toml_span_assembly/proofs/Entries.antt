@@ -11,11 +11,11 @@ use Rattle.toml_span_claims.specs.declared.node.Node.{Node}
 use Rattle.toml_span_claims.specs.declared.node.Node.TheViews.{out-Node, roll-Node}
 use Rattle.toml_span_claims.specs.declared.node.Node.TheOpen.{Node-F}
 use Rattle.toml_span_claims.specs.Claims.{Claims}
-use Rattle.toml_span_claims.specs.Machine.{graft, put_all, told}
-use Rattle.toml_span_claims.specs.Marks.{remember}
-use Rattle.toml_span_claims.specs.Placing.{Opening, Opens, Passes, Reaches}
-use Rattle.toml_span_claims.specs.Relative.{one_more, under}
-use Rattle.toml_span_claims.specs.Tree.{AreEntries, HoldsOrderedValues, IsArray, IsEntry, IsFresh, IsHeld, IsNamed, IsOpen, IsScope, IsTableOrArray, Sound, cell_at, cells, child, count_at, counts, entries, is_entry_sort, item, marks, none_open, or_nothing, or_zero, own_cell, sound}
+use Rattle.toml_span_claims.specs.code.Machine.{graft, put_all, told}
+use Rattle.toml_span_claims.specs.code.Marks.{remember}
+use Rattle.toml_span_claims.specs.code.Placing.{Opening, Opens, Passes, Reaches}
+use Rattle.toml_span_claims.specs.code.Relative.{one_more, under}
+use Rattle.toml_span_claims.specs.code.Tree.{AreEntries, HoldsOrderedValues, IsArray, IsEntry, IsFresh, IsHeld, IsNamed, IsOpen, IsScope, IsTableOrArray, Sound, cell_at, cells, child, count_at, counts, entries, is_entry_sort, item, marks, none_open, or_nothing, or_zero, own_cell, sound}
 use Rattle.toml_span_claims.proofs.Claimed.{cells-key, child-same, closed-same, counts-key, entry-remember, sound-entries, sound-inside, sound-shape}
 use Rattle.toml_span_claims.proofs.Grafts.{fun_ext, put_all-under, told-under}
 use Rattle.toml_span_claims.proofs.Nodes.{cells-entry, cells-fresh, cells-unopened, counts-entry, counts-fresh, counts-here, no-child, no-closed, sound-fresh}

@@ -12,31 +12,33 @@ use Rattle.toml_span_lex.specs.Tokenizer.{FirstPlace}
 use Rattle.toml_span_lex.specs.declared.stop.Stop.{Stop}
 use Rattle.toml_span_lex.specs.declared.stop.Stop.TheVariants as stops
 use Rattle.toml_span_read.specs.Borrowed.{IsRight as IsRightRead, AreRight as AreRightRead, section_written, sections_written}
-use Rattle.toml_span_read.specs.Data.{Event}
-use Rattle.toml_span_read.specs.Inside.{IsInside, SectionInside}
+use Rattle.toml_span_read.specs.Data.{Event, Block, block}
+use Rattle.toml_span_read.specs.Places.{IsInside, SectionInside}
 use Rattle.toml_span_read.specs.Keys.{Part}
-use Rattle.toml_span_read.specs.Lines.{Block, block, first_block, first_blocks, HoldsForm}
-use Rattle.toml_span_read.specs.Stepwise.{FirstGives, IsReadFirst, IsReadSection, SectionGives}
+use Rattle.toml_span_read.specs.Grammar.{first_block}
+use Rattle.toml_span_read.specs.code.Sections.{first_blocks, FirstGives, IsReadFirst, IsReadSection, SectionGives}
+use Rattle.toml_span_read.specs.Stuck.{HoldsForm}
 use Rattle.toml_span_read.specs.declared.fault.Fault.{Fault}
 use Rattle.toml_span_read.specs.declared.section.Section.{Section}
 use Rattle.toml_span_read.proofs.BorrowLemmas.{all_append, all_behind, all_front, sections_more as sections_right}
 use Rattle.toml_span_read.proofs.MemoryLemmas.{Begun, begun_by_lines}
 use Rattle.toml_span_read.proofs.StepLemmas.{first_keeps}
 use Rattle.toml_span_read.proofs.LineLemmas.{StuckFrom, WholeSections, sections_begin, sections_end, sections_more}
-use Rattle.toml_span_claims.specs.Borrowed.{AreFrom, AreRight, IsFrom, standing}
+use Rattle.toml_span_claims.specs.code.Borrowed.{AreFrom, IsFrom, standing}
+use Rattle.toml_span_claims.specs.Borrowed.{AreRight}
 use Rattle.toml_span_claims.specs.declared.claims.Clash.{Clash}
 use Rattle.toml_span_claims.specs.declared.claims.Halt.{Halt}
 use Rattle.toml_span_claims.specs.declared.claims.Halt.TheVariants as halts
 use Rattle.toml_span_claims.specs.declared.node.Node.{Node}
 use Rattle.toml_span_claims.specs.Claims.{claims}
 use Rattle.toml_span_claims.specs.Clashes.{TellsFirst}
-use Rattle.toml_span_claims.specs.Machine.{told_by}
-use Rattle.toml_span_claims.specs.Places.{IsHaltInside}
+use Rattle.toml_span_claims.specs.code.Machine.{told_by}
+use Rattle.toml_span_claims.specs.code.Marks.{IsHaltInside}
 use Rattle.toml_span_claims.specs.Ordered.{HoldsOrdered}
-use Rattle.toml_span_claims.specs.Placing.{AreSections, Assembles, ShowsBelow}
-use Rattle.toml_span_claims.specs.Tree.{cells, IsFresh, IsScope}
+use Rattle.toml_span_claims.specs.code.Placing.{AreSections, Assembles, ShowsBelow}
+use Rattle.toml_span_claims.specs.code.Tree.{cells, IsFresh, IsScope}
 use Rattle.toml_span_assembly.specs.declared.sections.Grown.{Grown}
-use Rattle.toml_span_assembly.specs.Growing.{GrownGives, GrownRight, Grows, IsBare, IsGrown, GrowsTo, IsGrownInside, Placed, Remaining}
+use Rattle.toml_span_assembly.specs.code.Growing.{GrownGives, GrownRight, Grows, IsBare, IsGrown, GrowsTo, IsGrownInside, Placed, Remaining}
 use Rattle.toml_span_assembly.proofs.Refusals.{first-headed, some_part}
 use Rattle.toml_span_assembly.proofs.Assembly.{remaining-first, remaining-next, assembles-err, assembles-ok}
 

@@ -21,11 +21,11 @@ use Rattle.toml_span_claims.specs.declared.node.Node.TheOpen.{Node-F}
 use Rattle.toml_span_claims.specs.declared.claims.Head.{Head}
 use Rattle.toml_span_claims.specs.Claims.{Claims, array_claims, claimed, header_mark, table_claim}
 use Rattle.toml_span_claims.specs.Clashes.{Told, blame, meeting, named, or_else, partner}
-use Rattle.toml_span_claims.specs.Machine.{Gives, met}
-use Rattle.toml_span_claims.specs.Marks.{remember}
-use Rattle.toml_span_claims.specs.Placing.{Opening, Opens, Passes, Places, Reaches}
-use Rattle.toml_span_claims.specs.Relative.{adding, ending, entered, grown, grown_below, grown_here, grown_through, one_more, opening, part_sort, passing, section_at, through, under}
-use Rattle.toml_span_claims.specs.Tree.{IsChild, IsFresh, IsHeld, IsNamed, IsOpen, IsScope, IsTableOrArray, NoArray, Sound, child, closed, closed_marks, counts, entries, is_array_sort, is_entry_sort, item, marks}
+use Rattle.toml_span_claims.specs.code.Machine.{Gives, met}
+use Rattle.toml_span_claims.specs.code.Marks.{remember}
+use Rattle.toml_span_claims.specs.code.Placing.{Opening, Opens, Passes, Places, Reaches}
+use Rattle.toml_span_claims.specs.code.Relative.{adding, ending, entered, grown, grown_below, grown_here, grown_through, one_more, opening, part_sort, passing, section_at, through, under}
+use Rattle.toml_span_claims.specs.code.Tree.{IsChild, IsFresh, IsHeld, IsNamed, IsOpen, IsScope, IsTableOrArray, NoArray, Sound, child, closed, closed_marks, counts, entries, is_array_sort, is_entry_sort, item, marks}
 use Rattle.toml_span_assembly.proofs.Absolute.{grown-through, section_at-through}
 use Rattle.toml_span_claims.proofs.Claimed.{Marked, counts-marked, named-fresh, named-remember, reaches-claim-err, reaches-claimed, scope-marked, sound-shape}
 use Rattle.toml_span_assembly.proofs.Entries.{PutsEntry, item-at, open-array, puts-set, reaches-entry}

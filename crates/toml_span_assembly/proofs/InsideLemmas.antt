@@ -6,7 +6,7 @@ use Rattle.toml_span_read.specs.declared.value.Assignment.{Assignment}
 use Rattle.toml_span_read.specs.declared.value.Val.{Val}
 use Rattle.toml_span_read.specs.declared.value.ValKind.{Inline}
 use Rattle.toml_span_read.specs.Data.{view, event, onto, no_items}
-use Rattle.toml_span_read.specs.Inside.{IsInside, PartsInside, KeysInside, ItemKeysInside, EventInside, EventsInside, SectionInside, SectionsInside}
+use Rattle.toml_span_read.specs.Places.{IsInside, PartsInside, KeysInside, ItemKeysInside, EventInside, EventsInside, SectionInside, SectionsInside}
 use Rattle.toml_span_read.specs.Keys.{part}
 use Rattle.toml_span_read.proofs.Views.{event_inside, kind_inside, pairs_inside}
 

@@ -12,8 +12,8 @@ use Rattle.toml_span_claims.specs.declared.claims.Meeting.{Meeting}
 use Rattle.toml_span_claims.specs.Paths.{same_path}
 use Rattle.toml_span_claims.specs.Claims.{Claim, Claims, no_claims, claimed, scope}
 use Rattle.toml_span_claims.specs.Clashes.{Told, named, blame, meeting, meets, or_else, partner, clash, IsFree, Resolves, TellsFirst, told_here, told_behind, told_inside, told_after}
-use Rattle.toml_span_claims.specs.Marks.{sort_number, same_sort, remember}
-use Rattle.toml_span_claims.specs.Machine.{State, nothing, change, with_claim, show_all, met, told}
+use Rattle.toml_span_claims.specs.code.Marks.{sort_number, same_sort, remember}
+use Rattle.toml_span_claims.specs.code.Machine.{State, nothing, change, with_claim, show_all, met, told}
 use Rattle.toml_span_assembly.proofs.Shown.{show_all-marks}
 
 -- ---- a later claim meets the first one of each sort, and no other

@@ -11,10 +11,11 @@ use Rattle.toml_span_read.specs.declared.fault.Fault.{Fault}
 use Rattle.toml_span_tree.specs.declared.error.Error.{Error}
 use Rattle.toml_span_tree.specs.declared.value.Value.{Value}
 use Rattle.toml_span_read.specs.declared.section.Section.{Section}
-use Rattle.toml_span_read.specs.Data.{Event}
+use Rattle.toml_span_read.specs.Data.{Event, Block, block}
 use Rattle.toml_span_read.specs.Gaps.{MaximalGap}
 use Rattle.toml_span_read.specs.Keys.{Part, Dotted}
-use Rattle.toml_span_read.specs.Lines.{Block, block, first_block, HoldsForm, KeepsForm, Opens, SpellsDocument, SpellsEvents, SpellsSection, SpellsSections}
+use Rattle.toml_span_read.specs.Grammar.{first_block, Opens, SpellsDocument, SpellsEvents, SpellsSection, SpellsSections}
+use Rattle.toml_span_read.specs.Stuck.{HoldsForm, KeepsForm}
 use Rattle.toml_span_read.proofs.InsideLemmas.{ascend_forward}
 use Rattle.toml_span_read.proofs.KeyOrder.{dotted_ascend}
 

@@ -7,19 +7,20 @@ use Rattle.toml_span_tree.specs.declared.error.Error.{Error}
 use Rattle.toml_span_tree.specs.declared.value.Value.{Value}
 use Rattle.toml_span_read.specs.declared.fault.Fault.{Fault}
 use Rattle.toml_span_tree.specs.Error.{fault_of}
-use Rattle.toml_span_read.specs.Data.{Event}
-use Rattle.toml_span_read.specs.Faults.{IsPlacedStop, Tells}
+use Rattle.toml_span_read.specs.Data.{Event, Block}
+use Rattle.toml_span_read.specs.code.Faults.{IsPlacedStop}
+use Rattle.toml_span_read.specs.Faults.{Tells}
 use Rattle.toml_span_read.specs.Keys.{Part, Dotted}
-use Rattle.toml_span_read.specs.Lines.{Block, SpellsDocument, SpellsSections, first_block}
+use Rattle.toml_span_read.specs.Grammar.{SpellsDocument, SpellsSections, first_block}
 use Rattle.toml_span_claims.specs.declared.claims.Clash.{Clash}
 use Rattle.toml_span_claims.specs.declared.claims.Halt.{Halt}
 use Rattle.toml_span_claims.specs.declared.claims.Halt.TheVariants as halts
 use Rattle.toml_span_claims.specs.Claims.{claims}
 use Rattle.toml_span_claims.specs.Clashes.{TellsFirst}
-use Rattle.toml_span_claims.specs.Machine.{told_by}
-use Rattle.toml_span_assembly.specs.Growing.{GrownGives}
-use Rattle.toml_span_assembly.specs.Parsing.{IsTreeOf, IsTree, IsClashStop, IsRefusal}
-use Rattle.toml_span_claims.specs.Placing.{AreSections, Assembles}
+use Rattle.toml_span_claims.specs.code.Machine.{told_by}
+use Rattle.toml_span_assembly.specs.code.Growing.{GrownGives, IsClashStop}
+use Rattle.toml_span_assembly.specs.Parsing.{IsTreeOf, IsTree, IsRefusal}
+use Rattle.toml_span_claims.specs.code.Placing.{AreSections, Assembles}
 
 -- a fault of reading is told as an error
 pub refusal-fault : (text : List ℕ) (limit : ℕ) (stop : Stop Fault) (fault : Fault) (error : Error) → stop ≡ stops.Fault fault → GrownGives text limit (Err stop) → IsPlacedStop text stop

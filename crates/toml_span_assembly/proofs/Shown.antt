@@ -8,10 +8,9 @@ use Rattle.toml_span_read.specs.Keys.{Part}
 use Rattle.toml_span_claims.specs.Paths.{same_path, below, at}
 use Rattle.toml_span_claims.specs.Claims.{Claim, Claims, no_claims, claimed, scope, followed, key_claims, value_claims, inner_claims, item_claims, pair_claims, event_claims}
 use Rattle.toml_span_claims.specs.Clashes.{or_else}
-use Rattle.toml_span_claims.specs.Flat.{all_claims, claims_at, first_by_header, decides, flat}
-use Rattle.toml_span_claims.specs.Machine.{Cell, State, Decided, nothing, decide, decided, with_claim, with_inner, change, show_all, put_all}
-use Rattle.toml_span_claims.specs.Marks.{by_header}
-use Rattle.toml_span_claims.specs.Placing.{place_shown}
+use Rattle.toml_span_claims.specs.Flat.{all_claims, claims_at, first_by_header, decides, flat, by_header}
+use Rattle.toml_span_claims.specs.code.Machine.{Cell, State, Decided, nothing, decide, decided, with_claim, with_inner, change, show_all, put_all}
+use Rattle.toml_span_claims.specs.code.Placing.{place_shown}
 
 -- ---- what is shown at a path
 

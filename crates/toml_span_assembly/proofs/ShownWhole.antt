@@ -8,10 +8,10 @@ use Rattle.toml_span_lex.specs.declared.span.Span.{Span}
 use Rattle.toml_span_tree.specs.Node.{Node, node, Inner, taken, scalar, array, table, Items, no_items, item, Members, no_members, member, entry_at, element_at}
 use Rattle.toml_span_tree.specs.Path.{Path, Step, key, position, Place, shape_of, reached, place_of, node_at}
 use Rattle.toml_span_tree.specs.Value.{inner_of, holds_nothing, is_taken, is_whole, all_whole, all_members_whole}
-use Rattle.toml_span_read.specs.Lines.{Block}
+use Rattle.toml_span_read.specs.Data.{Block}
 use Rattle.toml_span_claims.specs.Claims.{claims}
 use Rattle.toml_span_claims.specs.Flat.{flat, Shows}
-use Rattle.toml_span_claims.specs.OneEach.{HasOneEach, ItemsHaveOneEach, MembersHaveOneEach}
+use Rattle.toml_span_claims.specs.Ordered.{HasOneEach, ItemsHaveOneEach, MembersHaveOneEach}
 use Rattle.toml_span_assembly.proofs.EachClaim.{flat-decides}
 use Rattle.toml_span_claims.proofs.Grafts.{same_step-eq, same_step-self}
 use Rattle.toml_span_assembly.proofs.WholeTree.{is_held, IsHeldAt, claims-held}

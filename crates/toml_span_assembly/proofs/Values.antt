@@ -28,10 +28,10 @@ use Rattle.toml_span_claims.specs.declared.claims.Halt.TheVariants.{Memory, Clas
 use Rattle.toml_span_claims.specs.Paths.{same_step, same_path, below, at}
 use Rattle.toml_span_claims.specs.Claims.{Claims, no_claims, claimed, scope, followed, key_claims, value_claims, inner_claims, item_claims, pair_claims, event_claims, element, value_shape}
 use Rattle.toml_span_claims.specs.Clashes.{or_else, Told}
-use Rattle.toml_span_claims.specs.Machine.{State, nothing, no_cell, change, with_claim, with_inner, show_all, put_all, told, told_by, graft}
+use Rattle.toml_span_claims.specs.code.Machine.{State, nothing, no_cell, change, with_claim, with_inner, show_all, put_all, told, told_by, graft}
 use Rattle.toml_span_claims.specs.Ordered.{HoldsOrdered, AreOrdered}
-use Rattle.toml_span_claims.specs.Placing.{IsFinished, ValueGives, ShowsPlain, ScopeGives}
-use Rattle.toml_span_claims.specs.Tree.{value_shows, plain}
+use Rattle.toml_span_claims.specs.code.Placing.{IsFinished, ValueGives, ShowsPlain, ScopeGives}
+use Rattle.toml_span_claims.specs.code.Tree.{value_shows, plain}
 use Rattle.toml_span_assembly.proofs.Absolute.{value_claims-under, pairs-events}
 use Rattle.toml_span_claims.proofs.Grafts.{same_step-self, sub-graft, show_all-under, show_all-followed, told-followed, told-under, or_else-none}
 use Rattle.toml_span_assembly.proofs.Shown.{show_all-marks}

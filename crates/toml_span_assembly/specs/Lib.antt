@@ -1,3 +1,2 @@
-pub mod Roots
 pub mod Parsing
-pub mod Growing
+pub mod code

@@ -1,20 +1,24 @@
 -- What `parse` gives, and what it refuses.
-use Rattle.std.specs.Prelude.{◌≡◌, ◌≤◌, ◌⊎◌, ⊤, ℕ, List, [], map, length}
+use Rattle.std.specs.Prelude.{◌≡◌, ⊤, ℕ, ◌≤◌, ◌⊎◌, List, [], map, length}
 use Rattle.toml_span_lex.specs.declared.stop.Stop.{Stop}
 use Rattle.toml_span_lex.specs.declared.stop.Stop.TheVariants as stops
-use Rattle.toml_span_tree.specs.declared.error.Error.{Error}
 use Rattle.toml_span_tree.specs.declared.value.Value.{Value}
-use Rattle.toml_span_tree.specs.Error.{fault_of}
 use Rattle.toml_span_tree.specs.Value.{view}
-use Rattle.toml_span_read.specs.declared.fault.Fault.{Fault}
-use Rattle.toml_span_read.specs.Faults.{IsLineInfo, IsPlaced, Tells}
+use Rattle.toml_span_tree.specs.Node.{Members, node, table}
+use Rattle.toml_span_tree.specs.declared.error.Error.{Error}
+use Rattle.toml_span_tree.specs.Error.{fault_of}
+use Rattle.toml_span_read.specs.Data.{Block, block}
+use Rattle.toml_span_read.specs.Grammar.{SpellsDocument}
 use Rattle.toml_span_read.specs.declared.section.Section.{Section}
 use Rattle.toml_span_read.specs.Borrowed.{sections_written}
-use Rattle.toml_span_read.specs.Lines.{Block, block, SpellsDocument, StuckDocument}
-use Rattle.toml_span_claims.specs.Borrowed.{AreRight, keys_of, value_standing}
+use Rattle.toml_span_read.specs.declared.fault.Fault.{Fault}
+use Rattle.toml_span_read.specs.Places.{IsPlaced, IsLineInfo}
+use Rattle.toml_span_read.specs.Faults.{Tells}
+use Rattle.toml_span_read.specs.Stuck.{StuckDocument}
 use Rattle.toml_span_claims.specs.Claims.{claims}
-use Rattle.toml_span_claims.specs.Clashes.{Told, Resolves, TellsFirst, fault_told}
+use Rattle.toml_span_claims.specs.Clashes.{Resolves, Told, TellsFirst, fault_told}
 use Rattle.toml_span_claims.specs.Flat.{flat, Shows}
+use Rattle.toml_span_claims.specs.Borrowed.{AreRight, keys_of, value_standing}
 
 -- ---- the tree
 
@@ -27,17 +31,24 @@ pub record IsTreeOf (blocks : List Block) (length : ℕ) (root : Value) : Type 0
 abbrev pub IsTree : List ℕ → ℕ → Value → Type 0
 IsTree text limit root = (blocks : List Block) × SpellsDocument blocks text limit × IsTreeOf blocks (length text) root
 
--- Each string value is borrowed exactly where it equals the text at its span, and so is the key of each scalar. The name of a table
--- or of an array is borrowed exactly where it equals the text at some key of that name. An empty string on one line is borrowed.
+-- a table that spans the whole document, which is so many bytes long
+abbrev pub IsRoot : ℕ → Value → Type 0
+IsRoot length root = (members : Members) × (view root ≡ node (table members) (record { start = 0; end = length }))
+
+-- Each string value is borrowed exactly where it equals the text at its span, and so is the key of each scalar. The
+-- name of a table or of an array is borrowed exactly where it equals the text at some key of that name. An empty string
+-- on one line is borrowed.
 abbrev pub IsBorrowedTree : List ℕ → ℕ → Value → Type 0
 IsBorrowedTree text limit root =
-    (sections : List Section) × SpellsDocument (map block sections) text limit × AreRight text (keys_of (sections_written sections)) (value_standing root)
+    (sections : List Section) × SpellsDocument (map block sections) text limit
+    × AreRight text (keys_of (sections_written sections)) (value_standing root)
 
 -- ---- refusals
 
 -- the text is stuck where the error says, and that is a place of the text
 abbrev pub IsFault : List ℕ → ℕ → Error → Type 0
-IsFault text limit error = (fault : Fault) × StuckDocument text limit fault × IsPlaced text fault × Tells text fault (fault_of error)
+IsFault text limit error =
+    (fault : Fault) × StuckDocument text limit fault × IsPlaced text fault × Tells text fault (fault_of error)
 
 -- The error tells the first clash of the sections' claims, at a place in the text, with its line and its column.
 pub record IsClashOf (blocks : List Block) (text : List ℕ) (error : Error) : Type 0 where
@@ -53,11 +64,6 @@ pub record IsClashOf (blocks : List Block) (text : List ℕ) (error : Error) : T
 -- The text spells sections within the limit, and their first clash is told.
 abbrev pub IsClash : List ℕ → ℕ → Error → Type 0
 IsClash text limit error = (blocks : List Block) × SpellsDocument blocks text limit × IsClashOf blocks text error
-
--- of sections that were read only a clash is told
-abbrev pub IsClashStop : List Block → List ℕ → Stop Error → Type 0
-IsClashStop blocks text (stops.Memory e) = ⊤
-IsClashStop blocks text (stops.Fault error) = IsClashOf blocks text error
 
 -- A text that is not read is stuck somewhere, and that fault is told. Of one that is read the first clash is told.
 abbrev pub IsRefusal : List ℕ → ℕ → Stop Error → Type 0

@@ -1,15 +1,16 @@
 //! Reads a document into a tree.
 ghost use Rattle.std.specs.Prelude.{◌≡◌, ◌≤◌, ℕ, List, true, IfOk, IfErr, IsOk, length};
 ghost use Rattle.toml_span_lex.specs.Tokenizer.{FirstPlace};
-ghost use Rattle.toml_span_read.specs.Faults.{IsPlacedStop};
+ghost use Rattle.toml_span_read.specs.code.Faults.{IsPlacedStop};
 ghost use Rattle.toml_span_read.specs.Keys.{Part};
-ghost use Rattle.toml_span_read.specs.Lines.{Block, KeepsForm};
+ghost use Rattle.toml_span_read.specs.Data.{Block};
+ghost use Rattle.toml_span_read.specs.Stuck.{KeepsForm};
 ghost use Rattle.toml_span_tree.specs.Value.{is_whole, view};
 ghost use Rattle.toml_span_claims.specs.Borrowed.{AreRight, value_standing};
 ghost use Rattle.toml_span_claims.specs.Ordered.{IsOrdered};
-ghost use Rattle.toml_span_assembly.specs.Growing.{GrownGives, GrownRight, Grows, IsBare, IsGrownInside};
-ghost use Rattle.toml_span_assembly.specs.Parsing.{IsBorrowedTree, IsClashStop, IsRefusal, IsTree, IsTreeOf};
-ghost use Rattle.toml_span_assembly.specs.Roots.{IsRoot};
+ghost use Rattle.toml_span_assembly.specs.code.Growing.{GrownGives, GrownRight, Grows, IsBare, IsGrownInside};
+ghost use Rattle.toml_span_assembly.specs.code.Growing.{IsClashStop};
+ghost use Rattle.toml_span_assembly.specs.Parsing.{IsBorrowedTree, IsRefusal, IsTree, IsTreeOf, IsRoot};
 
 use crate::sections::{Grown, begin, finish, grow};
 use std::alloc::Global;

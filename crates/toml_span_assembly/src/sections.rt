@@ -1,20 +1,21 @@
 //! Sections placed one by one into a tree.
 ghost use Rattle.std.specs.Prelude.{◌≡◌, ℕ, List, map, [], ◌∷◌, ◌++◌, IfOk, IfErr, IfSome, IsOk, IsOkAnd, None, OnOk};
 ghost use Rattle.toml_span_read.specs.Borrowed.{assignments_written, key_written, keys_written, section_written};
-ghost use Rattle.toml_span_read.specs.Data.{event};
-ghost use Rattle.toml_span_read.specs.Inside.{IsInside, PartsInside, EventsInside, SectionInside};
+ghost use Rattle.toml_span_read.specs.Data.{event, Block, block};
+ghost use Rattle.toml_span_read.specs.Places.{IsInside, PartsInside, EventsInside, SectionInside};
 ghost use Rattle.toml_span_read.specs.Keys.{Part, part as part_of};
-ghost use Rattle.toml_span_read.specs.Lines.{Block, block, first_blocks};
+ghost use Rattle.toml_span_read.specs.code.Sections.{first_blocks};
 ghost use Rattle.toml_span_claims.specs.declared.claims.Sort.TheVariants.{Passed};
-ghost use Rattle.toml_span_claims.specs.Borrowed.{AreFrom, IsFrom, Keeps, ValueRight};
+ghost use Rattle.toml_span_claims.specs.code.Borrowed.{AreFrom, IsFrom, Keeps, ValueRight};
 ghost use Rattle.toml_span_claims.specs.Claims as claims;
 ghost use Rattle.toml_span_claims.specs.Claims.{event_claims};
-ghost use Rattle.toml_span_claims.specs.Places.{IsHaltInside};
-ghost use Rattle.toml_span_claims.specs.Placing.{AreSections, Assembles, Opening, Opens, Passes, Places, Reaches};
-ghost use Rattle.toml_span_claims.specs.Relative.{adding, ending, grown, grown_here, grown_through, one_more, opening, part_sort, passing, section_at, through};
-ghost use Rattle.toml_span_claims.specs.Tree.{counts, IsHeld, IsOpen, IsScope};
-ghost use Rattle.toml_span_assembly.specs.Growing.{GrownRight, Grows, IsBare, IsGrownInside, Placed};
-ghost use Rattle.toml_span_assembly.specs.Roots.{IsRoot};
+ghost use Rattle.toml_span_claims.specs.code.Marks.{IsHaltInside};
+ghost use Rattle.toml_span_claims.specs.code.Placing.{AreSections, Assembles, Opening, Opens, Passes, Places, Reaches};
+ghost use Rattle.toml_span_claims.specs.code.Relative.{adding, ending, grown, grown_here, grown_through, one_more};
+ghost use Rattle.toml_span_claims.specs.code.Relative.{opening, part_sort, passing, section_at, through};
+ghost use Rattle.toml_span_claims.specs.code.Tree.{counts, IsHeld, IsOpen, IsScope};
+ghost use Rattle.toml_span_assembly.specs.code.Growing.{GrownRight, Grows, IsBare, IsGrownInside, Placed};
+ghost use Rattle.toml_span_assembly.specs.Parsing.{IsRoot};
 
 use crate::scopes::{admit_beside_value, place_all};
 use std::alloc::{AllocError, Global};

@@ -19,8 +19,9 @@ use Rattle.toml_span_claims.specs.declared.node.Node.{Node}
 use Rattle.toml_span_claims.specs.declared.node.Node.TheOpen.{Node-F}
 use Rattle.toml_span_claims.specs.declared.node.Node.TheViews.{roll-Node, out-Node}
 use Rattle.toml_span_claims.specs.declared.node.Node.TheFolds.{fold-roll-Node}
-use Rattle.toml_span_claims.specs.Borrowed.{Standing, title, Held, node_step, nodes_standing, key_standing, held_or_none, held, inner_held, value_standing, array_standing, table_standing, standing, boxes_standing, entries_of, IsNamedBy, IsRight, AreRight}
-use Rattle.toml_span_claims.specs.Tree.{is_named}
+use Rattle.toml_span_claims.specs.Borrowed.{Standing, title, Held, key_standing, held_or_none, held, value_standing, IsNamedBy, IsRight, AreRight}
+use Rattle.toml_span_claims.specs.code.Borrowed.{node_step, nodes_standing, inner_held, array_standing, table_standing, standing, boxes_standing, entries_of}
+use Rattle.toml_span_claims.specs.code.Tree.{is_named}
 use Rattle.toml_span_claims.proofs.KeyMaps.{cases_ordering}
 use Rattle.toml_span_claims.proofs.Placed.{roll-out}
 

@@ -21,10 +21,11 @@ use Rattle.toml_span_claims.specs.declared.node.Node.TheOpen.{Node-F}
 use Rattle.toml_span_claims.specs.Paths.{same_path}
 use Rattle.toml_span_claims.specs.Claims.{Claims, no_claims, claimed, followed, table_claim}
 use Rattle.toml_span_claims.specs.Clashes.{or_else}
-use Rattle.toml_span_claims.specs.Marks.{by_header, deciding, first, first_by_header, remember, same_sort, sort_number}
-use Rattle.toml_span_claims.specs.Machine.{Gives, change, decide, met, put_all, told, with_claim}
-use Rattle.toml_span_claims.specs.Placing.{Reaches}
-use Rattle.toml_span_claims.specs.Tree.{marks, entries, child, closed, closed_in, closed_cell, is_named, item, or_closed, or_nothing, or_zero, own_cell, cells, cell_at, counts, count_at, by_mark, is_array_sort, is_entry_sort, NoArray, NoEntry, IsNamed, IsEntry, IsTableOrArray, IsScope, AreNamed, AreEntries, HoldsOrderedValues, Sound, sound}
+use Rattle.toml_span_claims.specs.Flat.{by_header}
+use Rattle.toml_span_claims.specs.code.Marks.{deciding, first, first_by_header, remember, same_sort, sort_number}
+use Rattle.toml_span_claims.specs.code.Machine.{Gives, change, decide, met, put_all, told, with_claim}
+use Rattle.toml_span_claims.specs.code.Placing.{Reaches}
+use Rattle.toml_span_claims.specs.code.Tree.{marks, entries, child, closed, closed_in, closed_cell, is_named, item, or_closed, or_nothing, or_zero, own_cell, cells, cell_at, counts, count_at, by_mark, is_array_sort, is_entry_sort, NoArray, NoEntry, IsNamed, IsEntry, IsTableOrArray, IsScope, AreNamed, AreEntries, HoldsOrderedValues, Sound, sound}
 use Rattle.toml_span_claims.proofs.Grafts.{fun_ext}
 use Rattle.toml_span_claims.proofs.Placed.{reaches-then, out-roll}
 

@@ -3,16 +3,16 @@ use Rattle.std.specs.Prelude.{◌≡◌, refl, ⊤, ℕ, ◌+◌, Bool, true, fa
 use Rattle.toml_span_lex.specs.declared.span.Span.{Span}
 use Rattle.toml_span_tree.specs.Node.{text, integer}
 use Rattle.toml_span_tree.specs.Path.{key, position, Shape, shape_scalar, shape_array, shape_table, Place}
-use Rattle.toml_span_read.specs.Data.{Node, node, scalar, array, inline, no_items, item, no_pairs, pair, Event}
+use Rattle.toml_span_read.specs.Data.{Node, node, scalar, array, inline, no_items, item, no_pairs, pair, Event, Block}
 use Rattle.toml_span_read.specs.Keys.{Part}
-use Rattle.toml_span_read.specs.Lines.{Block, first_block, last_end}
+use Rattle.toml_span_read.specs.Grammar.{first_block, last_end}
 use Rattle.toml_span_claims.specs.declared.claims.Blame.{Blame}
 use Rattle.toml_span_claims.specs.declared.claims.Blame.TheVariants.{Table, Key, Array}
 use Rattle.toml_span_claims.specs.Paths.{same_path, enter, target, opened_by}
 use Rattle.toml_span_claims.specs.Claims.{followed, key_claims, value_claims, inner_claims, item_claims, pair_claims, event_claims, end_claims, header_claims, section_claims, claims_behind, claims}
 use Rattle.toml_span_claims.specs.Clashes.{Told}
 use Rattle.toml_span_claims.specs.Flat.{all_claims, claims_at, first_by_header, flat}
-use Rattle.toml_span_claims.specs.Machine.{nothing, change, show_all, told}
+use Rattle.toml_span_claims.specs.code.Machine.{nothing, change, show_all, told}
 
 -- what the examples evaluate
 computed : ⊤

@@ -30,10 +30,11 @@ use Rattle.toml_span_claims.specs.declared.node.Node.{Node}
 use Rattle.toml_span_claims.specs.declared.node.Node.TheViews.{out-Node}
 use Rattle.toml_span_claims.specs.Claims.{shape_of, key_span_of}
 use Rattle.toml_span_claims.specs.Clashes.{or_else}
-use Rattle.toml_span_claims.specs.Marks.{by_header, first_by_header, deciding}
-use Rattle.toml_span_claims.specs.Placing.{Becomes, BecomesEntry, EachBecomes, Finishes, NamesAscend, ShowsBelow, Table, Array, place_shown}
+use Rattle.toml_span_claims.specs.Flat.{by_header}
+use Rattle.toml_span_claims.specs.code.Marks.{first_by_header, deciding}
+use Rattle.toml_span_claims.specs.code.Placing.{Becomes, BecomesEntry, EachBecomes, Finishes, NamesAscend, ShowsBelow, Table, Array, place_shown}
 use Rattle.toml_span_claims.specs.Ordered.{IsOrdered, HoldsOrdered, AreOrdered}
-use Rattle.toml_span_claims.specs.Tree.{is_named, marks, entries, child, item, closed, cells, cell_at, closed_cell, or_closed, or_nothing, plain, is_array_sort, is_entry_sort, NoArray, NoEntry, IsNamed, IsEntry, IsArray, IsTableOrArray, Sound}
+use Rattle.toml_span_claims.specs.code.Tree.{is_named, marks, entries, child, item, closed, cells, cell_at, closed_cell, or_closed, or_nothing, plain, is_array_sort, is_entry_sort, NoArray, NoEntry, IsNamed, IsEntry, IsArray, IsTableOrArray, Sound}
 use Rattle.toml_span_claims.proofs.Claimed.{sound-shape, sound-named, sound-entries, sound-ordered, sound-below, sound-inside}
 use Rattle.toml_span_claims.proofs.KeyMaps.{cases_ordering}
 use Rattle.toml_span_claims.proofs.Ordered.{members-ordered}

@@ -6,8 +6,8 @@ use Rattle.toml_span_tree.specs.Path.{Path, Step, key, position}
 use Rattle.toml_span_claims.specs.Paths.{same_step, same_path}
 use Rattle.toml_span_claims.specs.Claims.{Claims, no_claims, claimed, scope, followed}
 use Rattle.toml_span_claims.specs.Clashes.{or_else}
-use Rattle.toml_span_claims.specs.Machine.{Cell, State, nothing, change, with_claim, with_inner, met, show_all, put_all, told, graft}
-use Rattle.toml_span_claims.specs.Relative.{step_down, under}
+use Rattle.toml_span_claims.specs.code.Machine.{Cell, State, nothing, change, with_claim, with_inner, met, show_all, put_all, told, graft}
+use Rattle.toml_span_claims.specs.code.Relative.{step_down, under}
 
 pub fun_ext : {A B : Type 0} {f g : A → B} → ((x : A) → f x ≡ g x) → f ≡ g
 fun_ext h = λ i x. h x i

@@ -8,7 +8,7 @@ use Rattle.std.proofs.lemmas.Bool.{cases_Bool}
 use Rattle.std.proofs.lemmas.Option.{none-some}
 use Rattle.toml_span_lex.specs.declared.key.Key.{Key}
 use Rattle.toml_span_read.proofs.EarlierTree.{key_cmp, same, same_name, same-sym}
-use Rattle.toml_span_claims.specs.Tree.{is_named}
+use Rattle.toml_span_claims.specs.code.Tree.{is_named}
 
 -- one of the three
 pub cases_ordering : (o : Ordering) → (o ≡ Less) ⊎ ((o ≡ Equal) ⊎ (o ≡ Greater))

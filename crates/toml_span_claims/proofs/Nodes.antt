@@ -6,8 +6,8 @@ use Rattle.std.proofs.lemmas.Option.{none-some}
 use Rattle.toml_span_tree.specs.Path.{Path, key, position}
 use Rattle.toml_span_claims.specs.declared.node.Node.{Node}
 use Rattle.toml_span_claims.specs.declared.node.Node.TheViews.{out-Node}
-use Rattle.toml_span_claims.specs.Machine.{nothing}
-use Rattle.toml_span_claims.specs.Tree.{marks, entries, child, closed, is_named, item, cells, cell_at, counts, count_at, closed_cell, or_closed, or_nothing, or_zero, own_cell, none_open, IsFresh, Sound, sound}
+use Rattle.toml_span_claims.specs.code.Machine.{nothing}
+use Rattle.toml_span_claims.specs.code.Tree.{marks, entries, child, closed, is_named, item, cells, cell_at, counts, count_at, closed_cell, or_closed, or_nothing, or_zero, own_cell, none_open, IsFresh, Sound, sound}
 use Rattle.toml_span_claims.proofs.Grafts.{fun_ext}
 
 pub cells-child : (n : Node) (k : List ℕ) (c : Node) → child k n ≡ Some c → (λ p. cells n (key k ∷ p)) ≡ cells c

@@ -19,9 +19,8 @@ use Rattle.toml_span_tree.specs.Path.{key}
 use Rattle.toml_span_tree.specs.Value.{view, members_view}
 use Rattle.toml_span_tree.specs.declared.value.Value.{Value}
 use Rattle.toml_span_read.proofs.EarlierTree.{key_cmp, same_name}
-use Rattle.toml_span_claims.specs.OneEach.{HasOneEach, InnerHasOneEach, ItemsHaveOneEach, MembersHaveOneEach}
-use Rattle.toml_span_claims.specs.Ordered.{IsNameBefore, EachName, IsOrdered, HoldsOrdered, AreOrdered, MembersOrdered}
-use Rattle.toml_span_claims.specs.Tree.{is_named}
+use Rattle.toml_span_claims.specs.Ordered.{HasOneEach, InnerHasOneEach, ItemsHaveOneEach, MembersHaveOneEach, IsNameBefore, EachName, IsOrdered, HoldsOrdered, AreOrdered, MembersOrdered}
+use Rattle.toml_span_claims.specs.code.Tree.{is_named}
 use Rattle.toml_span_claims.proofs.Grafts.{same_step-self}
 
 -- ---- the order of a map's keys

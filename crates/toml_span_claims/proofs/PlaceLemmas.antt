@@ -3,7 +3,7 @@ use Rattle.std.proofs.Common.{◌≡◌, ℕ, List, [], ◌∷◌, Option, Some,
 use Rattle.std.specs.Prelude.{⊤, IfSome}
 use Rattle.std.proofs.lemmas.Bool.{false≢true}
 use Rattle.toml_span_lex.specs.declared.span.Span.{Span}
-use Rattle.toml_span_read.specs.Inside.{IsInside}
+use Rattle.toml_span_read.specs.Places.{IsInside}
 use Rattle.toml_span_claims.specs.declared.claims.Sort.{Sort}
 use Rattle.toml_span_claims.specs.declared.claims.Sort.TheVariants.{Passed, Section, ArrayOfTables, Entry, Dotted, Assigned}
 use Rattle.toml_span_claims.specs.declared.claims.Blame.{Blame}
@@ -14,8 +14,8 @@ use Rattle.toml_span_claims.specs.declared.claims.Clash.{Clash as Told}
 use Rattle.toml_span_claims.specs.declared.claims.Halt.{Halt}
 use Rattle.toml_span_claims.specs.declared.claims.Halt.TheVariants.{Memory, Clash}
 use Rattle.toml_span_claims.specs.Clashes.{blame, meeting, meets, or_else, partner}
-use Rattle.toml_span_claims.specs.Marks.{Halts, by_header}
-use Rattle.toml_span_claims.specs.Places.{IsMarkInside, IsHaltInside}
+use Rattle.toml_span_claims.specs.code.Marks.{Halts, IsMarkInside, IsHaltInside}
+use Rattle.toml_span_claims.specs.Flat.{by_header}
 
 -- what is told at a line is told of a header
 abbrev IsTold : Sort → Blame → Type 0

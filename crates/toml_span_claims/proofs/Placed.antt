@@ -30,10 +30,10 @@ use Rattle.toml_span_claims.specs.declared.node.Node.TheViews.{roll-Node, out-No
 use Rattle.toml_span_read.proofs.EarlierTree.{key_cmp, same}
 use Rattle.toml_span_claims.specs.Claims.{Claim, Claims, claimed, followed, pair_mark}
 use Rattle.toml_span_claims.specs.Clashes.{Told, blame, meeting, named, or_else}
-use Rattle.toml_span_claims.specs.Machine.{Gives, change, with_claim, met, told, told_by, put_all, graft}
-use Rattle.toml_span_claims.specs.Placing.{Reaches, Places, Passes}
-use Rattle.toml_span_claims.specs.Relative.{under}
-use Rattle.toml_span_claims.specs.Tree.{is_named, marks, entries, child, closed, closed_in, closed_marks, closed_cell, or_closed, or_nothing, or_zero, item, cells, cell_at, counts, count_at, own_cell, is_entry_sort, IsFresh, IsNamed, IsTableOrArray, AreNamed, HoldsOrderedValues, NoArray, IsScope, IsChild, IsHeld, Sound, sound}
+use Rattle.toml_span_claims.specs.code.Machine.{Gives, change, with_claim, met, told, told_by, put_all, graft}
+use Rattle.toml_span_claims.specs.code.Placing.{Reaches, Places, Passes}
+use Rattle.toml_span_claims.specs.code.Relative.{under}
+use Rattle.toml_span_claims.specs.code.Tree.{is_named, marks, entries, child, closed, closed_in, closed_marks, closed_cell, or_closed, or_nothing, or_zero, item, cells, cell_at, counts, count_at, own_cell, is_entry_sort, IsFresh, IsNamed, IsTableOrArray, AreNamed, HoldsOrderedValues, NoArray, IsScope, IsChild, IsHeld, Sound, sound}
 use Rattle.toml_span_claims.proofs.Grafts.{fun_ext, told-followed, put_all-followed, told-under, put_all-under}
 use Rattle.toml_span_claims.proofs.KeyMaps.{Puts, puts-set_value, puts-insert}
 use Rattle.toml_span_claims.proofs.Nodes.{cells-child, cells-closed, counts-child, counts-missing, cells-fresh, counts-fresh, sound-fresh}

@@ -1,23 +1,19 @@
--- Which of the strings and keys of a tree are borrowed. A key of a scalar value is so by its own span. That of a table or an array
--- may have the span of one claim, and a name that was written at another one: it is so by the span of some key of its name.
-use Rattle.std.specs.Prelude.{◌≡◌, ◌⊎◌, ℕ, Bool, true, false, List, [], ◌∷◌, ◌++◌, map, Option, Some, None, Result, IfOk, OnOk}
-use Rattle.std.specs.Box.{box_value}
-use Rattle.std.specs.Cow.{cow_str_bytes}
-use Rattle.std.specs.Global.{Box, Global}
-use Rattle.std.specs.List.{AllByRecursion}
+-- Which of the strings and keys of a tree are borrowed. A key of a scalar value is so by its own span. That of a table
+-- or an array may have the span of one claim, and a name that was written at another one: it is so by the span of some
+-- key of its name.
+use Rattle.std.specs.Global.{Global}
 use Rattle.std.specs.declared.borrow.CowStr.{CowStr}
-use Rattle.toml_span_lex.specs.declared.key.Key.{Key}
+use Rattle.std.specs.Prelude.{◌≡◌, ℕ, ◌⊎◌, Bool, true, false, List, [], ◌∷◌, ◌++◌, Option, Some, None}
+use Rattle.std.specs.Cow.{cow_str_bytes}
+use Rattle.std.specs.List.{AllByRecursion}
 use Rattle.toml_span_lex.specs.declared.span.Span.{Span}
+use Rattle.toml_span_lex.specs.declared.key.Key.{Key}
 use Rattle.toml_span_lex.specs.Strings.{BorrowsWhereSame}
-use Rattle.toml_span_tree.specs.declared.value.Value.{Value}
-use Rattle.toml_span_tree.specs.declared.value.ValueInner.{ValueInner}
 use Rattle.toml_span_tree.specs.declared.value.ValueInner.TheOpen.{ValueInner-F, Value-F}
-use Rattle.toml_span_tree.specs.declared.value.ValueInner.TheFolds.{fold-Value, fold-ValueInner}
-use Rattle.toml_span_read.specs.Borrowed.{Written, string as string_written, name as name_written}
+use Rattle.toml_span_tree.specs.declared.value.Value.{Value}
+use Rattle.toml_span_tree.specs.declared.value.ValueInner.TheFolds.{fold-Value}
 use Rattle.toml_span_read.specs.Keys.{Part}
-use Rattle.toml_span_claims.specs.declared.claims.Halt.{Halt}
-use Rattle.toml_span_claims.specs.declared.node.Node.{Node, fold-Node}
-use Rattle.toml_span_claims.specs.declared.node.Node.TheOpen.{Node-F}
+use Rattle.toml_span_read.specs.Borrowed.{Written, string as string_written, name as name_written}
 
 -- ---- what stands in a tree
 
@@ -63,41 +59,9 @@ value_step v = held_or_none v.value v.span
 abbrev pub held : Value → Held
 held = fold-Value (Span → Held) Held inner_step value_step
 
-abbrev pub inner_held : ValueInner → Span → Held
-inner_held = fold-ValueInner (Span → Held) Held inner_step value_step
-
 -- the strings and keys of a value, of elements, and of a table
 abbrev pub value_standing : Value → List Standing
 value_standing v = (held v).1
-
-abbrev pub array_standing : List Value → List Standing
-array_standing vs = elements_standing (map held vs)
-
-abbrev pub table_standing : List (Key × Value) → List Standing
-table_standing es = entries_standing (map (λ e. (e.0, held e.1)) es)
-
--- ---- the same, under construction
-
-abbrev pub nodes_standing : List (Key × Box (List Standing)) → List Standing
-nodes_standing [] = []
-nodes_standing (e ∷ es) = title e.0.name ∷ (box_value e.1 ++ nodes_standing es)
-
-abbrev pub joined : List (List Standing) → List Standing
-joined [] = []
-joined (xs ∷ rest) = xs ++ joined rest
-
-abbrev pub node_step : Node-F (List Standing) → List Standing
-node_step n = table_standing n.values.entries ++ (nodes_standing n.tables.entries ++ joined n.entries.items)
-
-abbrev pub standing : Node → List Standing
-standing = fold-Node (List Standing) node_step
-
-abbrev pub boxes_standing : List (Key × Box Node) → List Standing
-boxes_standing [] = []
-boxes_standing (e ∷ es) = title e.0.name ∷ (standing (box_value e.1) ++ boxes_standing es)
-
-abbrev pub entries_of : List Node → List Standing
-entries_of ns = joined (map standing ns)
 
 -- ---- what is borrowed
 
@@ -107,37 +71,21 @@ IsKeyOf p (q ∷ qs) = (p ≡ q) ⊎ IsKeyOf p qs
 
 -- where one of these keys stands that has the name: borrowed exactly where the name equals the text there
 abbrev pub IsNamedBy : List ℕ → List Part → CowStr Global → Type 0
-IsNamedBy text ps s = (at : Span) × IsKeyOf (record { name = cow_str_bytes s; span = at }) ps × BorrowsWhereSame text at s
+IsNamedBy text ps s =
+    (at : Span) × IsKeyOf (record { name = cow_str_bytes s; span = at }) ps × BorrowsWhereSame text at s
 
 -- in a tree whose keys are of these
 abbrev pub IsRight : List ℕ → List Part → Standing → Type 0
 IsRight text ps (string s span) = BorrowsWhereSame text span s
-IsRight text ps (key s span) = BorrowsWhereSame text span s × IsKeyOf (record { name = cow_str_bytes s; span = span }) ps
+IsRight text ps (key s span) =
+    BorrowsWhereSame text span s × IsKeyOf (record { name = cow_str_bytes s; span = span }) ps
 IsRight text ps (title s) = IsNamedBy text ps s
 
 abbrev pub AreRight : List ℕ → List Part → List Standing → Type 0
 AreRight text ps xs = AllByRecursion (IsRight text ps) xs
-
--- among what was read, the keys of which are these
-abbrev pub IsFrom : List ℕ → List Part → Written → Type 0
-IsFrom text ps (string_written s span) = BorrowsWhereSame text span s
-IsFrom text ps (name_written s span) = BorrowsWhereSame text span s × IsKeyOf (record { name = cow_str_bytes s; span = span }) ps
-
-abbrev pub AreFrom : List ℕ → List Part → List Written → Type 0
-AreFrom text ps ws = AllByRecursion (IsFrom text ps) ws
 
 -- the keys of what was read
 abbrev pub keys_of : List Written → List Part
 keys_of [] = []
 keys_of (string_written s span ∷ ws) = keys_of ws
 keys_of (name_written s span ∷ ws) = record { name = cow_str_bytes s; span = span } ∷ keys_of ws
-
--- ---- under construction
-
--- where nothing goes wrong, what is right of the node stays so
-abbrev pub Keeps : List ℕ → List Part → Node → Node → Result (Unit {0}) Halt → Type 0
-Keeps text ps old new r = AreRight text ps (standing old) → OnOk r (AreRight text ps (standing new))
-
--- the value, if there is one, is right
-abbrev pub ValueRight : List ℕ → List Part → Result Value Halt → Type 0
-ValueRight text ps r = IfOk r (λ v. AreRight text ps (value_standing v))

@@ -1,26 +1,27 @@
 -- What headers and assignments claim.
-use Rattle.std.specs.Prelude.{ℕ, zero, suc, List, [], ◌∷◌, if◌then◌else◌, Option, Some, None}
+use Rattle.std.specs.Prelude.{ℕ, zero, suc, if◌then◌else◌, List, [], ◌∷◌, Option, Some, None}
 use Rattle.toml_span_lex.specs.declared.span.Span.{Span}
-use Rattle.toml_span_tree.specs.Path.{Path, Shape, shape_scalar, shape_array, shape_table, Place}
-use Rattle.toml_span_read.specs.Data.{Node, node, Inner, scalar, array, inline, Items, no_items, item, Pairs, no_pairs, pair, Event}
-use Rattle.toml_span_read.specs.Earlier.{span_of}
+use Rattle.toml_span_tree.specs.Path.{Path, Place, Shape, shape_array, shape_table, shape_scalar}
 use Rattle.toml_span_read.specs.Keys.{Part}
-use Rattle.toml_span_read.specs.Lines.{Block}
-use Rattle.toml_span_claims.specs.declared.claims.Sort.{Sort}
-use Rattle.toml_span_claims.specs.declared.claims.Sort.TheVariants.{Passed, Section, ArrayOfTables, Entry, Dotted, Assigned}
+use Rattle.toml_span_read.specs.Data.{Inner, scalar, array, inline, Node, node, span_of, Items, no_items, item, Pairs}
+use Rattle.toml_span_read.specs.Data.{no_pairs, pair, Event, Block}
 use Rattle.toml_span_claims.specs.declared.claims.Mark.{Mark}
+use Rattle.toml_span_claims.specs.declared.claims.Sort.{Sort}
+use Rattle.toml_span_claims.specs.declared.claims.Sort.TheVariants.{ArrayOfTables, Entry, Dotted, Assigned, Section}
+use Rattle.toml_span_claims.specs.declared.claims.Sort.TheVariants.{Passed}
+use Rattle.toml_span_claims.specs.Paths.{below, at, enter, section_path, entries_at, opened_by}
 use Rattle.toml_span_claims.specs.declared.claims.Head.{Head}
-use Rattle.toml_span_claims.specs.Paths.{below, at, enter, entries_at, opened_by, section_path}
 
--- A path is claimed by a key of this name. The mark says in which way, and the place is what stands there if this claim decides.
+-- A path is claimed by a key of this name. The mark says in which way, and the place is what stands there if this claim
+-- decides.
 pub record Claim : Type 0 where
   pub path : Path
   pub name : List ℕ
   pub mark : Mark
   pub place : Place
 
--- The claims of a scope, in the order of the text, and among them the scopes that stand in it: an inline table is one of its
--- own, and so are the elements of an array, of which no two claim one path.
+-- The claims of a scope, in the order of the text, and among them the scopes that stand in it: an inline table is one
+-- of its own, and so are the elements of an array, of which no two claim one path.
 pub data Claims : Type 0 where
   no_claims : Claims
   claimed : Claim → Claims → Claims
@@ -44,8 +45,8 @@ abbrev pub key_span_of : Sort → Span → Option Span
 key_span_of Entry key = None
 key_span_of _ key = Some key
 
--- What stands where a claim of a table, or of an array of tables, decides. That of a header which passes through an entry
--- never does: the entry's own claim is earlier.
+-- What stands where a claim of a table, or of an array of tables, decides. That of a header which passes through an
+-- entry never does: the entry's own claim is earlier.
 abbrev pub place_of : Mark → Place
 place_of m = record { shape = shape_of m.sort; key_span = key_span_of m.sort m.key; span = m.extent }
 
@@ -105,7 +106,8 @@ unfoldable mutual
 
   pub item_claims : Items → ℕ → Path → Claims
   item_claims no_items i p = no_claims
-  item_claims (item v vs) i p = claimed (element (at p i) v) (followed (value_claims v (at p i)) (item_claims vs (suc i) p))
+  item_claims (item v vs) i p =
+      claimed (element (at p i) v) (followed (value_claims v (at p i)) (item_claims vs (suc i) p))
 
   pub pair_claims : Pairs → Path → Claims
   pair_claims no_pairs p = no_claims
@@ -152,12 +154,14 @@ header_claims entries h p (k ∷ l ∷ more) =
 
 -- what a section claims, where `entries` counts the entries of each array before it
 unfoldable pub section_claims : (Path → ℕ) → Block → Claims
-section_claims entries b = followed (header_claims entries (head_of b) [] b.header) (event_claims b.events (section_path entries b))
+section_claims entries b =
+    followed (header_claims entries (head_of b) [] b.header) (event_claims b.events (section_path entries b))
 
 -- what sections claim behind these earlier ones, the nearest first
 unfoldable pub claims_behind : List Block → List Block → Claims
 claims_behind earlier [] = no_claims
-claims_behind earlier (b ∷ bs) = followed (section_claims (entries_at (opened_by earlier)) b) (claims_behind (b ∷ earlier) bs)
+claims_behind earlier (b ∷ bs) =
+    followed (section_claims (entries_at (opened_by earlier)) b) (claims_behind (b ∷ earlier) bs)
 
 -- what a document claims
 abbrev pub claims : List Block → Claims

@@ -1,6 +1,6 @@
 -- Which claims clash, and what is told of two that do.
-use Rattle.std.specs.Prelude.{◌≡◌, ⊤, ℕ, List, [], ◌∷◌, ◌++◌, if◌then◌else◌, Option, Some, None, option_map}
-use Rattle.toml_span_tree.specs.Error.{Fault, Kind, duplicate_table, duplicate_key, redefine_as_array}
+use Rattle.std.specs.Prelude.{◌≡◌, ⊤, ℕ, if◌then◌else◌, List, [], ◌∷◌, ◌++◌, Option, Some, None, option_map}
+use Rattle.toml_span_tree.specs.Error.{Kind, duplicate_table, duplicate_key, redefine_as_array, Fault}
 use Rattle.toml_span_claims.specs.declared.claims.Sort.{Sort}
 use Rattle.toml_span_claims.specs.declared.claims.Sort.TheVariants.{Passed, Section, ArrayOfTables, Dotted, Assigned}
 use Rattle.toml_span_claims.specs.declared.claims.Blame.{Blame}
@@ -10,10 +10,10 @@ use Rattle.toml_span_claims.specs.declared.claims.Meeting.{Meeting}
 use Rattle.toml_span_claims.specs.Paths.{same_path}
 use Rattle.toml_span_claims.specs.Claims.{Claim, Claims, no_claims, claimed, scope}
 
--- What is told where an earlier claim has the first sort, and a later one on the same path the second. A table may be passed
--- through again and again, and opened once. An array of tables is claimed once, and then entered through its entries; an entry
--- is claimed once, and then passed through. A value and then a dotted key of one section or inline table is a fault of
--- reading; elsewhere another clash comes before it.
+-- What is told where an earlier claim has the first sort, and a later one on the same path the second. A table may be
+-- passed through again and again, and opened once. An array of tables is claimed once, and then entered through its
+-- entries; an entry is claimed once, and then passed through. A value and then a dotted key of one section or inline
+-- table is a fault of reading; elsewhere another clash comes before it.
 abbrev pub blame : Sort → Sort → Option Blame
 blame Passed ArrayOfTables = Some Array
 blame Passed Assigned = Some Key
@@ -63,7 +63,8 @@ named name m = record { meeting = m; name = name }
 
 -- the clash of an earlier claim and a later one, if there is one
 unfoldable pub clash : Claim → Claim → Option Told
-clash earlier later = if same_path earlier.path later.path then option_map (named later.name) (meets earlier.mark later.mark) else None
+clash earlier later =
+    if same_path earlier.path later.path then option_map (named later.name) (meets earlier.mark later.mark) else None
 
 -- none of the earlier claims clashes with it
 abbrev pub IsFree : List Claim → Claim → Type 0
@@ -76,15 +77,19 @@ Resolves earlier no_claims = ⊤
 Resolves earlier (claimed c cs) = IsFree earlier c × Resolves (earlier ++ (c ∷ [])) cs
 Resolves earlier (scope inner cs) = Resolves [] inner × Resolves earlier cs
 
--- Behind these earlier claims of the scope this is the first clash in the order of the text: that of the first claim which
--- clashes with an earlier one of its scope, and with the earliest of those.
+-- Behind these earlier claims of the scope this is the first clash in the order of the text: that of the first claim
+-- which clashes with an earlier one of its scope, and with the earliest of those.
 pub data TellsFirst : List Claim → Claims → Told → Type 0 where
-  told_here : (before after : List Claim) (earlier later : Claim) (cs : Claims) (t : Told) → IsFree before later → clash earlier later ≡ Some t
+  told_here : (before after : List Claim) (earlier later : Claim) (cs : Claims) (t : Told) → IsFree before later
+      → clash earlier later ≡ Some t
       → TellsFirst (before ++ (earlier ∷ after)) (claimed later cs) t
-  told_behind : (earlier : List Claim) (c : Claim) (cs : Claims) (t : Told) → IsFree earlier c → TellsFirst (earlier ++ (c ∷ [])) cs t
+  told_behind : (earlier : List Claim) (c : Claim) (cs : Claims) (t : Told) → IsFree earlier c
+      → TellsFirst (earlier ++ (c ∷ [])) cs t
       → TellsFirst earlier (claimed c cs) t
-  told_inside : (earlier : List Claim) (inner cs : Claims) (t : Told) → TellsFirst [] inner t → TellsFirst earlier (scope inner cs) t
-  told_after : (earlier : List Claim) (inner cs : Claims) (t : Told) → Resolves [] inner → TellsFirst earlier cs t → TellsFirst earlier (scope inner cs) t
+  told_inside : (earlier : List Claim) (inner cs : Claims) (t : Told) → TellsFirst [] inner t
+      → TellsFirst earlier (scope inner cs) t
+  told_after : (earlier : List Claim) (inner cs : Claims) (t : Told) → Resolves [] inner → TellsFirst earlier cs t
+      → TellsFirst earlier (scope inner cs) t
 
 -- the kind of the error that tells of a clash over a name
 abbrev pub kind_told : Blame → List ℕ → Meeting → Kind

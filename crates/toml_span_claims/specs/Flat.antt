@@ -1,11 +1,13 @@
 -- The flat document: what stands at each path.
-use Rattle.std.specs.Prelude.{◌≡◌, ℕ, if◌then◌else◌, List, [], ◌∷◌, ◌++◌, Option, Some, None, option_map}
-use Rattle.toml_span_tree.specs.Node.{Node}
+use Rattle.std.specs.Prelude.{◌≡◌, ℕ, Bool, true, false, if◌then◌else◌, List, [], ◌∷◌, ◌++◌, Option, Some, None}
+use Rattle.std.specs.Prelude.{option_map}
 use Rattle.toml_span_tree.specs.Path.{Path, shape_table, Place, place_at}
-use Rattle.toml_span_claims.specs.Clashes.{or_else}
-use Rattle.toml_span_claims.specs.Marks.{by_header}
-use Rattle.toml_span_claims.specs.Paths.{same_path}
+use Rattle.toml_span_tree.specs.Node.{Node}
 use Rattle.toml_span_claims.specs.Claims.{Claim, Claims, no_claims, claimed, scope}
+use Rattle.toml_span_claims.specs.Paths.{same_path}
+use Rattle.toml_span_claims.specs.declared.claims.Sort.{Sort}
+use Rattle.toml_span_claims.specs.declared.claims.Sort.TheVariants.{Dotted, Assigned}
+use Rattle.toml_span_claims.specs.Clashes.{or_else}
 
 -- the claims of every scope, in the order of the text
 unfoldable pub all_claims : Claims → List Claim
@@ -18,6 +20,11 @@ unfoldable pub claims_at : Path → List Claim → List Claim
 claims_at p [] = []
 claims_at p (c ∷ cs) = if same_path c.path p then c ∷ claims_at p cs else claims_at p cs
 
+abbrev pub by_header : Sort → Bool
+by_header Dotted = false
+by_header Assigned = false
+by_header _ = true
+
 unfoldable pub first_by_header : List Claim → Option Claim
 first_by_header [] = None
 first_by_header (c ∷ cs) = if by_header c.mark.sort then Some c else first_by_header cs
@@ -26,12 +33,13 @@ abbrev pub first : List Claim → Option Claim
 first [] = None
 first (c ∷ cs) = Some c
 
--- The first header that reaches or passes through the path decides, or else the first assignment through it. (Where the claims
--- resolve those of a path are of one scope.)
+-- The first header that reaches or passes through the path decides, or else the first assignment through it. (Where the
+-- claims resolve those of a path are of one scope.)
 abbrev pub decides : List Claim → Option Claim
 decides cs = or_else (first_by_header cs) (first cs)
 
--- What stands at each path of a document that is so many bytes long: at the empty path the root, at another one what is claimed there.
+-- What stands at each path of a document that is so many bytes long: at the empty path the root, at another one what is
+-- claimed there.
 unfoldable pub flat : ℕ → Claims → Path → Option Place
 flat length cs [] = Some (record { shape = shape_table; key_span = None; span = record { start = 0; end = length } })
 flat length cs (s ∷ p) = option_map (λ c. c.place) (decides (claims_at (s ∷ p) (all_claims cs)))

@@ -1,13 +1,7 @@
 pub mod Paths
 pub mod Claims
 pub mod Clashes
-pub mod Marks
 pub mod Flat
 pub mod Ordered
-pub mod Machine
-pub mod Tree
-pub mod Relative
-pub mod Placing
-pub mod Places
-pub mod OneEach
 pub mod Borrowed
+pub mod code

@@ -1,6 +1,7 @@
 -- Trees whose tables have their entries in the order of the names, and no name twice.
-use Rattle.std.specs.Prelude.{◌≡◌, ◌<◌, ◌⊎◌, ⊤, ℕ, List, [], ◌∷◌}
-use Rattle.toml_span_tree.specs.Node.{Node, node, Inner, taken, scalar, array, table, Items, no_items, item, Members, no_members, member}
+use Rattle.std.specs.Prelude.{◌≡◌, ⊤, ℕ, ◌<◌, ◌⊎◌, List, [], ◌∷◌, None}
+use Rattle.toml_span_tree.specs.Node.{Members, no_members, member, Node, node, Inner, taken, scalar, array, table}
+use Rattle.toml_span_tree.specs.Node.{Items, no_items, item, entry_at}
 
 -- a list is before each longer one that begins with it, and else the first two elements that differ decide
 abbrev pub IsBefore : {A : Type 0} → (A → A → Type 0) → List A → List A → Type 0
@@ -35,3 +36,24 @@ abbrev mutual
   pub MembersOrdered : Members → Type 0
   MembersOrdered no_members = ⊤
   MembersOrdered (member name at n ms) = EachName (IsNameBefore name) ms × IsOrdered n × MembersOrdered ms
+
+-- ---- no name twice, in whatever order
+
+-- in no table of the tree a name stands twice
+abbrev mutual
+  pub HasOneEach : Node → Type 0
+  HasOneEach (node i span) = InnerHasOneEach i
+
+  pub InnerHasOneEach : Inner → Type 0
+  InnerHasOneEach taken = ⊤
+  InnerHasOneEach (scalar s) = ⊤
+  InnerHasOneEach (array ns) = ItemsHaveOneEach ns
+  InnerHasOneEach (table ms) = MembersHaveOneEach ms
+
+  pub ItemsHaveOneEach : Items → Type 0
+  ItemsHaveOneEach no_items = ⊤
+  ItemsHaveOneEach (item n ns) = HasOneEach n × ItemsHaveOneEach ns
+
+  pub MembersHaveOneEach : Members → Type 0
+  MembersHaveOneEach no_members = ⊤
+  MembersHaveOneEach (member name at n ms) = (entry_at name ms ≡ None) × HasOneEach n × MembersHaveOneEach ms

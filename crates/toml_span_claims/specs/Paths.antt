@@ -1,9 +1,10 @@
 -- Paths, and the path that a header names.
-use Rattle.std.specs.Prelude.{ℕ, zero, suc, Bool, true, false, ◌&&◌, if◌then◌else◌, List, [], ◌∷◌, ◌++◌, length, filter, nat_eq}
+use Rattle.std.specs.Prelude.{ℕ, zero, suc, Bool, true, false, ◌&&◌, nat_eq, if◌then◌else◌, List, [], ◌∷◌, ◌++◌, filter}
+use Rattle.std.specs.Prelude.{length}
 use Rattle.std.specs.Str.{bytes_eq}
 use Rattle.toml_span_tree.specs.Path.{Step, key, position, Path}
 use Rattle.toml_span_read.specs.Keys.{Part}
-use Rattle.toml_span_read.specs.Lines.{Block}
+use Rattle.toml_span_read.specs.Data.{Block}
 
 abbrev pub same_step : Step → Step → Bool
 same_step (key name) (key other) = bytes_eq name other
@@ -34,7 +35,8 @@ unfoldable pub enter : ℕ → Path → Path
 enter zero p = p
 enter (suc latest) p = at p latest
 
--- The path of a header from p on, without the position of its own entry. `entries` counts the entries of each array so far.
+-- The path of a header from p on, without the position of its own entry. `entries` counts the entries of each array so
+-- far.
 unfoldable pub target : (Path → ℕ) → Path → List Part → Path
 target entries p [] = p
 target entries p (k ∷ []) = below p k

@@ -4,9 +4,9 @@ ghost use Rattle.std.specs.List.{list_any};
 ghost use Rattle.std.specs.Cow.{cow_str_bytes};
 ghost use Rattle.toml_span_tree.specs.Error.{fault_of};
 ghost use Rattle.toml_span_claims.specs.Clashes as clashes;
-ghost use Rattle.toml_span_claims.specs.Machine.{Gives, met, told_by};
-ghost use Rattle.toml_span_claims.specs.Marks as kept;
-ghost use Rattle.toml_span_claims.specs.Places.{IsMarkInside, IsHaltInside};
+ghost use Rattle.toml_span_claims.specs.code.Machine.{Gives, met, told_by};
+ghost use Rattle.toml_span_claims.specs.code.Marks as kept;
+ghost use Rattle.toml_span_claims.specs.code.Marks.{IsMarkInside, IsHaltInside};
 
 use smallvec::SmallVec;
 use std::alloc::{AllocError, AllocFailed, Global};

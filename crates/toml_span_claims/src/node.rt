@@ -1,10 +1,13 @@
 //! The tree under construction.
 ghost use Rattle.std.specs.Prelude.{◌≡◌, ℕ, List, [], false, IfOk, IfSome, IsOk};
 ghost use Rattle.toml_span_read.specs.Keys.{Part};
-ghost use Rattle.toml_span_claims.specs.Marks as kept;
-ghost use Rattle.toml_span_claims.specs.Borrowed.{AreRight, array_standing, boxes_standing, entries_of, held, standing, table_standing, value_standing};
-ghost use Rattle.toml_span_claims.specs.Tree.{IsFresh};
-ghost use Rattle.toml_span_claims.specs.Placing.{Becomes, EachBecomes, Finishes, NamesAscend};
+ghost use Rattle.toml_span_claims.specs.Flat as kept;
+ghost use Rattle.toml_span_claims.specs.code.Marks as code;
+ghost use Rattle.toml_span_claims.specs.Borrowed.{AreRight, held, value_standing};
+ghost use Rattle.toml_span_claims.specs.code.Borrowed.{array_standing, boxes_standing, entries_of, standing};
+ghost use Rattle.toml_span_claims.specs.code.Borrowed.{table_standing};
+ghost use Rattle.toml_span_claims.specs.code.Tree.{IsFresh};
+ghost use Rattle.toml_span_claims.specs.code.Placing.{Becomes, EachBecomes, Finishes, NamesAscend};
 
 use crate::claims::{Mark, Marks, Sort};
 use smallvec::SmallVec;
@@ -57,7 +60,7 @@ fn by_header(sort: Sort) -> bool
 
 /// The claim that says where a node stands: that of the first header, or else the first one.
 fn deciding(marks: &[Mark]) -> Option<Mark>
-    ensures { result ≡ kept.deciding marks.now }
+    ensures { result ≡ code.deciding marks.now }
 {
     for mark in marks {
         if by_header(mark.sort) {
@@ -69,7 +72,7 @@ fn deciding(marks: &[Mark]) -> Option<Mark>
 
 /// The key's span and the span of the node with these claims.
 fn spans(marks: &[Mark]) -> (Span, Span)
-    ensures { IfSome (kept.deciding marks.now) (λ m. result ≡ (m.key, m.extent)) }
+    ensures { IfSome (code.deciding marks.now) (λ m. result ≡ (m.key, m.extent)) }
 {
     match deciding(marks) {
         Some(mark) => (mark.key, mark.extent),

@@ -20,9 +20,10 @@ use Rattle.toml_span_read.specs.declared.value.ValKind.TheViews.{out-ValKind, ro
 use Rattle.toml_span_read.specs.declared.value.Assignment.{Assignment}
 use Rattle.toml_span_read.specs.declared.value.DottedKey.{DottedKey}
 use Rattle.toml_span_read.specs.Borrowed.{Written, IsRight, AreRight, joined, key_written, keys_written, dotted_written, written, kind_written, assignment_written, assignments_written, section_written, sections_written}
-use Rattle.toml_span_read.specs.Data.{Inner, scalar, is_scalar, kind_view}
+use Rattle.toml_span_read.specs.Data.{Inner, scalar, kind_view}
+use Rattle.toml_span_read.specs.code.Values.{is_scalar, BareGives}
 use Rattle.toml_span_read.specs.Grammar.{from_to, IsScalar}
-use Rattle.toml_span_read.specs.Stuck.{begins_bare, BareGives}
+use Rattle.toml_span_read.specs.Faults.{begins_bare}
 
 -- ---- lists
 

@@ -3,7 +3,8 @@ use Rattle.std.proofs.Common.{◌≡◌, ℕ, ◌+◌, ◌<◌, ◌≤◌, ◌�
 use Rattle.std.specs.Prelude.{◌&&◌, ◌||◌, ◌==◌}
 use Rattle.std.proofs.lemmas.Bool.Decides.{nat_tests}
 use Rattle.toml_span_lex.specs.Bytes.{is_keylike, MaximalRun}
-use Rattle.toml_span_read.specs.Dates.{is_decimal, is_date_byte, begins_date, IsCandidate}
+use Rattle.std.specs.Char.{is_ascii_digit}
+use Rattle.toml_span_read.specs.Dates.{is_date_byte, begins_date, IsCandidate}
 use Rattle.toml_span_read.proofs.Places.{run_some}
 
 pub keylike_small : (c : ℕ) → is_keylike c ≡ true → c < 128
@@ -26,7 +27,7 @@ date_ascii c h =
       | inr a ↦ equal_small c 43 (omega arith) a
     ]
 
-decimal_date : (c : ℕ) → is_decimal c ≡ true → is_date_byte c ≡ true
+decimal_date : (c : ℕ) → is_ascii_digit c ≡ true → is_date_byte c ≡ true
 decimal_date c h = let k : is_keylike c ≡ true = grind arith in rw k refl
 
 and_left : (a b : Bool) → (a && b) ≡ true → a ≡ true

@@ -6,11 +6,12 @@ use Rattle.std.proofs.lemmas.Bool.{cases_Bool, false≢true}
 use Rattle.toml_span_lex.specs.declared.span.Span.{Span}
 use Rattle.toml_span_read.specs.declared.earlier.Earlier.{Earlier}
 use Rattle.toml_span_read.specs.declared.fault.FaultKind.TheVariants as kinds
-use Rattle.toml_span_read.specs.Data.{Event, event}
+use Rattle.toml_span_read.specs.Data.{Event, event, span_of}
 use Rattle.toml_span_lex.specs.declared.key.Key.{Key}
 use Rattle.toml_span_read.specs.declared.value.Assignment.{Assignment}
 use Rattle.toml_span_read.specs.Keys.{Part, part}
-use Rattle.toml_span_read.specs.Earlier.{span_of, path, NoneAt, EarliestAt, NoneThrough, Clear, Crossing, Holds, holds, Puts, HoldsNone, FindsOutermost, TellsEarliest, EachLonger, Knows}
+use Rattle.toml_span_read.specs.Earlier.{path, NoneAt, EarliestAt, NoneThrough, Clear, Crossing}
+use Rattle.toml_span_read.specs.code.Earlier.{Holds, holds, Puts, HoldsNone, FindsOutermost, TellsEarliest, EachLonger, Knows}
 use Rattle.toml_span_read.proofs.EarlierLemmas.{clear_of}
 use Rattle.toml_span_read.proofs.EarlierTree.{same, same_name, same-self}
 

@@ -20,7 +20,8 @@ use Rattle.toml_span_read.specs.declared.earlier.Node.{Node as Tree, the_lemmas}
 use Rattle.toml_span_read.specs.declared.earlier.Node.TheViews.{roll-Node, out-Node}
 use Rattle.toml_span_read.specs.declared.earlier.Node.TheFolds.{fold-roll-Node}
 use Rattle.toml_span_read.specs.declared.earlier.Node.TheOpen.{Node-F}
-use Rattle.toml_span_read.specs.Earlier.{is_named, child, nothing, below, Holds, holds_step, holds, Puts, path, HoldsNone, FindsOutermost}
+use Rattle.toml_span_read.specs.code.Earlier.{is_named, child, nothing, below, Holds, holds_step, holds, Puts, HoldsNone, FindsOutermost}
+use Rattle.toml_span_read.specs.Earlier.{path}
 
 -- the order of keys
 abbrev pub key_cmp : Key → Key → Ordering

@@ -16,8 +16,8 @@ use Rattle.toml_span_read.specs.declared.fault.Due.{Due}
 use Rattle.toml_span_read.specs.declared.fault.Found.{Found}
 use Rattle.toml_span_read.specs.declared.fault.Fault.{Fault}
 use Rattle.toml_span_read.specs.declared.fault.FaultKind.{FaultKind}
-use Rattle.toml_span_read.specs.Faults.{fault_at, invalid_number, token_fault, IsPlaced, found_words}
-use Rattle.toml_span_read.specs.Wanted.{IsFound, IsTokenFault, wanted_fault}
+use Rattle.toml_span_read.specs.Faults.{fault_at, invalid_number, token_fault, found_words, IsFound, IsTokenFault, wanted_fault}
+use Rattle.toml_span_read.specs.Places.{IsPlaced}
 use Rattle.toml_span_read.proofs.Places.{read_within}
 
 pub placed_at : (text : List ℕ) (kind : FaultKind) (at : ℕ) → at ≤ length text → IsPlaced text (fault_at kind at)

@@ -5,12 +5,12 @@ use Rattle.toml_span_lex.proofs.Runs.{read_within}
 use Rattle.toml_span_lex.proofs.Folded.{second}
 use Rattle.toml_span_lex.proofs.PieceLemmas.{line_forward}
 use Rattle.toml_span_read.specs.declared.section.Section.{Section}
-use Rattle.toml_span_read.specs.Data.{Node, node, scalar, array, inline, Items, no_items, item, Pairs, no_pairs, pair, Event}
+use Rattle.toml_span_read.specs.Data.{Node, node, scalar, array, inline, Items, no_items, item, Pairs, no_pairs, pair, Event, Block, block}
 use Rattle.toml_span_read.specs.Gaps.{Skipped, Tail}
-use Rattle.toml_span_read.specs.Grammar.{Spells, SpellsItems, SpellsPairs}
-use Rattle.toml_span_read.specs.Keys.{Part, Dotted, Ascend}
-use Rattle.toml_span_read.specs.Lines.{SpellsEvents, SpellsLines, Opens, Shuts, SpellsHeader, Block, block, SpellsSection, first_block, first_blocks, SpellsSections, SpellsDocument}
-use Rattle.toml_span_read.specs.Inside.{IsInside, PartsInside, KeysInside, ItemKeysInside, PairKeysInside, EventsInside, SectionInside, SectionsInside}
+use Rattle.toml_span_read.specs.Grammar.{Spells, SpellsItems, SpellsPairs, SpellsEvents, SpellsLines, Opens, Shuts, SpellsHeader, SpellsSection, first_block, SpellsSections, SpellsDocument}
+use Rattle.toml_span_read.specs.Keys.{Part, Dotted}
+use Rattle.toml_span_read.specs.Places.{Ascend, IsInside, PartsInside, KeysInside, ItemKeysInside, PairKeysInside, EventsInside, SectionInside, SectionsInside}
+use Rattle.toml_span_read.specs.code.Sections.{first_blocks}
 use Rattle.toml_span_read.proofs.KeyOrder.{dotted_ascend}
 
 -- ---- keys

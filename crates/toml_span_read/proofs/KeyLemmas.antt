@@ -12,11 +12,13 @@ use Rattle.toml_span_lex.specs.Strings.{IsString}
 use Rattle.toml_span_lex.proofs.Copies.{content_fits}
 use Rattle.toml_span_lex.proofs.MadeStrings.{content_from_after}
 use Rattle.toml_span_read.specs.declared.fault.FaultKind.{FaultKind}
-use Rattle.toml_span_read.specs.Faults.{IsPlaced}
+use Rattle.toml_span_read.specs.Places.{IsPlaced}
 use Rattle.toml_span_read.specs.declared.fault.Fault.{Fault}
 use Rattle.toml_span_read.specs.declared.value.DottedKey.{DottedKey}
 use Rattle.toml_span_read.specs.Gaps.{Dot}
-use Rattle.toml_span_read.specs.Keys.{Part, part, parts, IsKey, KeyGives, Onward, Dotted, StuckOnward, no_part, dotted_on, StuckDotted, no_first, onward, DottedGives, StuckHeaderKey, no_header_part, HeaderKeyGives}
+use Rattle.toml_span_read.specs.Keys.{Part, part, parts, IsKey, Onward, Dotted}
+use Rattle.toml_span_read.specs.code.Keys.{KeyGives, DottedGives, HeaderKeyGives}
+use Rattle.toml_span_read.specs.Stuck.{StuckOnward, no_part, dotted_on, StuckDotted, no_first, onward, StuckHeaderKey, no_header_part}
 
 -- an error that `?` hands on
 pub handed_on : {T E : Type 0} (r : Result T E) (x : E) → IsErrAnd r (λ y. y ≡ x) → r ≡ Err x

@@ -6,7 +6,8 @@ use Rattle.toml_span_lex.specs.declared.span.Span.{Span}
 use Rattle.toml_span_lex.specs.Strings.{IsString}
 use Rattle.toml_span_lex.proofs.Copies.{content_fits}
 use Rattle.toml_span_lex.proofs.MadeStrings.{content_from_after}
-use Rattle.toml_span_read.specs.Keys.{Part, IsKey, Onward, Dotted, Ascend}
+use Rattle.toml_span_read.specs.Keys.{Part, IsKey, Onward, Dotted}
+use Rattle.toml_span_read.specs.Places.{Ascend}
 
 -- the span is not empty and lies from i to j
 record Inside (i j : ℕ) (s : Span) : Type 0 where

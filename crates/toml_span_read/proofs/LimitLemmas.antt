@@ -5,18 +5,21 @@ use Rattle.toml_span_lex.specs.declared.span.Span.{Span}
 use Rattle.toml_span_lex.specs.declared.key.Key.{Key}
 use Rattle.toml_span_read.specs.declared.value.Val.{Val}
 use Rattle.toml_span_read.specs.declared.value.Assignment.{Assignment}
-use Rattle.toml_span_read.specs.Data.{Node, node, Inner, scalar, array, inline, Items, no_items, item, Pairs, no_pairs, pair, Event, onto, pairs_onto, view, event, is_scalar}
+use Rattle.toml_span_read.specs.Data.{Node, node, Inner, scalar, array, inline, Items, no_items, item, Pairs, no_pairs, pair, Event, onto, pairs_onto, view, event, span_of}
+use Rattle.toml_span_read.specs.code.Values.{is_scalar}
 use Rattle.std.proofs.Common.{Err}
 use Rattle.toml_span_tree.specs.Node.{Scalar}
 use Rattle.toml_span_lex.specs.declared.stop.Stop.{Stop}
 use Rattle.toml_span_lex.specs.declared.stop.Stop.TheVariants as stops
 use Rattle.toml_span_read.specs.declared.fault.Fault.{Fault}
-use Rattle.toml_span_read.specs.Faults.{IsPlaced, IsPlacedStop}
+use Rattle.toml_span_read.specs.Places.{IsPlaced}
+use Rattle.toml_span_read.specs.code.Faults.{IsPlacedStop}
 use Rattle.toml_span_read.specs.Gaps.{Dot}
-use Rattle.toml_span_read.specs.Earlier.{span_of, StartBefore, AddsClear}
+use Rattle.toml_span_read.specs.code.Earlier.{StartBefore, AddsClear}
 use Rattle.toml_span_read.specs.Keys.{Part, part, IsKey, Onward, Dotted}
 use Rattle.toml_span_read.proofs.KeyLemmas.{string_before}
-use Rattle.toml_span_read.specs.Limits.{Within, WithinInner, WithinItems, WithinPairs, WithinEvent, WithinEvents, WithinSection, WithinSections, IsSpanned}
+use Rattle.toml_span_read.specs.Limits.{Within, WithinInner, WithinItems, WithinPairs, WithinEvent, WithinEvents, WithinSection, WithinSections}
+use Rattle.toml_span_read.specs.code.Limits.{IsSpanned}
 use Rattle.toml_span_read.specs.declared.section.Section.{Section}
 
 pub scalar_within : (limit d : ℕ) (k : Inner) → is_scalar k ≡ true → WithinInner limit d k

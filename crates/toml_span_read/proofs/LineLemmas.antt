@@ -12,14 +12,18 @@ use Rattle.toml_span_read.specs.declared.fault.Fault.{Fault}
 use Rattle.toml_span_read.specs.declared.value.Assignment.{Assignment}
 use Rattle.toml_span_read.specs.declared.section.Section.{Section}
 use Rattle.toml_span_read.specs.declared.sections.Header.{Header}
-use Rattle.toml_span_read.specs.Data.{Node, Event, event}
-use Rattle.toml_span_read.specs.Earlier.{Clear, Crossing, AddsClear}
+use Rattle.toml_span_read.specs.Data.{Node, Event, event, Block, block}
+use Rattle.toml_span_read.specs.Earlier.{Clear, Crossing}
+use Rattle.toml_span_read.specs.code.Earlier.{AddsClear}
 use Rattle.toml_span_read.specs.Gaps.{MaximalGap, Equals, Tail, NoTail}
-use Rattle.toml_span_read.specs.Grammar.{Spells}
-use Rattle.toml_span_read.specs.Keys.{Part, part, Dotted, DottedGives, HeaderKeyGives}
-use Rattle.toml_span_read.specs.Lines.{SpellsEvent, SpellsEvents, SpellsLines, Opens, Shuts, HeaderFront, SpellsHeader, Block, block, last_end, SpellsSection, first_block, SpellsSections, SpellsDocument, StuckEvent, line_key, line_equals, line_value, StuckTail, StuckEvents, in_line, no_newline, crossing, line_on, StuckLines, NoShuts, StuckHeader, header_key, header_close, header_rest, StuckSections, in_header, in_section, section_on, StuckDocument, before_headers, behind_header, EventGives, LineGives, LinesGive, CloseGives, HeaderGives, block_of, first_blocks, SectionsGive}
-use Rattle.toml_span_read.specs.Stuck.{ValueGives}
-use Rattle.toml_span_read.specs.Wanted.{WantedGives}
+use Rattle.toml_span_read.specs.Grammar.{Spells, SpellsEvent, SpellsEvents, SpellsLines, Opens, Shuts, HeaderFront, SpellsHeader, last_end, SpellsSection, first_block, SpellsSections, SpellsDocument}
+use Rattle.toml_span_read.specs.Keys.{Part, part, Dotted}
+use Rattle.toml_span_read.specs.code.Keys.{DottedGives, HeaderKeyGives}
+use Rattle.toml_span_read.specs.Stuck.{StuckEvent, line_key, line_equals, line_value, StuckEvents, in_line, no_newline, crossing, line_on, StuckLines, StuckHeader, header_key, header_close, header_rest, StuckSections, in_header, in_section, section_on, StuckDocument, before_headers, behind_header}
+use Rattle.toml_span_read.specs.Faults.{StuckTail, NoShuts}
+use Rattle.toml_span_read.specs.code.Sections.{EventGives, LineGives, LinesGive, CloseGives, HeaderGives, block_of, first_blocks, SectionsGive}
+use Rattle.toml_span_read.specs.code.Values.{ValueGives}
+use Rattle.toml_span_read.specs.code.Wanted.{WantedGives}
 use Rattle.toml_span_read.proofs.KeyLemmas.{map_more}
 
 -- ---- assignments
@@ -108,7 +112,7 @@ close_first true (stops.Fault e) text i k run none h = (k, run, inl (none, h))
 pub close_second : (array : Bool) (stop : Stop Fault) (text : List ℕ) (i k b : ℕ) → array ≡ true → MaximalRun is_blank text i k → get_or text k 0 ≡ 93 → b ≡ k + 1
     → (get_or text b 0 == 93) ≡ false → WantedGives text b dues.RightBracket stop → CloseGives array text i (Err stop)
 close_second array (stops.Memory e) text i k b a run here u none h = tt
-close_second array (stops.Fault e) text i k b a run here u none h = rw a (k, run, inr (here, (rw u at none), (rw u at h)))
+close_second array (stops.Fault e) text i k b a run here u none h = rw a (k, run, inr (here, ((rw u at none), (rw u at h))))
 
 pub header_key_fault : (stop : Stop Fault) (array : Bool) (text : List ℕ) (limit i m k : ℕ) → Opens array text i m → MaximalRun is_blank text m k → HeaderKeyGives text limit k (Err stop)
     → HeaderGives text limit i (Err stop)

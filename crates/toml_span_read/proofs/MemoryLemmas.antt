@@ -4,10 +4,12 @@ use Rattle.toml_span_lex.specs.declared.stop.Stop.{Stop}
 use Rattle.toml_span_lex.specs.declared.stop.Stop.TheVariants as stops
 use Rattle.toml_span_lex.specs.Tokenizer.{FirstPlace}
 use Rattle.toml_span_read.specs.declared.section.Section.{Section}
-use Rattle.toml_span_read.specs.Data.{Event}
+use Rattle.toml_span_read.specs.Data.{Event, block}
 use Rattle.toml_span_read.specs.Gaps.{MaximalGap}
 use Rattle.toml_span_read.specs.Keys.{Part, Dotted}
-use Rattle.toml_span_read.specs.Lines.{SpellsEvent, SpellsEvents, SpellsLines, block, first_block, first_blocks, HoldsForm, KeepsForm}
+use Rattle.toml_span_read.specs.Grammar.{SpellsEvent, SpellsEvents, SpellsLines, first_block}
+use Rattle.toml_span_read.specs.code.Sections.{first_blocks}
+use Rattle.toml_span_read.specs.Stuck.{HoldsForm, KeepsForm}
 use Rattle.toml_span_read.proofs.InsideLemmas.{ascend_forward, tail_inside}
 use Rattle.toml_span_read.proofs.KeyOrder.{dotted_ascend}
 use Rattle.toml_span_read.proofs.SpanLaws.{value_lies}

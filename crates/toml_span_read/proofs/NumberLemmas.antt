@@ -8,7 +8,7 @@ use Rattle.std.proofs.lemmas.Bool.Decides.{nat_tests}
 use Rattle.std.proofs.lemmas.List.{get_or_past}
 use Rattle.toml_span_lex.specs.Bytes.{is_keylike, MaximalRun}
 use Rattle.toml_span_read.specs.declared.fault.Fault.{Fault}
-use Rattle.toml_span_read.specs.Faults.{invalid_number}
+use Rattle.toml_span_read.specs.Faults.{invalid_number, NoDigits, no_digit, loose_underscore, IsSpecial, NoNumber, plus_before_prefix, no_radix_integer, no_decimal, no_decimal_behind_plus, Run, in_run, behind_plus, no_fraction_exponent, outside_radix}
 use Rattle.toml_span_read.proofs.DateLemmas.{keylike_small}
 use Rattle.toml_span_read.proofs.Places.{run_some}
 use Rattle.std.specs.Prelude.{codes}
@@ -18,7 +18,9 @@ use Rattle.toml_span_tree.specs.Node.{finite, infinite, not_a_number, Scalar, te
 use Rattle.toml_span_tree.specs.declared.float.FloatText.{FloatText}
 use Rattle.toml_span_tree.specs.Value.{float_value}
 use Rattle.toml_span_read.specs.declared.value.ValKind.{ValKind}
-use Rattle.toml_span_read.specs.Numbers.{is_hex_digit, is_digit, is_figure, digit_value, DigitGives, Digits, NoDigits, no_digit, loose_underscore, behind_sign, is_negative, is_exponent, radix_at, IsNumber, IsSpecial, SpecialGives, UnsignedGives, NumberGives, NoNumber, plus_before_prefix, no_radix_integer, no_decimal, no_decimal_behind_plus, FloatLiteral, Run, Exponent, Fraction, ExponentDigitsGive, ExponentGives, FractionGives, sum_of_digits, cleaned, IntegerGives, RadixIntegerGives, magnitude, goes_on, in_run, behind_plus, no_fraction_exponent, outside_radix}
+use Rattle.std.specs.Char.{is_ascii_hexdigit, digit_value}
+use Rattle.toml_span_read.specs.Numbers.{is_digit, is_figure, Digits, behind_sign, is_negative, is_exponent, radix_at, IsNumber, FloatLiteral, Exponent, Fraction, sum_of_digits, cleaned, magnitude, goes_on}
+use Rattle.toml_span_read.specs.code.Numbers.{DigitGives, SpecialGives, UnsignedGives, NumberGives, ExponentDigitsGive, ExponentGives, FractionGives, IntegerGives, RadixIntegerGives}
 
 -- ---- bytes
 
@@ -60,7 +62,7 @@ same_byte c k h = grind (arith, nat_tests)
 pub clash : (p : ℕ → Bool) (b k : ℕ) → p b ≡ true → b ≡ k → p k ≡ false → ⊥
 clash p b k h e n = false≢true (sym n ∙ (rw e at h))
 
-hex_keylike : (c : ℕ) → is_hex_digit c ≡ true → is_keylike c ≡ true
+hex_keylike : (c : ℕ) → is_ascii_hexdigit c ≡ true → is_keylike c ≡ true
 hex_keylike c h = grind arith
 
 underscore_keylike : (c : ℕ) → c ≡ 95 → is_keylike c ≡ true

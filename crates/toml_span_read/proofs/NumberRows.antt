@@ -4,8 +4,8 @@ use Rattle.std.specs.Prelude.{◌&&◌, codes, pos}
 use Rattle.std.proofs.lemmas.Bool.{cases_lt}
 use Rattle.toml_span_lex.specs.Bytes.{is_keylike, MaximalRun}
 use Rattle.toml_span_tree.specs.Node.{integer}
-use Rattle.toml_span_read.specs.Faults.{invalid_number}
-use Rattle.toml_span_read.specs.Numbers.{is_digit, is_figure, Digits, IsNumber, no_integer_exponent, behind_plus, no_exponent_digits, magnitude, cleaned, radix_at, Run, NoNumber, plus_alone, no_decimal, no_radix_integer, no_integer_part, no_integer_digits, zero_underscore_before, no_radix_digits, no_digit, loose_underscore}
+use Rattle.toml_span_read.specs.Faults.{invalid_number, no_integer_exponent, behind_plus, no_exponent_digits, Run, NoNumber, plus_alone, no_decimal, no_radix_integer, no_integer_part, no_integer_digits, zero_underscore_before, no_radix_digits, no_digit, loose_underscore}
+use Rattle.toml_span_read.specs.Numbers.{is_digit, is_figure, Digits, IsNumber, magnitude, cleaned, radix_at}
 use Rattle.toml_span_read.proofs.NumberLemmas.{and_left, and_right, cons_parts, digit_no_underscore}
 
 -- values and cleaned texts

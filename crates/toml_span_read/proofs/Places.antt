@@ -4,7 +4,8 @@ use Rattle.std.specs.Str.{IsUtf8, IsCharBoundary}
 use Rattle.std.proofs.lemmas.Str.{IsCharBoundary-after_ascii}
 use Rattle.std.proofs.lemmas.Bool.{cases_lt, false≢true}
 use Rattle.std.proofs.lemmas.List.{get_or_past}
-use Rattle.toml_span_read.specs.Gaps.{GapPiece, GapBy, Further}
+use Rattle.toml_span_read.specs.Gaps.{GapPiece, GapBy}
+use Rattle.toml_span_read.specs.code.Gaps.{Further}
 use Rattle.toml_span_lex.specs.Bytes.{MaximalRun}
 
 -- a byte that is not 0 stands within the text

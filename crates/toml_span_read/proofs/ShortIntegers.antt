@@ -10,34 +10,35 @@ use Rattle.toml_span_lex.proofs.Runs.{boundary_after}
 use Rattle.toml_span_tree.specs.Node.{integer}
 use Rattle.toml_span_read.specs.declared.value.ValKind.{ValKind}
 use Rattle.toml_span_read.specs.Data.{kind_view, scalar}
-use Rattle.toml_span_read.specs.Dates.{is_decimal, begins_date}
-use Rattle.toml_span_read.specs.Gaps.{Further}
-use Rattle.toml_span_read.specs.Numbers.{is_digit, digit_value, Digits, magnitude, DecimalInteger, IsSigned, behind_sign}
-use Rattle.toml_span_read.specs.Stuck.{BareGives}
+use Rattle.std.specs.Char.{is_ascii_digit, digit_value}
+use Rattle.toml_span_read.specs.Dates.{begins_date}
+use Rattle.toml_span_read.specs.code.Gaps.{Further}
+use Rattle.toml_span_read.specs.Numbers.{is_digit, Digits, magnitude, DecimalInteger, IsSigned, behind_sign}
+use Rattle.toml_span_read.specs.code.Values.{BareGives}
 use Rattle.toml_span_read.proofs.NumberLemmas.{is_false, byte_is, and_left, and_right, digit_figure, no_keylike_figure, digit_no_underscore, no_sign, stands_alone, Summed, sum_goes_on}
 
 -- ---- digits
 
-pub decimal_digit : (c : ℕ) → is_decimal c ≡ true → is_digit 10 c ≡ true
+pub decimal_digit : (c : ℕ) → is_ascii_digit c ≡ true → is_digit 10 c ≡ true
 decimal_digit c h = grind (arith, nat_tests)
 
-pub decimal_value : (c : ℕ) → is_decimal c ≡ true → digit_value c ≡ c - 48
+pub decimal_value : (c : ℕ) → is_ascii_digit c ≡ true → digit_value c ≡ c - 48
 decimal_value c h = grind (arith, nat_tests)
 
-pub decimal_keylike : (c : ℕ) → is_decimal c ≡ true → is_keylike c ≡ true
+pub decimal_keylike : (c : ℕ) → is_ascii_digit c ≡ true → is_keylike c ≡ true
 decimal_keylike c h = grind arith
 
-decimal_ascii : (c : ℕ) → is_decimal c ≡ true → c < 128
+decimal_ascii : (c : ℕ) → is_ascii_digit c ≡ true → c < 128
 decimal_ascii c h = grind arith
 
-not_decimal : (c k : ℕ) → is_decimal c ≡ true → c ≡ k → is_decimal k ≡ false → ⊥
+not_decimal : (c k : ℕ) → is_ascii_digit c ≡ true → c ≡ k → is_ascii_digit k ≡ false → ⊥
 not_decimal c k h e n = false≢true (sym n ∙ (rw e at h))
 
-no_keylike_decimal : (c : ℕ) → is_keylike c ≡ false → is_decimal c ≡ true → ⊥
+no_keylike_decimal : (c : ℕ) → is_keylike c ≡ false → is_ascii_digit c ≡ true → ⊥
 no_keylike_decimal c n h = false≢true (sym n ∙ decimal_keylike c h)
 
 abbrev pub Decimals : List ℕ → ℕ → ℕ → Type 0
-Decimals text i j = (k : ℕ) → i ≤ k → k < j → is_decimal (get_or text k 0) ≡ true
+Decimals text i j = (k : ℕ) → i ≤ k → k < j → is_ascii_digit (get_or text k 0) ≡ true
 
 digits_alone : (text : List ℕ) (i j : ℕ) → i < j → j ≤ length text → Decimals text i j → is_keylike (get_or text j 0) ≡ false → Digits 10 text i j
 digits_alone text i j l w h n = record {
@@ -49,7 +50,7 @@ digits_alone text i j l w h n = record {
 -- ---- no date begins with them
 
 -- where a decimal digit stands at k, k is among the digits
-among : (text : List ℕ) (i j k : ℕ) → is_keylike (get_or text j 0) ≡ false → k ≤ j → is_decimal (get_or text k 0) ≡ true → k < j
+among : (text : List ℕ) (i j k : ℕ) → is_keylike (get_or text j 0) ≡ false → k ≤ j → is_ascii_digit (get_or text k 0) ≡ true → k < j
 among text i j k n le h = elim (cases_lt k j) [ inl lt ↦ lt | inr ge ↦ let e : k ≡ j = omega arith in absurd (no_keylike_decimal (get_or text j 0) n (rw e at h)) ]
 
 no_dash : (text : List ℕ) (i j k : ℕ) → Decimals text i j → is_keylike (get_or text j 0) ≡ false → i ≤ k → k ≤ j → (get_or text k 0 == 45) ≡ true → ⊥
@@ -105,7 +106,7 @@ range_at text a b k x y =
     let below : k - a < b - a = omega arith in
     rw (get_or-take (b - a) (drop a text) (k - a) 0 below, get_or-drop, at) refl
 
-pub few_more : (text : List ℕ) (from at v w : ℕ) → from ≤ at → is_decimal (get_or text at 0) ≡ true → w ≡ v * 10 + (get_or text at 0 - 48) → FewDigits text from at v → FewDigits text from (at + 1) w
+pub few_more : (text : List ℕ) (from at v w : ℕ) → from ≤ at → is_ascii_digit (get_or text at 0) ≡ true → w ≡ v * 10 + (get_or text at 0 - 48) → FewDigits text from at v → FewDigits text from (at + 1) w
 few_more text from at v w f h e s = record {
   digits = λ k a b. elim (cases_lt k at) [ inl x ↦ s.digits k a x | inr x ↦ let same : k ≡ at = omega arith in rw same h ];
   sum = λ j a l. (
@@ -143,4 +144,4 @@ short_made kind n text i j m e l w h v lead k dot colon value =
     (integer n, e, (is_false _ (date_no text i j l h k colon), inl d, refl))
 
 pub short_further : (text : List ℕ) (i j : ℕ) → IsUtf8 text → IsCharBoundary text i → i < j → j ≤ length text → Decimals text i j → Further text i j
-short_further text i j u b l w h = record { on = l; boundary = boundary_after is_decimal text i j decimal_ascii u b (omega arith) w h }
+short_further text i j u b l w h = record { on = l; boundary = boundary_after is_ascii_digit text i j decimal_ascii u b (omega arith) w h }

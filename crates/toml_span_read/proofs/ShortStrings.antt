@@ -11,7 +11,7 @@ use Rattle.toml_span_lex.specs.declared.span.Span.{Span}
 use Rattle.toml_span_lex.specs.Pieces.{is_plain}
 use Rattle.toml_span_lex.specs.Strings.{IsContent, IsString, Borrows, BorrowsWhereSame, content_span, opens_multi}
 use Rattle.toml_span_lex.proofs.MadeStrings.{is_string, borrows_same, where_same}
-use Rattle.toml_span_read.specs.Gaps.{Further}
+use Rattle.toml_span_read.specs.code.Gaps.{Further}
 use Rattle.toml_span_read.proofs.Places.{behind_byte, read_within}
 
 plain_other : (q c : ℕ) → is_plain q c ≡ true → (c == q) ≡ false

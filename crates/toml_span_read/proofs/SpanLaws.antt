@@ -7,12 +7,12 @@ use Rattle.toml_span_lex.proofs.Copies.{content_fits}
 use Rattle.toml_span_lex.proofs.MadeStrings.{content_from_after}
 use Rattle.toml_span_tree.specs.Node.{Scalar, text as text_scalar, integer, float, boolean, datetime, finite, infinite, not_a_number}
 use Rattle.toml_span_read.specs.Gaps.{Sign, Closes}
-use Rattle.toml_span_read.specs.Keys.{Part, Ascend}
+use Rattle.toml_span_read.specs.Keys.{Part}
+use Rattle.toml_span_read.specs.Places.{Ascend, Inside, InsideItems, InsidePairs}
 use Rattle.toml_span_read.specs.Dates.{IsCandidate}
 use Rattle.toml_span_read.specs.Numbers.{IsNumber, behind_sign, UnsignedDecimal, Exponent, Fraction, FloatLiteral, SpecialFloat}
 use Rattle.toml_span_read.specs.Data.{Node, node, Inner, scalar, array, inline, Items, no_items, item, Pairs, no_pairs, pair, Event}
 use Rattle.toml_span_read.specs.Grammar.{from_to, IsScalar, Spells, SpellsInner, SpellsItems, SpellsPairs}
-use Rattle.toml_span_read.specs.Spans.{Inside, InsideItems, InsidePairs}
 use Rattle.toml_span_read.proofs.Places.{read_within}
 use Rattle.toml_span_read.proofs.KeyOrder.{dotted_ascend}
 

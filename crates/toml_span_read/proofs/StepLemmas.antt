@@ -10,11 +10,12 @@ use Rattle.toml_span_read.specs.declared.sections.Header.{Header}
 use Rattle.toml_span_read.specs.declared.value.Assignment.{Assignment}
 use Rattle.toml_span_read.specs.Borrowed.{AreRight, IsRight, assignments_written, section_written, sections_written}
 use Rattle.toml_span_read.specs.Data.{Event}
-use Rattle.toml_span_read.specs.Inside.{EventsInside}
+use Rattle.toml_span_read.specs.Places.{EventsInside}
 use Rattle.toml_span_read.specs.Keys.{part}
 use Rattle.toml_span_read.specs.Limits.{WithinSection, WithinSections}
-use Rattle.toml_span_read.specs.Lines.{HeaderGives, HoldsForm, LinesGive, before_headers, first_block, first_blocks, in_header, in_section}
-use Rattle.toml_span_read.specs.Stepwise.{IsReadFirst, FirstGives, SectionGives}
+use Rattle.toml_span_read.specs.code.Sections.{HeaderGives, LinesGive, first_blocks, IsReadFirst, FirstGives, SectionGives}
+use Rattle.toml_span_read.specs.Stuck.{HoldsForm, before_headers, in_header, in_section}
+use Rattle.toml_span_read.specs.Grammar.{first_block}
 use Rattle.toml_span_read.proofs.BorrowLemmas.{all_append}
 use Rattle.toml_span_read.proofs.InsideLemmas.{first_section_inside}
 use Rattle.toml_span_read.proofs.LineLemmas.{StuckFrom, WholeSections, sections_begin}

@@ -16,13 +16,18 @@ use Rattle.toml_span_read.specs.declared.value.ValKind.{ValKind}
 use Rattle.toml_span_read.specs.declared.value.Assignment.{Assignment}
 use Rattle.toml_span_read.specs.Data.{Node, node, scalar, array, inline, Items, no_items, item, Pairs, no_pairs, pair, Event, onto, pairs_onto, view, kind_view, event}
 use Rattle.toml_span_read.specs.Dates.{begins_date, IsCandidate}
-use Rattle.toml_span_read.specs.Numbers.{IsNumber, NumberGives}
+use Rattle.toml_span_read.specs.Numbers.{IsNumber}
+use Rattle.toml_span_read.specs.code.Numbers.{NumberGives}
 use Rattle.toml_span_read.specs.Grammar.{from_to, truth_text, IsScalar, Spells, SpellsPair, SpellsItems, SpellsPairs}
-use Rattle.toml_span_read.specs.Stuck.{opens_nested, begins_bare, begins_number, Begins, BeginsNumber, IsOther, NoBare, IsTooDeep, BareGives, ValueGives, PairGives, no_value, no_string, too_deep, no_bare, in_array, in_inline, StuckItems, in_item, behind_item, StuckPairs, in_pair, crosses, behind_pair, pair_on, in_key, no_equals, in_value}
-use Rattle.toml_span_read.specs.Keys.{Part, opens_string, Dotted, DottedGives}
+use Rattle.toml_span_read.specs.Faults.{opens_nested, begins_bare, begins_number, Begins, BeginsNumber, IsOther, NoBare}
+use Rattle.toml_span_read.specs.code.Values.{IsTooDeep, BareGives, ValueGives, PairGives}
+use Rattle.toml_span_read.specs.Stuck.{no_value, no_string, too_deep, no_bare, in_array, in_inline, StuckItems, in_item, behind_item, StuckPairs, in_pair, crosses, behind_pair, pair_on, in_key, no_equals, in_value}
+use Rattle.toml_span_read.specs.Keys.{Part, opens_string, Dotted}
+use Rattle.toml_span_read.specs.code.Keys.{DottedGives}
 use Rattle.toml_span_read.specs.Gaps.{MaximalGap, Sign, Closes, Neither}
-use Rattle.toml_span_read.specs.Wanted.{NoValueGives, WantedGives, StringReads}
-use Rattle.toml_span_read.specs.Earlier.{Clear, AddsClear}
+use Rattle.toml_span_read.specs.code.Wanted.{NoValueGives, WantedGives, StringReads}
+use Rattle.toml_span_read.specs.Earlier.{Clear}
+use Rattle.toml_span_read.specs.code.Earlier.{AddsClear}
 use Rattle.toml_span_read.specs.declared.wanted.StringToken.{StringToken}
 use Rattle.std.specs.Cow.{cow_str_bytes}
 

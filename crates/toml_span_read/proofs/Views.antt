@@ -5,7 +5,7 @@ use Rattle.toml_span_read.specs.declared.value.ValKind.{Array, Inline, the_lemma
 use Rattle.toml_span_read.specs.declared.value.Assignment.{Assignment}
 use Rattle.toml_span_read.specs.Keys.{parts}
 use Rattle.toml_span_read.specs.Data.{node, array, inline, no_items, no_pairs, Event, onto, pairs_onto, view, kind_view, event}
-use Rattle.toml_span_read.specs.Inside.{PartsInside, KeysInside, InnerKeysInside, ItemKeysInside, PairKeysInside, EventInside, EventsInside}
+use Rattle.toml_span_read.specs.Places.{PartsInside, KeysInside, InnerKeysInside, ItemKeysInside, PairKeysInside, EventInside, EventsInside}
 
 pub event_is : (a : Assignment) → event a ≡ record { parts = parts a.parts; value = view a.value; extent = a.extent }
 event_is a = search (rules, the_lemmas)

@@ -1,18 +1,18 @@
 -- Which of the strings and keys that are read are borrowed.
-use Rattle.std.specs.Prelude.{List, [], ◌∷◌, ◌++◌, map, ℕ}
 use Rattle.std.specs.Global.{Global}
-use Rattle.std.specs.List.{AllByRecursion}
 use Rattle.std.specs.declared.borrow.CowStr.{CowStr}
-use Rattle.toml_span_lex.specs.declared.key.Key.{Key}
+use Rattle.std.specs.Prelude.{ℕ, List, [], ◌∷◌, ◌++◌, map}
+use Rattle.std.specs.List.{AllByRecursion}
 use Rattle.toml_span_lex.specs.declared.span.Span.{Span}
 use Rattle.toml_span_lex.specs.Strings.{BorrowsWhereSame}
-use Rattle.toml_span_read.specs.declared.section.Section.{Section}
+use Rattle.toml_span_lex.specs.declared.key.Key.{Key}
 use Rattle.toml_span_read.specs.declared.value.DottedKey.{DottedKey}
+use Rattle.toml_span_read.specs.declared.value.ValKind.TheOpen.{ValKind-F, Val-F, Assignment-F}
 use Rattle.toml_span_read.specs.declared.value.Val.{Val}
+use Rattle.toml_span_read.specs.declared.value.ValKind.TheFolds.{fold-Val, fold-ValKind, fold-Assignment}
 use Rattle.toml_span_read.specs.declared.value.ValKind.{ValKind}
 use Rattle.toml_span_read.specs.declared.value.Assignment.{Assignment}
-use Rattle.toml_span_read.specs.declared.value.ValKind.TheOpen.{Val-F, ValKind-F, Assignment-F}
-use Rattle.toml_span_read.specs.declared.value.ValKind.TheFolds.{fold-Val, fold-ValKind, fold-Assignment}
+use Rattle.toml_span_read.specs.declared.section.Section.{Section}
 
 -- what is written as a string value or as a key, with its span
 pub data Written : Type 0 where
@@ -65,7 +65,8 @@ abbrev pub kind_written : ValKind → Span → List Written
 kind_written = fold-ValKind (Span → List Written) (List Written) (List Written) kind_step assignment_step val_step
 
 abbrev pub assignment_written : Assignment → List Written
-assignment_written = fold-Assignment (Span → List Written) (List Written) (List Written) kind_step assignment_step val_step
+assignment_written =
+    fold-Assignment (Span → List Written) (List Written) (List Written) kind_step assignment_step val_step
 
 abbrev pub assignments_written : List Assignment → List Written
 assignments_written found = joined (map assignment_written found)

@@ -1,17 +1,16 @@
 -- What is read, as plain data: a text is its bytes, and whether it is borrowed is no part of it.
-use Rattle.std.specs.Prelude.{◌≡◌, ℕ, ℤ, List, [], ◌∷◌, map, Bool, true, false, Result, Ok, Err}
+use Rattle.std.specs.Prelude.{Bool, List, [], ◌∷◌, map}
 use Rattle.std.specs.Cow.{cow_str_bytes}
 use Rattle.toml_span_lex.specs.declared.span.Span.{Span}
-use Rattle.toml_span_lex.specs.declared.stop.Stop.{Stop}
-use Rattle.toml_span_read.specs.declared.fault.Fault.{Fault}
 use Rattle.toml_span_tree.specs.Node.{Scalar, text, integer, float, boolean, datetime}
 use Rattle.toml_span_tree.specs.Value.{float_value, date_bytes}
+use Rattle.toml_span_read.specs.Keys.{Part, parts, part}
+use Rattle.toml_span_read.specs.declared.value.ValKind.TheOpen.{ValKind-F, Val-F, Assignment-F}
 use Rattle.toml_span_read.specs.declared.value.Val.{Val}
+use Rattle.toml_span_read.specs.declared.value.ValKind.TheFolds.{fold-Val, fold-ValKind, fold-Assignment}
 use Rattle.toml_span_read.specs.declared.value.ValKind.{ValKind}
 use Rattle.toml_span_read.specs.declared.value.Assignment.{Assignment}
-use Rattle.toml_span_read.specs.declared.value.ValKind.TheOpen.{Val-F, ValKind-F, Assignment-F}
-use Rattle.toml_span_read.specs.declared.value.ValKind.TheFolds.{fold-Val, fold-ValKind, fold-Assignment}
-use Rattle.toml_span_read.specs.Keys.{Part, parts}
+use Rattle.toml_span_read.specs.declared.section.Section.{Section}
 
 mutual
   -- a value, with its span
@@ -38,6 +37,20 @@ pub record Event : Type 0 where
   pub parts : List Part
   pub value : Node
   pub extent : Span
+
+-- where a value stands
+abbrev pub span_of : Node → Span
+span_of (node inner span) = span
+
+-- a section as plain data
+pub record Block : Type 0 where
+  pub header : List Part
+  pub array : Bool
+  pub header_span : Span
+  pub extent : Span
+  pub events : List Event
+
+-- ---- what is read, seen so
 
 -- these values, and then those
 abbrev pub onto : List Node → Items → Items
@@ -73,12 +86,11 @@ kind_view = fold-ValKind Inner Event Node kind_step assignment_step val_step
 abbrev pub event : Assignment → Event
 event = fold-Assignment Inner Event Node kind_step assignment_step val_step
 
--- a value that is neither an array nor an inline table
-abbrev pub is_scalar : Inner → Bool
-is_scalar (scalar s) = true
-is_scalar (array vs) = false
-is_scalar (inline ps) = false
-
-abbrev pub IsScalarKind : Result (ValKind × ℕ) (Stop Fault) → Type 0
-IsScalarKind (Ok found) = is_scalar (kind_view found.0) ≡ true
-IsScalarKind (Err stop) = Unit {0}
+abbrev pub block : Section → Block
+block s = record {
+  header = map part s.header.items;
+  array = s.array;
+  header_span = s.header_span;
+  extent = s.extent;
+  events = map event s.assignments.items;
+}

@@ -1,31 +1,10 @@
 -- Dotted keys that go through earlier values.
-use Rattle.std.specs.Prelude.{◌≡◌, ℕ, ◌<◌, ◌≤◌, Bool, List, [], ◌∷◌, ◌++◌, map, length, take, Option, Some, None, unwrap_or, Result, Ok, Err}
-use Rattle.std.specs.Cow.{cow_str_bytes}
-use Rattle.std.specs.Map.{lookup}
-use Rattle.std.specs.Ordering.{nat_cmp, is_eq}
-use Rattle.std.specs.Cmp.Lexicographic.{slice_cmp}
-use Rattle.std.specs.declared.alloc.AllocError.{AllocError}
-use Rattle.toml_span_lex.specs.declared.key.Key.{Key}
+use Rattle.std.specs.Prelude.{◌≡◌, ℕ, List, [], ◌∷◌, ◌++◌, map}
 use Rattle.toml_span_lex.specs.declared.span.Span.{Span}
-use Rattle.toml_span_lex.specs.declared.stop.Stop.{Stop}
-use Rattle.toml_span_lex.specs.declared.stop.Stop.TheVariants as stops
+use Rattle.toml_span_read.specs.Keys.{Part}
+use Rattle.toml_span_read.specs.Data.{Event, span_of}
 use Rattle.toml_span_read.specs.declared.fault.Fault.{Fault}
 use Rattle.toml_span_read.specs.declared.fault.FaultKind.TheVariants as kinds
-use Rattle.toml_span_read.specs.declared.value.Assignment.{Assignment}
-use Rattle.toml_span_read.specs.declared.earlier.Earlier.{Earlier}
-use Rattle.toml_span_read.specs.declared.earlier.Node.{Node as Tree, fold-Node}
-use Rattle.toml_span_read.specs.declared.earlier.Node.TheOpen.{Node-F}
-use Rattle.toml_span_read.specs.Data.{Node, node, Event, event}
-use Rattle.toml_span_read.specs.Keys.{Part}
-
--- where a value stands
-abbrev pub span_of : Node → Span
-span_of (node inner span) = span
-
--- each part starts at n or before
-abbrev pub StartBefore : ℕ → List Part → Type 0
-StartBefore n [] = Unit {0}
-StartBefore n (p ∷ ps) = (p.span.start ≤ n) × StartBefore n ps
 
 -- the path that a key's parts spell
 abbrev pub path : List Part → List (List ℕ)
@@ -52,7 +31,8 @@ pub record EarliestAt (names : List (List ℕ)) (events : List Event) (first : S
 -- whichever of the parts is taken: none of the assignments is of the path that ends with it
 abbrev pub NoneThrough : List Part → List Event → Type 0
 NoneThrough parts events =
-    (outer : List Part) (p : Part) (rest : List Part) → parts ≡ outer ++ (p ∷ rest) → NoneAt (path (outer ++ (p ∷ []))) events
+    (outer : List Part) (p : Part) (rest : List Part) → parts ≡ outer ++ (p ∷ rest)
+    → NoneAt (path (outer ++ (p ∷ []))) events
 
 -- no inner part of the next key names the path of an earlier value
 abbrev pub Clear : List Event → Event → Type 0
@@ -68,77 +48,7 @@ pub record Crossing (earlier : List Event) (next : Event) (fault : Fault) : Type
   pub key : next.parts ≡ outer ++ (part ∷ more ∷ rest)
   pub outermost : NoneThrough outer earlier
   pub met : EarliestAt (path (outer ++ (part ∷ []))) earlier first
-  pub fault_is : fault ≡ record { kind = kinds.DottedKeyInvalidType first; span = record { start = part.span.start; end = (span_of next.value).end } }
-
--- ---- the tree of the earlier values
-
--- the key is of this name
-abbrev pub is_named : List ℕ → Key → Bool
-is_named name key = is_eq (slice_cmp nat_cmp name (cow_str_bytes key.name))
-
--- the spans that are held at paths
-abbrev pub Holds : Type 0
-Holds = List (List ℕ) → Option Span
-
--- the child of a name
-abbrev pub child : {A : Type 0} → List ℕ → List (Key × A) → Option A
-child name es = lookup (is_named name) es
-
-abbrev pub nothing : Holds
-nothing names = None
-
--- what a child holds, if there is one
-abbrev pub below : Option Holds → Holds
-below None names = None
-below (Some holds) names = holds names
-
-abbrev pub holds_step : Node-F Holds → Holds
-holds_step n [] = n.value
-holds_step n (name ∷ names) = below (child name n.below.entries) names
-
--- what the tree holds at each path
-abbrev pub holds : Tree → Holds
-holds = fold-Node Holds holds_step
-
--- at one path a span is put where there was none, and nothing else changes
-abbrev pub Puts : List (List ℕ) → Span → Holds → Holds → Type 0
-Puts names first old new = (new names ≡ Some (unwrap_or (old names) first)) × ((other : List (List ℕ)) → (other ≡ names → ⊥) → new other ≡ old other)
-
--- the tree holds nothing at the path that ends with one of the parts
-abbrev pub HoldsNone : Holds → List Part → Type 0
-HoldsNone tree parts = (outer : List Part) (p : Part) (rest : List Part) → parts ≡ outer ++ (p ∷ rest) → tree (path (outer ++ (p ∷ []))) ≡ None
-
--- the outermost of the parts at whose path the tree holds a span starts at `found.0`, and the span is `found.1`
-abbrev pub FindsOutermost : Holds → List Part → Option (ℕ × Span) → Type 0
-FindsOutermost tree parts None = HoldsNone tree parts
-FindsOutermost tree parts (Some found) =
-    (outer : List Part) × (p : Part) × (rest : List Part)
-    × (parts ≡ outer ++ (p ∷ rest)) × HoldsNone tree outer × (tree (path (outer ++ (p ∷ []))) ≡ Some found.1) × (found.0 ≡ p.span.start)
-
--- of the assignments at the path, the earliest is told, if there is one
-abbrev pub TellsEarliest : List (List ℕ) → List Event → Option Span → Type 0
-TellsEarliest names events None = NoneAt names events
-TellsEarliest names events (Some first) = EarliestAt names events first
-
--- each key has more than n parts
-abbrev pub EachLonger : ℕ → List Event → Type 0
-EachLonger n [] = Unit {0}
-EachLonger n (e ∷ es) = (n < length e.parts) × EachLonger n es
-
--- no key has fewer inner parts than the fewest, and the tree tells the earliest of the assignments that are in it
-pub record Knows (earlier : Earlier) (events : List Event) : Type 0 where
-  pub fewest : EachLonger earlier.fewest events
-  pub within : earlier.known ≤ length events
-  pub tree : (names : List (List ℕ)) → TellsEarliest names (take earlier.known events) (holds earlier.tree names)
-
--- the next key is clear of the earlier values and is counted, or it crosses one of them
-abbrev pub Judges : Earlier → List Event → Event → Result (Option Fault) AllocError → Type 0
-Judges new events next (Ok None) = Clear events next × Knows new (events ++ (next ∷ []))
-Judges new events next (Ok (Some fault)) = Crossing events next fault
-Judges new events next (Err e) = Unit {0}
-
--- the assignment stands behind the earlier ones, or its key crosses one of them
-abbrev pub AddsClear : List Assignment → List Assignment → Assignment → Result (Unit {0}) (Stop Fault) → Type 0
-AddsClear old new next (Ok done) = (new ≡ old ++ (next ∷ [])) × Clear (map event old) (event next)
-AddsClear old new next (Err (stops.Memory e)) = Unit {0}
-AddsClear old new next (Err (stops.Fault fault)) = Crossing (map event old) (event next) fault
+  pub fault_is : fault ≡ record {
+    kind = kinds.DottedKeyInvalidType first;
+    span = record { start = part.span.start; end = (span_of next.value).end };
+  }

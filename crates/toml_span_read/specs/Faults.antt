@@ -1,11 +1,18 @@
--- Faults: what is wrong in a text, and where.
-use Rattle.std.specs.Prelude.{◌≡◌, ℕ, ◌+◌, ◌<◌, ◌≤◌, ◌⊎◌, Bool, true, false, ◌==◌, List, take, length, slice_index, Some, Result, Ok, Err, codes, count_by}
-use Rattle.toml_span_lex.specs.declared.span.Span.{Span}
+-- Faults: what is wrong in a text, and where: for each place where something is due, what is told of what stands there.
+use Rattle.std.specs.Prelude.{◌≡◌, ℕ, ◌+◌, ◌^◌, ◌<◌, ◌≤◌, ◌⊎◌, Bool, true, false, ◌&&◌, ◌||◌, ◌==◌, if◌then◌else◌, List}
+use Rattle.std.specs.Prelude.{length, slice_index, slice_range, Some, None, codes}
+use Rattle.std.specs.Char.{is_ascii_digit}
+use Rattle.toml_span_lex.specs.Text.{NoLineEnd}
 use Rattle.toml_span_lex.specs.declared.tokens.Error.{Error}
 use Rattle.toml_span_lex.specs.declared.tokens.Error.TheVariants as tokens
-use Rattle.toml_span_lex.specs.declared.stop.Stop.{Stop}
-use Rattle.toml_span_lex.specs.declared.stop.Stop.TheVariants as stops
+use Rattle.toml_span_lex.specs.Tokens.{IsFault, Lexeme, whitespace, newline, comment, sign, keylike, string, Stands}
+use Rattle.toml_span_lex.specs.Tokens.{RunAt}
+use Rattle.toml_span_lex.specs.declared.span.Span.{Span}
+use Rattle.toml_span_lex.specs.Strings.{IsString}
+use Rattle.toml_span_lex.specs.Bytes.{is_keylike, MaximalRun, underscore, plus, period, dash, right_bracket, colon}
+use Rattle.toml_span_lex.specs.Bytes.{comma, equals, left_brace, left_bracket, line_feed, right_brace}
 use Rattle.toml_span_tree.specs.Error as tree
+use Rattle.toml_span_tree.specs.Date.{IsDateText}
 use Rattle.toml_span_read.specs.declared.fault.Due.{Due}
 use Rattle.toml_span_read.specs.declared.fault.Due.TheVariants as dues
 use Rattle.toml_span_read.specs.declared.fault.Found.{Found}
@@ -13,7 +20,13 @@ use Rattle.toml_span_read.specs.declared.fault.Found.TheVariants as founds
 use Rattle.toml_span_read.specs.declared.fault.Fault.{Fault}
 use Rattle.toml_span_read.specs.declared.fault.FaultKind.{FaultKind}
 use Rattle.toml_span_read.specs.declared.fault.FaultKind.TheVariants as kinds
-use Rattle.toml_span_read.specs.Gaps.{Further}
+use Rattle.toml_span_read.specs.Places.{IsLineInfo}
+use Rattle.toml_span_read.specs.Keys.{opens_string, Part, IsKey}
+use Rattle.toml_span_read.specs.Numbers.{is_digit, is_figure, Digits, behind_sign, is_exponent, magnitude, is_negative}
+use Rattle.toml_span_read.specs.Numbers.{UnsignedDecimal, radix_at, digit_zero}
+use Rattle.toml_span_read.specs.Dates.{IsCandidate, begins_date}
+use Rattle.toml_span_read.specs.Grammar.{from_to}
+use Rattle.toml_span_read.specs.Gaps.{NoTail}
 
 -- ---- words
 
@@ -71,51 +84,323 @@ error_kind (kinds.Wanted expected found) = tree.wanted (due_words expected) (fou
 error_kind kinds.MultilineStringKey = tree.multiline_string_key
 error_kind (kinds.DottedKeyInvalidType first) = tree.dotted_key_invalid_type first
 
--- The place i stands in this line at this column, both counted from 0: so many line feeds stand before it, and so
--- many bytes behind the last of them, or behind the start of the text.
-pub record IsLineInfo (text : List ℕ) (i line column : ℕ) : Type 0 where
-  pub start : ℕ
-  pub line_is : line ≡ count_by (λ c. c == 10) (take i text)
-  pub begins : (start ≡ 0) ⊎ ((k : ℕ) × (start ≡ k + 1) × (slice_index text k ≡ 10))
-  pub same_line : (k : ℕ) → start ≤ k → k < i → (slice_index text k == 10) ≡ false
-  pub column_is : start + column ≡ i
-
 -- the error tells this fault of this text
 abbrev pub Tells : List ℕ → Fault → tree.Fault → Type 0
 Tells text fault error =
     (line column : ℕ) × IsLineInfo text fault.span.start line column
     × (error ≡ record { kind = error_kind fault.kind; span = fault.span; line_info = Some (line, column) })
 
--- ---- the faults of strings
+-- ---- no token
 
 -- the fault that a token's refusal is (a multi-line key and a wanted token are no token's fault, and don't occur here)
 abbrev pub token_fault : Error → Fault
 token_fault (tokens.InvalidCharInString at c) = fault_at (kinds.InvalidCharInString c) at
 token_fault (tokens.InvalidEscape at c) = fault_at (kinds.InvalidEscape c) at
 token_fault (tokens.InvalidHexEscape at c) = fault_at (kinds.InvalidHexEscape c) at
-token_fault (tokens.InvalidEscapeValue at len value) = record { kind = kinds.InvalidEscapeValue value; span = record { start = at; end = at + len } }
-token_fault (tokens.NewlineInString at) = fault_at (kinds.InvalidCharInString 10) at
+token_fault (tokens.InvalidEscapeValue at len value) =
+    record { kind = kinds.InvalidEscapeValue value; span = record { start = at; end = at + len } }
+token_fault (tokens.NewlineInString at) = fault_at (kinds.InvalidCharInString line_feed) at
 token_fault (tokens.Unexpected at c) = fault_at (kinds.Unexpected c) at
 token_fault (tokens.UnterminatedString at) = fault_at kinds.UnterminatedString at
-token_fault (tokens.MultilineStringKey start end) = record { kind = kinds.MultilineStringKey; span = record { start = start; end = end } }
+token_fault (tokens.MultilineStringKey start end) =
+    record { kind = kinds.MultilineStringKey; span = record { start = start; end = end } }
 token_fault (tokens.Wanted at expected found) = fault_at kinds.UnexpectedEof at
 
--- ---- where faults are
+-- no token stands at i: this fault does
+abbrev pub IsTokenFault : List ℕ → ℕ → Fault → Type 0
+IsTokenFault text i fault = (j : ℕ) × (e : Error) × IsFault text i j e × (fault ≡ token_fault e)
 
--- a fault starts within the text, and does not end before it starts
-pub record IsPlaced (text : List ℕ) (fault : Fault) : Type 0 where
-  pub within : fault.span.start ≤ length text
-  pub forward : fault.span.start ≤ fault.span.end
+-- ---- another token than the one that is due
 
-abbrev pub IsPlacedStop : List ℕ → Stop Fault → Type 0
-IsPlacedStop text (stops.Memory e) = Unit {0}
-IsPlacedStop text (stops.Fault fault) = IsPlaced text fault
+-- what a token is called where another one is due
+abbrev pub found_of : Lexeme → Found
+found_of (whitespace s) = founds.Whitespace
+found_of newline = founds.Newline
+found_of (comment s) = founds.Comment
+found_of (keylike s) = founds.Keylike
+found_of (string src value multi) = if multi then founds.MultilineString else founds.OneLineString
+found_of (sign c) =
+    if c == equals then founds.Equals
+    else if c == period then founds.Period
+    else if c == comma then founds.Comma
+    else if c == colon then founds.Colon
+    else if c == plus then founds.Plus
+    else if c == left_brace then founds.LeftBrace
+    else if c == right_brace then founds.RightBrace
+    else if c == left_bracket then founds.LeftBracket
+    else founds.RightBracket
 
--- what is read ends further on, or the fault is placed
-abbrev pub Advances : {A : Type 0} → List ℕ → ℕ → Result (A × ℕ) (Stop Fault) → Type 0
-Advances text i (Ok found) = Further text i found.1
-Advances text i (Err stop) = IsPlacedStop text stop
+-- from i to j stands a token of this name, or the text ends at i
+abbrev pub IsFound : List ℕ → ℕ → ℕ → Found → Type 0
+IsFound text i j found =
+    ((i ≡ length text) × (j ≡ i) × (found ≡ founds.EndOfText))
+    ⊎ ((span : Span) × (lexeme : Lexeme) × Stands text i j span lexeme × (found ≡ found_of lexeme))
 
-abbrev pub IsPlacedEnd : {A : Type 0} → List ℕ → Result A (Stop Fault) → Type 0
-IsPlacedEnd text (Ok found) = Unit {0}
-IsPlacedEnd text (Err stop) = IsPlacedStop text stop
+-- where one token is due another one stands, or the text ends
+abbrev pub wanted_fault : Due → Found → ℕ → Fault
+wanted_fault expected found i =
+    record { kind = kinds.Wanted expected found; span = record { start = i; end = i + length (found_words found) } }
+
+-- What stands at i is told where this is due: a token, the end of the text, or the fault of no token. That it is
+-- another one than the one that is due, is said where this is used.
+abbrev pub IsWanted : List ℕ → ℕ → Due → Fault → Type 0
+IsWanted text i expected fault =
+    ((j : ℕ) × (found : Found) × IsFound text i j found × (fault ≡ wanted_fault expected found i))
+    ⊎ IsTokenFault text i fault
+
+-- ---- where a key is due
+
+-- a string of several lines stands where a key is due
+pub record IsMultilineKey (text : List ℕ) (i : ℕ) (fault : Fault) : Type 0 where
+  pub end : ℕ
+  pub span : Span
+  pub source : List ℕ
+  pub value : List ℕ
+  pub here : IsString text i end span source value true
+  pub fault_is : fault ≡ record { kind = kinds.MultilineStringKey; span = record { start = i; end = i + length value } }
+
+-- a key is due at i, and this fault stands there
+abbrev pub NoKey : List ℕ → ℕ → Fault → Type 0
+NoKey text i fault =
+    IsMultilineKey text i fault
+    ⊎ ((opens_string (slice_index text i) ≡ true) × IsTokenFault text i fault)
+    ⊎ (((is_keylike (slice_index text i) || opens_string (slice_index text i)) ≡ false)
+    × IsWanted text i dues.TableKey fault)
+
+-- the part of a dotted key is due at i, behind n others: none stands there, or one too many
+abbrev pub NoPart : List ℕ → ℕ → ℕ → ℕ → Fault → Type 0
+NoPart text limit n i e =
+    NoKey text i e ⊎ ((s : Part) × (j : ℕ) × IsKey s text i j × (limit ≤ n) × (e ≡ fault_at kinds.ExceededDepthLimit i))
+
+-- the part of a header's key: of one too many the whole key is told
+abbrev pub NoHeaderPart : List ℕ → ℕ → ℕ → ℕ → Fault → Type 0
+NoHeaderPart text limit n i e =
+    NoKey text i e
+    ⊎ ((s : Part) × (j : ℕ) × IsKey s text i j × (limit ≤ n)
+    × (e ≡ record { kind = kinds.ExceededDepthLimit; span = s.span }))
+
+-- behind a key stands no equals sign
+abbrev pub NoEquals : List ℕ → ℕ → Fault → Type 0
+NoEquals text i e = ((slice_index text i == equals) ≡ false) × IsWanted text i dues.Equals e
+
+-- ---- where a number is due: the forms before the fault, and what stands there
+
+-- all the letters, digits, dashes and underscores from i on, of which there is one
+pub record Run (text : List ℕ) (i j : ℕ) : Type 0 where
+  pub some : i < j
+  pub run : MaximalRun is_keylike text i j
+
+-- No digits are read in a piece, which begins at `start` and ends with its run at `end`; its digits are due at `from`.
+pub data NoDigits (radix : ℕ) (text : List ℕ) (start from end : ℕ) : Fault → Type 0 where
+  -- an underscore before any digit
+  underscore_first : slice_index text from ≡ underscore → NoDigits radix text start from end (invalid_number from end)
+  -- the piece is empty, or its first byte is neither a digit nor an underscore
+  no_digit : is_figure radix (slice_index text from) ≡ false
+      → NoDigits radix text start from end (invalid_number start end)
+  -- two underscores in a row, or an underscore as the last of the digits
+  loose_underscore : (k : ℕ) → is_digit radix (slice_index text from) ≡ true → from ≤ k
+      → ((l : ℕ) → from ≤ l → l ≤ k → is_figure radix (slice_index text l) ≡ true)
+      → slice_index text k ≡ underscore → is_digit radix (slice_index text (k + 1)) ≡ false
+      → NoDigits radix text start from end (invalid_number start end)
+
+-- no integer part is read in the run that begins at `start`, behind its minus, if it has one, at `from`
+pub data NoIntegerPart (text : List ℕ) (start from end : ℕ) : Fault → Type 0 where
+  no_integer_digits : (fault : Fault) → NoDigits 10 text start from end fault → NoIntegerPart text start from end fault
+  -- The digits stand as those of a literal do, and behind a leading 0 stands a digit, with an underscore between them
+  -- or not: an underscore that is out of place among the digits is told before a 0 that leads them.
+  zero_before : (m : ℕ) → Digits 10 text from m → slice_index text from ≡ digit_zero
+      → is_digit 10 (slice_index text (from + 1)) ≡ true
+      → NoIntegerPart text start from end (invalid_number (from + 1) end)
+  zero_underscore_before : (m : ℕ) → Digits 10 text from m → slice_index text from ≡ digit_zero
+      → slice_index text (from + 1) ≡ underscore
+      → is_digit 10 (slice_index text (from + 2)) ≡ true
+      → NoIntegerPart text start from end (invalid_number (from + 2) end)
+
+-- a piece of an exponent is not digits throughout; the integer part is the run from a to b
+pub data NoExponentDigits (text : List ℕ) (a b start from end : ℕ) : Fault → Type 0 where
+  no_exponent_digits : (fault : Fault) → NoDigits 10 text start from end fault
+      → NoExponentDigits text a b start from end fault
+  left_in_exponent : (m : ℕ) → Digits 10 text from m → m < end
+      → NoExponentDigits text a b start from end (invalid_number a b)
+
+-- no exponent is read whose letter stands at `letter`, in a run that ends at `end`; the integer part is the run from a
+-- to b
+pub data NoExponent (text : List ℕ) (a b letter end : ℕ) : Fault → Type 0 where
+  -- neither a run nor a plus and a run behind the letter
+  letter_last : end ≡ letter + 1 → (slice_index text end == plus && is_keylike (slice_index text (end + 1))) ≡ false
+      → NoExponent text a b letter end (invalid_number a b)
+  in_run : (fault : Fault) → letter + 1 < end
+      → NoExponentDigits text a b (letter + 1) (behind_sign text (letter + 1)) end fault
+      → NoExponent text a b letter end fault
+  behind_plus : (stop : ℕ) (fault : Fault) → end ≡ letter + 1 → slice_index text end ≡ plus → Run text (end + 1) stop
+      → NoExponentDigits text a b (end + 1) (end + 1) stop fault → NoExponent text a b letter end fault
+
+-- no fraction is read behind the dot at b; the number begins at i, its integer part is the run from a to b
+pub data NoFraction (text : List ℕ) (i a b : ℕ) : Fault → Type 0 where
+  dot_alone : is_keylike (slice_index text (b + 1)) ≡ false → NoFraction text i a b (invalid_number i (b + 1))
+  no_fraction_digits : (end : ℕ) (fault : Fault) → Run text (b + 1) end → NoDigits 10 text (b + 1) (b + 1) end fault
+      → NoFraction text i a b fault
+  left_in_fraction : (m end : ℕ) → Run text (b + 1) end → Digits 10 text (b + 1) m → m < end
+      → is_exponent (slice_index text m) ≡ false
+      → NoFraction text i a b (invalid_number a b)
+  no_fraction_exponent : (m end : ℕ) (fault : Fault) → Run text (b + 1) end → Digits 10 text (b + 1) m → m < end
+      → is_exponent (slice_index text m) ≡ true
+      → NoExponent text a b m end fault → NoFraction text i a b fault
+
+-- inf or nan from a to b, with a minus or without
+abbrev pub IsSpecial : List ℕ → ℕ → ℕ → Type 0
+IsSpecial text a b =
+    (slice_range text (behind_sign text a) b ≡ codes "inf") ⊎ (slice_range text (behind_sign text a) b ≡ codes "nan")
+
+-- past 64 bits
+abbrev pub IsOutside : Bool → ℕ → Type 0
+IsOutside false m = 2 ^ 63 ≤ m
+IsOutside true m = 2 ^ 63 < m
+
+-- no number without a prefix is read, which begins at i; its integer part is the run from a to b
+pub data NoDecimal (text : List ℕ) (i a b : ℕ) : Fault → Type 0 where
+  no_integer_part : (fault : Fault) → (IsSpecial text a b → ⊥) → NoIntegerPart text a (behind_sign text a) b fault
+      → NoDecimal text i a b fault
+  left_in_integer : (m : ℕ) → UnsignedDecimal text (behind_sign text a) m → m < b
+      → is_exponent (slice_index text m) ≡ false → NoDecimal text i a b (invalid_number a b)
+  no_integer_exponent : (m : ℕ) (fault : Fault) → UnsignedDecimal text (behind_sign text a) m → m < b
+      → is_exponent (slice_index text m) ≡ true
+      → NoExponent text a b m b fault → NoDecimal text i a b fault
+  no_fraction : (fault : Fault) → UnsignedDecimal text (behind_sign text a) b → slice_index text b ≡ period
+      → NoFraction text i a b fault → NoDecimal text i a b fault
+  outside : UnsignedDecimal text (behind_sign text a) b → (slice_index text b == period) ≡ false
+      → IsOutside (is_negative text a) (magnitude 10 text (behind_sign text a) b)
+      → NoDecimal text i a b (invalid_number a b)
+  -- inf and nan have no fraction
+  special_dot_alone : IsSpecial text a b → slice_index text b ≡ period → is_keylike (slice_index text (b + 1)) ≡ false
+      → NoDecimal text i a b (invalid_number i (b + 1))
+  special_dot : IsSpecial text a b → slice_index text b ≡ period → is_keylike (slice_index text (b + 1)) ≡ true
+      → NoDecimal text i a b (invalid_number a b)
+
+-- no integer of this radix is read behind its prefix, in a run that ends at `end`
+pub data NoRadixInteger (radix : ℕ) (text : List ℕ) (start end : ℕ) : Fault → Type 0 where
+  no_radix_digits : (fault : Fault) → NoDigits radix text start start end fault
+      → NoRadixInteger radix text start end fault
+  left_in_radix : (m : ℕ) → Digits radix text start m → m < end
+      → NoRadixInteger radix text start end (invalid_number start end)
+  outside_radix : Digits radix text start end → IsOutside false (magnitude radix text start end)
+      → NoRadixInteger radix text start end (invalid_number start end)
+
+-- a number is due at i, none is read, and this is the fault
+pub data NoNumber (text : List ℕ) (i : ℕ) : Fault → Type 0 where
+  plus_alone : slice_index text i ≡ plus → is_keylike (slice_index text (i + 1)) ≡ false
+      → NoNumber text i (invalid_number (i + 1) (i + 1))
+  plus_before_minus : (b : ℕ) → slice_index text i ≡ plus → Run text (i + 1) b → slice_index text (i + 1) ≡ dash
+      → NoNumber text i (invalid_number i b)
+  plus_before_prefix : (b radix : ℕ) → slice_index text i ≡ plus → Run text (i + 1) b
+      → radix_at text (i + 1) ≡ Some radix → NoNumber text i (invalid_number i b)
+  no_radix_integer : (b radix : ℕ) (fault : Fault) → radix_at text i ≡ Some radix → Run text i b
+      → NoRadixInteger radix text (i + 2) b fault → NoNumber text i fault
+  no_decimal : (b : ℕ) (fault : Fault) → (slice_index text i == plus) ≡ false → Run text i b → radix_at text i ≡ None
+      → NoDecimal text i i b fault → NoNumber text i fault
+  no_decimal_behind_plus : (b : ℕ) (fault : Fault) → slice_index text i ≡ plus → Run text (i + 1) b
+      → (slice_index text (i + 1) == dash) ≡ false → radix_at text (i + 1) ≡ None
+      → NoDecimal text i (i + 1) b fault → NoNumber text i fault
+
+-- ---- where a value is due
+
+-- a date is due at i, and no date text stands there
+abbrev pub IsNoDate : List ℕ → ℕ → Fault → Type 0
+IsNoDate text i fault =
+    (j : ℕ) × IsCandidate text i j × (IsDateText (slice_range text i j) → ⊥)
+    × (fault ≡ record { kind = kinds.InvalidDatetime; span = record { start = i; end = j } })
+
+-- a byte of a bare run, or a plus
+abbrev pub begins_bare : ℕ → Bool
+begins_bare c = is_keylike c || c == plus
+
+-- a bracket or a brace opens
+abbrev pub opens_nested : ℕ → Bool
+opens_nested c = c == left_bracket || c == left_brace
+
+-- a digit, a dash or a plus
+abbrev pub begins_number : ℕ → Bool
+begins_number c = (is_ascii_digit c || c == dash) || c == plus
+
+-- what a value begins with: a bracket or a brace, a byte of a bare run or a plus, or a quote
+abbrev pub begins_value : ℕ → Bool
+begins_value c = opens_nested c || begins_bare c || opens_string c
+
+-- a value begins at i: a bracket or a brace, a bare run or a plus, or a whole string
+abbrev pub Begins : List ℕ → ℕ → Type 0
+Begins text i =
+    ((opens_nested (slice_index text i) || begins_bare (slice_index text i)) ≡ true)
+    ⊎ ((j : ℕ) × (span : Span) × (source : List ℕ) × (value : List ℕ) × (multi : Bool)
+    × IsString text i j span source value multi)
+
+-- a number begins at i: no date does, and a digit, a dash or a plus stands there, or the run inf or nan
+abbrev pub BeginsNumber : List ℕ → ℕ → Type 0
+BeginsNumber text i =
+    (begins_date text i ≡ false)
+    × ((begins_number (slice_index text i) ≡ true)
+    ⊎ ((j : ℕ) × (RunAt is_keylike text i j (codes "inf") ⊎ RunAt is_keylike text i j (codes "nan"))))
+
+-- neither a truth value nor a number of letters
+pub record IsOther (word : List ℕ) : Type 0 where
+  pub no_true : word ≡ codes "true" → ⊥
+  pub no_false : word ≡ codes "false" → ⊥
+  pub no_infinity : word ≡ codes "inf" → ⊥
+  pub no_nan : word ≡ codes "nan" → ⊥
+
+-- a run that is neither a truth value nor begins a number
+pub record IsUnquoted (text : List ℕ) (i : ℕ) (fault : Fault) : Type 0 where
+  pub end : ℕ
+  pub word : List ℕ
+  pub run : RunAt is_keylike text i end word
+  pub no_number : begins_number (slice_index text i) ≡ false
+  pub other : IsOther word
+  pub fault_is : fault ≡ record { kind = kinds.UnquotedString; span = from_to i end }
+
+-- a bare value is due at i, and this fault stands there
+abbrev pub NoBare : List ℕ → ℕ → Fault → Type 0
+NoBare text i fault =
+    ((begins_date text i ≡ true) × IsNoDate text i fault)
+    ⊎ (BeginsNumber text i × NoNumber text i fault)
+    ⊎ IsUnquoted text i fault
+
+-- Where a value is due, the text ends at i, or a token from i to j stands there, or no token begins there.
+abbrev pub IsNoValue : List ℕ → ℕ → Fault → Type 0
+IsNoValue text i fault =
+    ((i ≡ length text) × (fault ≡ fault_at kinds.UnexpectedEof i))
+    ⊎ ((j : ℕ) × (span : Span) × (lexeme : Lexeme) × Stands text i j span lexeme
+    × (fault ≡ record { kind = kinds.Wanted dues.Value (found_of lexeme); span = record { start = i; end = j } }))
+    ⊎ IsTokenFault text i fault
+
+-- A value is due at i, at this depth: none begins there, quotes open and no string is there, one begins past the limit,
+-- or a bare one is wrong.
+abbrev pub NoValue : List ℕ → ℕ → ℕ → ℕ → Fault → Type 0
+NoValue text limit d i e =
+    ((begins_value (slice_index text i) ≡ false) × IsNoValue text i e)
+    ⊎ ((opens_string (slice_index text i) ≡ true) × IsTokenFault text i e)
+    ⊎ ((limit < d) × Begins text i × (e ≡ fault_at kinds.ExceededDepthLimit i))
+    ⊎ ((d ≤ limit) × NoBare text i e)
+
+-- behind an element or a pair stands neither a comma nor this bracket; of an array the bracket is called for, of an
+-- inline table the comma
+abbrev pub NoComma : ℕ → Due → List ℕ → ℕ → Fault → Type 0
+NoComma close expected text i e =
+    ((slice_index text i == comma) ≡ false) × ((slice_index text i == close) ≡ false) × IsWanted text i expected e
+
+-- ---- where the rest of a line is due, or a header is to close
+
+-- a line is to end at i, and another token stands there
+abbrev pub NoNewline : List ℕ → ℕ → Fault → Type 0
+NoNewline text i e = (i < length text) × NoLineEnd text i × IsWanted text i dues.Newline e
+
+-- behind the form that ends at i the rest of its line is due, and this fault stands in its place
+abbrev pub StuckTail : List ℕ → ℕ → Fault → Type 0
+StuckTail text i e = (n : ℕ) × NoTail text i n × IsWanted text n dues.Newline e
+
+-- a bracket of a header is to close at i, and another token stands there
+abbrev pub NoBracket : List ℕ → ℕ → Fault → Type 0
+NoBracket text i e = ((slice_index text i == right_bracket) ≡ false) × IsWanted text i dues.RightBracket e
+
+-- where the brackets of a header are to close, a bracket is missing
+abbrev pub NoShuts : Bool → List ℕ → ℕ → Fault → Type 0
+NoShuts false text i e = NoBracket text i e
+NoShuts true text i e = NoBracket text i e ⊎ ((slice_index text i ≡ right_bracket) × NoBracket text (i + 1) e)

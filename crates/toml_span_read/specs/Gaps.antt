@@ -1,30 +1,22 @@
--- White space, comments and line ends.
-use Rattle.std.specs.Prelude.{◌≡◌, ℕ, ◌+◌, ◌<◌, ◌≤◌, ◌⊎◌, Bool, true, false, ◌||◌, ◌==◌, List, [], ◌∷◌, length, slice_index, Option, Some, None, Result, Ok, Err}
-use Rattle.std.specs.Str.{IsCharBoundary}
-use Rattle.toml_span_lex.specs.Bytes.{is_blank, is_printed, MaximalRun}
-use Rattle.toml_span_lex.specs.Text.{is_crlf, LineEnd, NoLineEnd}
-use Rattle.toml_span_read.specs.declared.gaps.Behind.{Behind}
-use Rattle.toml_span_read.specs.declared.gaps.Behind.TheVariants as behind
-
--- j is behind i, and a character begins there or the text ends
-pub record Further (text : List ℕ) (i j : ℕ) : Type 0 where
-  pub on : i < j
-  pub boundary : IsCharBoundary text j
+-- White space, comments and line ends (TOML 1.1, "Comment", "Whitespace", "Newline").
+use Rattle.std.specs.Prelude.{◌≡◌, ℕ, ◌+◌, ◌<◌, ◌≤◌, ◌⊎◌, Bool, true, false, ◌||◌, ◌==◌, List, [], ◌∷◌, length}
+use Rattle.std.specs.Prelude.{slice_index}
+use Rattle.toml_span_lex.specs.Bytes.{is_blank, is_printed, MaximalRun, comma, equals, hash, line_feed, period}
+use Rattle.toml_span_lex.specs.Text.{LineEnd, is_crlf, NoLineEnd}
 
 -- a space or a tab, a line end, or a comment
+--
+-- `wschar = %x20 / %x09`, `newline = %x0A / %x0D.0A`, `comment = comment-start-symbol *non-eol`
 abbrev pub GapPiece : List ℕ → ℕ → ℕ → Type 0
 GapPiece text i j =
     ((is_blank (slice_index text i) ≡ true) × (j ≡ i + 1))
     ⊎ LineEnd text i j
-    ⊎ ((slice_index text i ≡ 35) × MaximalRun is_printed text i j)
+    ⊎ ((slice_index text i ≡ hash) × MaximalRun is_printed text i j)
 
 -- whether a piece of a gap begins at a place
 abbrev pub begins_gap : List ℕ → ℕ → Bool
-begins_gap text i = ((is_blank (slice_index text i) || slice_index text i == 10) || is_crlf text i) || slice_index text i == 35
-
-abbrev pub GapPieceGives : List ℕ → ℕ → Option ℕ → Type 0
-GapPieceGives text i None = begins_gap text i ≡ false
-GapPieceGives text i (Some j) = GapPiece text i j × Further text i j
+begins_gap text i =
+    ((is_blank (slice_index text i) || slice_index text i == line_feed) || is_crlf text i) || slice_index text i == hash
 
 -- pieces of a gap from i to j, with their ends
 abbrev pub GapBy : List ℕ → ℕ → List ℕ → ℕ → Type 0
@@ -32,19 +24,22 @@ GapBy text i [] j = i ≡ j
 GapBy text i (k ∷ ks) j = GapPiece text i k × GapBy text k ks j
 
 -- all the spaces, tabs, line ends and comments from i on
+--
+-- `ws-comment-newline = *( wschar / [ comment ] newline )`
 pub record MaximalGap (text : List ℕ) (i j : ℕ) : Type 0 where
   pub ends : List ℕ
   pub pieces : GapBy text i ends j
   pub forward : i ≤ j
   pub stops : begins_gap text j ≡ false
 
--- spaces and tabs, and a comment if one is there
+-- spaces and tabs, and a comment if one is there: `ws [ comment ]`, where `ws = *wschar`
 pub record Skipped (text : List ℕ) (i j : ℕ) : Type 0 where
   pub at : ℕ
   pub blank : MaximalRun is_blank text i at
-  pub comment : ((slice_index text at ≡ 35) × MaximalRun is_printed text at j) ⊎ (((slice_index text at == 35) ≡ false) × (j ≡ at))
+  pub comment : ((slice_index text at ≡ hash) × MaximalRun is_printed text at j)
+      ⊎ (((slice_index text at == hash) ≡ false) × (j ≡ at))
 
--- the rest of a line: spaces and tabs, a comment, and a line end or the end of the text
+-- the rest of a line: `ws [ comment ]` and a line end or the end of the text
 abbrev pub Tail : List ℕ → ℕ → ℕ → Type 0
 Tail text i j = (k : ℕ) × Skipped text i k × (LineEnd text k j ⊎ ((k ≡ length text) × (j ≡ k)))
 
@@ -52,34 +47,41 @@ Tail text i j = (k : ℕ) × Skipped text i k × (LineEnd text k j ⊎ ((k ≡ l
 abbrev pub NoTail : List ℕ → ℕ → ℕ → Type 0
 NoTail text i k = Skipped text i k × (k < length text) × NoLineEnd text k
 
-abbrev pub TailGives : List ℕ → ℕ → Result ℕ ℕ → Type 0
-TailGives text i (Ok j) = Tail text i j × (i ≤ j) × IsCharBoundary text j
-TailGives text i (Err k) = NoTail text i k × IsCharBoundary text k
+-- `expression = ws [ comment ]`: from i to j stand lines, with these ends, that hold nothing else. A gap before a form
+-- is blank lines and the spaces and tabs before it.
+abbrev pub BlankLines : List ℕ → ℕ → List ℕ → ℕ → Type 0
+BlankLines text i [] j = i ≡ j
+BlankLines text i (k ∷ ks) j = Tail text i k × BlankLines text k ks j
 
--- a dot, with spaces and tabs round it
+-- a character stands at i that a comment can hold, or the text ends there: no comment ends at a control character
+-- before it
+abbrev pub BehindLines : List ℕ → ℕ → Type 0
+BehindLines text i = (i ≡ length text) ⊎ (is_printed (slice_index text i) ≡ true)
+
+-- ---- signs, with what may stand round them
+
+-- a dot, with spaces and tabs round it: `dot-sep = ws %x2E ws`
 pub record Dot (text : List ℕ) (i j : ℕ) : Type 0 where
   pub at : ℕ
   pub before : MaximalRun is_blank text i at
-  pub here : slice_index text at ≡ 46
+  pub here : slice_index text at ≡ period
   pub behind : MaximalRun is_blank text (at + 1) j
 
+-- behind spaces and tabs stands no dot
 pub record NoDot (text : List ℕ) (i : ℕ) : Type 0 where
   pub at : ℕ
   pub before : MaximalRun is_blank text i at
-  pub here : (slice_index text at == 46) ≡ false
+  pub here : (slice_index text at == period) ≡ false
 
-abbrev pub DotGives : List ℕ → ℕ → Option ℕ → Type 0
-DotGives text i None = NoDot text i
-DotGives text i (Some j) = Dot text i j × Further text i j
-
--- a sign, with gaps round it
+-- a sign, with gaps round it: `array-sep = %x2C`, `inline-table-sep = %x2C`, and the `%x3D` of a pair
 pub record Sign (c : ℕ) (text : List ℕ) (i j : ℕ) : Type 0 where
   pub at : ℕ
   pub before : MaximalGap text i at
   pub here : slice_index text at ≡ c
   pub behind : MaximalGap text (at + 1) j
 
--- a closing bracket behind a gap
+-- a closing bracket behind a gap: `ws-comment-newline array-close`, where `array-close = %x5D`, or
+-- `ws-comment-newline inline-table-close`, where `inline-table-close = %x7D`
 pub record Closes (c : ℕ) (text : List ℕ) (i j : ℕ) : Type 0 where
   pub at : ℕ
   pub before : MaximalGap text i at
@@ -89,26 +91,12 @@ pub record Closes (c : ℕ) (text : List ℕ) (i j : ℕ) : Type 0 where
 -- behind a gap stands neither a comma nor this bracket
 pub record Neither (c : ℕ) (text : List ℕ) (i j : ℕ) : Type 0 where
   pub before : MaximalGap text i j
-  pub no_comma : (slice_index text j == 44) ≡ false
+  pub no_comma : (slice_index text j == comma) ≡ false
   pub no_bracket : (slice_index text j == c) ≡ false
 
-abbrev pub BehindGives : ℕ → List ℕ → ℕ → Behind → Type 0
-BehindGives c text i (behind.Comma j) = Sign 44 text i j × Further text i j
-BehindGives c text i (behind.Closed j) = Closes c text i j × Further text i j
-BehindGives c text i (behind.Neither j) = Neither c text i j × IsCharBoundary text j
-
--- a sign with gaps round it, or where it is due
-abbrev pub SignGives : ℕ → List ℕ → ℕ → Result ℕ ℕ → Type 0
-SignGives c text i (Ok j) = Sign c text i j × Further text i j
-SignGives c text i (Err k) = MaximalGap text i k × ((slice_index text k == c) ≡ false) × IsCharBoundary text k
-
--- an equals sign, with spaces and tabs round it
+-- an equals sign, with spaces and tabs round it: `keyval-sep = ws %x3D ws`
 pub record Equals (text : List ℕ) (i j : ℕ) : Type 0 where
   pub at : ℕ
   pub before : MaximalRun is_blank text i at
-  pub here : slice_index text at ≡ 61
+  pub here : slice_index text at ≡ equals
   pub behind : MaximalRun is_blank text (at + 1) j
-
-abbrev pub EqualsGives : List ℕ → ℕ → Result ℕ ℕ → Type 0
-EqualsGives text i (Ok j) = Equals text i j × Further text i j
-EqualsGives text i (Err k) = MaximalRun is_blank text i k × ((slice_index text k == 61) ≡ false) × IsCharBoundary text k

@@ -1,17 +1,24 @@
--- The grammar of values (TOML 1.1, "Key/Value Pair", "Array", "Inline Table").
-use Rattle.std.specs.Prelude.{◌≡◌, ℕ, ◌+◌, ◌≤◌, ◌⊎◌, Bool, true, false, List, [], ◌∷◌, ◌++◌, length, slice_index, slice_range, codes}
+-- The grammar of values, lines and the document (TOML 1.1, "Overall Structure", "Key/Value Pair", "Array",
+-- "Inline Table", "Table", "Array of Tables").
+use Rattle.std.specs.Prelude.{◌≡◌, ℕ, ◌+◌, ◌≤◌, ◌⊎◌, Bool, true, false, ◌==◌, List, [], ◌∷◌, ◌++◌, length, slice_index}
+use Rattle.std.specs.Prelude.{slice_range, codes}
 use Rattle.toml_span_lex.specs.declared.span.Span.{Span}
-use Rattle.toml_span_lex.specs.Bytes.{is_keylike}
+use Rattle.toml_span_lex.specs.Bytes.{is_keylike, left_bracket, right_bracket, is_blank, MaximalRun, comma, equals}
+use Rattle.toml_span_lex.specs.Bytes.{left_brace, right_brace}
 use Rattle.toml_span_lex.specs.Strings.{IsString}
 use Rattle.toml_span_lex.specs.Tokens.{RunAt}
+use Rattle.toml_span_lex.specs.Tokenizer.{FirstPlace}
 use Rattle.toml_span_tree.specs.Date.{IsDateText}
-use Rattle.toml_span_tree.specs.Node.{Scalar, text, integer, float, boolean, datetime}
-use Rattle.toml_span_read.specs.Gaps.{MaximalGap, Sign, Closes}
-use Rattle.toml_span_read.specs.Keys.{Dotted}
+use Rattle.toml_span_tree.specs.Node.{Scalar, integer, float, boolean, datetime, text as text_scalar}
 use Rattle.toml_span_read.specs.Dates.{begins_date, IsCandidate}
 use Rattle.toml_span_read.specs.Numbers.{IsNumber}
-use Rattle.toml_span_read.specs.Data.{Node, node, Inner, scalar, array, inline, Items, no_items, item, Pairs, no_pairs, pair, Event}
+use Rattle.toml_span_read.specs.Gaps.{MaximalGap, Sign, Closes, Equals, Tail}
+use Rattle.toml_span_read.specs.Keys.{Dotted, Part}
+use Rattle.toml_span_read.specs.Data.{Node, node, Inner, scalar, Items, no_items, item, Pairs, no_pairs, pair, Event}
+use Rattle.toml_span_read.specs.Data.{array as array_node, inline as inline_node, Block}
 use Rattle.toml_span_read.specs.Earlier.{Clear}
+
+-- ---- values
 
 -- `boolean = true / false`
 abbrev pub truth_text : Bool → List ℕ
@@ -22,50 +29,214 @@ truth_text false = codes "false"
 abbrev pub from_to : ℕ → ℕ → Span
 from_to i j = record { start = i; end = j }
 
--- The text from i to j is this string, number, truth value or date, with this span: of a string its content's. A number is read
--- where no date begins.
+-- The text from i to j is this string, number, truth value or date, with this span: of a string its content's. A number
+-- is read where no date begins.
+--
+-- `string = ml-basic-string / basic-string / ml-literal-string / literal-string`, `boolean = true / false`,
+-- `date-time = offset-date-time / local-date-time / local-date / local-time`
 abbrev pub IsScalar : Scalar → Span → List ℕ → ℕ → ℕ → Type 0
-IsScalar (text value) span t i j = (source : List ℕ) × (multi : Bool) × IsString t i j span source value multi
+IsScalar (text_scalar value) span t i j = (source : List ℕ) × (multi : Bool) × IsString t i j span source value multi
 IsScalar (boolean b) span t i j = RunAt is_keylike t i j (truth_text b) × (span ≡ from_to i j)
 IsScalar (datetime date) span t i j =
     (begins_date t i ≡ true) × IsCandidate t i j × IsDateText date × (date ≡ slice_range t i j) × (span ≡ from_to i j)
 IsScalar (integer n) span t i j = (begins_date t i ≡ false) × IsNumber (integer n) t i j × (span ≡ from_to i j)
 IsScalar (float x) span t i j = (begins_date t i ≡ false) × IsNumber (float x) t i j × (span ≡ from_to i j)
 
+-- which scalars the text spells from one place to another, with their spans
+abbrev pub Scalars : Type 1
+Scalars = Scalar → Span → List ℕ → ℕ → ℕ → Type 0
+
 abbrev mutual
-  -- The text from i to j spells this value, with its spans. d is the number of brackets and braces open round it plus that of the
-  -- parts of its own key and of those round it, at most the limit.
-  pub Spells : Node → List ℕ → ℕ → ℕ → ℕ → ℕ → Type 0
-  Spells (node k span) t limit d i j = (d ≤ limit) × SpellsInner k span t limit d i j
+  -- The text from i to j spells this value, with its spans, where S says which scalars it spells. d is the number of
+  -- brackets and braces open round it plus that of the parts of its own key and of those round it, at most the limit.
+  --
+  -- `val = string / boolean / array / inline-table / date-time / float / integer`
+  pub SpellsWith : Scalars → Node → List ℕ → ℕ → ℕ → ℕ → ℕ → Type 0
+  SpellsWith S (node k span) t limit d i j = (d ≤ limit) × InnerWith S k span t limit d i j
 
   -- `array = array-open [ array-values ] ws-comment-newline array-close`
   -- `inline-table = inline-table-open [ inline-table-keyvals ] ws-comment-newline inline-table-close`
-  pub SpellsInner : Inner → Span → List ℕ → ℕ → ℕ → ℕ → ℕ → Type 0
-  SpellsInner (scalar s) span t limit d i j = IsScalar s span t i j
-  SpellsInner (array vs) span t limit d i j =
-      (slice_index t i ≡ 91) × (span ≡ from_to i j) × (k : ℕ) × MaximalGap t (i + 1) k × SpellsItems vs t limit (d + 1) k j
-  SpellsInner (inline ps) span t limit d i j =
-      (slice_index t i ≡ 123) × (span ≡ from_to i j) × (k : ℕ) × MaximalGap t (i + 1) k × SpellsPairs ps [] t limit (d + 1) k j
+  pub InnerWith : Scalars → Inner → Span → List ℕ → ℕ → ℕ → ℕ → ℕ → Type 0
+  InnerWith S (scalar s) span t limit d i j = S s span t i j
+  InnerWith S (array_node vs) span t limit d i j =
+      (slice_index t i ≡ left_bracket) × (span ≡ from_to i j) × (k : ℕ) × MaximalGap t (i + 1) k
+      × ItemsWith S vs t limit (d + 1) k j
+  InnerWith S (inline_node ps) span t limit d i j =
+      (slice_index t i ≡ left_brace) × (span ≡ from_to i j) × (k : ℕ) × MaximalGap t (i + 1) k
+      × PairsWith S ps [] t limit (d + 1) k j
 
   -- values with commas between them, one more comma or none, and the closing bracket
-  pub SpellsItems : Items → List ℕ → ℕ → ℕ → ℕ → ℕ → Type 0
-  SpellsItems no_items t limit d i j = (slice_index t i ≡ 93) × (j ≡ i + 1)
-  SpellsItems (item v vs) t limit d i j =
-      (m : ℕ) × Spells v t limit d i m × (((vs ≡ no_items) × Closes 93 t m j) ⊎ ((p : ℕ) × Sign 44 t m p × SpellsItems vs t limit d p j))
+  --
+  -- `array-values =  ws-comment-newline val ws-comment-newline array-sep array-values`
+  -- `array-values =/ ws-comment-newline val ws-comment-newline [ array-sep ]`
+  pub ItemsWith : Scalars → Items → List ℕ → ℕ → ℕ → ℕ → ℕ → Type 0
+  ItemsWith S no_items t limit d i j = (slice_index t i ≡ right_bracket) × (j ≡ i + 1)
+  ItemsWith S (item v vs) t limit d i j =
+      (m : ℕ) × SpellsWith S v t limit d i m
+      × (((vs ≡ no_items) × Closes right_bracket t m j) ⊎ ((p : ℕ) × Sign comma t m p × ItemsWith S vs t limit d p j))
 
-  -- `keyval = key keyval-sep val`, with gaps round the equals sign: pairs behind these earlier ones, each a key of at most limit
-  -- parts that goes through the value of no earlier pair, and its value, with commas between them, one more comma or none, and the
-  -- closing brace
-  pub SpellsPairs : Pairs → List Event → List ℕ → ℕ → ℕ → ℕ → ℕ → Type 0
-  SpellsPairs no_pairs es t limit d i j = (slice_index t i ≡ 125) × (j ≡ i + 1)
-  SpellsPairs (pair ss v extent ps) es t limit d i j =
+  -- `keyval = key keyval-sep val`, with gaps round the equals sign: pairs behind these earlier ones, each a key of at
+  -- most limit parts that goes through the value of no earlier pair, and its value, with commas between them, one more
+  -- comma or none, and the closing brace
+  --
+  -- `inline-table-keyvals =  ws-comment-newline keyval ws-comment-newline inline-table-sep inline-table-keyvals`
+  -- `inline-table-keyvals =/ ws-comment-newline keyval ws-comment-newline [ inline-table-sep ]`
+  pub PairsWith : Scalars → Pairs → List Event → List ℕ → ℕ → ℕ → ℕ → ℕ → Type 0
+  PairsWith S no_pairs es t limit d i j = (slice_index t i ≡ right_brace) × (j ≡ i + 1)
+  PairsWith S (pair ss v extent ps) es t limit d i j =
       (m : ℕ)
-      × ((a b : ℕ) × Dotted ss t i a × (length ss ≤ limit) × Sign 61 t a b × Spells v t limit (d + length ss) b m × (extent ≡ from_to i m))
+      × ((a b : ℕ) × Dotted ss t i a × (length ss ≤ limit) × Sign equals t a b
+      × SpellsWith S v t limit (d + length ss) b m × (extent ≡ from_to i m))
       × Clear es (record { parts = ss; value = v; extent = extent })
-      × (((ps ≡ no_pairs) × Closes 125 t m j)
-      ⊎ ((p : ℕ) × Sign 44 t m p × SpellsPairs ps (es ++ (record { parts = ss; value = v; extent = extent } ∷ [])) t limit d p j))
+      × (((ps ≡ no_pairs) × Closes right_brace t m j)
+      ⊎ ((p : ℕ) × Sign comma t m p
+      × PairsWith S ps (es ++ (record { parts = ss; value = v; extent = extent } ∷ [])) t limit d p j))
 
--- a pair from i to j: a key of at most limit parts, an equals sign, and a value; its extent runs from the key to behind the value
+-- TOML's own values: with dates
+abbrev pub Spells : Node → List ℕ → ℕ → ℕ → ℕ → ℕ → Type 0
+Spells = SpellsWith IsScalar
+
+abbrev pub SpellsInner : Inner → Span → List ℕ → ℕ → ℕ → ℕ → ℕ → Type 0
+SpellsInner = InnerWith IsScalar
+
+abbrev pub SpellsItems : Items → List ℕ → ℕ → ℕ → ℕ → ℕ → Type 0
+SpellsItems = ItemsWith IsScalar
+
+abbrev pub SpellsPairs : Pairs → List Event → List ℕ → ℕ → ℕ → ℕ → ℕ → Type 0
+SpellsPairs = PairsWith IsScalar
+
+-- a pair from i to j: a key of at most limit parts, an equals sign, and a value; its extent runs from the key to behind
+-- the value
 abbrev pub SpellsPair : Event → List ℕ → ℕ → ℕ → ℕ → ℕ → Type 0
 SpellsPair e t limit d i j =
-    (a b : ℕ) × Dotted e.parts t i a × (length e.parts ≤ limit) × Sign 61 t a b × Spells e.value t limit (d + length e.parts) b j × (e.extent ≡ from_to i j)
+    (a b : ℕ) × Dotted e.parts t i a × (length e.parts ≤ limit) × Sign equals t a b
+    × Spells e.value t limit (d + length e.parts) b j × (e.extent ≡ from_to i j)
+
+-- ---- assignments
+
+-- the text from i to j is this assignment: `keyval = key keyval-sep val`
+pub record EventWith (S : Scalars) (ev : Event) (text : List ℕ) (limit i j : ℕ) : Type 0 where
+  pub key_end : ℕ
+  pub from : ℕ
+  pub key : Dotted ev.parts text i key_end
+  pub few : length ev.parts ≤ limit
+  pub sign : Equals text key_end from
+  pub spelled : SpellsWith S ev.value text limit (length ev.parts) from j
+  pub extent : ev.extent ≡ record { start = i; end = j }
+
+-- From i to j stand these assignments, each with the rest of its line and the blank lines behind it. No key goes
+-- through one of the earlier values of its section.
+--
+-- `expression =/ ws keyval ws [ comment ]`
+abbrev pub EventsWith : Scalars → List Event → List Event → List ℕ → ℕ → ℕ → ℕ → Type 0
+EventsWith S [] earlier text limit i j = j ≡ i
+EventsWith S (ev ∷ evs) earlier text limit i j =
+    (m n k : ℕ) × EventWith S ev text limit i m × Tail text m n × Clear earlier ev × MaximalGap text n k
+    × EventsWith S evs (earlier ++ (ev ∷ [])) text limit k j
+
+-- from i to j stand blank lines and these assignments
+abbrev pub LinesWith : Scalars → List Event → List ℕ → ℕ → ℕ → ℕ → Type 0
+LinesWith S evs text limit i j = (k : ℕ) × MaximalGap text i k × EventsWith S evs [] text limit k j
+
+-- with dates
+abbrev pub SpellsEvent : Event → List ℕ → ℕ → ℕ → ℕ → Type 0
+SpellsEvent = EventWith IsScalar
+
+abbrev pub SpellsEvents : List Event → List Event → List ℕ → ℕ → ℕ → ℕ → Type 0
+SpellsEvents = EventsWith IsScalar
+
+abbrev pub SpellsLines : List Event → List ℕ → ℕ → ℕ → ℕ → Type 0
+SpellsLines = LinesWith IsScalar
+
+-- ---- headers
+
+-- one bracket, or two of them
+--
+-- `std-table-open = %x5B ws`, `array-table-open = %x5B.5B ws`
+abbrev pub Opens : Bool → List ℕ → ℕ → ℕ → Type 0
+Opens false text i j =
+    (slice_index text i ≡ left_bracket) × ((slice_index text (i + 1) == left_bracket) ≡ false) × (j ≡ i + 1)
+Opens true text i j = (slice_index text i ≡ left_bracket) × (slice_index text (i + 1) ≡ left_bracket) × (j ≡ i + 2)
+
+-- one bracket, or two of them
+--
+-- `std-table-close = ws %x5D`, `array-table-close = ws %x5D.5D`
+abbrev pub Shuts : Bool → List ℕ → ℕ → ℕ → Type 0
+Shuts false text i j = (slice_index text i ≡ right_bracket) × (j ≡ i + 1)
+Shuts true text i j = (slice_index text i ≡ right_bracket) × (slice_index text (i + 1) ≡ right_bracket) × (j ≡ i + 2)
+
+-- an opening bracket, one or two, with the spaces and tabs behind it, and the parts of the key with those behind it
+pub record HeaderFront (parts : List Part) (array : Bool) (text : List ℕ) (limit i j : ℕ) : Type 0 where
+  pub inside : ℕ
+  pub start : ℕ
+  pub end : ℕ
+  pub opens : Opens array text i inside
+  pub before : MaximalRun is_blank text inside start
+  pub key : Dotted parts text start end
+  pub few : length parts ≤ limit
+  pub behind : MaximalRun is_blank text end j
+
+-- the text from i to j is a header of these parts with the rest of its line
+--
+-- `table = std-table / array-table`, `std-table = std-table-open key std-table-close`,
+-- `array-table = array-table-open key array-table-close`, `expression =/ ws table ws [ comment ]`
+pub record SpellsHeader (parts : List Part) (array : Bool) (text : List ℕ) (limit i j : ℕ) : Type 0 where
+  pub close : ℕ
+  pub end : ℕ
+  pub front : HeaderFront parts array text limit i close
+  pub shuts : Shuts array text close end
+  pub rest : Tail text end j
+
+-- ---- sections
+
+-- where the last of these assignments ends, or, without one, n
+abbrev pub last_end : ℕ → List Event → ℕ
+last_end n [] = n
+last_end n (ev ∷ evs) = last_end ev.extent.end evs
+
+-- From i to j stands this section: its header, and its assignments. The header's span is the header with the rest of
+-- its line. The extent is from the header to the end of the last assignment, or, without one, the header's span.
+pub record SectionWith (S : Scalars) (b : Block) (text : List ℕ) (limit i j : ℕ) : Type 0 where
+  pub end : ℕ
+  pub header : SpellsHeader b.header b.array text limit i end
+  pub header_span : b.header_span ≡ record { start = i; end = end }
+  pub lines : LinesWith S b.events text limit end j
+  pub extent : b.extent ≡ record { start = i; end = last_end end b.events }
+
+-- the assignments before the first header, if there are any, are a section of their own
+abbrev pub first_block : List Event → List Block
+first_block [] = []
+first_block (ev ∷ evs) =
+    record {
+      header = [];
+      array = false;
+      header_span = from_to 0 0;
+      extent = from_to ev.extent.start (last_end ev.extent.end evs);
+      events = ev ∷ evs;
+    } ∷ []
+
+-- from i to the end of the text stand these sections
+abbrev pub SectionsWith : Scalars → List Block → List ℕ → ℕ → ℕ → Type 0
+SectionsWith S [] text limit i = i ≡ length text
+SectionsWith S (b ∷ bs) text limit i = (j : ℕ) × SectionWith S b text limit i j × SectionsWith S bs text limit j
+
+-- the text, behind a byte order mark, spells these sections: `toml = expression *( newline expression )`
+pub record DocumentWith (S : Scalars) (bs : List Block) (text : List ℕ) (limit : ℕ) : Type 0 where
+  pub start : ℕ
+  pub end : ℕ
+  pub first : List Event
+  pub rest : List Block
+  pub begins : FirstPlace text start
+  pub lines : LinesWith S first text limit start end
+  pub sections : SectionsWith S rest text limit end
+  pub all : bs ≡ first_block first ++ rest
+
+-- with dates
+abbrev pub SpellsSection : Block → List ℕ → ℕ → ℕ → ℕ → Type 0
+SpellsSection = SectionWith IsScalar
+
+abbrev pub SpellsSections : List Block → List ℕ → ℕ → ℕ → Type 0
+SpellsSections = SectionsWith IsScalar
+
+abbrev pub SpellsDocument : List Block → List ℕ → ℕ → Type 0
+SpellsDocument = DocumentWith IsScalar

@@ -1,21 +1,8 @@
 -- What is read is within the limit.
-use Rattle.std.specs.Prelude.{◌≡◌, ℕ, ◌+◌, ◌<◌, ◌≤◌, ◌⊎◌, slice_index, List, [], ◌∷◌, map, Vec, length, Result, Ok, Err, Option, Some, None}
-use Rattle.std.specs.Global.{Global}
-use Rattle.std.specs.Str.{IsCharBoundary}
-use Rattle.smallvec.specs.SmallVec.{SmallVec}
-use Rattle.toml_span_lex.specs.declared.stop.Stop.{Stop}
-use Rattle.toml_span_lex.specs.declared.stop.Stop.TheVariants as stops
-use Rattle.toml_span_tree.specs.Error.{fault_of}
-use Rattle.toml_span_tree.specs.declared.error.Error.{Error}
-use Rattle.toml_span_read.specs.declared.fault.Fault.{Fault}
-use Rattle.toml_span_read.specs.declared.value.Val.{Val}
-use Rattle.toml_span_read.specs.declared.value.Assignment.{Assignment}
+use Rattle.std.specs.Prelude.{ℕ, ◌+◌, ◌≤◌, List, [], ◌∷◌, map, length}
+use Rattle.toml_span_read.specs.Data.{Node, node, Inner, scalar, array, inline, Items, no_items, item, Pairs, no_pairs}
+use Rattle.toml_span_read.specs.Data.{pair, Event, event}
 use Rattle.toml_span_read.specs.declared.section.Section.{Section}
-use Rattle.toml_span_read.specs.declared.sections.Header.{Header}
-use Rattle.toml_span_read.specs.Gaps.{Further}
-use Rattle.toml_span_read.specs.Earlier.{StartBefore}
-use Rattle.toml_span_read.specs.Faults.{IsPlaced, IsPlacedStop, Tells}
-use Rattle.toml_span_read.specs.Data.{Node, node, Inner, scalar, array, inline, Items, no_items, item, Pairs, no_pairs, pair, Event, view, event}
 
 -- The depth of a value is the number of brackets and braces open round it plus the number of all key parts of its own
 -- assignment or pair and of those round it. It is at most the limit, and so is the number of parts of each key.
@@ -34,7 +21,8 @@ abbrev mutual
 
   pub WithinPairs : ℕ → ℕ → Pairs → Type 0
   WithinPairs limit d no_pairs = Unit {0}
-  WithinPairs limit d (pair ps v extent rest) = (length ps ≤ limit) × Within limit (d + length ps) v × WithinPairs limit d rest
+  WithinPairs limit d (pair ps v extent rest) =
+      (length ps ≤ limit) × Within limit (d + length ps) v × WithinPairs limit d rest
 
 -- an assignment under so many brackets and key parts
 abbrev pub WithinEvent : ℕ → ℕ → Event → Type 0
@@ -51,45 +39,3 @@ WithinSection limit s = (length s.header.items ≤ limit) × WithinEvents limit 
 abbrev pub WithinSections : ℕ → List Section → Type 0
 WithinSections limit [] = Unit {0}
 WithinSections limit (s ∷ ss) = WithinSection limit s × WithinSections limit ss
-
--- ---- what reading gives
-
--- the span of a value that is read from i to j ends between the two
-abbrev pub IsSpanned : Node → ℕ → ℕ → Type 0
-IsSpanned (node k span) i j = (i ≤ span.end) × (span.end ≤ j)
-
-abbrev pub ValueReads : List ℕ → ℕ → ℕ → ℕ → Result (Val × ℕ) (Stop Fault) → Type 0
-ValueReads text limit d i (Ok (v, j)) = Within limit d (view v) × Further text i j × IsSpanned (view v) i j
-ValueReads text limit d i (Err stop) = IsPlacedStop text stop
-
-abbrev pub AssignmentReads : List ℕ → ℕ → ℕ → ℕ → Result (Assignment × ℕ) (Stop Fault) → Type 0
-AssignmentReads text limit d i (Ok (a, j)) = WithinEvent limit d (event a) × Further text i j × (k : ℕ) × StartBefore k (event a).parts × IsSpanned (event a).value k j
-AssignmentReads text limit d i (Err stop) = IsPlacedStop text stop
-
-abbrev pub AssignmentsRead : List ℕ → ℕ → ℕ → Result (Vec Assignment Global × ℕ) (Stop Fault) → Type 0
-AssignmentsRead text limit i (Ok (found, j)) = WithinEvents limit (map event found.items) × (i ≤ j) × IsCharBoundary text j
-AssignmentsRead text limit i (Err stop) = IsPlacedStop text stop
-
--- the assignments end where a header begins, or with the text
-abbrev pub EndsAtHeader : List ℕ → Result (Vec Assignment Global × ℕ) (Stop Fault) → Type 0
-EndsAtHeader text (Ok (found, j)) = (j ≡ length text) ⊎ (slice_index text j ≡ 91)
-EndsAtHeader text (Err stop) = Unit {0}
-
--- the rest of a line, or of a header, ends at a place further on, or where it is due
-abbrev pub LineReads : List ℕ → ℕ → Result ℕ (Stop Fault) → Type 0
-LineReads text i (Ok j) = (i ≤ j) × IsCharBoundary text j
-LineReads text i (Err stop) = IsPlacedStop text stop
-
-abbrev pub HeaderReads : List ℕ → ℕ → ℕ → Result Header (Stop Fault) → Type 0
-HeaderReads text limit i (Ok h) = (length h.parts.items ≤ limit) × Further text i h.extent.end
-HeaderReads text limit i (Err stop) = IsPlacedStop text stop
-
-abbrev pub SectionsRead : List ℕ → ℕ → Result (Vec Section Global) (Stop Fault) → Type 0
-SectionsRead text limit (Ok found) = WithinSections limit found.items
-SectionsRead text limit (Err stop) = IsPlacedStop text stop
-
--- what is read is within the limit; an error tells a fault that is placed
-abbrev pub Reads : List ℕ → ℕ → Result (Vec Section Global) (Stop Error) → Type 0
-Reads text limit (Ok found) = WithinSections limit found.items
-Reads text limit (Err (stops.Memory e)) = Unit {0}
-Reads text limit (Err (stops.Fault error)) = (fault : Fault) × IsPlaced text fault × Tells text fault (fault_of error)

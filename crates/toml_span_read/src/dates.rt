@@ -2,9 +2,11 @@
 ghost use Rattle.std.specs.Prelude.{◌≡◌, ◌≤◌, true, length, slice_index};
 ghost use Rattle.std.specs.Str.{IsCharBoundary};
 ghost use Rattle.toml_span_lex.specs.Bytes.{MaximalRun};
+ghost use Rattle.std.specs.Char.{is_ascii_digit};
 ghost use Rattle.toml_span_read.specs.Dates as spec;
-ghost use Rattle.toml_span_read.specs.Dates.{IsCandidate, DateGives};
-ghost use Rattle.toml_span_read.specs.Numbers.{IsPlacedFault};
+ghost use Rattle.toml_span_read.specs.Dates.{IsCandidate};
+ghost use Rattle.toml_span_read.specs.code.Dates.{DateGives};
+ghost use Rattle.toml_span_read.specs.code.Numbers.{IsPlacedFault};
 
 use crate::fault::{Fault, FaultKind};
 use crate::gaps::byte_at;
@@ -15,12 +17,14 @@ use toml_span_tree::DateText;
 /// Whether a decimal digit is at a place.
 #[inline]
 fn is_decimal_at(text: &str, at: usize) -> bool
-    ensures { result ≡ spec.is_decimal (slice_index text.now at) }
+    ensures { result ≡ is_ascii_digit (slice_index text.now at) }
 {
     byte_at(text, at).is_ascii_digit()
 }
 
 /// Whether a date or a time begins at a place: four digits and a dash, or two digits and a colon.
+///
+/// `date-fullyear = 4DIGIT`, `time-hour = 2DIGIT` (TOML 1.1, Local Date, Local Time)
 #[inline]
 pub fn begins_date(text: &str, at: usize) -> bool
     requires { at ≤ length text.now }
@@ -74,6 +78,8 @@ fn date_end(text: &str, at: usize) -> usize
 }
 
 /// The date or time at a place, and where it ends, or the fault.
+///
+/// `date-time = offset-date-time / local-date-time / local-date / local-time` (TOML 1.1, Offset Date-Time)
 pub fn date<'de>(text: &'de str, at: usize) -> Result<(DateText<'de>, usize), Fault>
     requires boundary { IsCharBoundary text.now at }
     requires begins { spec.begins_date text.now at ≡ true }

@@ -1,9 +1,10 @@
 //! The earlier values of a section or an inline table, by their paths.
 ghost use Rattle.std.specs.Prelude.{◌≡◌, ◌≤◌, ◌+◌, ◌++◌, ◌∷◌, [], map, length, OnOk, Some, unwrap_or};
 ghost use Rattle.std.specs.Cow.{cow_str_bytes};
+ghost use Rattle.toml_span_read.specs.Data.{span_of, event};
 ghost use Rattle.toml_span_read.specs.Earlier as spec;
+ghost use Rattle.toml_span_read.specs.code.Earlier as code;
 ghost use Rattle.toml_span_read.specs.Keys.{part, parts};
-ghost use Rattle.toml_span_read.specs.Data.{event};
 
 use crate::fault::{Fault, FaultKind};
 use crate::keys::add;
@@ -24,7 +25,7 @@ struct Node<'de> {
 
 /// A path on which nothing stands yet.
 fn empty<'de>(alloc: Global) -> Node<'de>
-    ensures { spec.holds result ≡ spec.nothing }
+    ensures { code.holds result ≡ code.nothing }
 {
     Node {
         value: None,
@@ -39,7 +40,7 @@ fn put<'de>(
     inner: &[Key<'de>],
     last: &Key<'de>,
 ) -> Result<(), AllocError>
-    ensures { OnOk result (spec.Puts (spec.path (map part inner.now ++ (part last.now ∷ []))) last.now.span (spec.holds node.old) (spec.holds node.new)) }
+    ensures { OnOk result (code.Puts (spec.path (map part inner.now ++ (part last.now ∷ []))) last.now.span (code.holds node.old) (code.holds node.new)) }
 {
     match inner {
         [] => put_last(alloc, node, last),
@@ -57,7 +58,7 @@ fn put<'de>(
 
 /// Puts a value under a key.
 fn put_last<'de>(alloc: Global, node: &mut Node<'de>, last: &Key<'de>) -> Result<(), AllocError>
-    ensures { OnOk result (spec.Puts (cow_str_bytes last.now.name ∷ []) last.now.span (spec.holds node.old) (spec.holds node.new)) }
+    ensures { OnOk result (code.Puts (cow_str_bytes last.now.name ∷ []) last.now.span (code.holds node.old) (code.holds node.new)) }
 {
     match node.below.get_mut(last) {
         Some(child) => {
@@ -76,7 +77,7 @@ fn put_last<'de>(alloc: Global, node: &mut Node<'de>, last: &Key<'de>) -> Result
 
 /// The first of these parts at whose path a value stands, with the key's span of that value.
 fn crossing<'de>(node: &Node<'de>, inner: &[Key<'de>]) -> Option<(usize, Span)>
-    ensures { spec.FindsOutermost (spec.holds node.now) (map part inner.now) result }
+    ensures { code.FindsOutermost (code.holds node.now) (map part inner.now) result }
 {
     let [part, rest @ ..] = inner else {
         return None;
@@ -101,7 +102,7 @@ fn key_of<'x, 'de>(next: &'x Assignment<'de>) -> &'x DottedKey<'de>
 /// Where the span of an assignment's value ends.
 #[inline]
 fn value_end<'de>(next: &Assignment<'de>) -> usize
-    ensures { result ≡ (spec.span_of (event next.now).value).end }
+    ensures { result ≡ (span_of (event next.now).value).end }
 {
     next.value.span.end
 }
@@ -120,7 +121,7 @@ pub(crate) struct Earlier<'de> {
 impl<'de> Earlier<'de> {
     /// No earlier values.
     pub fn new(alloc: Global) -> Self
-        ensures { spec.Knows result [] }
+        ensures { code.Knows result [] }
     {
         Earlier {
             fewest: usize::MAX,
@@ -131,8 +132,8 @@ impl<'de> Earlier<'de> {
 
     /// Puts in those of the values that are not in yet.
     fn catch_up(&mut self, alloc: Global, values: &[Assignment<'de>]) -> Result<(), AllocError>
-        requires { spec.Knows self.now (map event values.now) }
-        ensures knows { OnOk result (spec.Knows self.new (map event values.now)) }
+        requires { code.Knows self.now (map event values.now) }
+        ensures knows { OnOk result (code.Knows self.new (map event values.now)) }
         ensures all { OnOk result (self.new.known ≡ length values.now) }
         ensures fewest { OnOk result (self.new.fewest ≡ self.old.fewest) }
     {
@@ -151,8 +152,8 @@ impl<'de> Earlier<'de> {
         values: &[Assignment<'de>],
         next: &Assignment<'de>,
     ) -> Result<Option<Fault>, AllocError>
-        requires { spec.Knows self.now (map event values.now) }
-        ensures { spec.Judges self.new (map event values.now) (event next.now) result }
+        requires { code.Knows self.now (map event values.now) }
+        ensures { code.Judges self.new (map event values.now) (event next.now) result }
     {
         let key = key_of(next);
         let inner = key.inner.len();
@@ -181,9 +182,9 @@ pub(crate) fn add_clear<'de>(
     values: &mut Vec<Assignment<'de>>,
     next: Assignment<'de>,
 ) -> Result<(), Stop<Fault>>
-    requires knows { spec.Knows earlier.now (map event values.now.items) }
-    ensures adds { spec.AddsClear values.old.items values.new.items next.entry result }
-    ensures knows { OnOk result (spec.Knows earlier.new (map event values.new.items)) }
+    requires knows { code.Knows earlier.now (map event values.now.items) }
+    ensures adds { code.AddsClear values.old.items values.new.items next.entry result }
+    ensures knows { OnOk result (code.Knows earlier.new (map event values.new.items)) }
 {
     match earlier.fault(alloc, values, &next) {
         Err(e) => return Err(Stop::Memory(e)),

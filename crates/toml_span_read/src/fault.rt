@@ -2,7 +2,8 @@
 ghost use Rattle.std.specs.Prelude.{◌≡◌, ◌<◌, ◌≤◌, length};
 ghost use Rattle.toml_span_tree.specs.Error.{kind_of, fault_of};
 ghost use Rattle.toml_span_read.specs.Faults as spec;
-ghost use Rattle.toml_span_read.specs.Faults.{IsLineInfo, Tells};
+ghost use Rattle.toml_span_read.specs.Places.{IsLineInfo};
+ghost use Rattle.toml_span_read.specs.Faults.{Tells};
 
 use toml_span_lex::span::Span;
 use toml_span_tree::{Error, ErrorKind};

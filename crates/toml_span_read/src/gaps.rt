@@ -1,7 +1,10 @@
 //! White space, comments and line ends between tokens.
 ghost use Rattle.std.specs.Prelude.{◌≡◌, ◌+◌, ◌<◌, slice_index};
 ghost use Rattle.std.specs.Str.{IsCharBoundary};
-ghost use Rattle.toml_span_read.specs.Gaps.{GapPieceGives, MaximalGap, TailGives, DotGives, BehindGives, SignGives, EqualsGives, Further};
+ghost use Rattle.toml_span_read.specs.code.Gaps.{GapPieceGives, TailGives, DotGives, BehindGives, SignGives};
+ghost use Rattle.toml_span_read.specs.code.Gaps.{EqualsGives, Further};
+ghost use Rattle.toml_span_read.specs.Gaps.{MaximalGap};
+ghost use Rattle.toml_span_lex.specs.Bytes.{comma, equals};
 
 use toml_span_lex::bytes::{blanks_end, printed_end};
 use toml_span_lex::text::line_end;
@@ -16,6 +19,8 @@ pub fn byte_at(text: &str, at: usize) -> u8
 }
 
 /// What is behind the piece of a gap at a place: a space or a tab, a line end or a comment.
+///
+/// `wschar = %x20 / %x09`, `newline = %x0A / %x0D.0A`, `comment = comment-start-symbol *non-eol` (TOML 1.1, Comment)
 #[inline]
 fn gap_piece(text: &str, at: usize) -> Option<usize>
     requires { IsCharBoundary text.now at }
@@ -92,6 +97,8 @@ pub fn behind_sign(text: &str, at: usize) -> usize
 }
 
 /// What is behind an opening bracket and the gap behind it.
+///
+/// `array-open = %x5B`, `inline-table-open = %x7B` (TOML 1.1, Array, Inline Table)
 pub fn opened(text: &str, at: usize) -> usize
     requires some { 0 < slice_index text.now at }
     requires ascii { slice_index text.now at < 128 }
@@ -112,11 +119,14 @@ pub enum Behind {
 }
 
 /// Whether a comma, the closing bracket or another token is behind an element and the gap behind it.
+///
+/// `array-sep = %x2C`, `inline-table-sep = %x2C`, `array-close = %x5D`, `inline-table-close = %x7D` (TOML 1.1,
+/// Array, Inline Table)
 pub fn after_element(text: &str, at: usize, close: u8) -> Behind
     requires boundary { IsCharBoundary text.now at }
     requires some { 0 < close }
     requires ascii { close < 128 }
-    requires other { close ≡ 44 → ⊥ }
+    requires other { close ≡ comma → ⊥ }
     ensures { BehindGives close text.now at result }
 {
     let end = gap_end(text, at);
@@ -131,9 +141,11 @@ pub fn after_element(text: &str, at: usize, close: u8) -> Behind
 }
 
 /// What is behind an equals sign with gaps round it, or where it is due.
+///
+/// `keyval-sep` in an inline table, where line ends and comments may stand round it (TOML 1.1, Inline Table)
 pub fn pair_equals(text: &str, at: usize) -> Result<usize, usize>
     requires { IsCharBoundary text.now at }
-    ensures { SignGives 61 text.now at result }
+    ensures { SignGives equals text.now at result }
 {
     let end = gap_end(text, at);
     if byte_at(text, end) == b'=' {

@@ -1,11 +1,11 @@
 //! Keys and dotted keys.
 ghost use Rattle.std.specs.Prelude.{◌≡◌, ◌<◌, ◌≤◌, ◌⊎◌, length, slice_index, [], ◌∷◌, ◌++◌, IfOk, OnOk};
 ghost use Rattle.std.specs.Str.{IsCharBoundary};
+ghost use Rattle.toml_span_lex.specs.Bytes.{quotation_mark, apostrophe};
 ghost use Rattle.toml_span_lex.specs.Strings.{BorrowsWhereSame};
 ghost use Rattle.toml_span_read.specs.Borrowed.{AreRight, dotted_written, keys_written};
-ghost use Rattle.toml_span_read.specs.Keys as spec;
-ghost use Rattle.toml_span_read.specs.Keys.{KeyGives, DottedGives, HeaderKeyGives};
-ghost use Rattle.toml_span_read.specs.Faults.{Advances};
+ghost use Rattle.toml_span_read.specs.code.Keys.{KeyGives, DottedGives, HeaderKeyGives};
+ghost use Rattle.toml_span_read.specs.code.Faults.{Advances};
 
 use crate::fault::{Due, Fault, FaultKind, fault_at};
 use crate::gaps::{byte_at, dot};
@@ -29,13 +29,15 @@ pub fn add<T: Drop>(items: &mut Vec<T>, item: T) -> Result<(), AllocError>
 }
 
 /// The string at a place as a key, and where it ends.
+///
+/// `quoted-key = basic-string / literal-string` (TOML 1.1, Keys)
 fn quoted_key<'de>(
     alloc: Global,
     text: &'de str,
     at: usize,
 ) -> Result<(Key<'de>, usize), Stop<Fault>>
     requires within { at < length text.now }
-    requires quote { (slice_index text.now at ≡ 34) ⊎ (slice_index text.now at ≡ 39) }
+    requires quote { (slice_index text.now at ≡ quotation_mark) ⊎ (slice_index text.now at ≡ apostrophe) }
     ensures gives { KeyGives text.now at result }
     ensures borrows { IfOk result (λ found. BorrowsWhereSame text.now found.0.span found.0.name) }
     ensures advances { Advances text.now at result }
@@ -117,6 +119,8 @@ pub fn dotted_key<'de>(
 }
 
 /// The parts of a header at a place, at most `limit`, and where they end, with the faults of `dotted_key`.
+///
+/// `key = simple-key / dotted-key`, in `std-table = std-table-open key std-table-close` (TOML 1.1, Table)
 pub fn header_key<'de>(
     alloc: Global,
     text: &'de str,

@@ -1,16 +1,24 @@
 //! Numbers.
 ghost use Rattle.std.specs.Prelude.{◌≡◌, ℕ, ◌+◌, ◌*◌, ◌<◌, ◌≤◌, ◌||◌, ◌&&◌, ◌==◌, ◌⊎◌, not, true, false, length, slice_index, filter, string_bytes, IfOk, IfSome, Ok};
 ghost use Rattle.std.specs.Str.{IsCharBoundary};
-ghost use Rattle.toml_span_lex.specs.Bytes.{is_keylike, MaximalRun};
-ghost use Rattle.toml_span_read.specs.Dates.{is_decimal};
-ghost use Rattle.toml_span_read.specs.Gaps.{Further};
-ghost use Rattle.toml_span_read.specs.Stuck.{BareGives};
-ghost use Rattle.toml_span_read.specs.Faults.{Advances, IsPlaced};
-ghost use Rattle.toml_span_read.specs.Data.{IsScalarKind, kind_view, scalar};
+ghost use Rattle.toml_span_lex.specs.Bytes.{is_keylike, MaximalRun, period, underscore, plus};
+ghost use Rattle.std.specs.Char.{is_ascii_digit};
+ghost use Rattle.toml_span_read.specs.code.Gaps.{Further};
+ghost use Rattle.toml_span_read.specs.code.Values.{BareGives, IsScalarKind};
+ghost use Rattle.toml_span_read.specs.code.Faults.{Advances};
+ghost use Rattle.toml_span_read.specs.Places.{IsPlaced};
+ghost use Rattle.toml_span_read.specs.Data.{kind_view, scalar};
 ghost use Rattle.toml_span_tree.specs.Node.{integer, float};
 ghost use Rattle.toml_span_tree.specs.Value.{float_value};
 ghost use Rattle.toml_span_read.specs.Numbers as spec;
-ghost use Rattle.toml_span_read.specs.Numbers.{IsRun, Run, IsSpecial, UnsignedDecimal, NoDecimal, DigitsEnd, NumberEnds, DecimalEnds, IsPlacedFault, DigitGives, DigitsGive, WithinGives, sum_of_digits, is_digit, SignedGives, IntegerGives, RadixIntegerGives, IntegerPartGives, ExponentDigitsGive, ExponentGives, FractionGives, DecimalGives, SpecialGives, UnsignedGives, NumberGives, behind_sign, is_negative};
+ghost use Rattle.toml_span_read.specs.code.Numbers.{IsRun, DigitsEnd, NumberEnds, DecimalEnds, IsPlacedFault};
+ghost use Rattle.toml_span_read.specs.code.Numbers.{DigitGives, DigitsGive, WithinGives, SignedGives, IntegerGives};
+ghost use Rattle.toml_span_read.specs.code.Numbers.{RadixIntegerGives, IntegerPartGives, ExponentDigitsGive};
+ghost use Rattle.toml_span_read.specs.code.Numbers.{ExponentGives, FractionGives, DecimalGives, SpecialGives};
+ghost use Rattle.toml_span_read.specs.code.Numbers.{UnsignedGives, NumberGives};
+ghost use Rattle.toml_span_read.specs.Faults.{Run, IsSpecial, NoDecimal};
+ghost use Rattle.toml_span_read.specs.Numbers.{UnsignedDecimal, sum_of_digits, is_digit, behind_sign, is_negative};
+ghost use Rattle.toml_span_read.specs.Numbers.{letter_e};
 
 use crate::fault::{Fault, invalid_number};
 use crate::gaps::byte_at;
@@ -37,6 +45,8 @@ fn digit(byte: u8, radix: u8) -> Option<u8>
 
 /// Where the digits end that begin a piece of a number at `from`, with single underscores between them,
 /// or the span of the fault.
+///
+/// `zero-prefixable-int = DIGIT *( DIGIT / underscore DIGIT )` (TOML 1.1, Float)
 fn digits_end(text: &str, piece: Span, from: usize, radix: u8) -> Result<usize, Fault>
     requires within { piece.end ≤ length text.now }
     requires start { piece.start ≤ from }
@@ -134,6 +144,8 @@ fn integer(
 }
 
 /// The radix that the two bytes at a place name: `0x`, `0o` or `0b`. None where others stand there.
+///
+/// `hex-prefix = %x30.78`, `oct-prefix = %x30.6F`, `bin-prefix = %x30.62` (TOML 1.1, Integer)
 #[inline]
 pub fn radix_of(text: &str, run: usize) -> Option<u8>
     requires { run < usize.MAX }
@@ -262,7 +274,7 @@ fn fraction_end(text: &str, start: usize, first: Span) -> Result<usize, Fault>
     requires start { start ≤ first.start }
     requires first { first.start ≤ first.end }
     requires boundary { IsCharBoundary text.now first.end }
-    requires dot { slice_index text.now first.end ≡ 46 }
+    requires dot { slice_index text.now first.end ≡ period }
     ensures ends { NumberEnds text.now first.end result }
     ensures gives { FractionGives text.now start first.start first.end result }
 {
@@ -334,7 +346,7 @@ fn few_digits(text: &str, from: usize) -> (u64, usize)
     requires { from ≤ length text.now }
     ensures forward { from ≤ result.1 }
     ensures within { result.1 ≤ length text.now }
-    ensures digits { (k : ℕ) → from ≤ k → k < result.1 → is_decimal (slice_index text.now k) ≡ true }
+    ensures digits { (k : ℕ) → from ≤ k → k < result.1 → is_ascii_digit (slice_index text.now k) ≡ true }
     ensures value { result.0 ≡ spec.magnitude 10 text.now from result.1 }
 {
     let bytes = text.as_bytes();
@@ -373,7 +385,7 @@ pub(crate) fn short_integer<'de>(text: &'de str, at: usize) -> Option<(ValKind<'
 /// Whether a byte stands in the cleaned text of a float as it is.
 #[inline]
 fn is_clean(byte: u8) -> bool
-    ensures { result ≡ not ((byte == 95 || byte == 43) || byte == 101) }
+    ensures { result ≡ not ((byte == underscore || byte == plus) || byte == letter_e) }
 {
     byte != b'_' && byte != b'+' && byte != b'e'
 }
@@ -410,6 +422,8 @@ fn cleaned(alloc: Global, literal: &str) -> Result<String, AllocError>
 }
 
 /// The float that a word of letters writes: `inf` or `nan`, with a minus before it or not; None for other words.
+///
+/// `special-float = [ minus / plus ] ( inf / nan )` (TOML 1.1, Float)
 pub fn special_float(word: &[u8]) -> Option<FloatText>
     ensures { SpecialGives word.now result }
 {
@@ -426,7 +440,7 @@ pub fn special_float(word: &[u8]) -> Option<FloatText>
 pub fn special_dot(text: &str, start: usize, first: Span) -> Fault
     requires start { start ≤ first.start }
     requires run { IsRun text.now first }
-    requires dot { slice_index text.now first.end ≡ 46 }
+    requires dot { slice_index text.now first.end ≡ period }
     requires special { IsSpecial text.now first.start first.end }
     ensures placed { IsPlaced text.now result }
     ensures gives { NoDecimal text.now start first.start first.end result }
@@ -493,13 +507,16 @@ fn unsigned<'de>(
 }
 
 /// The number at a place, and where it ends.
+///
+/// `integer = dec-int / hex-int / oct-int / bin-int`, `float = float-int-part ( exp / frac [ exp ] )`,
+/// `float =/ special-float` (TOML 1.1, Integer, Float)
 pub fn number<'de>(
     alloc: Global,
     text: &'de str,
     at: usize,
 ) -> Result<(ValKind<'de>, usize), Stop<Fault>>
     requires boundary { IsCharBoundary text.now at }
-    requires begins { (is_keylike (slice_index text.now at) || slice_index text.now at == 43) ≡ true }
+    requires begins { (is_keylike (slice_index text.now at) || slice_index text.now at == plus) ≡ true }
     ensures advances { Advances text.now at result }
     ensures scalar { IsScalarKind result }
     // A literal is read exactly where one stands: otherwise the fault says what stands in its place.

@@ -1,15 +1,21 @@
 //! Lines, headers and sections.
 ghost use Rattle.std.specs.Prelude.{◌≡◌, ℕ, ◌<◌, ◌≤◌, ◌+◌, ◌++◌, ◌⊎◌, map, length, slice_index, IfSome, IfOk};
 ghost use Rattle.std.specs.Str.{IsCharBoundary};
-ghost use Rattle.toml_span_read.specs.Borrowed.{AreRight, keys_written, assignment_written, assignments_written, section_written, sections_written};
-ghost use Rattle.toml_span_read.specs.Data.{event};
-ghost use Rattle.toml_span_read.specs.Lines as spec;
-ghost use Rattle.toml_span_read.specs.Lines.{Opens, EventGives, LineGives, LinesGive, CloseGives, HeaderGives, SectionsGive, KeepsForm, ReadsDocument, block, block_of, first_block, first_blocks};
-ghost use Rattle.toml_span_read.specs.Gaps.{Further};
+ghost use Rattle.toml_span_read.specs.Borrowed.{AreRight, keys_written, assignment_written, assignments_written};
+ghost use Rattle.toml_span_read.specs.Borrowed.{section_written, sections_written};
+ghost use Rattle.toml_span_read.specs.Data.{event, block};
+ghost use Rattle.toml_span_read.specs.Grammar as spec;
+ghost use Rattle.toml_span_read.specs.Grammar.{Opens, first_block};
+ghost use Rattle.toml_span_read.specs.code.Sections.{EventGives, LineGives, LinesGive, CloseGives, HeaderGives};
+ghost use Rattle.toml_span_read.specs.code.Sections.{SectionsGive, block_of, first_blocks, FirstReads, FirstGives};
+ghost use Rattle.toml_span_read.specs.code.Sections.{SectionReads, SectionGives};
+ghost use Rattle.toml_span_read.specs.Stuck.{KeepsForm, ReadsDocument, RefusedInside};
+ghost use Rattle.toml_span_read.specs.code.Gaps.{Further};
+ghost use Rattle.toml_span_lex.specs.Bytes.{left_bracket};
 ghost use Rattle.toml_span_lex.specs.Tokenizer.{FirstPlace};
-ghost use Rattle.toml_span_read.specs.Inside.{SectionsInside};
-ghost use Rattle.toml_span_read.specs.Stepwise.{FirstReads, FirstGives, SectionReads, SectionGives};
-ghost use Rattle.toml_span_read.specs.Limits.{AssignmentReads, AssignmentsRead, LineReads, HeaderReads, SectionsRead, WithinSection, WithinEvents, EndsAtHeader, Reads};
+ghost use Rattle.toml_span_read.specs.code.Limits.{AssignmentReads, AssignmentsRead, LineReads, HeaderReads};
+ghost use Rattle.toml_span_read.specs.code.Limits.{SectionsRead, EndsAtHeader};
+ghost use Rattle.toml_span_read.specs.Limits.{WithinSection, WithinEvents};
 
 use crate::earlier::{Earlier, add_clear};
 use crate::fault::{Due, Fault, error_of};
@@ -57,6 +63,8 @@ fn assignment<'de>(
 }
 
 /// What is behind the line whose forms end at a place.
+///
+/// `expression =/ ws keyval ws [ comment ]`, of which `ws [ comment ]` and the line end (TOML 1.1, Overall Structure)
 fn next_line(alloc: Global, text: &str, at: usize) -> Result<usize, Stop<Fault>>
     requires { IsCharBoundary text.now at }
     ensures reads { LineReads text.now at result }
@@ -105,8 +113,10 @@ fn assignments<'de>(
 }
 
 /// Whether a header's brackets are double, and what is behind those that open it.
+///
+/// `std-table-open = %x5B ws`, `array-table-open = %x5B.5B ws` (TOML 1.1, Table, Array of Tables)
 fn header_open(text: &str, at: usize) -> (bool, usize)
-    requires opens { slice_index text.now at ≡ 91 }
+    requires opens { slice_index text.now at ≡ left_bracket }
     ensures opens { Opens result.0 text.now at result.1 }
     ensures further { Further text.now at result.1 }
 {
@@ -119,6 +129,8 @@ fn header_open(text: &str, at: usize) -> (bool, usize)
 }
 
 /// What is behind a header's closing brackets.
+///
+/// `std-table-close = ws %x5D`, `array-table-close = ws %x5D.5D` (TOML 1.1, Table, Array of Tables)
 fn header_close(alloc: Global, text: &str, at: usize, array: bool) -> Result<usize, Stop<Fault>>
     requires { IsCharBoundary text.now at }
     ensures reads { LineReads text.now at result }
@@ -155,7 +167,7 @@ fn read_header<'de>(
     at: usize,
     limit: usize,
 ) -> Result<Header<'de>, Stop<Fault>>
-    requires opens { slice_index text.now at ≡ 91 }
+    requires opens { slice_index text.now at ≡ left_bracket }
     requires some { 1 ≤ limit }
     ensures reads { HeaderReads text.now limit at result }
     ensures gives { HeaderGives text.now limit at result }
@@ -260,7 +272,7 @@ pub fn read_section<'de>(
     at: usize,
     limit: usize,
 ) -> Result<(Section<'de>, usize), Stop<Fault>>
-    requires opens { slice_index text.now at ≡ 91 }
+    requires opens { slice_index text.now at ≡ left_bracket }
     requires some { 1 ≤ limit }
     requires small { limit ≤ 128 }
     ensures reads { SectionReads text.now limit at result }
@@ -314,13 +326,11 @@ pub fn read_sections<'de>(
 ) -> Result<Vec<Section<'de>>, Stop<Error<'de>>>
     requires some { 1 ≤ limit }
     requires small { limit ≤ 128 }
-    ensures reads { Reads text.now limit result }
     // The sections are those that the text spells. A fault stands where the forms before it lead.
     ensures document { ReadsDocument text.now limit result }
+    ensures placed { RefusedInside text.now result }
     // Memory is wanted only where more than blank lines stand in the text.
     ensures memory { (start : ℕ) × FirstPlace text.now start × KeepsForm text.now start result }
-    // Keys and headers stand inside the text.
-    ensures inside { IfOk result (λ found. SectionsInside (length text.now) found.items) }
     // Strings and keys are borrowed exactly where they equal the text at their span. Empty ones on one line are borrowed.
     ensures borrows { IfOk result (λ found. AreRight text.now (sections_written found.items)) }
 {

@@ -1,18 +1,22 @@
 //! Values.
 ghost use Rattle.std.specs.Prelude.{◌≡◌, ◌+◌, ◌<◌, ◌≤◌, ◌||◌, ◌==◌, ◌⊎◌, ◌++◌, ◌∷◌, [], true, false, length, slice_index, map, IfOk};
 ghost use Rattle.std.specs.Str.{IsCharBoundary};
-ghost use Rattle.toml_span_lex.specs.Bytes.{is_keylike};
-ghost use Rattle.toml_span_read.specs.Faults.{Advances, IsPlaced, IsPlacedStop};
+ghost use Rattle.toml_span_lex.specs.Bytes.{is_keylike, quotation_mark, apostrophe, left_bracket, left_brace};
+ghost use Rattle.toml_span_read.specs.code.Faults.{Advances, IsPlacedStop};
+ghost use Rattle.toml_span_read.specs.Places.{IsPlaced};
 ghost use Rattle.std.specs.Cow.{cow_str_bytes};
 ghost use Rattle.toml_span_tree.specs.Node.{text as text_node, boolean, datetime};
 ghost use Rattle.toml_span_tree.specs.Value.{date_bytes};
-ghost use Rattle.toml_span_read.specs.Borrowed.{AreRight, string as string_written, written, kind_written, joined, assignment_written, assignments_written, dotted_written};
+ghost use Rattle.toml_span_read.specs.Borrowed.{AreRight, string as string_written, written, kind_written, joined};
+ghost use Rattle.toml_span_read.specs.Borrowed.{assignment_written, assignments_written, dotted_written};
 ghost use Rattle.toml_span_read.specs.Keys as spec;
-ghost use Rattle.toml_span_read.specs.Limits.{ValueReads, AssignmentReads};
-ghost use Rattle.toml_span_read.specs.Stuck.{opens_nested, begins_bare, begins_number, IsRunOf, IsTooDeep, ValueGives, BareGives, PairGives};
+ghost use Rattle.toml_span_read.specs.code.Limits.{ValueReads, AssignmentReads};
+ghost use Rattle.toml_span_read.specs.Faults.{opens_nested, begins_bare, begins_number};
+ghost use Rattle.toml_span_read.specs.code.Values.{IsRunOf, IsTooDeep, ValueGives, BareGives, PairGives};
 ghost use Rattle.toml_span_read.specs.Dates as date_spec;
 ghost use Rattle.toml_span_read.specs.Keys.{opens_string};
-ghost use Rattle.toml_span_read.specs.Data.{view, kind_view, event, node, scalar as scalar_node, array as array_node, inline as inline_node, onto, pairs_onto, no_items, no_pairs};
+ghost use Rattle.toml_span_read.specs.Data.{view, kind_view, event, node, scalar as scalar_node, array as array_node};
+ghost use Rattle.toml_span_read.specs.Data.{inline as inline_node, onto, pairs_onto, no_items, no_pairs};
 
 use crate::dates::{begins_date, date};
 use crate::earlier::{Earlier, add_clear};
@@ -68,6 +72,8 @@ fn too_deep(text: &str, at: usize) -> Stop<Fault>
 }
 
 /// The string at a place, and where it ends.
+///
+/// `string = ml-basic-string / basic-string / ml-literal-string / literal-string` (TOML 1.1, String)
 fn string_value<'de>(
     alloc: Global,
     text: &'de str,
@@ -76,7 +82,7 @@ fn string_value<'de>(
     limit: usize,
 ) -> Result<(Val<'de>, usize), Stop<Fault>>
     requires boundary { IsCharBoundary text.now at }
-    requires quote { (slice_index text.now at ≡ 34) ⊎ (slice_index text.now at ≡ 39) }
+    requires quote { (slice_index text.now at ≡ quotation_mark) ⊎ (slice_index text.now at ≡ apostrophe) }
     ensures reads { ValueReads text.now limit depth at result }
     ensures gives { ValueGives text.now limit depth at result }
     ensures borrows { IfOk result (λ found. AreRight text.now (written found.0)) }
@@ -114,6 +120,8 @@ fn scalar<'de>(
 }
 
 /// The date, number or truth value at a place, and where it ends.
+///
+/// `val =/ boolean / date-time / float / integer` (TOML 1.1, Key/Value Pair)
 fn bare<'de>(alloc: Global, text: &'de str, at: usize) -> Result<(ValKind<'de>, usize), Stop<Fault>>
     requires boundary { IsCharBoundary text.now at }
     requires begins { begins_bare (slice_index text.now at) ≡ true }
@@ -193,7 +201,7 @@ fn array<'de>(
     limit: usize,
 ) -> Result<(Val<'de>, usize), Stop<Fault>>
     requires boundary { IsCharBoundary text.now at }
-    requires opens { slice_index text.now at ≡ 91 }
+    requires opens { slice_index text.now at ≡ left_bracket }
     requires some { 1 ≤ limit }
     requires small { limit ≤ 128 }
     requires depth { depth ≤ limit }
@@ -236,7 +244,7 @@ fn inline_table<'de>(
     limit: usize,
 ) -> Result<(Val<'de>, usize), Stop<Fault>>
     requires boundary { IsCharBoundary text.now at }
-    requires opens { slice_index text.now at ≡ 123 }
+    requires opens { slice_index text.now at ≡ left_brace }
     requires some { 1 ≤ limit }
     requires small { limit ≤ 128 }
     requires depth { depth ≤ limit }

@@ -1,11 +1,12 @@
 //! What stands where another token is due.
 ghost use Rattle.std.specs.Prelude.{◌≡◌, ◌<◌, ◌≤◌, ◌||◌, ◌==◌, ◌⊎◌, if◌then◌else◌, length, slice_index, false, IfOk, IfSome, Ok};
 ghost use Rattle.std.specs.Str.{IsCharBoundary};
+ghost use Rattle.toml_span_lex.specs.Bytes.{quotation_mark, apostrophe};
 ghost use Rattle.toml_span_lex.specs.Strings.{BorrowsWhereSame};
 ghost use Rattle.toml_span_lex.specs.Tokens.{lexeme};
 ghost use Rattle.toml_span_read.specs.Faults as faults;
-ghost use Rattle.toml_span_read.specs.Wanted as spec;
-ghost use Rattle.toml_span_read.specs.Wanted.{StringReads, FoundGives, WantedGives, NoValueGives, Bounded};
+ghost use Rattle.toml_span_read.specs.code.Faults as faults_code;
+ghost use Rattle.toml_span_read.specs.code.Wanted.{StringReads, FoundGives, WantedGives, NoValueGives, Bounded};
 
 use crate::fault::{Due, Fault, FaultKind, Found, fault_at};
 use crate::gaps::byte_at;
@@ -58,7 +59,7 @@ fn token_fault(error: Error) -> Fault
 #[inline(always)]
 pub(crate) fn short_string<'de>(text: &'de str, at: usize) -> Option<StringToken<'de>>
     requires within { at < length text.now }
-    requires quote { (slice_index text.now at ≡ 34) ⊎ (slice_index text.now at ≡ 39) }
+    requires quote { (slice_index text.now at ≡ quotation_mark) ⊎ (slice_index text.now at ≡ apostrophe) }
     ensures gives { IfSome result (λ token. StringReads text.now at (Ok token)) }
     ensures borrows { IfSome result (λ token. BorrowsWhereSame text.now token.span token.content) }
 {
@@ -83,10 +84,10 @@ fn pieced_string<'de>(
     at: usize,
 ) -> Result<StringToken<'de>, Stop<Fault>>
     requires within { at < length text.now }
-    requires quote { (slice_index text.now at ≡ 34) ⊎ (slice_index text.now at ≡ 39) }
+    requires quote { (slice_index text.now at ≡ quotation_mark) ⊎ (slice_index text.now at ≡ apostrophe) }
     ensures gives { StringReads text.now at result }
     ensures borrows { IfOk result (λ token. BorrowsWhereSame text.now token.span token.content) }
-    ensures placed { faults.IsPlacedEnd text.now result }
+    ensures placed { faults_code.IsPlacedEnd text.now result }
 {
     match string_at(alloc, text, at) {
         Ok((span, token, end)) => match token {
@@ -116,10 +117,10 @@ pub fn string<'de>(
     at: usize,
 ) -> Result<StringToken<'de>, Stop<Fault>>
     requires within { at < length text.now }
-    requires quote { (slice_index text.now at ≡ 34) ⊎ (slice_index text.now at ≡ 39) }
+    requires quote { (slice_index text.now at ≡ quotation_mark) ⊎ (slice_index text.now at ≡ apostrophe) }
     ensures gives { StringReads text.now at result }
     ensures borrows { IfOk result (λ token. BorrowsWhereSame text.now token.span token.content) }
-    ensures placed { faults.IsPlacedEnd text.now result }
+    ensures placed { faults_code.IsPlacedEnd text.now result }
 {
     match short_string(text, at) {
         Some(token) => Ok(token),
@@ -129,7 +130,7 @@ pub fn string<'de>(
 
 /// What a token is called where another one is due.
 fn found_of(token: &Token<'_>) -> Found
-    ensures { result ≡ spec.found_of (lexeme token.now) }
+    ensures { result ≡ faults.found_of (lexeme token.now) }
 {
     match token {
         Token::Whitespace(_) => Found::Whitespace,
@@ -163,7 +164,7 @@ fn string_found(is_multiline: bool) -> Found
 /// Whether a string opens with this byte.
 #[inline]
 pub fn opens_string(byte: u8) -> bool
-    ensures { result ≡ (byte == 34 || byte == 39) }
+    ensures { result ≡ (byte == quotation_mark || byte == apostrophe) }
 {
     byte == b'"' || byte == b'\''
 }
@@ -172,7 +173,7 @@ pub fn opens_string(byte: u8) -> bool
 fn found_at(alloc: Global, text: &str, at: usize) -> Result<(Found, usize), Stop<Fault>>
     requires { IsCharBoundary text.now at }
     ensures gives { FoundGives text.now at result }
-    ensures placed { faults.IsPlacedEnd text.now result }
+    ensures placed { faults_code.IsPlacedEnd text.now result }
 {
     if at == text.len() {
         return Ok((Found::EndOfText, at));
@@ -193,7 +194,7 @@ fn found_at(alloc: Global, text: &str, at: usize) -> Result<(Found, usize), Stop
 pub fn wanted(alloc: Global, text: &str, at: usize, expected: Due) -> Stop<Fault>
     requires { IsCharBoundary text.now at }
     ensures gives { WantedGives text.now at expected result }
-    ensures placed { faults.IsPlacedStop text.now result }
+    ensures placed { faults_code.IsPlacedStop text.now result }
 {
     match found_at(alloc, text, at) {
         Ok((found, _)) => {
@@ -215,7 +216,7 @@ pub fn wanted(alloc: Global, text: &str, at: usize, expected: Due) -> Stop<Fault
 pub fn no_value(alloc: Global, text: &str, at: usize) -> Stop<Fault>
     requires { IsCharBoundary text.now at }
     ensures gives { NoValueGives text.now at result }
-    ensures placed { faults.IsPlacedStop text.now result }
+    ensures placed { faults_code.IsPlacedStop text.now result }
 {
     if at == text.len() {
         return Stop::Fault(fault_at(FaultKind::UnexpectedEof, at));

@@ -3,10 +3,8 @@ use Rattle.std.proofs.Common.{◌≡◌, ℕ, ◌+◌, ◌≤◌, List, [], ◌�
 use Rattle.toml_span_lex.specs.declared.span.Span.{Span}
 use Rattle.toml_span_tree.specs.Node.{text as text_scalar, integer, float, boolean, datetime}
 use Rattle.toml_span_read.specs.Keys.{Part, Dotted}
-use Rattle.toml_span_read.specs.Data.{Node, node, Inner, scalar, array, inline, Items, no_items, item, Pairs, no_pairs, pair, Event}
-use Rattle.toml_span_read.specs.Earlier.{span_of}
-use Rattle.toml_span_read.specs.Grammar.{from_to, Spells, SpellsInner, SpellsItems, SpellsPairs}
-use Rattle.toml_span_read.specs.Lines.{SpellsEvents, Block, first_block, SpellsSections, SpellsDocument}
+use Rattle.toml_span_read.specs.Data.{Node, node, Inner, scalar, array, inline, Items, no_items, item, Pairs, no_pairs, pair, Event, span_of, Block}
+use Rattle.toml_span_read.specs.Grammar.{from_to, Spells, SpellsInner, SpellsItems, SpellsPairs, SpellsEvents, first_block, SpellsSections, SpellsDocument}
 use Rattle.toml_span_read_laws.specs.Again.{SpellsAgain, ReadsAgain, AllReadAgain, InnerReadAgain, ItemsReadAgain, PairsReadAgain, EventsReadAgain, BlocksReadAgain}
 use Rattle.toml_span_read_laws.proofs.AgainLines.{document_spelled}
 

@@ -7,9 +7,8 @@ use Rattle.toml_span_lex.specs.Tokenizer.{FirstPlace}
 use Rattle.toml_span_read.specs.Gaps.{MaximalGap, Tail}
 use Rattle.toml_span_read.specs.Keys.{opens_string, Dotted}
 use Rattle.toml_span_read.specs.Data.{Node, node, scalar, array, inline}
-use Rattle.toml_span_read.specs.Grammar.{Spells}
-use Rattle.toml_span_read.specs.Stuck.{begins_bare}
-use Rattle.toml_span_read.specs.Lines.{SpellsEvent, SpellsDocument, first_block}
+use Rattle.toml_span_read.specs.Grammar.{Spells, SpellsEvent, SpellsDocument, first_block}
+use Rattle.toml_span_read.specs.Faults.{begins_bare}
 use Rattle.toml_span_read_laws.specs.Again.{moved, assigned_again, event_again}
 use Rattle.toml_span_read.proofs.NumberLemmas.{is_false, byte_is, clash}
 use Rattle.toml_span_read.proofs.SpanLaws.{value_lies}

@@ -7,7 +7,8 @@ use Rattle.std.proofs.lemmas.List.{get_or_past}
 use Rattle.toml_span_lex.specs.declared.span.Span.{Span}
 use Rattle.toml_span_lex.specs.Bytes.{is_keylike, MaximalRun}
 use Rattle.toml_span_tree.specs.Node.{Scalar, text as text_scalar, integer, float, boolean, datetime, finite, infinite, not_a_number}
-use Rattle.toml_span_read.specs.Dates.{is_decimal, is_date_byte, begins_date, continues_date, IsCandidate}
+use Rattle.std.specs.Char.{is_ascii_digit}
+use Rattle.toml_span_read.specs.Dates.{is_date_byte, begins_date, continues_date, IsCandidate}
 use Rattle.toml_span_read.specs.Numbers.{is_digit, is_figure, Digits, sum_of_digits, magnitude, behind_sign, is_negative, UnsignedDecimal, DecimalInteger, radix_at, RadixInteger, Exponent, Fraction, FloatLiteral, SpecialFloat, IsNumber}
 use Rattle.toml_span_read.specs.Grammar.{IsScalar}
 use Rattle.toml_span_read_laws.specs.Again.{moved_span}
@@ -195,9 +196,9 @@ second_of false y h = absurd (false≢true h)
 
 -- what begins a date, test by test
 record Begins (p : ℕ → (ℕ → Bool) → Type 0) : Type 0 where
-  one : p 0 is_decimal
-  two : p 1 is_decimal
-  more : p 2 (λ c. c == 58) ⊎ (p 2 is_decimal × p 3 is_decimal × p 4 (λ c. c == 45))
+  one : p 0 is_ascii_digit
+  two : p 1 is_ascii_digit
+  more : p 2 (λ c. c == 58) ⊎ (p 2 is_ascii_digit × p 3 is_ascii_digit × p 4 (λ c. c == 45))
 
 -- the byte so far behind i passes the test
 Passing : List ℕ → ℕ → ℕ → (ℕ → Bool) → Type 0
@@ -207,17 +208,17 @@ take_apart : (a : List ℕ) (i : ℕ) → begins_date a i ≡ true → Begins (P
 unfolding Passing
 take_apart a i h =
     let z : i + 0 ≡ i = omega arith in
-    let x = first_of (is_decimal (get_or a i 0) && is_decimal (get_or a (i + 1) 0)) _ h in
-    let y = second_of (is_decimal (get_or a i 0) && is_decimal (get_or a (i + 1) 0)) _ h in
+    let x = first_of (is_ascii_digit (get_or a i 0) && is_ascii_digit (get_or a (i + 1) 0)) _ h in
+    let y = second_of (is_ascii_digit (get_or a i 0) && is_ascii_digit (get_or a (i + 1) 0)) _ h in
     record {
       one = rw z (first_of _ _ x);
-      two = second_of (is_decimal (get_or a i 0)) _ x;
+      two = second_of (is_ascii_digit (get_or a i 0)) _ x;
       more = elim (or_cases (get_or a (i + 2) 0 == 58) _ y) [
         | inl c ↦ inl c
         | inr d ↦
-            let f = first_of (is_decimal (get_or a (i + 2) 0) && is_decimal (get_or a (i + 3) 0)) (get_or a (i + 4) 0 == 45) d in
-            let g = second_of (is_decimal (get_or a (i + 2) 0) && is_decimal (get_or a (i + 3) 0)) (get_or a (i + 4) 0 == 45) d in
-            inr (first_of _ _ f, second_of (is_decimal (get_or a (i + 2) 0)) _ f, g)
+            let f = first_of (is_ascii_digit (get_or a (i + 2) 0) && is_ascii_digit (get_or a (i + 3) 0)) (get_or a (i + 4) 0 == 45) d in
+            let g = second_of (is_ascii_digit (get_or a (i + 2) 0) && is_ascii_digit (get_or a (i + 3) 0)) (get_or a (i + 4) 0 == 45) d in
+            inr (first_of _ _ f, second_of (is_ascii_digit (get_or a (i + 2) 0)) _ f, g)
       ];
     }
 
@@ -225,13 +226,13 @@ put_together : (a : List ℕ) (i : ℕ) → Begins (Passing a i) → begins_date
 unfolding Passing
 put_together a i h =
     let z : i + 0 ≡ i = omega arith in
-    both (is_decimal (get_or a i 0) && is_decimal (get_or a (i + 1) 0)) _ (both (is_decimal (get_or a i 0)) _ (rw z at h.one) h.two)
+    both (is_ascii_digit (get_or a i 0) && is_ascii_digit (get_or a (i + 1) 0)) _ (both (is_ascii_digit (get_or a i 0)) _ (rw z at h.one) h.two)
     (elim h.more [
       | inl c ↦ or_left (get_or a (i + 2) 0 == 58) _ c
-      | inr d ↦ or_right (get_or a (i + 2) 0 == 58) _ (both (is_decimal (get_or a (i + 2) 0) && is_decimal (get_or a (i + 3) 0)) _ (both (is_decimal (get_or a (i + 2) 0)) _ d.0 d.1) d.2)
+      | inr d ↦ or_right (get_or a (i + 2) 0 == 58) _ (both (is_ascii_digit (get_or a (i + 2) 0) && is_ascii_digit (get_or a (i + 3) 0)) _ (both (is_ascii_digit (get_or a (i + 2) 0)) _ d.0 d.1) d.2)
     ])
 
-decimal_date : (c : ℕ) → is_decimal c ≡ true → is_date_byte c ≡ true
+decimal_date : (c : ℕ) → is_ascii_digit c ≡ true → is_date_byte c ≡ true
 decimal_date c h = grind (arith, nat_tests)
 
 colon_date : (c : ℕ) → (c == 58) ≡ true → is_date_byte c ≡ true
@@ -246,13 +247,13 @@ date_back a b s t w i k o e h =
     let x = take_apart b k h in
     put_together a i
     (record {
-      one = back a b s t w is_decimal (i + 0) (k + 0) (omega arith) (omega arith) refl x.one;
-      two = back a b s t w is_decimal (i + 1) (k + 1) (omega arith) (omega arith) refl x.two;
+      one = back a b s t w is_ascii_digit (i + 0) (k + 0) (omega arith) (omega arith) refl x.one;
+      two = back a b s t w is_ascii_digit (i + 1) (k + 1) (omega arith) (omega arith) refl x.two;
       more = elim x.more [
         | inl c ↦ inl (back a b s t w (λ c. c == 58) (i + 2) (k + 2) (omega arith) (omega arith) refl c)
         | inr d ↦ inr (
-          back a b s t w is_decimal (i + 2) (k + 2) (omega arith) (omega arith) refl d.0,
-          back a b s t w is_decimal (i + 3) (k + 3) (omega arith) (omega arith) refl d.1,
+          back a b s t w is_ascii_digit (i + 2) (k + 2) (omega arith) (omega arith) refl d.0,
+          back a b s t w is_ascii_digit (i + 3) (k + 3) (omega arith) (omega arith) refl d.1,
           back a b s t w (λ c. c == 45) (i + 4) (k + 4) (omega arith) (omega arith) refl d.2,
         )
       ];
@@ -280,8 +281,8 @@ date_on a b s t w i j k o e u r h =
     let y1 : i + 1 < j = covers is_date_byte a i j (i + 1) refl r (omega arith) (decimal_date (get_or a (i + 1) 0) x.two) in
     put_together b k
     (record {
-      one = passes a b s t w is_decimal true (i + 0) (k + 0) (omega arith) (omega arith) (omega arith) x.one;
-      two = passes a b s t w is_decimal true (i + 1) (k + 1) (omega arith) (omega arith) (omega arith) x.two;
+      one = passes a b s t w is_ascii_digit true (i + 0) (k + 0) (omega arith) (omega arith) (omega arith) x.one;
+      two = passes a b s t w is_ascii_digit true (i + 1) (k + 1) (omega arith) (omega arith) (omega arith) x.two;
       more = elim x.more [
         | inl c ↦
             let y2 : i + 2 < j = covers is_date_byte a i j (i + 2) refl r (omega arith) (colon_date (get_or a (i + 2) 0) c) in
@@ -291,8 +292,8 @@ date_on a b s t w i j k o e u r h =
             let y3 : i + 3 < j = covers is_date_byte a i j (i + 3) refl r (omega arith) (decimal_date (get_or a (i + 3) 0) d.1) in
             let y4 : i + 4 < j = covers is_date_byte a i j (i + 4) refl r (omega arith) (dash_date (get_or a (i + 4) 0) d.2) in
             inr (
-              passes a b s t w is_decimal true (i + 2) (k + 2) (omega arith) (omega arith) (omega arith) d.0,
-              passes a b s t w is_decimal true (i + 3) (k + 3) (omega arith) (omega arith) (omega arith) d.1,
+              passes a b s t w is_ascii_digit true (i + 2) (k + 2) (omega arith) (omega arith) (omega arith) d.0,
+              passes a b s t w is_ascii_digit true (i + 3) (k + 3) (omega arith) (omega arith) (omega arith) d.1,
               passes a b s t w (λ c. c == 45) true (i + 4) (k + 4) (omega arith) (omega arith) (omega arith) d.2,
             )
       ];
@@ -300,18 +301,18 @@ date_on a b s t w i j k o e u r h =
 
 continues_back : (a b : List ℕ) (s t : ℕ) → Copied a b s t → (i k : ℕ) → s ≤ i → i + t ≡ k + s → continues_date b k ≡ true → continues_date a i ≡ true
 continues_back a b s t w i k o e h =
-    both (get_or a i 0 == 32) _ (back a b s t w (λ c. c == 32) i k o e refl (first_of (get_or b k 0 == 32) _ h)) (back a b s t w is_decimal (i + 1) (k + 1) (omega arith) (omega arith) refl (second_of (get_or b k 0 == 32) _ h))
+    both (get_or a i 0 == 32) _ (back a b s t w (λ c. c == 32) i k o e refl (first_of (get_or b k 0 == 32) _ h)) (back a b s t w is_ascii_digit (i + 1) (k + 1) (omega arith) (omega arith) refl (second_of (get_or b k 0 == 32) _ h))
 
 continues_on : (a b : List ℕ) (s t : ℕ) → Copied a b s t → (i k : ℕ) → s ≤ i → i + t ≡ k + s → k + 1 < length b → continues_date a i ≡ true → continues_date b k ≡ true
 continues_on a b s t w i k o e l h =
     both (get_or b k 0 == 32) _ (passes a b s t w (λ c. c == 32) true i k o e (omega arith) (first_of (get_or a i 0 == 32) _ h))
-    (passes a b s t w is_decimal true (i + 1) (k + 1) (omega arith) (omega arith) l (second_of (get_or a i 0 == 32) _ h))
+    (passes a b s t w is_ascii_digit true (i + 1) (k + 1) (omega arith) (omega arith) l (second_of (get_or a i 0 == 32) _ h))
 
 -- behind a space the run of a date goes on
 second_run : (a : List ℕ) (i j : ℕ) → continues_date a (i + 10) ≡ true → MaximalRun is_date_byte a (i + 11) j → i + 11 < j
 second_run a i j h r =
     let z : (i + 10) + 1 ≡ i + 11 = omega arith in
-    let d : is_decimal (get_or a (i + 11) 0) ≡ true = rw z at (second_of (get_or a (i + 10) 0 == 32) _ h) in
+    let d : is_ascii_digit (get_or a (i + 11) 0) ≡ true = rw z at (second_of (get_or a (i + 10) 0 == 32) _ h) in
     covers is_date_byte a (i + 11) j (i + 11) refl r r.forward (decimal_date (get_or a (i + 11) 0) d)
 
 candidate : (a b : List ℕ) (s t : ℕ) → Copied a b s t → (i j k l : ℕ) → s ≤ i → i + t ≡ k + s → j + t ≡ l + s → l ≤ length b → IsCandidate a i j → IsCandidate b k l

@@ -1,10 +1,11 @@
 -- Where a text spells a document, its headers, keys and values stand one behind the other.
 use Rattle.std.proofs.Common.{◌≡◌, ℕ, ◌+◌, ◌<◌, ◌≤◌, List, [], ◌∷◌, ◌++◌, length, arith, refl, sym, ◌∙◌}
 use Rattle.toml_span_lex.specs.declared.span.Span.{Span}
-use Rattle.toml_span_read.specs.Data.{Event}
-use Rattle.toml_span_read.specs.Keys.{Part, Ascend}
-use Rattle.toml_span_read.specs.Lines.{SpellsEvent, SpellsEvents, SpellsHeader, Block, last_end, SpellsSection, first_block, SpellsSections, SpellsDocument}
-use Rattle.toml_span_read_laws.specs.Order.{EventsAscend, BlocksAscend}
+use Rattle.toml_span_read.specs.Data.{Event, Block}
+use Rattle.toml_span_read.specs.Keys.{Part}
+use Rattle.toml_span_read.specs.Places.{Ascend}
+use Rattle.toml_span_read.specs.Grammar.{SpellsEvent, SpellsEvents, SpellsHeader, last_end, SpellsSection, first_block, SpellsSections, SpellsDocument}
+use Rattle.toml_span_read_laws.specs.Places.{EventsAscend, BlocksAscend}
 use Rattle.toml_span_read.proofs.InsideLemmas.{tail_inside, opens_on, shuts_on}
 use Rattle.toml_span_read.proofs.KeyOrder.{dotted_ascend}
 use Rattle.toml_span_read.proofs.SpanLaws.{value_lies}

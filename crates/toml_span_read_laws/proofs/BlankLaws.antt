@@ -8,8 +8,7 @@ use Rattle.toml_span_lex.specs.Bytes.{is_blank, is_printed, MaximalRun}
 use Rattle.toml_span_lex.specs.Text.{LineEnd, NoLineEnd, is_crlf}
 use Rattle.toml_span_lex.proofs.Runs.{crlf_first}
 use Rattle.toml_span_lex.proofs.Unique.{run_unique}
-use Rattle.toml_span_read.specs.Gaps.{GapPiece, GapBy, MaximalGap, begins_gap, Skipped, Tail}
-use Rattle.toml_span_read.specs.Lines.{BlankLines, BehindLines}
+use Rattle.toml_span_read.specs.Gaps.{GapPiece, GapBy, MaximalGap, begins_gap, Skipped, Tail, BlankLines, BehindLines}
 use Rattle.toml_span_read.proofs.Places.{read_within}
 
 -- blank lines, and the spaces and tabs behind them

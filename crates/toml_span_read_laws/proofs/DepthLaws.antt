@@ -1,9 +1,12 @@
 -- What is spelled is within the limit.
-use Rattle.std.proofs.Common.{ℕ, ◌+◌, List, [], ◌∷◌, ◌++◌, length, inl, inr}
+use Rattle.std.proofs.Common.{◌≡◌, ℕ, ◌+◌, ◌≤◌, List, [], ◌∷◌, ◌++◌, length, map, arith, inl, inr}
+use Rattle.std.proofs.lemmas.List.{length-map}
 use Rattle.toml_span_lex.specs.declared.span.Span.{Span}
-use Rattle.toml_span_read.specs.Data.{Node, node, Inner, scalar, array, inline, Items, no_items, item, Pairs, no_pairs, pair, Event}
-use Rattle.toml_span_read.specs.Limits.{Within, WithinInner, WithinItems, WithinPairs}
-use Rattle.toml_span_read.specs.Grammar.{Spells, SpellsInner, SpellsItems, SpellsPairs}
+use Rattle.toml_span_read.specs.Data.{Node, node, Inner, scalar, array, inline, Items, no_items, item, Pairs, no_pairs, pair, Event, Block, block}
+use Rattle.toml_span_read.specs.declared.section.Section.{Section}
+use Rattle.toml_span_read.specs.Keys.{part}
+use Rattle.toml_span_read.specs.Limits.{Within, WithinInner, WithinItems, WithinPairs, WithinEvent, WithinEvents, WithinSections}
+use Rattle.toml_span_read.specs.Grammar.{Spells, SpellsInner, SpellsItems, SpellsPairs, SpellsEvent, SpellsEvents, SpellsLines, first_block, SpellsSections, SpellsDocument}
 
 mutual
   pub value_within : (v : Node) (text : List ℕ) (limit d i j : ℕ) → Spells v text limit d i j → Within limit d v
@@ -24,3 +27,39 @@ mutual
   pairs_within (pair ss v x ps) es text limit d i j (m, (a, b, key, few, sign, h, extent), clear, inl (e, close)) = (few, value_within v text limit (d + length ss) b m h, rw e tt)
   pairs_within (pair ss v x ps) es text limit d i j (m, (a, b, key, few, sign, h, extent), clear, inr (p, comma, rest)) =
       (few, value_within v text limit (d + length ss) b m h, pairs_within ps (es ++ (record { parts = ss; value = v; extent = x } ∷ [])) text limit d p j rest)
+
+-- ---- documents
+
+event_within : (ev : Event) (text : List ℕ) (limit i j : ℕ) → SpellsEvent ev text limit i j → WithinEvent limit 0 ev
+event_within ev text limit i j h =
+    let zero : 0 + length ev.parts ≡ length ev.parts = omega arith in
+    (h.few, rw zero (value_within ev.value text limit (length ev.parts) h.from j h.spelled))
+
+events_within : (evs earlier : List Event) (text : List ℕ) (limit i j : ℕ) → SpellsEvents evs earlier text limit i j → WithinEvents limit evs
+events_within [] earlier text limit i j h = tt
+events_within (ev ∷ evs) earlier text limit i j (m, n, k, h, t, c, g, r) = (event_within ev text limit i m h, events_within evs (earlier ++ (ev ∷ [])) text limit k j r)
+
+lines_within : (evs : List Event) (text : List ℕ) (limit i j : ℕ) → SpellsLines evs text limit i j → WithinEvents limit evs
+lines_within evs text limit i j (k, gap, h) = events_within evs [] text limit k j h
+
+abbrev BlocksWithin : ℕ → List Block → Type 0
+BlocksWithin limit [] = Unit {0}
+BlocksWithin limit (b ∷ bs) = ((length b.header ≤ limit) × WithinEvents limit b.events) × BlocksWithin limit bs
+
+blocks_within : (bs : List Block) (text : List ℕ) (limit i : ℕ) → SpellsSections bs text limit i → BlocksWithin limit bs
+blocks_within [] text limit i h = tt
+blocks_within (b ∷ bs) text limit i (j, s, rest) =
+    ((s.header.front.few, lines_within b.events text limit s.end j s.lines), blocks_within bs text limit j rest)
+
+first_within : (limit : ℕ) (evs : List Event) (bs : List Block) → WithinEvents limit evs → BlocksWithin limit bs → BlocksWithin limit (first_block evs ++ bs)
+first_within limit [] bs h g = g
+first_within limit (ev ∷ evs) bs h g = ((omega arith, h), g)
+
+of_blocks : (limit : ℕ) (ss : List Section) → BlocksWithin limit (map block ss) → WithinSections limit ss
+of_blocks limit [] h = tt
+of_blocks limit (s ∷ ss) ((few, h), rest) = ((rw (length-map s.header.items part) at few, h), of_blocks limit ss rest)
+
+pub document_within : (ss : List Section) (text : List ℕ) (limit : ℕ) → SpellsDocument (map block ss) text limit → WithinSections limit ss
+document_within ss text limit h =
+    let bs : BlocksWithin limit (first_block h.first ++ h.rest) = first_within limit h.first h.rest (lines_within h.first text limit h.start h.end h.lines) (blocks_within h.rest text limit h.end h.sections) in
+    of_blocks limit ss (rw h.all bs)

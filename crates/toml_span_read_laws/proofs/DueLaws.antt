@@ -8,11 +8,10 @@ use Rattle.toml_span_read.specs.declared.fault.Fault.{Fault}
 use Rattle.toml_span_read.specs.Data.{Event}
 use Rattle.toml_span_read_laws.specs.Due.{Frame, in_section, in_brackets, in_braces, under_key, depth, a_line, a_part, an_equals, a_value, an_element, a_comma, a_verdict, a_header_part, a_closing, a_tail, a_line_end, DueAt, first_line, line_part, line_equals, line_value, line_tail, tail_rest, line_verdict, next_line, part_next, opens_header, header_part_next, header_closes, closes_again, header_tail, next_section, opens_array, item_value, behind_item, behind_comma, opens_table, pair_part, pair_equals, pair_value, pair_verdict, behind_pair, IsDue, RefusedWhereDue}
 use Rattle.toml_span_read.specs.Gaps.{Dot}
-use Rattle.toml_span_read.specs.Keys.{StuckOnward, no_part, too_many, dotted_on, StuckDotted, no_first, onward, StuckHeaderKey, no_header_part, header_too_many, header_on}
-use Rattle.toml_span_read.specs.Lines as l
-use Rattle.toml_span_read.specs.Lines.{Shuts, NoShuts, SpellsEvents, StuckEvent, StuckTail, StuckEvents, StuckHeader, StuckSections, StuckDocument, ReadsDocument}
-use Rattle.toml_span_read.specs.Stuck as s
-use Rattle.toml_span_read.specs.Stuck.{StuckValue, StuckItems, StuckPairs, StuckPair}
+use Rattle.toml_span_read.specs.Stuck.{StuckOnward, no_part, too_many, dotted_on, StuckDotted, no_first, onward, StuckHeaderKey, no_header_part, header_too_many, header_on, StuckEvent, StuckEvents, StuckHeader, StuckSections, StuckDocument, ReadsDocument, StuckValue, StuckItems, StuckPairs, StuckPair}
+use Rattle.toml_span_read.specs.Stuck as l
+use Rattle.toml_span_read.specs.Grammar.{Shuts, SpellsEvents}
+use Rattle.toml_span_read.specs.Faults.{NoShuts, StuckTail}
 
 -- ---- keys
 
@@ -36,37 +35,37 @@ header_key_due text limit (header_on n i m p part e key few dot r) fs w =
 
 mutual
   value_due : (text : List ℕ) (limit : ℕ) (some : 1 ≤ limit) {d i : ℕ} {e : Fault} → StuckValue text limit d i e → (fs : List Frame) → depth fs ≡ d → DueAt text limit a_value fs i → IsDue text limit e
-  value_due text limit some (s.no_value d i e n h) fs u w = (a_value, fs, i, w, inl (n, h))
-  value_due text limit some (s.no_string d i e o h) fs u w = (a_value, fs, i, w, inr (inl (o, h)))
-  value_due text limit some (s.too_deep d i e o b h) fs u w = (a_value, fs, i, w, inr (inr (inl (omega arith, b, h))))
-  value_due text limit some (s.no_bare d i e o h) fs u w = (a_value, fs, i, w, inr (inr (inr (omega arith, h))))
-  value_due text limit some (s.in_array d i k e o here gap r) fs u w =
+  value_due text limit some (l.no_value d i e n h) fs u w = (a_value, fs, i, w, inl (n, h))
+  value_due text limit some (l.no_string d i e o h) fs u w = (a_value, fs, i, w, inr (inl (o, h)))
+  value_due text limit some (l.too_deep d i e o b h) fs u w = (a_value, fs, i, w, inr (inr (inl (omega arith, b, h))))
+  value_due text limit some (l.no_bare d i e o h) fs u w = (a_value, fs, i, w, inr (inr (inr (omega arith, h))))
+  value_due text limit some (l.in_array d i k e o here gap r) fs u w =
       items_due text limit some {d = d + 1} {i = k} {e = e} r fs (omega arith) (opens_array fs i k w (omega arith) here gap)
-  value_due text limit some (s.in_inline d i k e o here gap r) fs u w =
+  value_due text limit some (l.in_inline d i k e o here gap r) fs u w =
       pairs_due text limit some {es = []} {d = d + 1} {i = k} {e = e} r fs (omega arith) (opens_table fs i k w (omega arith) here gap)
 
   items_due : (text : List ℕ) (limit : ℕ) (some : 1 ≤ limit) {d i : ℕ} {e : Fault} → StuckItems text limit d i e → (fs : List Frame) → depth (in_brackets ∷ fs) ≡ d → DueAt text limit an_element (in_brackets ∷ fs) i → IsDue text limit e
-  items_due text limit some (s.in_item d i e other r) fs u w = value_due text limit some {d = d} {i = i} {e = e} r (in_brackets ∷ fs) u (item_value fs i w other)
-  items_due text limit some (s.behind_item d i m n v e h r wanted) fs u w =
+  items_due text limit some (l.in_item d i e other r) fs u w = value_due text limit some {d = d} {i = i} {e = e} r (in_brackets ∷ fs) u (item_value fs i w other)
+  items_due text limit some (l.behind_item d i m n v e h r wanted) fs u w =
       (a_comma, in_brackets ∷ fs, n, behind_item fs i m n v w (rw u h) r.before, (r.no_comma, r.no_bracket, wanted))
-  items_due text limit some (s.item_on d i m p v e h c r) fs u w =
+  items_due text limit some (l.item_on d i m p v e h c r) fs u w =
       items_due text limit some {d = d} {i = p} {e = e} r fs u (behind_comma (in_brackets ∷ fs) c.at p (behind_item fs i m c.at v w (rw u h) c.before) c.here c.behind)
 
   pairs_due : (text : List ℕ) (limit : ℕ) (some : 1 ≤ limit) {es : List Event} {d i : ℕ} {e : Fault} → StuckPairs text limit es d i e → (fs : List Frame) → depth (in_braces es ∷ fs) ≡ d
       → DueAt text limit an_element (in_braces es ∷ fs) i → IsDue text limit e
-  pairs_due text limit some (s.in_pair es d i e other r) fs u w = pair_due text limit some es {d = d} {i = i} {e = e} r fs u (pair_part es fs i w other)
-  pairs_due text limit some (s.crosses es d i m p e h c) fs u w = (a_verdict p, in_braces es ∷ fs, m, pair_verdict es fs i m p w (rw u h), c)
-  pairs_due text limit some (s.behind_pair es d i m n p e h clear r wanted) fs u w =
+  pairs_due text limit some (l.in_pair es d i e other r) fs u w = pair_due text limit some es {d = d} {i = i} {e = e} r fs u (pair_part es fs i w other)
+  pairs_due text limit some (l.crosses es d i m p e h c) fs u w = (a_verdict p, in_braces es ∷ fs, m, pair_verdict es fs i m p w (rw u h), c)
+  pairs_due text limit some (l.behind_pair es d i m n p e h clear r wanted) fs u w =
       (a_comma, in_braces (es ++ (p ∷ [])) ∷ fs, n, behind_pair es fs m n p (pair_verdict es fs i m p w (rw u h)) clear r.before, (r.no_comma, r.no_bracket, wanted))
-  pairs_due text limit some (s.pair_on es d i m n p e h clear c r) fs u w =
+  pairs_due text limit some (l.pair_on es d i m n p e h clear c r) fs u w =
       pairs_due text limit some {es = es ++ (p ∷ [])} {d = d} {i = n} {e = e} r fs u
       (behind_comma (in_braces (es ++ (p ∷ [])) ∷ fs) c.at n (behind_pair es fs m c.at p (pair_verdict es fs i m p w (rw u h)) clear c.before) c.here c.behind)
 
   pair_due : (text : List ℕ) (limit : ℕ) (some : 1 ≤ limit) (es : List Event) {d i : ℕ} {e : Fault} → StuckPair text limit d i e → (fs : List Frame) → depth (in_braces es ∷ fs) ≡ d
       → DueAt text limit (a_part 0) (in_braces es ∷ fs) i → IsDue text limit e
-  pair_due text limit some es (s.in_key d i e r) fs u w = dotted_due text limit some {i = i} {e = e} r (in_braces es ∷ fs) w
-  pair_due text limit some es (s.no_equals d i a n ps e key few gap none h) fs u w = (an_equals (length ps), in_braces es ∷ fs, n, pair_equals es fs i a n ps w key few gap, (none, h))
-  pair_due text limit some es (s.in_value d i a b ps e key few q r) fs u w =
+  pair_due text limit some es (l.in_key d i e r) fs u w = dotted_due text limit some {i = i} {e = e} r (in_braces es ∷ fs) w
+  pair_due text limit some es (l.no_equals d i a n ps e key few gap none h) fs u w = (an_equals (length ps), in_braces es ∷ fs, n, pair_equals es fs i a n ps w key few gap, (none, h))
+  pair_due text limit some es (l.in_value d i a b ps e key few q r) fs u w =
       value_due text limit some {d = d + length ps} {i = b} {e = e} r (under_key (length ps) ∷ (in_braces es ∷ fs)) (omega arith)
       (pair_value es fs (length ps) q.at b (pair_equals es fs i a q.at ps w key few q.before) q.here q.behind)
 
@@ -94,7 +93,7 @@ events_due text limit some (l.line_on es i m n k ev e h t clear gap r) w =
 closing_due : (array : Bool) (text : List ℕ) (limit k : ℕ) (e : Fault) (fs : List Frame) → NoShuts array text k e → DueAt text limit (a_closing array) fs k → IsDue text limit e
 closing_due false text limit k e fs h w = (a_closing false, fs, k, w, h)
 closing_due true text limit k e fs (inl h) w = (a_closing true, fs, k, w, h)
-closing_due true text limit k e fs (inr (here, none, h)) w = (a_closing false, fs, k + 1, closes_again fs k w here, (none, h))
+closing_due true text limit k e fs (inr (here, (none, h))) w = (a_closing false, fs, k + 1, closes_again fs k w here, (none, h))
 
 closed_due : (array : Bool) (text : List ℕ) (limit k m : ℕ) (fs : List Frame) → Shuts array text k m → DueAt text limit (a_closing array) fs k → DueAt text limit a_tail fs m
 closed_due false text limit k m fs (here, u) w = rw u (header_tail fs k w here)

@@ -6,18 +6,15 @@ use Rattle.toml_span_lex.specs.Text.{NoLineEnd}
 use Rattle.toml_span_read.specs.declared.fault.Due.TheVariants as dues
 use Rattle.toml_span_read.specs.declared.fault.Fault.{Fault}
 use Rattle.toml_span_read.specs.declared.fault.FaultKind.TheVariants as kinds
-use Rattle.toml_span_read.specs.Data.{Event}
+use Rattle.toml_span_read.specs.Data.{Event, Block}
 use Rattle.toml_span_read_laws.specs.Due.{Frame, in_section, in_brackets, in_braces, under_key, depth, What, a_line, a_part, an_equals, a_value, an_element, a_comma, a_verdict, a_header_part, a_closing, a_tail, a_line_end, DueAt, first_line, line_part, line_equals, line_value, line_tail, tail_rest, line_verdict, next_line, part_next, opens_header, header_part_next, header_closes, closes_again, header_tail, next_section, opens_array, item_value, behind_item, behind_comma, opens_table, pair_part, pair_equals, pair_value, pair_verdict, behind_pair, Told, IsDue}
 use Rattle.toml_span_read.specs.Earlier.{Clear, Crossing}
-use Rattle.toml_span_read.specs.Faults.{fault_at}
+use Rattle.toml_span_read.specs.Faults.{fault_at, NoKey, NoShuts, StuckTail, IsWanted}
 use Rattle.toml_span_read.specs.Gaps.{MaximalGap, Dot}
-use Rattle.toml_span_read.specs.Grammar.{from_to}
-use Rattle.toml_span_read.specs.Keys.{Part, IsKey, NoKey, StuckOnward, no_part, too_many, dotted_on, StuckDotted, no_first, onward, StuckHeaderKey, no_header_part, header_too_many, header_on}
-use Rattle.toml_span_read.specs.Lines as l
-use Rattle.toml_span_read.specs.Lines.{last_end, Block, Shuts, NoShuts, SpellsHeader, SpellsEvents, StuckEvent, StuckTail, StuckEvents, StuckSections, StuckDocument}
-use Rattle.toml_span_read.specs.Stuck as s
-use Rattle.toml_span_read.specs.Stuck.{StuckValue, StuckItems, StuckPairs, StuckPair}
-use Rattle.toml_span_read.specs.Wanted.{IsWanted}
+use Rattle.toml_span_read.specs.Grammar.{from_to, last_end, Shuts, SpellsHeader, SpellsEvents}
+use Rattle.toml_span_read.specs.Keys.{Part, IsKey}
+use Rattle.toml_span_read.specs.Stuck.{StuckOnward, no_part, too_many, dotted_on, StuckDotted, no_first, onward, StuckHeaderKey, no_header_part, header_too_many, header_on, StuckEvent, StuckEvents, StuckSections, StuckDocument, StuckValue, StuckItems, StuckPairs, StuckPair}
+use Rattle.toml_span_read.specs.Stuck as l
 
 -- ---- what gets stuck from a place on
 
@@ -89,7 +86,7 @@ key_made : (fs : List Frame) (text : List ℕ) (limit i : ℕ) (e : Fault) → S
 key_made [] text limit i e h = h
 key_made (in_section es ∷ fs) text limit i e h = l.line_key i e h
 key_made (in_brackets ∷ fs) text limit i e h = h
-key_made (in_braces es ∷ fs) text limit i e h = s.in_key (depth (in_braces es ∷ fs)) i e h
+key_made (in_braces es ∷ fs) text limit i e h = l.in_key (depth (in_braces es ∷ fs)) i e h
 key_made (under_key n ∷ fs) text limit i e h = h
 
 -- ---- values
@@ -135,24 +132,24 @@ leads text limit (opens_header es i m k array w opens run) e r = leads text limi
 leads text limit (header_part_next fs n i m p part w key few dot) e r = leads text limit {what = a_header_part n} {fs = fs} {i = i} w e (header_on n i m p part e key few dot r)
 leads text limit (header_closes es i k array ps w front) e (inl r) = leads text limit {what = a_line} {fs = in_section es ∷ []} {i = i} w e (inr ([], i, refl, l.in_header i e (l.header_close i k array ps e front r)))
 leads text limit (header_closes es i k array ps w front) e (inr (m, shuts, r)) = leads text limit {what = a_line} {fs = in_section es ∷ []} {i = i} w e (inr ([], i, refl, l.in_header i e (l.header_rest i k m array ps e front shuts r)))
-leads text limit (closes_again fs k w h) e (inl (none, r)) = leads text limit {what = a_closing true} {fs = fs} {i = k} w e (inl (inr (h, none, r)))
+leads text limit (closes_again fs k w h) e (inl (none, r)) = leads text limit {what = a_closing true} {fs = fs} {i = k} w e (inl (inr (h, (none, r))))
 leads text limit (closes_again fs k w h) e (inr (m, (again, u), r)) = leads text limit {what = a_closing true} {fs = fs} {i = k} w e (inr (m, (h, again, omega (arith, u)), r))
 leads text limit (header_tail fs k w h) e r = leads text limit {what = a_closing false} {fs = fs} {i = k} w e (inr (k + 1, (h, refl), r))
 leads text limit (next_section es i m k array ps w h gap) e (inl r) = leads text limit {what = a_line} {fs = in_section es ∷ []} {i = i} w e (inr ([], i, refl, l.in_section i m array ps e h (k, gap, r)))
 leads text limit (next_section es i m k array ps w h gap) e (inr (evs, j, more, r)) = leads text limit {what = a_line} {fs = in_section es ∷ []} {i = i} w e (inr ([], i, refl, section_made text limit i m k j array ps evs e h gap more r))
-leads text limit (opens_array fs i k w few h gap) e r = leads text limit {what = a_value} {fs = fs} {i = i} w e (s.in_array (depth fs) i k e few h gap r)
-leads text limit (item_value fs i w other) e r = leads text limit {what = an_element} {fs = in_brackets ∷ fs} {i = i} w e (s.in_item (depth (in_brackets ∷ fs)) i e other r)
-leads text limit (behind_item fs i m n v w h gap) e (inl (c, b, r)) = leads text limit {what = an_element} {fs = in_brackets ∷ fs} {i = i} w e (s.behind_item (depth (in_brackets ∷ fs)) i m n v e h (record { before = gap; no_comma = c; no_bracket = b }) r)
-leads text limit (behind_item fs i m n v w h gap) e (inr (c, p, more, r)) = leads text limit {what = an_element} {fs = in_brackets ∷ fs} {i = i} w e (s.item_on (depth (in_brackets ∷ fs)) i m p v e h (record { at = n; before = gap; here = c; behind = more }) r)
+leads text limit (opens_array fs i k w few h gap) e r = leads text limit {what = a_value} {fs = fs} {i = i} w e (l.in_array (depth fs) i k e few h gap r)
+leads text limit (item_value fs i w other) e r = leads text limit {what = an_element} {fs = in_brackets ∷ fs} {i = i} w e (l.in_item (depth (in_brackets ∷ fs)) i e other r)
+leads text limit (behind_item fs i m n v w h gap) e (inl (c, b, r)) = leads text limit {what = an_element} {fs = in_brackets ∷ fs} {i = i} w e (l.behind_item (depth (in_brackets ∷ fs)) i m n v e h (record { before = gap; no_comma = c; no_bracket = b }) r)
+leads text limit (behind_item fs i m n v w h gap) e (inr (c, p, more, r)) = leads text limit {what = an_element} {fs = in_brackets ∷ fs} {i = i} w e (l.item_on (depth (in_brackets ∷ fs)) i m p v e h (record { at = n; before = gap; here = c; behind = more }) r)
 leads text limit (behind_comma fs n p w h gap) e r = leads text limit {what = a_comma} {fs = fs} {i = n} w e (comma_made fs text limit n p e h gap r)
-leads text limit (opens_table fs i k w few h gap) e r = leads text limit {what = a_value} {fs = fs} {i = i} w e (s.in_inline (depth fs) i k e few h gap r)
-leads text limit (pair_part es fs i w other) e r = leads text limit {what = an_element} {fs = in_braces es ∷ fs} {i = i} w e (s.in_pair es (depth (in_braces es ∷ fs)) i e other r)
-leads text limit (pair_equals es fs i a n ps w key few gap) e (inl (none, h)) = leads text limit {what = a_part 0} {fs = in_braces es ∷ fs} {i = i} w e (s.no_equals (depth (in_braces es ∷ fs)) i a n ps e key few gap none h)
-leads text limit (pair_equals es fs i a n ps w key few gap) e (inr (h, b, more, r)) = leads text limit {what = a_part 0} {fs = in_braces es ∷ fs} {i = i} w e (s.in_value (depth (in_braces es ∷ fs)) i a b ps e key few (record { at = n; before = gap; here = h; behind = more }) r)
+leads text limit (opens_table fs i k w few h gap) e r = leads text limit {what = a_value} {fs = fs} {i = i} w e (l.in_inline (depth fs) i k e few h gap r)
+leads text limit (pair_part es fs i w other) e r = leads text limit {what = an_element} {fs = in_braces es ∷ fs} {i = i} w e (l.in_pair es (depth (in_braces es ∷ fs)) i e other r)
+leads text limit (pair_equals es fs i a n ps w key few gap) e (inl (none, h)) = leads text limit {what = a_part 0} {fs = in_braces es ∷ fs} {i = i} w e (l.no_equals (depth (in_braces es ∷ fs)) i a n ps e key few gap none h)
+leads text limit (pair_equals es fs i a n ps w key few gap) e (inr (h, b, more, r)) = leads text limit {what = a_part 0} {fs = in_braces es ∷ fs} {i = i} w e (l.in_value (depth (in_braces es ∷ fs)) i a b ps e key few (record { at = n; before = gap; here = h; behind = more }) r)
 leads text limit (pair_value es fs k n b w h gap) e r = leads text limit {what = an_equals k} {fs = in_braces es ∷ fs} {i = n} w e (inr (h, b, gap, r))
-leads text limit (pair_verdict es fs i m p w h) e (inl c) = leads text limit {what = an_element} {fs = in_braces es ∷ fs} {i = i} w e (s.crosses es (depth (in_braces es ∷ fs)) i m p e h c)
-leads text limit (pair_verdict es fs i m p w h) e (inr (clear, n, gap, inl (c, b, r))) = leads text limit {what = an_element} {fs = in_braces es ∷ fs} {i = i} w e (s.behind_pair es (depth (in_braces es ∷ fs)) i m n p e h clear (record { before = gap; no_comma = c; no_bracket = b }) r)
-leads text limit (pair_verdict es fs i m p w h) e (inr (clear, n, gap, inr (c, q, more, r))) = leads text limit {what = an_element} {fs = in_braces es ∷ fs} {i = i} w e (s.pair_on es (depth (in_braces es ∷ fs)) i m q p e h clear (record { at = n; before = gap; here = c; behind = more }) r)
+leads text limit (pair_verdict es fs i m p w h) e (inl c) = leads text limit {what = an_element} {fs = in_braces es ∷ fs} {i = i} w e (l.crosses es (depth (in_braces es ∷ fs)) i m p e h c)
+leads text limit (pair_verdict es fs i m p w h) e (inr (clear, n, gap, inl (c, b, r))) = leads text limit {what = an_element} {fs = in_braces es ∷ fs} {i = i} w e (l.behind_pair es (depth (in_braces es ∷ fs)) i m n p e h clear (record { before = gap; no_comma = c; no_bracket = b }) r)
+leads text limit (pair_verdict es fs i m p w h) e (inr (clear, n, gap, inr (c, q, more, r))) = leads text limit {what = an_element} {fs = in_braces es ∷ fs} {i = i} w e (l.pair_on es (depth (in_braces es ∷ fs)) i m q p e h clear (record { at = n; before = gap; here = c; behind = more }) r)
 leads text limit (behind_pair es fs m n p w clear gap) e r = leads text limit {what = a_verdict p} {fs = in_braces es ∷ fs} {i = m} w e (inr (clear, n, gap, r))
 
 -- ---- what is told
@@ -168,10 +165,10 @@ told_from (an_equals k) (in_section es ∷ fs) text limit i e o h = inl h
 told_from (an_equals k) (in_brackets ∷ fs) text limit i e o h = h
 told_from (an_equals k) (in_braces es ∷ fs) text limit i e o h = inl h
 told_from (an_equals k) (under_key n ∷ fs) text limit i e o h = h
-told_from a_value fs text limit i e o (inl (n, h)) = s.no_value (depth fs) i e n h
-told_from a_value fs text limit i e o (inr (inl (q, h))) = s.no_string (depth fs) i e q h
-told_from a_value fs text limit i e o (inr (inr (inl (g, b, h)))) = s.too_deep (depth fs) i e g b h
-told_from a_value fs text limit i e o (inr (inr (inr (g, h)))) = s.no_bare (depth fs) i e g h
+told_from a_value fs text limit i e o (inl (n, h)) = l.no_value (depth fs) i e n h
+told_from a_value fs text limit i e o (inr (inl (q, h))) = l.no_string (depth fs) i e q h
+told_from a_value fs text limit i e o (inr (inr (inl (g, b, h)))) = l.too_deep (depth fs) i e g b h
+told_from a_value fs text limit i e o (inr (inr (inr (g, h)))) = l.no_bare (depth fs) i e g h
 told_from an_element fs text limit i e o h = absurd h
 told_from a_comma [] text limit i e o h = absurd h
 told_from a_comma (in_section es ∷ fs) text limit i e o h = absurd h

@@ -2,8 +2,9 @@
 use Rattle.std.proofs.Common.{◌≡◌, ℕ, ◌+◌, List, get_or, arith, inl, inr, sym, ◌∙◌, false, None, Result, Ok, Err}
 use Rattle.std.specs.Prelude.{◌==◌}
 use Rattle.toml_span_read.specs.declared.fault.Fault.{Fault}
-use Rattle.toml_span_read_laws.specs.Judged.{UnsignedStands, NumberStands}
-use Rattle.toml_span_read.specs.Numbers.{Run, radix_at, no_radix_integer, no_decimal, no_decimal_behind_plus}
+use Rattle.toml_span_read_laws.specs.code.Judged.{UnsignedStands, NumberStands}
+use Rattle.toml_span_read.specs.Faults.{Run, no_radix_integer, no_decimal, no_decimal_behind_plus}
+use Rattle.toml_span_read.specs.Numbers.{radix_at}
 use Rattle.toml_span_read.proofs.NumberLemmas.{none_some, plus_number, behind_either}
 
 pub stands_plain : (text : List ℕ) (i b : ℕ) (r : Result ℕ Fault) → (get_or text i 0 == 43) ≡ false → Run text i b → UnsignedStands text i i b r → NumberStands text i r

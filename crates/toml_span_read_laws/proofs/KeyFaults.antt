@@ -12,10 +12,10 @@ use Rattle.toml_span_read.specs.declared.fault.Due.{Due}
 use Rattle.toml_span_read.specs.declared.fault.Fault.{Fault}
 use Rattle.toml_span_read.specs.declared.fault.FaultKind.TheVariants as kinds
 use Rattle.toml_span_read.specs.declared.fault.Found.{Found}
-use Rattle.toml_span_read.specs.Faults.{fault_at, token_fault}
+use Rattle.toml_span_read.specs.Faults.{fault_at, token_fault, IsMultilineKey, NoKey, found_of, IsFound, IsTokenFault, wanted_fault, IsWanted, IsNoValue}
 use Rattle.toml_span_read.specs.Gaps.{Dot}
-use Rattle.toml_span_read.specs.Keys.{Part, IsKey, opens_string, IsMultilineKey, NoKey, StuckOnward, no_part, too_many, dotted_on, StuckDotted, no_first, onward, StuckHeaderKey, no_header_part, header_too_many, header_on}
-use Rattle.toml_span_read.specs.Wanted.{found_of, IsFound, IsTokenFault, wanted_fault, IsWanted, IsNoValue}
+use Rattle.toml_span_read.specs.Keys.{Part, IsKey, opens_string}
+use Rattle.toml_span_read.specs.Stuck.{StuckOnward, no_part, too_many, dotted_on, StuckDotted, no_first, onward, StuckHeaderKey, no_header_part, header_too_many, header_on}
 use Rattle.toml_span_read_laws.proofs.KeyLaws.{quote_opens, token_or_token_fault, key_unique, key_or_none, dot_unique}
 use Rattle.toml_span_read_laws.proofs.ScalarLaws.{contents_same}
 

@@ -13,8 +13,9 @@ use Rattle.toml_span_lex.proofs.OneToken.{token_unique}
 use Rattle.toml_span_lex.proofs.NoFault.{token_or_fault}
 use Rattle.toml_span_read.specs.declared.fault.Fault.{Fault}
 use Rattle.toml_span_read.specs.Gaps.{GapPiece, begins_gap, GapBy, MaximalGap, Dot, NoDot, Sign, Closes, Neither}
-use Rattle.toml_span_read.specs.Wanted.{IsTokenFault}
-use Rattle.toml_span_read.specs.Keys.{Part, IsKey, opens_string, NoKey, Onward, Dotted, StuckOnward, no_part, too_many, dotted_on, StuckDotted, no_first, onward}
+use Rattle.toml_span_read.specs.Faults.{IsTokenFault, NoKey}
+use Rattle.toml_span_read.specs.Keys.{Part, IsKey, opens_string, Onward, Dotted}
+use Rattle.toml_span_read.specs.Stuck.{StuckOnward, no_part, too_many, dotted_on, StuckDotted, no_first, onward}
 
 -- a byte b that is k passes where k does not
 pub clash : (p : ℕ → Bool) (b k : ℕ) → p b ≡ true → b ≡ k → p k ≡ false → ⊥

@@ -28,3 +28,4 @@ pub mod JudgedLemmas
 pub mod TotalKeys
 pub mod TotalValues
 pub mod TotalLines
+pub mod WordLaws

@@ -4,12 +4,12 @@ use Rattle.toml_span_lex.specs.Bytes.{is_blank, MaximalRun}
 use Rattle.toml_span_lex.proofs.Unique.{run_unique}
 use Rattle.toml_span_read.specs.declared.fault.Due.TheVariants as dues
 use Rattle.toml_span_read.specs.declared.fault.Fault.{Fault}
-use Rattle.toml_span_read.specs.Data.{Node, Event}
+use Rattle.toml_span_read.specs.Data.{Node, Event, Block}
 use Rattle.toml_span_read.specs.Earlier.{Clear, Crossing}
-use Rattle.toml_span_read.specs.Grammar.{Spells}
-use Rattle.toml_span_read.specs.Keys.{Part, StuckHeaderKey}
-use Rattle.toml_span_read.specs.Lines.{SpellsLines, Opens, HeaderFront, SpellsHeader, Block, SpellsSection, StuckEvent, line_key, line_equals, line_value, StuckTail, StuckEvents, in_line, no_newline, crossing, line_on, StuckLines, NoShuts, StuckHeader, header_key, header_close, header_rest, StuckSections, in_header, in_section, section_on, StuckDocument, before_headers, behind_header}
-use Rattle.toml_span_read.specs.Stuck.{StuckValue}
+use Rattle.toml_span_read.specs.Grammar.{Spells, SpellsLines, Opens, HeaderFront, SpellsHeader, SpellsSection}
+use Rattle.toml_span_read.specs.Keys.{Part}
+use Rattle.toml_span_read.specs.Stuck.{StuckHeaderKey, StuckEvent, line_key, line_equals, line_value, StuckEvents, in_line, no_newline, crossing, line_on, StuckLines, StuckHeader, header_key, header_close, header_rest, StuckSections, in_header, in_section, section_on, StuckDocument, before_headers, behind_header, StuckValue}
+use Rattle.toml_span_read.specs.Faults.{StuckTail, NoShuts}
 use Rattle.toml_span_read_laws.proofs.EarlierLaws.{clear_crossing, crossing_one}
 use Rattle.toml_span_read_laws.proofs.KeyLaws.{not_here, gap_unique, dotted_unique, dotted_excluded}
 use Rattle.toml_span_read_laws.proofs.ValueLaws.{value_unique, value_excluded}
@@ -85,7 +85,7 @@ no_shuts_one false text i e f a b = wanted_one text i dues.RightBracket e f a.1 
 no_shuts_one true text i e f (inl a) (inl b) = wanted_one text i dues.RightBracket e f a.1 b.1
 no_shuts_one true text i e f (inl a) (inr b) = absurd (not_here (get_or text i 0) 93 b.0 a.0)
 no_shuts_one true text i e f (inr a) (inl b) = absurd (not_here (get_or text i 0) 93 a.0 b.0)
-no_shuts_one true text i e f (inr a) (inr b) = wanted_one text (i + 1) dues.RightBracket e f a.2 b.2
+no_shuts_one true text i e f (inr a) (inr b) = wanted_one text (i + 1) dues.RightBracket e f a.1.1 b.1.1
 
 -- where the parts of a header are stuck, no parts of one stand
 front_or_key : (ps : List Part) (array other : Bool) (text : List ℕ) (limit i j m k : ℕ) (e : Fault) → HeaderFront ps array text limit i j → Opens other text i m → MaximalRun is_blank text m k

@@ -14,12 +14,12 @@ use Rattle.toml_span_lex.specs.declared.stop.Stop.TheVariants as stops
 use Rattle.toml_span_tree.specs.declared.error.Error.{Error}
 use Rattle.toml_span_read.specs.declared.section.Section.{Section}
 use Rattle.toml_span_read.specs.declared.fault.Fault.{Fault}
-use Rattle.toml_span_read.specs.Data.{Node, Event}
+use Rattle.toml_span_read.specs.Data.{Node, Event, Block, block}
 use Rattle.toml_span_read.specs.Gaps.{Skipped, Tail, NoTail, Equals}
-use Rattle.toml_span_read.specs.Grammar.{Spells, from_to}
-use Rattle.toml_span_read.specs.Keys.{Part, opens_string, Dotted, StuckHeaderKey, no_header_part, header_too_many, header_on}
-use Rattle.toml_span_read.specs.Lines.{SpellsEvent, SpellsEvents, SpellsLines, Opens, Shuts, HeaderFront, SpellsHeader, Block, last_end, SpellsSection, SpellsSections, SpellsDocument, StuckEvent, line_key, line_equals, line_value, StuckTail, StuckEvents, in_line, no_newline, crossing, line_on, StuckLines, NoShuts, StuckHeader, header_key, header_close, header_rest, StuckSections, in_header, in_section, section_on, StuckDocument, before_headers, behind_header, block, ReadsDocument, AreRead}
-use Rattle.toml_span_read.specs.Stuck.{StuckValue}
+use Rattle.toml_span_read.specs.Grammar.{Spells, from_to, SpellsEvent, SpellsEvents, SpellsLines, Opens, Shuts, HeaderFront, SpellsHeader, last_end, SpellsSection, SpellsSections, SpellsDocument}
+use Rattle.toml_span_read.specs.Keys.{Part, opens_string, Dotted}
+use Rattle.toml_span_read.specs.Stuck.{StuckHeaderKey, no_header_part, header_too_many, header_on, StuckEvent, line_key, line_equals, line_value, StuckEvents, in_line, no_newline, crossing, line_on, StuckLines, StuckHeader, header_key, header_close, header_rest, StuckSections, in_header, in_section, section_on, StuckDocument, before_headers, behind_header, ReadsDocument, AreRead, StuckValue}
+use Rattle.toml_span_read.specs.Faults.{StuckTail, NoShuts}
 use Rattle.toml_span_read_laws.proofs.EarlierLaws.{clear_crossing}
 use Rattle.toml_span_read_laws.proofs.KeyLaws.{clash, not_here, gap_unique, key_unique, key_or_none, dot_unique, dot_or_none, dotted_unique, dotted_byte, dotted_excluded}
 use Rattle.toml_span_read.proofs.Places.{read_within}
@@ -174,7 +174,7 @@ shuts_unique true text i j k a b = a.2 ∙ sym b.2
 pub shuts_or_none : (b : Bool) (text : List ℕ) (i j : ℕ) (e : Fault) → Shuts b text i j → NoShuts b text i e → ⊥
 shuts_or_none false text i j e a n = not_here (get_or text i 0) 93 a.0 n.0
 shuts_or_none true text i j e a (inl n) = not_here (get_or text i 0) 93 a.0 n.0
-shuts_or_none true text i j e a (inr n) = not_here (get_or text (i + 1) 0) 93 a.1 n.1
+shuts_or_none true text i j e a (inr n) = not_here (get_or text (i + 1) 0) 93 a.1 n.1.0
 
 pub front_unique : (ps qs : List Part) (b c : Bool) (text : List ℕ) (limit i j k : ℕ) → HeaderFront ps b text limit i j → HeaderFront qs c text limit i k → (ps ≡ qs) × (b ≡ c) × (j ≡ k)
 front_unique ps qs b c text limit i j k x y =

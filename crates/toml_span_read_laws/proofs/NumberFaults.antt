@@ -4,8 +4,8 @@ use Rattle.std.specs.Prelude.{◌==◌, ◌&&◌}
 use Rattle.std.proofs.lemmas.Bool.{false≢true}
 use Rattle.toml_span_lex.specs.Bytes.{is_keylike}
 use Rattle.toml_span_read.specs.declared.fault.Fault.{Fault}
-use Rattle.toml_span_read.specs.Faults.{invalid_number}
-use Rattle.toml_span_read.specs.Numbers.{behind_sign, UnsignedDecimal, radix_at, is_exponent, Run, NoDigits, underscore_first, no_digit, loose_underscore, NoIntegerPart, no_integer_digits, zero_before, zero_underscore_before, NoExponentDigits, no_exponent_digits, left_in_exponent, NoExponent, letter_last, in_run, behind_plus, NoFraction, dot_alone, no_fraction_digits, left_in_fraction, no_fraction_exponent, IsSpecial, NoDecimal, no_integer_part, left_in_integer, no_integer_exponent, no_fraction, outside, special_dot_alone, special_dot, NoRadixInteger, no_radix_digits, left_in_radix, outside_radix, NoNumber, plus_alone, plus_before_minus, plus_before_prefix, no_radix_integer, no_decimal, no_decimal_behind_plus}
+use Rattle.toml_span_read.specs.Faults.{invalid_number, Run, NoDigits, underscore_first, no_digit, loose_underscore, NoIntegerPart, no_integer_digits, zero_before, zero_underscore_before, NoExponentDigits, no_exponent_digits, left_in_exponent, NoExponent, letter_last, in_run, behind_plus, NoFraction, dot_alone, no_fraction_digits, left_in_fraction, no_fraction_exponent, IsSpecial, NoDecimal, no_integer_part, left_in_integer, no_integer_exponent, no_fraction, outside, special_dot_alone, special_dot, NoRadixInteger, no_radix_digits, left_in_radix, outside_radix, NoNumber, plus_alone, plus_before_minus, plus_before_prefix, no_radix_integer, no_decimal, no_decimal_behind_plus}
+use Rattle.toml_span_read.specs.Numbers.{behind_sign, UnsignedDecimal, radix_at, is_exponent}
 use Rattle.toml_span_read.proofs.NumberLemmas.{same_byte, underscore_figure, digit_no_underscore, run_part, sign_on}
 use Rattle.toml_span_read_laws.proofs.NumberLaws.{run_unique, digits_unique, unsigned_unique, digits_or_none, integer_part_or_none, special_digit, none_not_some, zero_first, some_same, sign_near}
 

@@ -1,19 +1,23 @@
 -- One number stands at a place, or a fault.
 use Rattle.std.proofs.Common.{◌≡◌, ℕ, ◌+◌, ◌-◌, ◌<◌, ◌≤◌, ◌⊎◌, Bool, true, false, drop, Option, Some, None, Result, Ok, Err, List, [], ◌∷◌, length, get_or, arith, inl, inr, refl, sym, ap, subst, ◌∙◌}
-use Rattle.std.specs.Prelude.{ℤ, slice_range, codes, ◌==◌, ◌||◌, ◌&&◌}
+use Rattle.std.specs.Prelude.{ℤ, slice_range, codes, ◌==◌, ◌||◌, ◌&&◌, nat_lt}
+use Rattle.std.specs.Int.{is_in_range}
+use Rattle.std.specs.Char.{digit_value}
 use Rattle.std.proofs.lemmas.Bool.{cases_lt, false≢true}
 use Rattle.std.proofs.lemmas.List.{get_or_past, length-drop, length-take-le}
 use Rattle.toml_span_lex.specs.Bytes.{is_keylike, MaximalRun}
 use Rattle.toml_span_tree.specs.Node.{finite, infinite, not_a_number, Scalar, text as text_scalar, integer, float, boolean, datetime}
 use Rattle.toml_span_read.specs.declared.fault.Fault.{Fault}
-use Rattle.toml_span_read.specs.Numbers.{is_digit, is_figure, Digits, magnitude, behind_sign, is_negative, IsSigned, UnsignedDecimal, goes_on, radix_at, RadixInteger, is_exponent, Exponent, Fraction, FloatLiteral, SpecialFloat, IsNumber, NumberGives, IsReadAs, NoDigits, underscore_first, no_digit, loose_underscore, NoIntegerPart, no_integer_digits, zero_before, zero_underscore_before, NoExponentDigits, no_exponent_digits, left_in_exponent, NoExponent, letter_last, in_run, behind_plus, NoFraction, dot_alone, no_fraction_digits, left_in_fraction, no_fraction_exponent, IsOutside, NoDecimal, no_integer_part, left_in_integer, no_integer_exponent, no_fraction, outside, special_dot_alone, special_dot, NoRadixInteger, no_radix_digits, left_in_radix, outside_radix, NoNumber, plus_alone, plus_before_minus, plus_before_prefix, no_radix_integer, no_decimal, no_decimal_behind_plus}
+use Rattle.toml_span_read.specs.Numbers.{is_digit, is_figure, Digits, magnitude, behind_sign, is_negative, IsSigned, UnsignedDecimal, goes_on, radix_at, RadixInteger, is_exponent, Exponent, Fraction, FloatLiteral, SpecialFloat, IsNumber}
+use Rattle.toml_span_read.specs.code.Numbers.{NumberGives, IsReadAs}
+use Rattle.toml_span_read.specs.Faults.{NoDigits, underscore_first, no_digit, loose_underscore, NoIntegerPart, no_integer_digits, zero_before, zero_underscore_before, NoExponentDigits, no_exponent_digits, left_in_exponent, NoExponent, letter_last, in_run, behind_plus, NoFraction, dot_alone, no_fraction_digits, left_in_fraction, no_fraction_exponent, IsOutside, NoDecimal, no_integer_part, left_in_integer, no_integer_exponent, no_fraction, outside, special_dot_alone, special_dot, NoRadixInteger, no_radix_digits, left_in_radix, outside_radix, NoNumber, plus_alone, plus_before_minus, plus_before_prefix, no_radix_integer, no_decimal, no_decimal_behind_plus}
 use Rattle.toml_span_lex.specs.declared.stop.Stop.{Stop}
 use Rattle.toml_span_lex.specs.declared.stop.Stop.TheVariants as stops
 use Rattle.toml_span_lex.specs.Tokens.{RunAt}
 use Rattle.toml_span_read.specs.declared.value.ValKind.{ValKind}
 use Rattle.toml_span_read.specs.Data.{scalar}
-use Rattle.toml_span_read.specs.Dates.{is_decimal}
-use Rattle.toml_span_read.proofs.NumberLemmas.{is_false, clash, byte_is, same_byte, bool_cases, digit_keylike, digit_figure, underscore_figure, figure_keylike, digit_no_underscore, run_stops, run_part, no_sign, behind_either, plus_negative, behind_plus_sign, sign_on, slice_first, slice_some, none_some, or_true}
+use Rattle.std.specs.Char.{is_ascii_digit}
+use Rattle.toml_span_read.proofs.NumberLemmas.{is_false, clash, byte_is, same_byte, bool_cases, digit_keylike, digit_figure, underscore_figure, figure_keylike, digit_no_underscore, run_stops, run_part, no_sign, behind_either, plus_negative, behind_plus_sign, sign_on, slice_first, slice_some, none_some, or_true, and_right, and_left}
 
 -- ---- runs
 
@@ -479,15 +483,29 @@ number_read text i j s (Err (stops.Fault fault)) g h = number_excluded text i j 
 
 -- ---- how a number begins
 
-digit_begins : (c : ℕ) → is_digit 10 c ≡ true → is_decimal c ≡ true
-digit_begins c h = grind arith
+either : (a b : Bool) → (a || b) ≡ true → (a ≡ true) ⊎ (b ≡ true)
+either true b h = inl refl
+either false b h = inr h
 
-sign_begins : (text : List ℕ) (i : ℕ) → (is_decimal (get_or text (behind_sign text i) 0) ≡ true) → ((is_decimal (get_or text i 0) || get_or text i 0 == 45) || get_or text i 0 == 43) ≡ true
+-- letters are worth ten and more
+capital_past : (c : ℕ) → is_in_range 65 70 c ≡ true → nat_lt (digit_value c) 10 ≡ true → ⊥
+capital_past c h v = grind arith
+
+small_past : (c : ℕ) → is_in_range 97 102 c ≡ true → nat_lt (digit_value c) 10 ≡ true → ⊥
+small_past c h v = grind arith
+
+digit_begins : (c : ℕ) → is_digit 10 c ≡ true → is_ascii_digit c ≡ true
+digit_begins c h = elim (either (is_in_range 48 57 c || is_in_range 65 70 c) (is_in_range 97 102 c) (and_left _ _ h)) [
+  | inl d ↦ elim (either (is_in_range 48 57 c) (is_in_range 65 70 c) d) [ inl e ↦ e | inr u ↦ absurd (capital_past c u (and_right _ _ h)) ]
+  | inr l ↦ absurd (small_past c l (and_right _ _ h))
+]
+
+sign_begins : (text : List ℕ) (i : ℕ) → (is_ascii_digit (get_or text (behind_sign text i) 0) ≡ true) → ((is_ascii_digit (get_or text i 0) || get_or text i 0 == 45) || get_or text i 0 == 43) ≡ true
 sign_begins text i d = elim (bool_cases (get_or text i 0 == 43)) [
   | inl p ↦ rw (p, or_true) refl
   | inr p ↦ elim (bool_cases (get_or text i 0 == 45)) [
     | inl m ↦ rw (m, or_true) refl
-    | inr m ↦ let e : is_decimal (get_or text i 0) ≡ true = rw (no_sign text i p m) at d in rw e refl
+    | inr m ↦ let e : is_ascii_digit (get_or text i 0) ≡ true = rw (no_sign text i p m) at d in rw e refl
   ]
 ]
 
@@ -506,7 +524,7 @@ letters_run text word i j w e s =
     )
 
 letters_begin : (text : List ℕ) (i j : ℕ) (word : List ℕ) → (word ≡ codes "inf") ⊎ (word ≡ codes "nan") → SpecialFloat word text i j
-    → (((is_decimal (get_or text i 0) || get_or text i 0 == 45) || get_or text i 0 == 43) ≡ true) ⊎ RunAt is_keylike text i j word
+    → (((is_ascii_digit (get_or text i 0) || get_or text i 0 == 45) || get_or text i 0 == 43) ≡ true) ⊎ RunAt is_keylike text i j word
 letters_begin text i j word w s = elim (bool_cases (get_or text i 0 == 43)) [
   | inl p ↦ inl (rw (p, or_true) refl)
   | inr p ↦ elim (bool_cases (get_or text i 0 == 45)) [
@@ -525,7 +543,7 @@ other_word (inr c) = inr (inr c)
 
 -- with a digit or a sign, or it is inf or nan
 pub number_begins : (s : Scalar) (text : List ℕ) (i j : ℕ) → IsNumber s text i j
-    → (((is_decimal (get_or text i 0) || get_or text i 0 == 45) || get_or text i 0 == 43) ≡ true) ⊎ RunAt is_keylike text i j (codes "inf") ⊎ RunAt is_keylike text i j (codes "nan")
+    → (((is_ascii_digit (get_or text i 0) || get_or text i 0 == 45) || get_or text i 0 == 43) ≡ true) ⊎ RunAt is_keylike text i j (codes "inf") ⊎ RunAt is_keylike text i j (codes "nan")
 number_begins (integer n) text i j (inl d) = inl (sign_begins text i (digit_begins (get_or text (behind_sign text i) 0) d.digits.digits.begins))
 number_begins (integer n) text i j (inr x) =
     let z : get_or text i 0 ≡ 48 = zero_first text i x.radix x.prefix in inl (rw z refl)

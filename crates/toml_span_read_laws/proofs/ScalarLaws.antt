@@ -14,12 +14,12 @@ use Rattle.toml_span_lex.proofs.OneToken.{token_unique}
 use Rattle.toml_span_tree.specs.Date.{IsDateText}
 use Rattle.toml_span_tree.specs.Node.{Scalar, text as text_scalar, integer, float, boolean, datetime, finite, infinite, not_a_number}
 use Rattle.toml_span_read.specs.declared.fault.Fault.{Fault}
-use Rattle.toml_span_read.specs.Wanted.{IsTokenFault}
+use Rattle.toml_span_read.specs.Faults.{IsTokenFault, begins_bare, begins_number, BeginsNumber, IsOther, IsUnquoted, NoBare}
 use Rattle.toml_span_read.specs.Keys.{opens_string}
-use Rattle.toml_span_read.specs.Dates.{is_decimal, is_date_byte, begins_date, continues_date, IsCandidate}
+use Rattle.std.specs.Char.{is_ascii_digit}
+use Rattle.toml_span_read.specs.Dates.{is_date_byte, begins_date, continues_date, IsCandidate}
 use Rattle.toml_span_read.specs.Numbers.{IsNumber, is_digit, behind_sign, UnsignedDecimal, radix_at, SpecialFloat, goes_on}
 use Rattle.toml_span_read.specs.Grammar.{from_to, truth_text, IsScalar}
-use Rattle.toml_span_read.specs.Stuck.{begins_bare, begins_number, BeginsNumber, IsOther, IsUnquoted, NoBare}
 use Rattle.toml_span_read_laws.proofs.NumberLaws.{number_unique, number_excluded}
 use Rattle.toml_span_read_laws.proofs.KeyLaws.{clash, token_or_token_fault}
 
@@ -29,10 +29,10 @@ and_first : (a b : Bool) → (a && b) ≡ true → a ≡ true
 and_first true b h = refl
 and_first false b h = absurd (false≢true h)
 
-pub date_byte : (text : List ℕ) (i : ℕ) → begins_date text i ≡ true → is_decimal (get_or text i 0) ≡ true
-date_byte text i h = and_first (is_decimal (get_or text i 0)) (is_decimal (get_or text (i + 1) 0)) (and_first _ _ h)
+pub date_byte : (text : List ℕ) (i : ℕ) → begins_date text i ≡ true → is_ascii_digit (get_or text i 0) ≡ true
+date_byte text i h = and_first (is_ascii_digit (get_or text i 0)) (is_ascii_digit (get_or text (i + 1) 0)) (and_first _ _ h)
 
-pub decimal_number : (c : ℕ) → is_decimal c ≡ true → begins_number c ≡ true
+pub decimal_number : (c : ℕ) → is_ascii_digit c ≡ true → begins_number c ≡ true
 decimal_number c h = rw h refl
 
 number_bare : (c : ℕ) → begins_number c ≡ true → begins_bare c ≡ true
@@ -60,7 +60,7 @@ truth_byte false text i j r = inr (first_byte text (truth_text false) i j (sym r
 
 -- ---- numbers
 
-digit_decimal : (c : ℕ) → is_digit 10 c ≡ true → is_decimal c ≡ true
+digit_decimal : (c : ℕ) → is_digit 10 c ≡ true → is_ascii_digit c ≡ true
 digit_decimal c h = grind (arith, nat_tests)
 
 sign_case : (c i : ℕ) (b : Bool) → (c == 43 || c == 45) ≡ b → (begins_number c ≡ true) ⊎ ((if b then i + 1 else i) ≡ i)
@@ -237,17 +237,17 @@ case_unique s r span other t i j k (a_string v src m e h) (a_string w source n f
     let u = token_unique t i j k span other (string src v m) (string source w n) h g in
     (e ∙ (ap (λ z. text_scalar z) (contents_same src source v w m n u.2) ∙ sym f), u.1, u.0)
 case_unique s r span other t i j k (a_string v src m e h) (a_truth b f run x) = absurd (string_clash is_keylike t i refl refl (string_byte t v src i j span m h) (run_byte t (truth_text b) i k run))
-case_unique s r span other t i j k (a_string v src m e h) (a_date d f b c is same x) = absurd (string_clash is_decimal t i refl refl (string_byte t v src i j span m h) (date_byte t i b))
+case_unique s r span other t i j k (a_string v src m e h) (a_date d f b c is same x) = absurd (string_clash is_ascii_digit t i refl refl (string_byte t v src i j span m h) (date_byte t i b))
 case_unique s r span other t i j k (a_string v src m e h) (a_number b g x) = absurd (any_not_string r t i k (string_byte t v src i j span m h) g)
 case_unique s r span other t i j k (a_truth b f run x) (a_string v src m e h) = absurd (string_clash is_keylike t i refl refl (string_byte t v src i k other m h) (run_byte t (truth_text b) i j run))
 case_unique s r span other t i j k (a_truth b f run x) (a_truth c g walk y) =
     let u : j ≡ k = run_unique is_keylike t i j k run.1 walk.1 in
     let w : truth_text b ≡ truth_text c = run.2 ∙ (rw u (sym walk.2)) in
     (f ∙ (ap (λ z. boolean z) (truth_same b c w) ∙ sym g), x ∙ (rw u (sym y)), u)
-case_unique s r span other t i j k (a_truth b f run x) (a_date d e begins c is same y) = absurd (truth_clash is_decimal b t i j refl refl run (date_byte t i begins))
+case_unique s r span other t i j k (a_truth b f run x) (a_date d e begins c is same y) = absurd (truth_clash is_ascii_digit b t i j refl refl run (date_byte t i begins))
 case_unique s r span other t i j k (a_truth b f run x) (a_number c g y) = absurd (any_not_truth r b t i k j run g)
-case_unique s r span other t i j k (a_date d f b c is same x) (a_string v src m e h) = absurd (string_clash is_decimal t i refl refl (string_byte t v src i k other m h) (date_byte t i b))
-case_unique s r span other t i j k (a_date d e begins c is same y) (a_truth b f run x) = absurd (truth_clash is_decimal b t i k refl refl run (date_byte t i begins))
+case_unique s r span other t i j k (a_date d f b c is same x) (a_string v src m e h) = absurd (string_clash is_ascii_digit t i refl refl (string_byte t v src i k other m h) (date_byte t i b))
+case_unique s r span other t i j k (a_date d e begins c is same y) (a_truth b f run x) = absurd (truth_clash is_ascii_digit b t i k refl refl run (date_byte t i begins))
 case_unique s r span other t i j k (a_date d e begins c is same x) (a_date d' e' begins' c' is' same' x') =
     let u : j ≡ k = candidate_unique t i j k c c' in
     let w : d ≡ d' = same ∙ (rw u (sym same')) in
@@ -268,7 +268,7 @@ any_bare : (c : ℕ) → begins_any c ≡ true → begins_bare c ≡ true
 unfolding begins_any
 any_bare c h = grind (arith, nat_tests)
 
-decimal_bare : (c : ℕ) → is_decimal c ≡ true → begins_bare c ≡ true
+decimal_bare : (c : ℕ) → is_ascii_digit c ≡ true → begins_bare c ≡ true
 decimal_bare c h = number_bare c (decimal_number c h)
 
 or_right : (a b : Bool) → b ≡ true → (a || b) ≡ true
@@ -289,7 +289,7 @@ scalar_byte s span t i j h = case_byte s span t i j (scalar_case s span t i j h)
 quoted_fault : (s : Scalar) (span : Span) (t : List ℕ) (i j : ℕ) (e : Fault) → ScalarCase s span t i j → opens_string (get_or t i 0) ≡ true → IsTokenFault t i e → ⊥
 quoted_fault s span t i j e (a_string v src m f h) o x = token_or_token_fault t i j span (string src v m) e h x
 quoted_fault s span t i j e (a_truth b f run y) o x = string_clash is_keylike t i refl refl o (run_byte t (truth_text b) i j run)
-quoted_fault s span t i j e (a_date d f b c is same y) o x = string_clash is_decimal t i refl refl o (date_byte t i b)
+quoted_fault s span t i j e (a_date d f b c is same y) o x = string_clash is_ascii_digit t i refl refl o (date_byte t i b)
 quoted_fault s span t i j e (a_number b h y) o x = any_not_string s t i j o h
 
 pub quoted_or_fault : (s : Scalar) (span : Span) (t : List ℕ) (i j : ℕ) (e : Fault) → IsScalar s span t i j → opens_string (get_or t i 0) ≡ true → IsTokenFault t i e → ⊥
@@ -335,7 +335,7 @@ unquoted_number s t i j e h u =
 
 bare_fault : (s : Scalar) (span : Span) (t : List ℕ) (i j : ℕ) (e : Fault) → ScalarCase s span t i j → NoBare t i e → ⊥
 bare_fault s span t i j e (a_string v src m f h) n = string_clash begins_bare t i refl refl (string_byte t v src i j span m h) (bare_byte t i e n)
-bare_fault s span t i j e (a_truth b f run x) (inl n) = truth_clash is_decimal b t i j refl refl run (date_byte t i n.0)
+bare_fault s span t i j e (a_truth b f run x) (inl n) = truth_clash is_ascii_digit b t i j refl refl run (date_byte t i n.0)
 bare_fault s span t i j e (a_truth b f run x) (inr (inl n)) = truth_or_number b t i j run n.0
 bare_fault s span t i j e (a_truth b f run x) (inr (inr n)) = truth_or_other b n.word (same_words t _ _ i j n.end run n.run) n.other
 bare_fault s span t i j e (a_date d f b c is same x) (inl (begins, (k, other, wrong, at))) =

@@ -2,12 +2,11 @@
 use Rattle.std.proofs.Common.{◌≡◌, ℕ, zero, suc, ◌+◌, ◌<◌, ◌≤◌, Bool, true, false, List, [], ◌∷◌, ◌++◌, length, get_or, arith, inl, inr, refl}
 use Rattle.std.specs.List.Sorted.{IsStrictlyIncreasing}
 use Rattle.toml_span_lex.specs.declared.span.Span.{Span}
-use Rattle.toml_span_read.specs.Data.{Node, node, Inner, scalar, array, inline, Items, no_items, item, Pairs, no_pairs, pair, Event}
-use Rattle.toml_span_read.specs.Grammar.{Spells, SpellsInner, SpellsItems, SpellsPairs}
-use Rattle.toml_span_read.specs.Keys.{Part, Ascend}
-use Rattle.toml_span_read.specs.Lines.{Opens, SpellsEvents, SpellsHeader, Block, first_block, SpellsSections, SpellsDocument}
-use Rattle.toml_span_read.specs.Spans.{Inside, InsideInner, InsideItems, InsidePairs}
-use Rattle.toml_span_read_laws.specs.Starts.{part_starts, key_starts, inner_key_starts, item_key_starts, pair_key_starts, event_key_starts, block_key_starts, starts, inner_starts, item_starts, pair_starts, event_starts, header_starts, block_starts}
+use Rattle.toml_span_read.specs.Data.{Node, node, Inner, scalar, array, inline, Items, no_items, item, Pairs, no_pairs, pair, Event, Block}
+use Rattle.toml_span_read.specs.Grammar.{Spells, SpellsInner, SpellsItems, SpellsPairs, Opens, SpellsEvents, SpellsHeader, first_block, SpellsSections, SpellsDocument}
+use Rattle.toml_span_read.specs.Keys.{Part}
+use Rattle.toml_span_read.specs.Places.{Ascend, Inside, InsideInner, InsideItems, InsidePairs}
+use Rattle.toml_span_read_laws.specs.Places.{part_starts, key_starts, inner_key_starts, item_key_starts, pair_key_starts, event_key_starts, block_key_starts, starts, inner_starts, item_starts, pair_starts, event_starts, header_starts, block_starts}
 use Rattle.toml_span_read.proofs.InsideLemmas.{tail_inside, shuts_on}
 use Rattle.toml_span_read.proofs.KeyOrder.{dotted_ascend}
 use Rattle.toml_span_read.proofs.SpanLaws.{value_lies}

@@ -13,7 +13,7 @@ use Rattle.toml_span_lex.specs.Strings.{Cut, content, content_end, content_span,
 use Rattle.toml_span_lex.proofs.Copies.{content_fits}
 use Rattle.toml_span_lex.proofs.MadeStrings.{content_from_after}
 use Rattle.toml_span_lex.proofs.PieceLemmas.{line_feed, crlf_return, line_forward, piece_forward, Cut-forward, closing, escape_shorter, dropped_shorter}
-use Rattle.toml_span_read_laws.specs.Between.{CutsContent}
+use Rattle.toml_span_read_laws.specs.Places.{CutsContent}
 
 equal : (a b : ℕ) → (a == b) ≡ true → a ≡ b
 equal a b h = grind (arith, nat_tests)

@@ -19,11 +19,12 @@ use Rattle.toml_span_read.specs.declared.fault.Due.TheVariants as dues
 use Rattle.toml_span_read.specs.declared.fault.Found.TheVariants as founds
 use Rattle.toml_span_read.specs.declared.fault.Fault.{Fault}
 use Rattle.toml_span_read.specs.declared.fault.FaultKind.TheVariants as kinds
-use Rattle.toml_span_read.specs.Faults.{fault_at, token_fault}
-use Rattle.toml_span_read.specs.Gaps.{Further, Dot, NoDot, DotGives}
-use Rattle.toml_span_read_laws.specs.Judged.{Judged}
-use Rattle.toml_span_read.specs.Keys.{Part, IsKey, opens_string, NoKey, Onward, Dotted, StuckOnward, StuckDotted, StuckHeaderKey, no_part, too_many, dotted_on, no_first, onward, no_header_part, header_too_many, header_on}
-use Rattle.toml_span_read.specs.Wanted.{found_of, IsTokenFault, IsWanted, IsNoValue, wanted_fault}
+use Rattle.toml_span_read.specs.Faults.{fault_at, token_fault, NoKey, found_of, IsTokenFault, IsWanted, IsNoValue, wanted_fault}
+use Rattle.toml_span_read.specs.code.Gaps.{Further, DotGives}
+use Rattle.toml_span_read.specs.Gaps.{Dot, NoDot}
+use Rattle.toml_span_read_laws.specs.code.Judged.{Judged}
+use Rattle.toml_span_read.specs.Keys.{Part, IsKey, opens_string, Onward, Dotted}
+use Rattle.toml_span_read.specs.Stuck.{StuckOnward, StuckDotted, StuckHeaderKey, no_part, too_many, dotted_on, no_first, onward, no_header_part, header_too_many, header_on}
 use Rattle.toml_span_read.proofs.NumberLemmas.{bool_cases}
 use Rattle.toml_span_read.proofs.Places.{run_some}
 

@@ -7,11 +7,13 @@ use Rattle.toml_span_lex.specs.Bytes.{is_blank, MaximalRun}
 use Rattle.toml_span_lex.specs.Tokenizer.{FirstPlace}
 use Rattle.toml_span_read.specs.declared.fault.Due.TheVariants as dues
 use Rattle.toml_span_read.specs.declared.fault.Fault.{Fault}
-use Rattle.toml_span_read.specs.Data.{Event}
-use Rattle.toml_span_read.specs.Gaps.{Further, Equals, EqualsGives, Tail, NoTail, TailGives}
-use Rattle.toml_span_read.specs.Grammar.{from_to}
+use Rattle.toml_span_read.specs.Data.{Event, Block}
+use Rattle.toml_span_read.specs.code.Gaps.{Further, EqualsGives, TailGives}
+use Rattle.toml_span_read.specs.Gaps.{Equals, Tail, NoTail}
+use Rattle.toml_span_read.specs.Grammar.{from_to, SpellsEvent, SpellsEvents, SpellsLines, Opens, Shuts, HeaderFront, SpellsHeader, last_end, SpellsSection, first_block, SpellsSections, SpellsDocument}
 use Rattle.toml_span_read.specs.Keys.{Part}
-use Rattle.toml_span_read.specs.Lines.{SpellsEvent, SpellsEvents, SpellsLines, Opens, Shuts, HeaderFront, SpellsHeader, Block, last_end, SpellsSection, first_block, SpellsSections, SpellsDocument, StuckEvent, line_key, line_equals, line_value, StuckTail, StuckEvents, in_line, no_newline, crossing, line_on, StuckLines, NoShuts, StuckHeader, header_key, header_close, header_rest, StuckSections, in_header, in_section, section_on, StuckDocument, before_headers, behind_header}
+use Rattle.toml_span_read.specs.Stuck.{StuckEvent, line_key, line_equals, line_value, StuckEvents, in_line, no_newline, crossing, line_on, StuckLines, StuckHeader, header_key, header_close, header_rest, StuckSections, in_header, in_section, section_on, StuckDocument, before_headers, behind_header}
+use Rattle.toml_span_read.specs.Faults.{StuckTail, NoShuts}
 use Rattle.toml_span_read_laws.proofs.EarlierLaws.{every_key}
 use Rattle.toml_span_read.proofs.NumberLemmas.{bool_cases, byte_is}
 use Rattle.toml_span_read.proofs.Places.{behind_byte}
@@ -132,7 +134,7 @@ shuts_stand true text i u all b =
           let here : get_or text i 0 ≡ 93 = byte_is _ _ t in
           let next = behind_byte text i u (omega (arith, here)) (omega (arith, here)) in
           elim (bool_cases (get_or text (i + 1) 0 == 93)) [
-            | inr s ↦ let w = wanted_stands text (i + 1) dues.RightBracket (all (i + 1) next).stands in inr (w.0, inr (here, s, w.1))
+            | inr s ↦ let w = wanted_stands text (i + 1) dues.RightBracket (all (i + 1) next).stands in inr (w.0, inr (here, (s, w.1)))
             | inl s ↦
                 let there : get_or text (i + 1) 0 ≡ 93 = byte_is _ _ s in
                 let two : i + 1 + 1 ≡ i + 2 = omega arith in

@@ -13,14 +13,16 @@ use Rattle.toml_span_read.specs.declared.fault.FaultKind.TheVariants as kinds
 use Rattle.toml_span_read.specs.declared.gaps.Behind.{Behind}
 use Rattle.toml_span_read.specs.declared.gaps.Behind.TheVariants as behind
 use Rattle.toml_span_read.specs.Data.{Node, node, scalar, array, inline, Items, no_items, item, Pairs, no_pairs, pair, Event}
-use Rattle.toml_span_read.specs.Dates.{begins_date, DateGives}
-use Rattle.toml_span_read.specs.Faults.{fault_at}
-use Rattle.toml_span_read.specs.Gaps.{Further, MaximalGap, Sign, Closes, Neither, BehindGives, SignGives}
+use Rattle.toml_span_read.specs.Dates.{begins_date}
+use Rattle.toml_span_read.specs.code.Dates.{DateGives}
+use Rattle.toml_span_read.specs.Faults.{fault_at, begins_bare, opens_nested, begins_number, NoBare}
+use Rattle.toml_span_read.specs.code.Gaps.{Further, BehindGives, SignGives}
+use Rattle.toml_span_read.specs.Gaps.{MaximalGap, Sign, Closes, Neither}
 use Rattle.toml_span_read.specs.Grammar.{from_to, IsScalar, Spells, SpellsItems, SpellsPairs, SpellsPair}
-use Rattle.toml_span_read_laws.specs.Judged.{Judged, NumberStands, EndsFurther}
+use Rattle.toml_span_read_laws.specs.code.Judged.{Judged, NumberStands, EndsFurther}
 use Rattle.toml_span_read.specs.Keys.{opens_string}
 use Rattle.toml_span_read.specs.Numbers.{IsNumber}
-use Rattle.toml_span_read.specs.Stuck.{begins_bare, opens_nested, begins_number, NoBare, StuckValue, StuckItems, StuckPairs, StuckPair, no_value, no_string, too_deep, no_bare, in_array, in_inline, in_item, behind_item, item_on, in_pair, crosses, behind_pair, pair_on, in_key, no_equals, in_value}
+use Rattle.toml_span_read.specs.Stuck.{StuckValue, StuckItems, StuckPairs, StuckPair, no_value, no_string, too_deep, no_bare, in_array, in_inline, in_item, behind_item, item_on, in_pair, crosses, behind_pair, pair_on, in_key, no_equals, in_value}
 use Rattle.toml_span_read_laws.proofs.EarlierLaws.{every_key}
 use Rattle.toml_span_read.proofs.NumberLemmas.{bool_cases, byte_is}
 use Rattle.toml_span_read.proofs.Places.{run_some, behind_byte}

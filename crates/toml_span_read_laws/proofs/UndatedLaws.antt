@@ -8,13 +8,13 @@ use Rattle.toml_span_lex.specs.Bytes.{is_blank, is_printed, MaximalRun}
 use Rattle.toml_span_lex.specs.Text.{LineEnd}
 use Rattle.toml_span_lex.proofs.Runs.{crlf_first}
 use Rattle.toml_span_tree.specs.Node.{Scalar, text as text_scalar, integer, float, boolean, datetime, finite, infinite, not_a_number}
-use Rattle.toml_span_read.specs.Data.{Node, node, Inner, scalar, array, inline, Items, no_items, item, Pairs, no_pairs, pair, Event}
-use Rattle.toml_span_read.specs.Dates.{is_decimal, begins_date}
+use Rattle.toml_span_read.specs.Data.{Node, node, Inner, scalar, array, inline, Items, no_items, item, Pairs, no_pairs, pair, Event, Block}
+use Rattle.std.specs.Char.{is_ascii_digit}
+use Rattle.toml_span_read.specs.Dates.{begins_date}
 use Rattle.toml_span_read.specs.Gaps.{GapPiece, GapBy, Sign, Closes, Tail}
-use Rattle.toml_span_read.specs.Grammar.{IsScalar, Spells, SpellsInner, SpellsItems, SpellsPairs}
-use Rattle.toml_span_read.specs.Lines.{SpellsEvent, SpellsEvents, Block, SpellsSection, SpellsSections, SpellsDocument}
+use Rattle.toml_span_read.specs.Grammar.{IsScalar, Spells, SpellsInner, SpellsItems, SpellsPairs, SpellsEvent, SpellsEvents, SpellsLines, SpellsSection, SpellsSections, SpellsDocument, InnerWith, ItemsWith, PairsWith, EventWith, EventsWith, LinesWith, SectionWith, SectionsWith}
 use Rattle.toml_span_read.specs.Numbers.{is_figure, is_exponent, behind_sign, Digits, Exponent, Fraction, goes_on, radix_at, SpecialFloat, IsNumber}
-use Rattle.toml_span_read_laws.specs.Undated.{UndatedScalar, SpellsUndated, UndatedInner, UndatedItems, UndatedPairs, UndatedEvent, UndatedEvents, UndatedSection, UndatedSections, SpellsUndatedDocument}
+use Rattle.toml_span_read_laws.specs.Undated.{UndatedScalar, SpellsUndated, SpellsUndatedDocument}
 use Rattle.toml_span_read.proofs.NumberLemmas.{is_false, and_left, byte_is, bool_cases, clash, none_some, slice_first}
 
 -- ---- bytes
@@ -27,16 +27,16 @@ and_right : (a b : Bool) → (a && b) ≡ true → b ≡ true
 and_right true b h = h
 and_right false b h = absurd (false≢true h)
 
-decimal_figure : (c : ℕ) → is_decimal c ≡ true → is_figure 10 c ≡ true
+decimal_figure : (c : ℕ) → is_ascii_digit c ≡ true → is_figure 10 c ≡ true
 decimal_figure c h = grind arith
 
-decimal_no_sign : (c : ℕ) → is_decimal c ≡ true → (c == 43 || c == 45) ≡ false
-decimal_no_sign c h = is_false _ (λ s. elim (or_cases (c == 43) (c == 45) s) [ inl e ↦ clash is_decimal c 43 h (byte_is c 43 e) refl | inr e ↦ clash is_decimal c 45 h (byte_is c 45 e) refl ])
+decimal_no_sign : (c : ℕ) → is_ascii_digit c ≡ true → (c == 43 || c == 45) ≡ false
+decimal_no_sign c h = is_false _ (λ s. elim (or_cases (c == 43) (c == 45) s) [ inl e ↦ clash is_ascii_digit c 43 h (byte_is c 43 e) refl | inr e ↦ clash is_ascii_digit c 45 h (byte_is c 45 e) refl ])
 
 figure_within : (text : List ℕ) (k : ℕ) → is_figure 10 (get_or text k 0) ≡ true → k < length text
 figure_within text k h = elim (cases_lt k (length text)) [ inl l ↦ l | inr g ↦ let z : get_or text k 0 ≡ 0 = get_or_past text k 0 g in absurd (clash (is_figure 10) (get_or text k 0) 0 h z refl) ]
 
-no_sign : (text : List ℕ) (i : ℕ) → is_decimal (get_or text i 0) ≡ true → behind_sign text i ≡ i
+no_sign : (text : List ℕ) (i : ℕ) → is_ascii_digit (get_or text i 0) ≡ true → behind_sign text i ≡ i
 no_sign text i h = rw (decimal_no_sign (get_or text i 0) h) refl
 
 -- ---- a number where a date would begin ends before a colon
@@ -51,11 +51,11 @@ date_front text i h =
     let c = get_or text (i + 2) 0 in
     let x = get_or text (i + 3) 0 in
     let y = get_or text (i + 4) 0 in
-    elim (or_cases (c == 58) ((is_decimal c && is_decimal x) && y == 45) (and_right (is_decimal (get_or text i 0) && is_decimal (get_or text (i + 1) 0)) _ h)) [
+    elim (or_cases (c == 58) ((is_ascii_digit c && is_ascii_digit x) && y == 45) (and_right (is_ascii_digit (get_or text i 0) && is_ascii_digit (get_or text (i + 1) 0)) _ h)) [
       | inl e ↦ hour (byte_is c 58 e)
       | inr a ↦
-          let d : (is_decimal c && is_decimal x) ≡ true = and_left (is_decimal c && is_decimal x) (y == 45) a in
-          year (decimal_figure c (and_left (is_decimal c) (is_decimal x) d)) (decimal_figure x (and_right (is_decimal c) (is_decimal x) d)) (byte_is y 45 (and_right (is_decimal c && is_decimal x) (y == 45) a))
+          let d : (is_ascii_digit c && is_ascii_digit x) ≡ true = and_left (is_ascii_digit c && is_ascii_digit x) (y == 45) a in
+          year (decimal_figure c (and_left (is_ascii_digit c) (is_ascii_digit x) d)) (decimal_figure x (and_right (is_ascii_digit c) (is_ascii_digit x) d)) (byte_is y 45 (and_right (is_ascii_digit c && is_ascii_digit x) (y == 45) a))
     ]
 
 -- figures end where the first byte stands that is none
@@ -79,7 +79,7 @@ four text i k a b c d g h = elim (cases_lt k (i + 2)) [
 ]
 
 -- the digits of a date's front end at its colon or at its dash
-front_ends : (text : List ℕ) (i e : ℕ) → is_decimal (get_or text i 0) ≡ true → is_decimal (get_or text (i + 1) 0) ≡ true → DateFront text i → Digits 10 text i e → (get_or text e 0 ≡ 58) ⊎ (get_or text e 0 ≡ 45)
+front_ends : (text : List ℕ) (i e : ℕ) → is_ascii_digit (get_or text i 0) ≡ true → is_ascii_digit (get_or text (i + 1) 0) ≡ true → DateFront text i → Digits 10 text i e → (get_or text e 0 ≡ 58) ⊎ (get_or text e 0 ≡ 45)
 front_ends text i e a b (hour c) d =
     let x : e ≡ i + 2 = run_ends text i e (i + 2) d.run (omega arith) (λ k g h. two text i k (decimal_figure (get_or text i 0) a) (decimal_figure (get_or text (i + 1) 0) b) g h) (not_figure (get_or text (i + 2) 0) 58 c refl) in inl (rw x c)
 front_ends text i e a b (year p q c) d =
@@ -89,11 +89,11 @@ goes_on_dash : (text : List ℕ) (j : ℕ) → get_or text j 0 ≡ 45 → goes_o
 goes_on_dash text j h = rw h refl
 
 -- a digit behind the first one, and so no prefix
-no_prefix : (text : List ℕ) (i radix : ℕ) → radix_at text i ≡ Some radix → is_decimal (get_or text (i + 1) 0) ≡ true → ⊥
+no_prefix : (text : List ℕ) (i radix : ℕ) → radix_at text i ≡ Some radix → is_ascii_digit (get_or text (i + 1) 0) ≡ true → ⊥
 no_prefix text i radix h d =
-    let x : (get_or text (i + 1) 0 == 120) ≡ false = is_false _ (λ e. clash is_decimal _ 120 d (byte_is _ 120 e) refl) in
-    let y : (get_or text (i + 1) 0 == 111) ≡ false = is_false _ (λ e. clash is_decimal _ 111 d (byte_is _ 111 e) refl) in
-    let z : (get_or text (i + 1) 0 == 98) ≡ false = is_false _ (λ e. clash is_decimal _ 98 d (byte_is _ 98 e) refl) in
+    let x : (get_or text (i + 1) 0 == 120) ≡ false = is_false _ (λ e. clash is_ascii_digit _ 120 d (byte_is _ 120 e) refl) in
+    let y : (get_or text (i + 1) 0 == 111) ≡ false = is_false _ (λ e. clash is_ascii_digit _ 111 d (byte_is _ 111 e) refl) in
+    let z : (get_or text (i + 1) 0 == 98) ≡ false = is_false _ (λ e. clash is_ascii_digit _ 98 d (byte_is _ 98 e) refl) in
     elim (bool_cases (get_or text i 0 == 48)) [
       | inl e ↦ let n : None ≡ Some radix = rw (e, x, y, z) at h in none_some radix n
       | inr e ↦ let n : None ≡ Some radix = rw e at h in none_some radix n
@@ -110,14 +110,14 @@ front_rest c (inr e) (inl x) = clash is_exponent c 45 x e refl
 front_rest c (inl e) (inr x) = omega arith
 front_rest c (inr e) (inr x) = omega arith
 
-special_decimal : (text : List ℕ) (i j x : ℕ) (xs : List ℕ) → SpecialFloat (x ∷ xs) text i j → is_decimal x ≡ false → is_decimal (get_or text i 0) ≡ true → ⊥
+special_decimal : (text : List ℕ) (i j x : ℕ) (xs : List ℕ) → SpecialFloat (x ∷ xs) text i j → is_ascii_digit x ≡ false → is_ascii_digit (get_or text i 0) ≡ true → ⊥
 special_decimal text i j x xs s n d =
     let b = no_sign text i d in
     let l : i < j = rw b at s.some in
     let w : slice_range text i j ≡ x ∷ xs = rw b at s.letters in
-    clash is_decimal (get_or text i 0) x d (slice_first text i j x xs l s.within w).0 n
+    clash is_ascii_digit (get_or text i 0) x d (slice_first text i j x xs l s.within w).0 n
 
-number_front : (s : Scalar) (text : List ℕ) (i j : ℕ) → is_decimal (get_or text i 0) ≡ true → is_decimal (get_or text (i + 1) 0) ≡ true → DateFront text i → IsNumber s text i j → get_or text j 0 ≡ 58
+number_front : (s : Scalar) (text : List ℕ) (i j : ℕ) → is_ascii_digit (get_or text i 0) ≡ true → is_ascii_digit (get_or text (i + 1) 0) ≡ true → DateFront text i → IsNumber s text i j → get_or text j 0 ≡ 58
 number_front (integer n) text i j a b f (inl h) =
     let d : Digits 10 text i j = rw (no_sign text i a) at h.digits.digits in
     elim (front_ends text i j a b f d) [ inl e ↦ e | inr e ↦ absurd (false≢true (sym h.ends ∙ goes_on_dash text j e)) ]
@@ -190,18 +190,18 @@ mutual
   pub value_dated : (v : Node) (text : List ℕ) (limit d i j : ℕ) → (get_or text j 0 == 58) ≡ false → SpellsUndated v text limit d i j → Spells v text limit d i j
   value_dated (node x s) text limit d i j n (few, h) = (few, inner_dated x s text limit d i j n h)
 
-  inner_dated : (x : Inner) (s : Span) (text : List ℕ) (limit d i j : ℕ) → (get_or text j 0 == 58) ≡ false → UndatedInner x s text limit d i j → SpellsInner x s text limit d i j
+  inner_dated : (x : Inner) (s : Span) (text : List ℕ) (limit d i j : ℕ) → (get_or text j 0 == 58) ≡ false → InnerWith UndatedScalar x s text limit d i j → SpellsInner x s text limit d i j
   inner_dated (scalar y) s text limit d i j n h = scalar_dated y s text i j n h
   inner_dated (array vs) s text limit d i j n (here, span, k, gap, h) = (here, span, k, gap, items_dated vs text limit (d + 1) k j h)
   inner_dated (inline ps) s text limit d i j n (here, span, k, gap, h) = (here, span, k, gap, pairs_dated ps [] text limit (d + 1) k j h)
 
-  items_dated : (vs : Items) (text : List ℕ) (limit d i j : ℕ) → UndatedItems vs text limit d i j → SpellsItems vs text limit d i j
+  items_dated : (vs : Items) (text : List ℕ) (limit d i j : ℕ) → ItemsWith UndatedScalar vs text limit d i j → SpellsItems vs text limit d i j
   items_dated no_items text limit d i j h = h
   items_dated (item v vs) text limit d i j (m, h, inl (e, close)) = (m, value_dated v text limit d i m (closes_no_colon 93 text m j refl close) h, inl (e, close))
   items_dated (item v vs) text limit d i j (m, h, inr (p, sign, rest)) =
       (m, value_dated v text limit d i m (sign_no_colon 44 text m p refl sign) h, inr (p, sign, items_dated vs text limit d p j rest))
 
-  pairs_dated : (ps : Pairs) (es : List Event) (text : List ℕ) (limit d i j : ℕ) → UndatedPairs ps es text limit d i j → SpellsPairs ps es text limit d i j
+  pairs_dated : (ps : Pairs) (es : List Event) (text : List ℕ) (limit d i j : ℕ) → PairsWith UndatedScalar ps es text limit d i j → SpellsPairs ps es text limit d i j
   pairs_dated no_pairs es text limit d i j h = h
   pairs_dated (pair ss v x ps) es text limit d i j (m, (a, b, key, few, sign, h, extent), clear, inl (e, close)) =
       (m, (a, b, key, few, sign, value_dated v text limit (d + length ss) b m (closes_no_colon 125 text m j refl close) h, extent), clear, inl (e, close))
@@ -214,23 +214,25 @@ mutual
 
 -- ---- the document
 
-event_dated : (ev : Event) (text : List ℕ) (limit i j : ℕ) → (get_or text j 0 == 58) ≡ false → UndatedEvent ev text limit i j → SpellsEvent ev text limit i j
-event_dated ev text limit i j n (a, b, key, few, sign, h, extent) =
-    record { key_end = a; from = b; key = key; few = few; sign = sign; spelled = value_dated ev.value text limit (length ev.parts) b j n h; extent = extent }
+event_dated : (ev : Event) (text : List ℕ) (limit i j : ℕ) → (get_or text j 0 == 58) ≡ false → EventWith UndatedScalar ev text limit i j → SpellsEvent ev text limit i j
+event_dated ev text limit i j n h = record { key_end = h.key_end; from = h.from; key = h.key; few = h.few; sign = h.sign; spelled = value_dated ev.value text limit (length ev.parts) h.from j n h.spelled; extent = h.extent }
 
-events_dated : (evs earlier : List Event) (text : List ℕ) (limit i j : ℕ) → UndatedEvents evs earlier text limit i j → SpellsEvents evs earlier text limit i j
+events_dated : (evs earlier : List Event) (text : List ℕ) (limit i j : ℕ) → EventsWith UndatedScalar evs earlier text limit i j → SpellsEvents evs earlier text limit i j
 events_dated [] earlier text limit i j h = h
 events_dated (ev ∷ evs) earlier text limit i j (m, n, k, h, t, c, g, r) =
     (m, n, k, event_dated ev text limit i m (tail_no_colon text m n t) h, t, c, g, events_dated evs (earlier ++ (ev ∷ [])) text limit k j r)
 
-section_dated : (b : Block) (text : List ℕ) (limit i j : ℕ) → UndatedSection b text limit i j → SpellsSection b text limit i j
-section_dated b text limit i j (m, header, span, (k, gap, h), extent) =
-    record { end = m; header = header; header_span = span; lines = (k, gap, events_dated b.events [] text limit k j h); extent = extent }
+lines_dated : (evs : List Event) (text : List ℕ) (limit i j : ℕ) → LinesWith UndatedScalar evs text limit i j → SpellsLines evs text limit i j
+lines_dated evs text limit i j (k, gap, h) = (k, gap, events_dated evs [] text limit k j h)
 
-sections_dated : (bs : List Block) (text : List ℕ) (limit i : ℕ) → UndatedSections bs text limit i → SpellsSections bs text limit i
+section_dated : (b : Block) (text : List ℕ) (limit i j : ℕ) → SectionWith UndatedScalar b text limit i j → SpellsSection b text limit i j
+section_dated b text limit i j h =
+    record { end = h.end; header = h.header; header_span = h.header_span; lines = lines_dated b.events text limit h.end j h.lines; extent = h.extent }
+
+sections_dated : (bs : List Block) (text : List ℕ) (limit i : ℕ) → SectionsWith UndatedScalar bs text limit i → SpellsSections bs text limit i
 sections_dated [] text limit i h = h
 sections_dated (b ∷ bs) text limit i (j, s, r) = (j, section_dated b text limit i j s, sections_dated bs text limit j r)
 
 pub document_dated : (bs : List Block) (text : List ℕ) (limit : ℕ) → SpellsUndatedDocument bs text limit → SpellsDocument bs text limit
-document_dated bs text limit (start, end, first, rest, begins, (k, gap, h), sections, all) =
-    record { start = start; end = end; first = first; rest = rest; begins = begins; lines = (k, gap, events_dated first [] text limit k end h); sections = sections_dated rest text limit end sections; all = all }
+document_dated bs text limit h =
+    record { start = h.start; end = h.end; first = h.first; rest = h.rest; begins = h.begins; lines = lines_dated h.first text limit h.start h.end h.lines; sections = sections_dated h.rest text limit h.end h.sections; all = h.all }

@@ -1,7 +1,7 @@
 -- What spells a document within a limit spells it within a greater one.
 use Rattle.std.proofs.Common.{ℕ, ◌≤◌, List, [], ◌∷◌, ◌++◌, length, arith}
-use Rattle.toml_span_read.specs.Data.{Event}
-use Rattle.toml_span_read.specs.Lines.{SpellsEvent, SpellsEvents, Block, SpellsSection, SpellsSections, SpellsDocument}
+use Rattle.toml_span_read.specs.Data.{Event, Block}
+use Rattle.toml_span_read.specs.Grammar.{SpellsEvent, SpellsEvents, SpellsSection, SpellsSections, SpellsDocument}
 use Rattle.toml_span_read_laws.proofs.WiderLimit.{value_wider}
 
 event_wider : (e : Event) (text : List ℕ) (limit wider i j : ℕ) → limit ≤ wider → SpellsEvent e text limit i j → SpellsEvent e text wider i j

@@ -3,9 +3,9 @@ use Rattle.std.specs.Prelude.{ℕ, ◌+◌, ◌-◌, List, [], ◌∷◌, ◌++�
 use Rattle.toml_span_lex.specs.declared.span.Span.{Span}
 use Rattle.toml_span_tree.specs.Node.{Scalar, text, integer, float, boolean, datetime}
 use Rattle.toml_span_read.specs.Keys.{Part}
-use Rattle.toml_span_read.specs.Data.{Node, node, Inner, scalar, array, inline, Items, no_items, item, Pairs, no_pairs, pair, Event}
-use Rattle.toml_span_read.specs.Earlier.{span_of}
-use Rattle.toml_span_read.specs.Lines.{Block, first_block, SpellsDocument}
+use Rattle.toml_span_read.specs.Data.{Node, node, Inner, scalar, array, inline, Items, no_items, item, Pairs, no_pairs}
+use Rattle.toml_span_read.specs.Data.{pair, Event, span_of, Block}
+use Rattle.toml_span_read.specs.Grammar.{first_block, SpellsDocument}
 
 -- a span, moved so that what stood at `from` stands at `to`
 abbrev pub moved_span : ℕ → ℕ → Span → Span
@@ -30,16 +30,22 @@ abbrev mutual
 
   pub moved_pairs : ℕ → ℕ → Pairs → Pairs
   moved_pairs from to no_pairs = no_pairs
-  moved_pairs from to (pair parts v extent ps) = pair (moved_parts from to parts) (moved from to v) (moved_span from to extent) (moved_pairs from to ps)
+  moved_pairs from to (pair parts v extent ps) =
+      pair (moved_parts from to parts) (moved from to v) (moved_span from to extent) (moved_pairs from to ps)
 
 -- a document of one assignment: `x = `, and behind it the text from i to j
 abbrev pub assigned_again : List ℕ → ℕ → ℕ → List ℕ
 assigned_again t i j = codes "x = " ++ slice_range t i j
 
--- that assignment: its key is x, its value is that which was spelled from i to j, moved to 4, and its extent is the whole text
+-- that assignment: its key is x, its value is that which was spelled from i to j, moved to 4, and its extent is the
+-- whole text
 abbrev pub event_again : Node → ℕ → ℕ → Event
 event_again v i j =
-    record { parts = record { name = codes "x"; span = record { start = 0; end = 1 } } ∷ []; value = moved i 4 v; extent = record { start = 0; end = (j + 4) - i } }
+    record {
+      parts = record { name = codes "x"; span = record { start = 0; end = 1 } } ∷ [];
+      value = moved i 4 v;
+      extent = record { start = 0; end = (j + 4) - i };
+    }
 
 -- the text from i to j spells the value again: behind `x = ` it is a document of that assignment alone
 abbrev pub SpellsAgain : Node → List ℕ → ℕ → ℕ → ℕ → Type 0

@@ -1,29 +1,26 @@
 -- What is due at a place, by the text before it, and the faults that are told there.
-use Rattle.std.specs.Prelude.{◌≡◌, ℕ, ◌+◌, ◌<◌, ◌≤◌, ◌⊎◌, Bool, true, false, ◌||◌, ◌==◌, List, [], ◌∷◌, ◌++◌, length, slice_index, Vec, Result, Ok, Err}
+use Rattle.std.specs.Prelude.{◌≡◌, ℕ, ◌+◌, ◌<◌, ◌≤◌, Bool, true, false, ◌==◌, List, [], ◌∷◌, ◌++◌, length}
+use Rattle.std.specs.Prelude.{slice_index, Vec, Result, Ok, Err}
 use Rattle.std.specs.Global.{Global}
+use Rattle.toml_span_lex.specs.Bytes.{is_blank, equals, comma, left_bracket, right_bracket, left_brace, right_brace}
+use Rattle.toml_span_lex.specs.Bytes.{MaximalRun}
+use Rattle.toml_span_lex.specs.Tokenizer.{FirstPlace}
 use Rattle.toml_span_lex.specs.declared.stop.Stop.{Stop}
 use Rattle.toml_span_lex.specs.declared.stop.Stop.TheVariants as stops
-use Rattle.toml_span_lex.specs.Bytes.{is_blank, equals, comma, left_bracket, right_bracket, left_brace, right_brace, MaximalRun}
-use Rattle.toml_span_lex.specs.Text.{NoLineEnd}
-use Rattle.toml_span_lex.specs.Tokenizer.{FirstPlace}
 use Rattle.toml_span_tree.specs.Error.{fault_of}
 use Rattle.toml_span_tree.specs.declared.error.Error.{Error}
-use Rattle.toml_span_read.specs.declared.section.Section.{Section}
+use Rattle.toml_span_read.specs.Data.{Event, Node}
+use Rattle.toml_span_read.specs.Earlier.{Clear, Crossing}
+use Rattle.toml_span_read.specs.Gaps.{MaximalGap, Skipped, Tail, Dot}
+use Rattle.toml_span_read.specs.Grammar.{Spells, SpellsPair, SpellsEvent, Opens, HeaderFront, SpellsHeader}
+use Rattle.toml_span_read.specs.Keys.{Part, IsKey, Dotted}
+use Rattle.toml_span_read.specs.Faults.{NoPart, NoHeaderPart, NoEquals, NoValue, NoComma, NoBracket, NoNewline, Tells}
 use Rattle.toml_span_read.specs.declared.fault.Due.TheVariants as dues
 use Rattle.toml_span_read.specs.declared.fault.Fault.{Fault}
-use Rattle.toml_span_read.specs.declared.fault.FaultKind.TheVariants as kinds
-use Rattle.toml_span_read.specs.Data.{Node, Event}
-use Rattle.toml_span_read.specs.Earlier.{Clear, Crossing}
-use Rattle.toml_span_read.specs.Faults.{fault_at, Tells}
-use Rattle.toml_span_read.specs.Gaps.{MaximalGap, Skipped, Tail, Dot}
-use Rattle.toml_span_read.specs.Grammar.{Spells, SpellsPair}
-use Rattle.toml_span_read.specs.Keys.{Part, IsKey, Dotted, NoKey, opens_string}
-use Rattle.toml_span_read.specs.Lines.{SpellsEvent, Opens, HeaderFront, SpellsHeader}
-use Rattle.toml_span_read.specs.Stuck.{opens_nested, begins_bare, Begins, NoBare}
-use Rattle.toml_span_read.specs.Wanted.{IsWanted, IsNoValue, IsTokenFault}
+use Rattle.toml_span_read.specs.declared.section.Section.{Section}
 
--- what stands round a place, from the inside: the assignments of a section before it, an open array, an open inline table with its
--- pairs before it, and the key, of so many parts, of a value
+-- what stands round a place, from the inside: the assignments of a section before it, an open array, an open inline
+-- table with its pairs before it, and the key, of so many parts, of a value
 pub data Frame : Type 0 where
   in_section : List Event → Frame
   in_brackets : Frame
@@ -66,67 +63,91 @@ pub data What : Type 0 where
 pub data DueAt (text : List ℕ) (limit : ℕ) : What → List Frame → ℕ → Type 0 where
   first_line : (i k : ℕ) → FirstPlace text i → MaximalGap text i k → DueAt text limit a_line (in_section [] ∷ []) k
   -- `keyval = key keyval-sep val`, and the rest of its line
-  line_part : (es : List Event) (i : ℕ) → DueAt text limit a_line (in_section es ∷ []) i → i < length text → (slice_index text i == left_bracket) ≡ false → DueAt text limit (a_part 0) (in_section es ∷ []) i
-  line_equals : (es : List Event) (i a n : ℕ) (ps : List Part) → DueAt text limit (a_part 0) (in_section es ∷ []) i → Dotted ps text i a → length ps ≤ limit → MaximalRun is_blank text a n
+  line_part : (es : List Event) (i : ℕ) → DueAt text limit a_line (in_section es ∷ []) i → i < length text
+      → (slice_index text i == left_bracket) ≡ false → DueAt text limit (a_part 0) (in_section es ∷ []) i
+  line_equals : (es : List Event) (i a n : ℕ) (ps : List Part) → DueAt text limit (a_part 0) (in_section es ∷ []) i
+      → Dotted ps text i a → length ps ≤ limit → MaximalRun is_blank text a n
       → DueAt text limit (an_equals (length ps)) (in_section es ∷ []) n
-  line_value : (es : List Event) (k n b : ℕ) → DueAt text limit (an_equals k) (in_section es ∷ []) n → slice_index text n ≡ equals → MaximalRun is_blank text (n + 1) b
+  line_value : (es : List Event) (k n b : ℕ) → DueAt text limit (an_equals k) (in_section es ∷ []) n
+      → slice_index text n ≡ equals → MaximalRun is_blank text (n + 1) b
       → DueAt text limit a_value (under_key k ∷ (in_section es ∷ [])) b
-  line_tail : (es : List Event) (i m : ℕ) (ev : Event) → DueAt text limit a_line (in_section es ∷ []) i → SpellsEvent ev text limit i m → DueAt text limit a_tail (in_section es ∷ []) m
-  tail_rest : (fs : List Frame) (m n : ℕ) → DueAt text limit a_tail fs m → Skipped text m n → DueAt text limit a_line_end fs n
-  line_verdict : (es : List Event) (i m n : ℕ) (ev : Event) → DueAt text limit a_line (in_section es ∷ []) i → SpellsEvent ev text limit i m → Tail text m n → DueAt text limit (a_verdict ev) (in_section es ∷ []) n
-  next_line : (es : List Event) (n k : ℕ) (ev : Event) → DueAt text limit (a_verdict ev) (in_section es ∷ []) n → Clear es ev → MaximalGap text n k → DueAt text limit a_line (in_section (es ++ (ev ∷ [])) ∷ []) k
+  line_tail : (es : List Event) (i m : ℕ) (ev : Event) → DueAt text limit a_line (in_section es ∷ []) i
+      → SpellsEvent ev text limit i m → DueAt text limit a_tail (in_section es ∷ []) m
+  tail_rest : (fs : List Frame) (m n : ℕ) → DueAt text limit a_tail fs m → Skipped text m n
+      → DueAt text limit a_line_end fs n
+  line_verdict : (es : List Event) (i m n : ℕ) (ev : Event) → DueAt text limit a_line (in_section es ∷ []) i
+      → SpellsEvent ev text limit i m → Tail text m n → DueAt text limit (a_verdict ev) (in_section es ∷ []) n
+  next_line : (es : List Event) (n k : ℕ) (ev : Event) → DueAt text limit (a_verdict ev) (in_section es ∷ []) n
+      → Clear es ev → MaximalGap text n k → DueAt text limit a_line (in_section (es ++ (ev ∷ [])) ∷ []) k
   -- `key = simple-key / dotted-key`
-  part_next : (fs : List Frame) (n i m p : ℕ) (s : Part) → DueAt text limit (a_part n) fs i → IsKey s text i m → n < limit → Dot text m p → DueAt text limit (a_part (n + 1)) fs p
-  -- `std-table = std-table-open key std-table-close`, `array-table = array-table-open key array-table-close`, and the rest of its line
-  opens_header : (es : List Event) (i m k : ℕ) (array : Bool) → DueAt text limit a_line (in_section es ∷ []) i → Opens array text i m → MaximalRun is_blank text m k → DueAt text limit (a_header_part 0) (in_section es ∷ []) k
-  header_part_next : (fs : List Frame) (n i m p : ℕ) (s : Part) → DueAt text limit (a_header_part n) fs i → IsKey s text i m → n < limit → Dot text m p → DueAt text limit (a_header_part (n + 1)) fs p
-  header_closes : (es : List Event) (i k : ℕ) (array : Bool) (ps : List Part) → DueAt text limit a_line (in_section es ∷ []) i → HeaderFront ps array text limit i k → DueAt text limit (a_closing array) (in_section es ∷ []) k
-  closes_again : (fs : List Frame) (k : ℕ) → DueAt text limit (a_closing true) fs k → slice_index text k ≡ right_bracket → DueAt text limit (a_closing false) fs (k + 1)
-  header_tail : (fs : List Frame) (k : ℕ) → DueAt text limit (a_closing false) fs k → slice_index text k ≡ right_bracket → DueAt text limit a_tail fs (k + 1)
-  next_section : (es : List Event) (i m k : ℕ) (array : Bool) (ps : List Part) → DueAt text limit a_line (in_section es ∷ []) i → SpellsHeader ps array text limit i m → MaximalGap text m k → DueAt text limit a_line (in_section [] ∷ []) k
+  part_next : (fs : List Frame) (n i m p : ℕ) (s : Part) → DueAt text limit (a_part n) fs i → IsKey s text i m
+      → n < limit → Dot text m p → DueAt text limit (a_part (n + 1)) fs p
+  -- `std-table = std-table-open key std-table-close`, `array-table = array-table-open key array-table-close`, and the
+  -- rest of its line
+  opens_header : (es : List Event) (i m k : ℕ) (array : Bool) → DueAt text limit a_line (in_section es ∷ []) i
+      → Opens array text i m → MaximalRun is_blank text m k → DueAt text limit (a_header_part 0) (in_section es ∷ []) k
+  header_part_next : (fs : List Frame) (n i m p : ℕ) (s : Part) → DueAt text limit (a_header_part n) fs i
+      → IsKey s text i m → n < limit → Dot text m p → DueAt text limit (a_header_part (n + 1)) fs p
+  header_closes : (es : List Event) (i k : ℕ) (array : Bool) (ps : List Part)
+      → DueAt text limit a_line (in_section es ∷ []) i → HeaderFront ps array text limit i k
+      → DueAt text limit (a_closing array) (in_section es ∷ []) k
+  closes_again : (fs : List Frame) (k : ℕ) → DueAt text limit (a_closing true) fs k → slice_index text k ≡ right_bracket
+      → DueAt text limit (a_closing false) fs (k + 1)
+  header_tail : (fs : List Frame) (k : ℕ) → DueAt text limit (a_closing false) fs k → slice_index text k ≡ right_bracket
+      → DueAt text limit a_tail fs (k + 1)
+  next_section : (es : List Event) (i m k : ℕ) (array : Bool) (ps : List Part)
+      → DueAt text limit a_line (in_section es ∷ []) i → SpellsHeader ps array text limit i m → MaximalGap text m k
+      → DueAt text limit a_line (in_section [] ∷ []) k
   -- `array = array-open [ array-values ] ws-comment-newline array-close`
-  opens_array : (fs : List Frame) (i k : ℕ) → DueAt text limit a_value fs i → depth fs ≤ limit → slice_index text i ≡ left_bracket → MaximalGap text (i + 1) k → DueAt text limit an_element (in_brackets ∷ fs) k
-  item_value : (fs : List Frame) (i : ℕ) → DueAt text limit an_element (in_brackets ∷ fs) i → (slice_index text i == right_bracket) ≡ false → DueAt text limit a_value (in_brackets ∷ fs) i
-  behind_item : (fs : List Frame) (i m n : ℕ) (v : Node) → DueAt text limit an_element (in_brackets ∷ fs) i → Spells v text limit (depth (in_brackets ∷ fs)) i m → MaximalGap text m n
+  opens_array : (fs : List Frame) (i k : ℕ) → DueAt text limit a_value fs i → depth fs ≤ limit
+      → slice_index text i ≡ left_bracket → MaximalGap text (i + 1) k → DueAt text limit an_element (in_brackets ∷ fs) k
+  item_value : (fs : List Frame) (i : ℕ) → DueAt text limit an_element (in_brackets ∷ fs) i
+      → (slice_index text i == right_bracket) ≡ false → DueAt text limit a_value (in_brackets ∷ fs) i
+  behind_item : (fs : List Frame) (i m n : ℕ) (v : Node) → DueAt text limit an_element (in_brackets ∷ fs) i
+      → Spells v text limit (depth (in_brackets ∷ fs)) i m → MaximalGap text m n
       → DueAt text limit a_comma (in_brackets ∷ fs) n
-  behind_comma : (fs : List Frame) (n p : ℕ) → DueAt text limit a_comma fs n → slice_index text n ≡ comma → MaximalGap text (n + 1) p → DueAt text limit an_element fs p
+  behind_comma : (fs : List Frame) (n p : ℕ) → DueAt text limit a_comma fs n → slice_index text n ≡ comma
+      → MaximalGap text (n + 1) p → DueAt text limit an_element fs p
   -- `inline-table = inline-table-open [ inline-table-keyvals ] ws-comment-newline inline-table-close`
-  opens_table : (fs : List Frame) (i k : ℕ) → DueAt text limit a_value fs i → depth fs ≤ limit → slice_index text i ≡ left_brace → MaximalGap text (i + 1) k → DueAt text limit an_element (in_braces [] ∷ fs) k
-  pair_part : (es : List Event) (fs : List Frame) (i : ℕ) → DueAt text limit an_element (in_braces es ∷ fs) i → (slice_index text i == right_brace) ≡ false → DueAt text limit (a_part 0) (in_braces es ∷ fs) i
-  pair_equals : (es : List Event) (fs : List Frame) (i a n : ℕ) (ps : List Part) → DueAt text limit (a_part 0) (in_braces es ∷ fs) i → Dotted ps text i a → length ps ≤ limit → MaximalGap text a n
+  opens_table : (fs : List Frame) (i k : ℕ) → DueAt text limit a_value fs i → depth fs ≤ limit
+      → slice_index text i ≡ left_brace → MaximalGap text (i + 1) k → DueAt text limit an_element (in_braces [] ∷ fs) k
+  pair_part : (es : List Event) (fs : List Frame) (i : ℕ) → DueAt text limit an_element (in_braces es ∷ fs) i
+      → (slice_index text i == right_brace) ≡ false → DueAt text limit (a_part 0) (in_braces es ∷ fs) i
+  pair_equals : (es : List Event) (fs : List Frame) (i a n : ℕ) (ps : List Part)
+      → DueAt text limit (a_part 0) (in_braces es ∷ fs) i → Dotted ps text i a → length ps ≤ limit → MaximalGap text a n
       → DueAt text limit (an_equals (length ps)) (in_braces es ∷ fs) n
-  pair_value : (es : List Event) (fs : List Frame) (k n b : ℕ) → DueAt text limit (an_equals k) (in_braces es ∷ fs) n → slice_index text n ≡ equals → MaximalGap text (n + 1) b
+  pair_value : (es : List Event) (fs : List Frame) (k n b : ℕ) → DueAt text limit (an_equals k) (in_braces es ∷ fs) n
+      → slice_index text n ≡ equals → MaximalGap text (n + 1) b
       → DueAt text limit a_value (under_key k ∷ (in_braces es ∷ fs)) b
-  pair_verdict : (es : List Event) (fs : List Frame) (i m : ℕ) (p : Event) → DueAt text limit an_element (in_braces es ∷ fs) i → SpellsPair p text limit (depth (in_braces es ∷ fs)) i m
+  pair_verdict : (es : List Event) (fs : List Frame) (i m : ℕ) (p : Event)
+      → DueAt text limit an_element (in_braces es ∷ fs) i → SpellsPair p text limit (depth (in_braces es ∷ fs)) i m
       → DueAt text limit (a_verdict p) (in_braces es ∷ fs) m
-  behind_pair : (es : List Event) (fs : List Frame) (m n : ℕ) (p : Event) → DueAt text limit (a_verdict p) (in_braces es ∷ fs) m → Clear es p → MaximalGap text m n
+  behind_pair : (es : List Event) (fs : List Frame) (m n : ℕ) (p : Event)
+      → DueAt text limit (a_verdict p) (in_braces es ∷ fs) m → Clear es p → MaximalGap text m n
       → DueAt text limit a_comma (in_braces (es ++ (p ∷ [])) ∷ fs) n
 
 -- The table: the faults that are told where this is due.
 abbrev pub Told : List ℕ → ℕ → What → List Frame → ℕ → Fault → Type 0
-Told text limit (a_part n) fs i e = NoKey text i e ⊎ ((s : Part) × (j : ℕ) × IsKey s text i j × (limit ≤ n) × (e ≡ fault_at kinds.ExceededDepthLimit i))
-Told text limit (an_equals n) fs i e = ((slice_index text i == equals) ≡ false) × IsWanted text i dues.Equals e
-Told text limit a_value fs i e =
-    (((opens_nested (slice_index text i) || begins_bare (slice_index text i) || opens_string (slice_index text i)) ≡ false) × IsNoValue text i e)
-    ⊎ ((opens_string (slice_index text i) ≡ true) × IsTokenFault text i e)
-    ⊎ ((limit < depth fs) × Begins text i × (e ≡ fault_at kinds.ExceededDepthLimit i))
-    ⊎ ((depth fs ≤ limit) × NoBare text i e)
-Told text limit a_comma (in_brackets ∷ fs) i e = ((slice_index text i == comma) ≡ false) × ((slice_index text i == right_bracket) ≡ false) × IsWanted text i dues.RightBracket e
-Told text limit a_comma (in_braces es ∷ fs) i e = ((slice_index text i == comma) ≡ false) × ((slice_index text i == right_brace) ≡ false) × IsWanted text i dues.Comma e
+Told text limit (a_part n) fs i e = NoPart text limit n i e
+Told text limit (an_equals n) fs i e = NoEquals text i e
+Told text limit a_value fs i e = NoValue text limit (depth fs) i e
+Told text limit a_comma (in_brackets ∷ fs) i e = NoComma right_bracket dues.RightBracket text i e
+Told text limit a_comma (in_braces es ∷ fs) i e = NoComma right_brace dues.Comma text i e
 Told text limit (a_verdict ev) (in_section es ∷ fs) i e = Crossing es ev e
 Told text limit (a_verdict ev) (in_braces es ∷ fs) i e = Crossing es ev e
-Told text limit (a_header_part n) fs i e =
-    NoKey text i e ⊎ ((s : Part) × (j : ℕ) × IsKey s text i j × (limit ≤ n) × (e ≡ record { kind = kinds.ExceededDepthLimit; span = s.span }))
-Told text limit (a_closing array) fs i e = ((slice_index text i == right_bracket) ≡ false) × IsWanted text i dues.RightBracket e
-Told text limit a_line_end fs i e = (i < length text) × NoLineEnd text i × IsWanted text i dues.Newline e
+Told text limit (a_header_part n) fs i e = NoHeaderPart text limit n i e
+Told text limit (a_closing array) fs i e = NoBracket text i e
+Told text limit a_line_end fs i e = NoNewline text i e
 Told text limit what fs i e = ⊥
 
 -- the fault is one of the table, at a place where something is due
 abbrev pub IsDue : List ℕ → ℕ → Fault → Type 0
-IsDue text limit e = (what : What) × (fs : List Frame) × (i : ℕ) × DueAt text limit what fs i × Told text limit what fs i e
+IsDue text limit e =
+    (what : What) × (fs : List Frame) × (i : ℕ) × DueAt text limit what fs i × Told text limit what fs i e
 
 -- what a text is refused for is told where something is due
 abbrev pub RefusedWhereDue : List ℕ → ℕ → Result (Vec Section Global) (Stop Error) → Type 0
 RefusedWhereDue text limit (Ok found) = Unit {0}
 RefusedWhereDue text limit (Err (stops.Memory e)) = Unit {0}
-RefusedWhereDue text limit (Err (stops.Fault error)) = (fault : Fault) × IsDue text limit fault × Tells text fault (fault_of error)
+RefusedWhereDue text limit (Err (stops.Fault error)) =
+    (fault : Fault) × IsDue text limit fault × Tells text fault (fault_of error)

@@ -1,7 +1,5 @@
-pub mod Undated
 pub mod Due
-pub mod Order
-pub mod Starts
-pub mod Between
+pub mod Places
 pub mod Again
-pub mod Judged
+pub mod Undated
+pub mod code

@@ -1,8 +1,7 @@
 //! Laws of what is read again.
 ghost use Rattle.std.specs.Prelude.{◌≤◌, ℕ, List};
-ghost use Rattle.toml_span_read.specs.Data.{Node};
-ghost use Rattle.toml_span_read.specs.Grammar.{Spells};
-ghost use Rattle.toml_span_read.specs.Lines.{Block, SpellsDocument};
+ghost use Rattle.toml_span_read.specs.Data.{Node, Block};
+ghost use Rattle.toml_span_read.specs.Grammar.{Spells, SpellsDocument};
 ghost use Rattle.toml_span_read_laws.specs.Again.{SpellsAgain, BlocksReadAgain};
 
 /// The text that spells a value spells it again: behind `x = ` it is a document of one assignment, whose key

@@ -1,7 +1,9 @@
 //! Laws of keys.
 ghost use Rattle.std.specs.Prelude.{◌≡◌, ◌≤◌, ℕ, List, length};
 ghost use Rattle.toml_span_read.specs.declared.fault.Fault.{Fault};
-ghost use Rattle.toml_span_read.specs.Keys.{Part, IsKey, NoKey, Dotted, StuckDotted, StuckHeaderKey};
+ghost use Rattle.toml_span_read.specs.Keys.{Part, IsKey, Dotted};
+ghost use Rattle.toml_span_read.specs.Faults.{NoKey};
+ghost use Rattle.toml_span_read.specs.Stuck.{StuckDotted, StuckHeaderKey};
 
 /// At most one key stands at a place.
 pub fn one_key()

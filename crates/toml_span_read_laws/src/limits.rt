@@ -4,7 +4,10 @@ ghost use Rattle.std.specs.Global.{Global};
 ghost use Rattle.toml_span_lex.specs.declared.stop.Stop.{Stop};
 ghost use Rattle.toml_span_tree.specs.declared.error.Error.{Error};
 ghost use Rattle.toml_span_read.specs.declared.section.Section.{Section};
-ghost use Rattle.toml_span_read.specs.Lines.{Block, block, SpellsDocument, ReadsDocument, AreRead};
+ghost use Rattle.toml_span_read.specs.Data.{Block, block};
+ghost use Rattle.toml_span_read.specs.Grammar.{SpellsDocument};
+ghost use Rattle.toml_span_read.specs.Limits.{WithinSections};
+ghost use Rattle.toml_span_read.specs.Stuck.{ReadsDocument, AreRead};
 
 /// A text that spells a document within a limit spells the same document within each greater one.
 pub fn wider_document()
@@ -15,4 +18,10 @@ pub fn wider_document()
 /// memory runs out.
 pub fn read_within_wider()
     ensures { (text : List ℕ) (limit wider : ℕ) (found : Vec Section Global) (result : Result (Vec Section Global) (Stop Error)) → limit ≤ wider → ReadsDocument text limit (Ok found) → ReadsDocument text wider result → AreRead (map block found.items) result }
+{}
+
+/// Every header and every dotted key of the sections that a text spells has at most as many parts as the limit,
+/// and no value is deeper.
+pub fn sections_within_the_limit()
+    ensures { (text : List ℕ) (limit : ℕ) (sections : List Section) → SpellsDocument (map block sections) text limit → WithinSections limit sections }
 {}

@@ -1,15 +1,19 @@
 //! Laws of lines, headers, sections and the document.
-ghost use Rattle.std.specs.Prelude.{◌≡◌, ℕ, Bool, false, List, length, Result, Vec};
+ghost use Rattle.std.specs.Prelude.{◌≡◌, ℕ, Bool, false, List, length, map, Result, Vec};
 ghost use Rattle.std.specs.Global.{Global};
 ghost use Rattle.toml_span_lex.specs.declared.stop.Stop.{Stop};
 ghost use Rattle.toml_span_tree.specs.declared.error.Error.{Error};
 ghost use Rattle.toml_span_read.specs.declared.section.Section.{Section};
 ghost use Rattle.toml_span_lex.specs.Bytes.{is_blank, MaximalRun};
 ghost use Rattle.toml_span_read.specs.declared.fault.Fault.{Fault};
-ghost use Rattle.toml_span_read.specs.Gaps.{MaximalGap, begins_gap};
+ghost use Rattle.toml_span_read.specs.Gaps.{MaximalGap, begins_gap, BlankLines, BehindLines};
 ghost use Rattle.toml_span_read.specs.Keys.{Part};
-ghost use Rattle.toml_span_read_laws.specs.Order.{BlocksAscend};
-ghost use Rattle.toml_span_read.specs.Lines.{Block, SpellsDocument, ReadsDocument, AreRead, StuckDocument, BlankLines, BehindLines, SpellsHeader, StuckHeader, StuckEvent, StuckTail};
+ghost use Rattle.toml_span_read.specs.Places.{SectionsInside};
+ghost use Rattle.toml_span_read_laws.specs.Places.{BlocksAscend};
+ghost use Rattle.toml_span_read.specs.Data.{Block, block};
+ghost use Rattle.toml_span_read.specs.Grammar.{SpellsDocument, SpellsHeader};
+ghost use Rattle.toml_span_read.specs.Stuck.{ReadsDocument, AreRead, StuckDocument, StuckHeader, StuckEvent};
+ghost use Rattle.toml_span_read.specs.Faults.{StuckTail};
 
 /// A text spells at most one document.
 pub fn one_document()
@@ -45,6 +49,11 @@ pub fn blank_lines()
 /// The headers, the keys and the values that a text spells stand one behind the other.
 pub fn document_ascends()
     ensures { (text : List ℕ) (limit : ℕ) (blocks : List Block) → SpellsDocument blocks text limit → BlocksAscend blocks 0 (length text) }
+{}
+
+/// Their keys and headers stand inside the text, those of inline tables too.
+pub fn sections_inside_the_text()
+    ensures { (text : List ℕ) (limit : ℕ) (sections : List Section) → SpellsDocument (map block sections) text limit → SectionsInside (length text) sections }
 {}
 
 /// Where a line or a header is due and none stands, one fault does: of an assignment, of the rest of its line,

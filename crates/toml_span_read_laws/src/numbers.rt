@@ -4,7 +4,9 @@ ghost use Rattle.toml_span_lex.specs.declared.stop.Stop.{Stop};
 ghost use Rattle.toml_span_tree.specs.Node.{Scalar};
 ghost use Rattle.toml_span_read.specs.declared.value.ValKind.{ValKind};
 ghost use Rattle.toml_span_read.specs.declared.fault.Fault.{Fault};
-ghost use Rattle.toml_span_read.specs.Numbers.{IsNumber, NoNumber, NumberGives, IsReadAs};
+ghost use Rattle.toml_span_read.specs.Numbers.{IsNumber};
+ghost use Rattle.toml_span_read.specs.Faults.{NoNumber};
+ghost use Rattle.toml_span_read.specs.code.Numbers.{NumberGives, IsReadAs};
 
 /// Where the literal of a number stands, no fault of a number does.
 pub fn number_or_fault()

@@ -1,8 +1,9 @@
 //! Laws of where headers, keys, arrays and inline tables start.
 ghost use Rattle.std.specs.Prelude.{ℕ, List};
 ghost use Rattle.std.specs.List.Sorted.{IsStrictlyIncreasing};
-ghost use Rattle.toml_span_read.specs.Lines.{Block, SpellsDocument};
-ghost use Rattle.toml_span_read_laws.specs.Starts.{block_key_starts, block_starts};
+ghost use Rattle.toml_span_read.specs.Data.{Block};
+ghost use Rattle.toml_span_read.specs.Grammar.{SpellsDocument};
+ghost use Rattle.toml_span_read_laws.specs.Places.{block_key_starts, block_starts};
 
 /// The keys of a document, parts of headers and those in inline tables among them, start each behind the
 /// one before it: no two start at one place.

@@ -4,8 +4,8 @@ ghost use Rattle.std.specs.Cow.{cow_str_bytes, IsBorrowedStr};
 ghost use Rattle.toml_span_lex.specs.declared.span.Span.{Span};
 ghost use Rattle.toml_span_lex.specs.Strings.{IsString, IsEmptyOnOneLine, HasChange};
 ghost use Rattle.toml_span_read.specs.declared.wanted.StringToken.{StringToken};
-ghost use Rattle.toml_span_read_laws.specs.Between.{CutsContent};
-ghost use Rattle.toml_span_read.specs.Wanted.{StringReads};
+ghost use Rattle.toml_span_read_laws.specs.Places.{CutsContent};
+ghost use Rattle.toml_span_read.specs.code.Wanted.{StringReads};
 
 /// The span of a string or of a quoted key, other than the empty one on one line, is what stands between its
 /// quotes.

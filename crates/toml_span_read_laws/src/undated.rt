@@ -1,9 +1,8 @@
 //! Laws of the grammar without dates.
 ghost use Rattle.std.specs.Prelude.{◌≡◌, ◌==◌, ℕ, false, List, slice_index};
 ghost use Rattle.toml_span_lex.specs.Bytes.{colon};
-ghost use Rattle.toml_span_read.specs.Data.{Node};
-ghost use Rattle.toml_span_read.specs.Grammar.{Spells};
-ghost use Rattle.toml_span_read.specs.Lines.{Block, SpellsDocument};
+ghost use Rattle.toml_span_read.specs.Data.{Node, Block};
+ghost use Rattle.toml_span_read.specs.Grammar.{Spells, SpellsDocument};
 ghost use Rattle.toml_span_read_laws.specs.Undated.{SpellsUndated, SpellsUndatedDocument};
 
 /// A value that is spelled without dates, where no colon is behind it, is spelled with them.

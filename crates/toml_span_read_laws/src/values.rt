@@ -6,8 +6,9 @@ ghost use Rattle.toml_span_read.specs.declared.fault.Fault.{Fault};
 ghost use Rattle.toml_span_read.specs.Data.{Node};
 ghost use Rattle.toml_span_read.specs.Grammar.{Spells};
 ghost use Rattle.toml_span_read.specs.Limits.{Within};
-ghost use Rattle.toml_span_read.specs.Spans.{Inside};
-ghost use Rattle.toml_span_read.specs.Stuck.{StuckValue, ValueGives, IsReadAs};
+ghost use Rattle.toml_span_read.specs.Places.{Inside};
+ghost use Rattle.toml_span_read.specs.Stuck.{StuckValue};
+ghost use Rattle.toml_span_read.specs.code.Values.{ValueGives, IsReadAs};
 
 /// At most one value is spelled at a place.
 pub fn one_value()

@@ -3,7 +3,7 @@ use Rattle.std.proofs.Common.{◌≡◌, ℕ, true, List, length, None, ◌∙�
 use Rattle.toml_span_tree.specs.declared.value.Value.{Value}
 use Rattle.toml_span_tree.specs.Value.{view, is_whole}
 use Rattle.toml_span_tree.specs.Node.{Node}
-use Rattle.toml_span_read.specs.Lines.{Block}
+use Rattle.toml_span_read.specs.Data.{Block}
 use Rattle.toml_span_claims.specs.Claims.{claims}
 use Rattle.toml_span_claims.specs.Flat.{flat, Shows}
 use Rattle.toml_span_claims.specs.Ordered.{IsOrdered}

@@ -13,8 +13,8 @@ use Rattle.toml_span_tree.specs.Value.{view, inner_of, span_of, integer_in, is_t
 use Rattle.toml_span_tree.proofs.PointerLaws.{pointed-is}
 use Rattle.toml_span_tree.proofs.Values.{view_is}
 use Rattle.toml_span_typed.specs.Reads.{read_integer, or_out_of, unsigned}
-use Rattle.toml_span_read.specs.Faults.{IsLineInfo}
-use Rattle.toml_span_read.specs.Lines.{Block}
+use Rattle.toml_span_read.specs.Places.{IsLineInfo}
+use Rattle.toml_span_read.specs.Data.{Block}
 use Rattle.toml_span_claims.specs.Claims.{claims}
 use Rattle.toml_span_claims.specs.Flat.{flat, Shows}
 use Rattle.toml_span_assembly.specs.Parsing.{IsTree, IsRefusal}

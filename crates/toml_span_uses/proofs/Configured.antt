@@ -14,11 +14,9 @@ use Rattle.toml_span_typed.specs.Reads.{Gives, read_boolean, result_map, read_st
 use Rattle.toml_span_typed.specs.TableHelper.{State, Opens, Refuses, Requires, Tries}
 use Rattle.toml_span_typed.specs.declared.de_helpers.table_helper.Unfinished.TheVariants as unfinished
 use Rattle.toml_span_claims.specs.Ordered.{IsOrdered}
-use Rattle.toml_span_assembly.specs.Parsing.{IsTree}
-use Rattle.toml_span_assembly.specs.Roots.{IsRoot}
-use Rattle.toml_span.specs.Document.{IsDocument}
+use Rattle.toml_span_assembly.specs.Parsing.{IsTree, IsRoot}
+use Rattle.toml_span.specs.Document.{IsDocument, IsValueOf}
 use Rattle.toml_span.specs.Helpers.{HasNoKeyBut, except, left_over}
-use Rattle.toml_span.specs.Parts.{IsValueOf}
 use Rattle.toml_span.proofs.Fields.{ends-ok, ends-faults}
 use Rattle.toml_span_uses.specs.Fields.{IsField, IsStopped, errors_in, number, optional_field, required_field, whole}
 use Rattle.toml_span_uses.specs.Settings.{NoSettings, names, errors_of}

@@ -17,11 +17,9 @@ use Rattle.toml_span_typed.specs.TableHelper.{State, Opens, Requires, Tries, fre
 use Rattle.toml_span_claims.specs.Claims.{claims}
 use Rattle.toml_span_claims.specs.Flat.{flat}
 use Rattle.toml_span_claims.specs.Ordered.{IsOrdered}
-use Rattle.toml_span_assembly.specs.Parsing.{IsTree}
-use Rattle.toml_span_assembly.specs.Roots.{IsRoot}
-use Rattle.toml_span.specs.Document.{IsDocument}
+use Rattle.toml_span_assembly.specs.Parsing.{IsTree, IsRoot}
+use Rattle.toml_span.specs.Document.{IsDocument, IsValueOf, part, without_key}
 use Rattle.toml_span.specs.Helpers.{IsOver, ReadsPart, except}
-use Rattle.toml_span.specs.Parts.{IsValueOf, part, without_key}
 use Rattle.toml_span.proofs.Fields.{opens-over, required-at, required-over, tried-at, tried-over}
 use Rattle.toml_span_uses.proofs.Conclusions.{number-shape}
 use Rattle.toml_span_uses.specs.Fields.{IsField, NoPort, errors_in, face, inner_with, number, optional_field, read_or, required_field, whole}

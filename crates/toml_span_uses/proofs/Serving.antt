@@ -17,11 +17,9 @@ use Rattle.toml_span_typed.specs.TableHelper.{State, Opens, Refuses, Requires, f
 use Rattle.toml_span_typed.specs.declared.de_helpers.table_helper.Unfinished.{Unfinished}
 use Rattle.toml_span_typed.specs.declared.de_helpers.table_helper.Unfinished.TheVariants as unfinished
 use Rattle.toml_span_claims.specs.Ordered.{IsOrdered}
-use Rattle.toml_span_assembly.specs.Parsing.{IsTree}
-use Rattle.toml_span_assembly.specs.Roots.{IsRoot}
-use Rattle.toml_span.specs.Document.{IsDocument}
+use Rattle.toml_span_assembly.specs.Parsing.{IsTree, IsRoot}
+use Rattle.toml_span.specs.Document.{IsDocument, IsValueOf, part, without_key}
 use Rattle.toml_span.specs.Helpers.{IsOver, ReadsPart, HasNoKeyBut, except, left_over}
-use Rattle.toml_span.specs.Parts.{IsValueOf, part, without_key}
 use Rattle.toml_span.proofs.Fields.{ends-ok, ends-faults, required-at, required-over}
 use Rattle.toml_span_uses.specs.Fields.{IsField, IsStopped, errors_in, number, whole}
 use Rattle.toml_span_uses.specs.Servers.{AreServers, ListErrors, NoServers, ReadsList, ServerReads, lacks, list_reads, number_or, port_in, server_errors}

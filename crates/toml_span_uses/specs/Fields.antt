@@ -9,7 +9,7 @@ use Rattle.toml_span_tree.specs.Node.{Node, node, Inner, taken, scalar, array, t
 use Rattle.toml_span_tree.specs.Path.{Path, Place, Shape, shape_taken, shape_scalar, shape_array, shape_table, key}
 use Rattle.toml_span_typed.specs.Faults.{Faults, all, one}
 use Rattle.toml_span_typed.specs.Reads.{read_integer, result_map, unsigned}
-use Rattle.toml_span_read.specs.Faults.{IsLineInfo}
+use Rattle.toml_span_read.specs.Places.{IsLineInfo}
 use Rattle.toml_span_typed.specs.declared.de_helpers.table_helper.Unfinished.{Unfinished}
 use Rattle.toml_span_typed.specs.declared.de_helpers.table_helper.Unfinished.TheVariants as unfinished
 use Rattle.toml_span_assembly.specs.Parsing.{IsRefusal}

@@ -11,9 +11,8 @@ use Rattle.toml_span_typed.specs.Faults.{Faults, all, one}
 use Rattle.toml_span_typed.specs.Reads.{array_reads, refused}
 use Rattle.toml_span_typed.specs.TableHelper.{without}
 use Rattle.toml_span_assembly.specs.Parsing.{IsRefusal}
-use Rattle.toml_span.specs.Document.{IsDocument}
+use Rattle.toml_span.specs.Document.{IsDocument, IsValueOf, part}
 use Rattle.toml_span.specs.Helpers.{HasNoKeyBut, ReadsPart, except, left_over}
-use Rattle.toml_span.specs.Parts.{IsValueOf, part}
 use Rattle.toml_span_uses.specs.Fields.{errors_in, number, whole}
 use Rattle.toml_span_uses.specs.declared.servers.Server.{Server}
 

@@ -11,9 +11,8 @@ use Rattle.toml_span_tree.specs.Path.{Path, Place}
 use Rattle.toml_span_typed.specs.Faults.{Faults, all, one}
 use Rattle.toml_span_typed.specs.Reads.{read_boolean, read_string}
 use Rattle.toml_span_assembly.specs.Parsing.{IsRefusal}
-use Rattle.toml_span.specs.Document.{IsDocument}
+use Rattle.toml_span.specs.Document.{IsDocument, IsValueOf}
 use Rattle.toml_span.specs.Helpers.{HasNoKeyBut, except, left_over}
-use Rattle.toml_span.specs.Parts.{IsValueOf}
 use Rattle.toml_span_uses.specs.Fields.{errors_in, number, optional_field, required_field, whole}
 use Rattle.toml_span_uses.specs.declared.settings.Settings.{Settings}
 

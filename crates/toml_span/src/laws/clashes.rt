@@ -5,9 +5,9 @@ ghost use Rattle.toml_span_claims.specs.declared.claims.Sort.TheVariants.{Assign
 ghost use Rattle.toml_span_claims.specs.Flat.{all_claims, claims_at, decides};
 ghost use Rattle.toml_span_claims.specs.Claims.{Claim, claims};
 ghost use Rattle.toml_span_claims.specs.Clashes.{Told, Resolves, TellsFirst, clash};
-ghost use Rattle.toml_span_read.specs.Lines.{Block, SpellsDocument};
-ghost use Rattle.toml_span.specs.Clashing.{IsFirstPair, IsIn};
-ghost use Rattle.toml_span.specs.Scopes.{ShareScope};
+ghost use Rattle.toml_span_read.specs.Data.{Block};
+ghost use Rattle.toml_span_read.specs.Grammar.{SpellsDocument};
+ghost use Rattle.toml_span.specs.Clashing.{IsFirstPair, IsIn, ShareScope};
 
 /// The clash that is told is that of the first two by their places: the later claim starts before every
 /// other one of a document that clashes with an earlier one of its scope, and its partner before every

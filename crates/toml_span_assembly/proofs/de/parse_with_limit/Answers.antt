@@ -1,6 +1,6 @@
 use Rattle.std.proofs.Common.{map}
 use Rattle.toml_span_read.specs.Borrowed.{sections_written}
-use Rattle.toml_span_read.specs.Lines.{block}
+use Rattle.toml_span_read.specs.Data.{block}
 use Rattle.toml_span_claims.specs.Borrowed.{keys_of}
 use Rattle.toml_span_assembly.proofs.Borrowing.{all_from, tree_borrows}
 use Rattle.toml_span_assembly.proofs.Memory.{keeps-on, keeps-placed}

@@ -1,5 +1,5 @@
 use Rattle.std.proofs.Common.{arith, length}
-use Rattle.toml_span_claims.specs.Machine.{told_by}
+use Rattle.toml_span_claims.specs.code.Machine.{told_by}
 use Rattle.toml_span_claims.proofs.Ordered.{one-each}
 use Rattle.toml_span_claims.proofs.PlaceLemmas.{clash_inside}
 use Rattle.toml_span_assembly.proofs.Refusals.{first-of-halt}

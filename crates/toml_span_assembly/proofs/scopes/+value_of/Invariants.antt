@@ -2,9 +2,10 @@ use Rattle.std.proofs.Common.{ℕ, List, map}
 use Rattle.std.specs.Vec.Iter.{into_iter_items}
 use Rattle.toml_span_read.specs.Borrowed.{assignments_written, joined, written}
 use Rattle.toml_span_read.specs.Keys.{Part}
-use Rattle.toml_span_claims.specs.Borrowed.{AreFrom, AreRight, array_standing, standing}
+use Rattle.toml_span_claims.specs.code.Borrowed.{AreFrom, array_standing, standing}
+use Rattle.toml_span_claims.specs.Borrowed.{AreRight}
 use Rattle.toml_span_read.specs.Data.{event, view, onto, no_items}
-use Rattle.toml_span_read.specs.Inside.{EventsInside, ItemKeysInside}
+use Rattle.toml_span_read.specs.Places.{EventsInside, ItemKeysInside}
 use Rattle.toml_span_assembly.proofs.Assignments.{Placing}
 use Rattle.toml_span_assembly.proofs.Values.{Elements}
 use Rattle.toml_span_assembly.proofs.scopes.+value_of.Given as goal

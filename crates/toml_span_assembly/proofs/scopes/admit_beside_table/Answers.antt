@@ -2,8 +2,8 @@ use Rattle.std.proofs.Common.{sym, ap, ◌∙◌}
 use Rattle.std.specs.Box.{box_value}
 use Rattle.std.specs.Cow.{cow_str_bytes}
 use Rattle.std.specs.Option.{option_copied, option_map}
-use Rattle.toml_span_claims.specs.Machine.{met}
-use Rattle.toml_span_claims.specs.Tree.{held_marks, marks}
+use Rattle.toml_span_claims.specs.code.Machine.{met}
+use Rattle.toml_span_claims.specs.code.Tree.{held_marks, marks}
 use Rattle.toml_span_claims.proofs.Placed.{gives-map}
 use Rattle.toml_span_assembly.proofs.scopes.admit_beside_table.Goals as goal
 

@@ -1,8 +1,8 @@
 use Rattle.std.proofs.Common.{[], ◌∷◌, sym, ap, ◌∙◌}
 use Rattle.std.specs.Cow.{cow_str_bytes}
 use Rattle.std.specs.Option.{option_map}
-use Rattle.toml_span_claims.specs.Machine.{met}
-use Rattle.toml_span_claims.specs.Tree.{closed_marks}
+use Rattle.toml_span_claims.specs.code.Machine.{met}
+use Rattle.toml_span_claims.specs.code.Tree.{closed_marks}
 use Rattle.toml_span_assembly.proofs.Closed.{marks-found}
 use Rattle.toml_span_claims.proofs.KeyMaps.{entry-found, entry-missing}
 use Rattle.toml_span_claims.proofs.Placed.{gives-map}

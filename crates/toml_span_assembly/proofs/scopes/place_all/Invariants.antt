@@ -1,9 +1,10 @@
 use Rattle.std.proofs.Common.{ℕ, List, map}
 use Rattle.toml_span_read.specs.Borrowed.{assignments_written}
 use Rattle.toml_span_read.specs.Keys.{Part}
-use Rattle.toml_span_claims.specs.Borrowed.{AreFrom, AreRight, standing}
+use Rattle.toml_span_claims.specs.code.Borrowed.{AreFrom, standing}
+use Rattle.toml_span_claims.specs.Borrowed.{AreRight}
 use Rattle.toml_span_read.specs.Data.{event}
-use Rattle.toml_span_read.specs.Inside.{EventsInside}
+use Rattle.toml_span_read.specs.Places.{EventsInside}
 use Rattle.toml_span_assembly.proofs.Assignments.{Placing}
 use Rattle.toml_span_assembly.proofs.scopes.place_all.Given as goal
 

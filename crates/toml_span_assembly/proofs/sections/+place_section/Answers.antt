@@ -13,7 +13,7 @@ use Rattle.toml_span_claims.specs.declared.claims.Sort.TheVariants.{Passed}
 use Rattle.toml_span_claims.specs.declared.node.Node.{Node}
 use Rattle.toml_span_claims.specs.declared.node.Node.TheViews.{out-Node}
 use Rattle.toml_span_claims.specs.Claims.{event_claims, header_mark}
-use Rattle.toml_span_claims.specs.Tree.{entries}
+use Rattle.toml_span_claims.specs.code.Tree.{entries}
 use Rattle.toml_span_claims.proofs.Claimed.{marked-roll}
 use Rattle.toml_span_claims.proofs.Placed.{roll-out}
 use Rattle.toml_span_assembly.proofs.Headers.{descended, descended-err, no-latest, parts-below, parts-front, parts-none, parts-some, pass-again, pass-end, pass-lent, pass-vec, section-beside, section-end, section-found, section-free, section-new, section-new-err}

@@ -3,7 +3,7 @@ use Rattle.toml_span_read.specs.Data.{event}
 use Rattle.toml_span_read.specs.Keys.{part}
 use Rattle.toml_span_claims.specs.declared.claims.Sort.TheVariants.{Entry}
 use Rattle.toml_span_claims.specs.Claims.{event_claims, header_mark}
-use Rattle.toml_span_claims.specs.Relative.{opening}
+use Rattle.toml_span_claims.specs.code.Relative.{opening}
 use Rattle.toml_span_claims.proofs.Placed.{err-of}
 use Rattle.toml_span_assembly.proofs.Borrowing.{keeps_pushed}
 use Rattle.toml_span_assembly.proofs.Entries.{reaches-added-err, reaches-pushed}

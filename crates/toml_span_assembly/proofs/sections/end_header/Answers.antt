@@ -4,9 +4,9 @@ use Rattle.toml_span_read.specs.Data.{event}
 use Rattle.toml_span_read.specs.Keys.{part}
 use Rattle.toml_span_claims.specs.declared.claims.Sort.TheVariants.{ArrayOfTables}
 use Rattle.toml_span_claims.specs.Claims.{event_claims, header_mark}
-use Rattle.toml_span_claims.specs.Relative.{adding, one_more}
-use Rattle.toml_span_claims.specs.Placing.{Reaches}
-use Rattle.toml_span_claims.specs.Tree.{IsHeld, IsOpen, counts}
+use Rattle.toml_span_claims.specs.code.Relative.{adding, one_more}
+use Rattle.toml_span_claims.specs.code.Placing.{Reaches}
+use Rattle.toml_span_claims.specs.code.Tree.{IsHeld, IsOpen, counts}
 use Rattle.toml_span_claims.proofs.Claimed.{Marked, marked-roll}
 use Rattle.toml_span_claims.proofs.Placed.{err-of}
 use Rattle.toml_span_assembly.proofs.Borrowing.{keeps_marked, keeps_same}

@@ -1,6 +1,6 @@
 use Rattle.std.proofs.Common.{◌≡◌, false, sym, ◌∙◌}
 use Rattle.std.specs.Prelude.{is_some}
-use Rattle.toml_span_read.specs.Lines.{block}
+use Rattle.toml_span_read.specs.Data.{block}
 use Rattle.toml_span_assembly.proofs.Growth.{grows-clash, grows-more, halt-inside, right-more}
 use Rattle.toml_span_assembly.proofs.sections.grow.Goals as goal
 

@@ -1,6 +1,7 @@
 use Rattle.std.proofs.Common.{◌≡◌, ℕ, List, []}
 use Rattle.toml_span_read.specs.Keys.{Part}
-use Rattle.toml_span_claims.specs.Borrowed.{AreRight, array_standing, boxes_standing, entries_of, table_standing}
+use Rattle.toml_span_claims.specs.Borrowed.{AreRight}
+use Rattle.toml_span_claims.specs.code.Borrowed.{array_standing, boxes_standing, entries_of, table_standing}
 use Rattle.toml_span_claims.proofs.Finishing.{Filled, EntriesFilled}
 use Rattle.std.specs.Vec.Iter.{into_iter_items}
 use Rattle.toml_span_claims.proofs.node.+finish.Given as goal

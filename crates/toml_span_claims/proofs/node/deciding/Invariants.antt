@@ -1,5 +1,5 @@
 use Rattle.std.proofs.Common.{◌≡◌, drop}
-use Rattle.toml_span_claims.specs.Marks.{first_by_header}
+use Rattle.toml_span_claims.specs.code.Marks.{first_by_header}
 use Rattle.toml_span_claims.proofs.node.deciding.Given as goal
 
 abbrev pub invariant-loop-mark : goal.invariant-loop-mark

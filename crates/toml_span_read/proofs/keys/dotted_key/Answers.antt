@@ -1,7 +1,7 @@
 use Rattle.std.proofs.Common.{arith, ◌≡◌, [], ◌∷◌}
 use Rattle.toml_span_read.specs.declared.fault.FaultKind.TheVariants.{ExceededDepthLimit}
 use Rattle.toml_span_read.specs.Faults.{fault_at}
-use Rattle.toml_span_read.specs.Keys.{too_many, dotted_on, onward}
+use Rattle.toml_span_read.specs.Stuck.{too_many, dotted_on, onward}
 use Rattle.toml_span_read.specs.Borrowed.{IsRight, key_written, keys_written}
 use Rattle.toml_span_read.proofs.BorrowLemmas.{all_append, keys_more}
 use Rattle.toml_span_read.proofs.KeyLemmas.{handed_on, one_more, first_fault, part_fault, dotted_first, dotted_more, same_stuck}

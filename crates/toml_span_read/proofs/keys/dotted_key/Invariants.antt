@@ -3,7 +3,8 @@ use Rattle.std.specs.Str.{IsCharBoundary}
 use Rattle.toml_span_read.specs.declared.fault.Fault.{Fault}
 use Rattle.toml_span_lex.specs.Strings.{BorrowsWhereSame}
 use Rattle.toml_span_read.specs.Borrowed.{AreRight, keys_written}
-use Rattle.toml_span_read.specs.Keys.{Part, part, Onward, Dotted, StuckOnward, StuckDotted}
+use Rattle.toml_span_read.specs.Keys.{Part, part, Onward, Dotted}
+use Rattle.toml_span_read.specs.Stuck.{StuckOnward, StuckDotted}
 use Rattle.toml_span_read.proofs.keys.dotted_key.Given as goal
 
 -- whatever is read, or gets stuck, from here on is so from the start on, with the parts before it

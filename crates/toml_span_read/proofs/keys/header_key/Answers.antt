@@ -1,5 +1,6 @@
 use Rattle.std.proofs.Common.{arith}
-use Rattle.toml_span_read.specs.Keys.{part, header_too_many, header_on}
+use Rattle.toml_span_read.specs.Keys.{part}
+use Rattle.toml_span_read.specs.Stuck.{header_too_many, header_on}
 use Rattle.toml_span_read.specs.Borrowed.{IsRight}
 use Rattle.toml_span_read.proofs.BorrowLemmas.{keys_more}
 use Rattle.toml_span_read.proofs.KeyLemmas.{handed_on, one_more, header_fault, header_more, key_placed}

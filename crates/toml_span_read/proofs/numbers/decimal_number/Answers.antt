@@ -1,6 +1,7 @@
 use Rattle.std.proofs.Common.{rules, ◌≡◌, true, false, get_or, inl, inr}
 use Rattle.std.specs.Prelude.{◌==◌}
-use Rattle.toml_span_read.specs.Numbers.{behind_sign, is_negative, is_exponent, magnitude, UnsignedDecimal, NoIntegerPart, NoDecimal, IsOutside, DecimalInteger, IsSigned, no_integer_part, left_in_integer, no_integer_exponent, no_fraction, outside}
+use Rattle.toml_span_read.specs.Numbers.{behind_sign, is_negative, is_exponent, magnitude, UnsignedDecimal, DecimalInteger, IsSigned}
+use Rattle.toml_span_read.specs.Faults.{NoIntegerPart, NoDecimal, IsOutside, no_integer_part, left_in_integer, no_integer_exponent, no_fraction, outside}
 use Rattle.toml_span_read.proofs.NumberLemmas.{run_part, run_stops, stands_alone}
 use Rattle.toml_span_read.proofs.numbers.decimal_number.Goals as goal
 

@@ -1,8 +1,9 @@
 use Rattle.std.proofs.Common.{rules, arith, ◌≡◌, ◌≤◌, ◌<◌, sym, ◌∙◌, true, false, get_or, length}
 use Rattle.std.specs.Prelude.{◌==◌}
 use Rattle.std.proofs.lemmas.Bool.{false≢true}
-use Rattle.toml_span_read.specs.Numbers.{is_digit, underscore_first}
-use Rattle.toml_span_read.proofs.NumberLemmas.{digit_some, digit_none, no_figure, reading_digit, reading_underscore, digits_read, no_digits_inside, no_digits_at_end}
+use Rattle.toml_span_read.specs.Numbers.{is_digit}
+use Rattle.toml_span_read.specs.Faults.{underscore_first}
+use Rattle.toml_span_read.proofs.NumberLemmas.{digit_some, digit_none, no_figure, reading_digit, reading_underscore, digits_read, no_digits_inside, no_digits_at_end, no_keylike_figure}
 use Rattle.toml_span_read.proofs.numbers.digits_end.Goals as goal
 use Rattle.toml_span_read.proofs.numbers.digits_end.Goals.{then-is_some, else-is_some+then-bytes-at-eq95+then-was_digit, else-bytes-at-eq95-via-then-bytes-at-eq95+else-was_digit, else-bytes-at-eq95-via-else-bytes-at-eq95}
 
@@ -46,3 +47,9 @@ returns-else-was_digit-3-clause-gives c =
     let e : c.loop-at.at ≡ c.args.piece.end = search rules in
     rw c.invalid_number-else-was_digit-3.ensures
     (no_digits_at_end _ _ _ _ _ _ (rw e at c.loop-at.invariant) c.if-was_digit-3.false c.requires.end c.requires.last)
+
+pub returns-then-was_digit-3-clause-gives : goal.returns-then-was_digit-3-clause-gives
+returns-then-was_digit-3-clause-gives c =
+    let e : c.loop-at.at ≡ c.args.piece.end = search rules in
+    digits_read _ _ _ _ _ (rw (e, c.if-was_digit-3.true) at c.loop-at.invariant) c.requires.end c.requires.within
+    (no_keylike_figure c.args.radix (get_or c.args.text.now c.args.piece.end 0) c.requires.last)

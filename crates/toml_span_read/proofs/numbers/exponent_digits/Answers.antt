@@ -1,5 +1,5 @@
 use Rattle.std.proofs.Common.{rules, ◌≡◌, refl}
-use Rattle.toml_span_read.specs.Numbers.{NoExponentDigits, no_exponent_digits, left_in_exponent}
+use Rattle.toml_span_read.specs.Faults.{NoExponentDigits, no_exponent_digits, left_in_exponent}
 use Rattle.toml_span_read.proofs.numbers.exponent_digits.Goals as goal
 
 pub returns-in_err-digits_end-clause-gives : goal.returns-in_err-digits_end-clause-gives

@@ -1,7 +1,8 @@
 use Rattle.std.proofs.Common.{rules, arith, ◌≡◌, ◌+◌, ◌<◌, ◌∙◌, true, false, sym, get_or}
 use Rattle.std.specs.Prelude.{◌==◌}
 use Rattle.toml_span_lex.specs.Bytes.{is_keylike}
-use Rattle.toml_span_read.specs.Numbers.{behind_sign, letter_last}
+use Rattle.toml_span_read.specs.Numbers.{behind_sign}
+use Rattle.toml_span_read.specs.Faults.{letter_last}
 use Rattle.toml_span_read.proofs.Places.{behind_byte}
 use Rattle.toml_span_read.proofs.NumberLemmas.{run_stops, behind_minus, behind_either, exponent_in_run, exponent_behind_plus, and_none_left, and_none_right}
 use Rattle.toml_span_read.proofs.numbers.exponent_end.Goals as goal

@@ -1,6 +1,7 @@
 use Rattle.std.proofs.Common.{rules, ◌≡◌, ◌+◌, ◌<◌, true, false, get_or}
 use Rattle.toml_span_lex.specs.Bytes.{is_keylike}
-use Rattle.toml_span_read.specs.Numbers.{NoFraction, is_exponent, dot_alone, no_fraction_digits, left_in_fraction}
+use Rattle.toml_span_read.specs.Faults.{NoFraction, dot_alone, no_fraction_digits, left_in_fraction}
+use Rattle.toml_span_read.specs.Numbers.{is_exponent}
 use Rattle.toml_span_read.proofs.Places.{behind_byte}
 use Rattle.toml_span_read.proofs.NumberLemmas.{run_stops, run_part, fraction_exponent}
 use Rattle.toml_span_read.proofs.numbers.fraction_end.Goals as goal

@@ -1,6 +1,7 @@
 use Rattle.std.proofs.Common.{rules, arith, ◌≡◌, ◌+◌, true, false, get_or}
 use Rattle.std.specs.Prelude.{◌==◌}
-use Rattle.toml_span_read.specs.Numbers.{is_digit, no_integer_digits, zero_before, zero_underscore_before}
+use Rattle.toml_span_read.specs.Numbers.{is_digit}
+use Rattle.toml_span_read.specs.Faults.{no_integer_digits, zero_before, zero_underscore_before}
 use Rattle.toml_span_read.proofs.NumberLemmas.{figure_digit}
 use Rattle.toml_span_read.proofs.numbers.integer_part.Goals as goal
 use Rattle.toml_span_read.proofs.numbers.integer_part.Goals.{then-as_bytes-from-eq95, else-as_bytes-from-eq95}

@@ -1,7 +1,8 @@
 use Rattle.std.proofs.Common.{rules, ◌≡◌, ◌+◌, ◌<◌, true, false, get_or, is_some, refl}
 use Rattle.std.specs.Prelude.{◌==◌}
 use Rattle.toml_span_lex.specs.Bytes.{is_keylike}
-use Rattle.toml_span_read.specs.Numbers.{Run, radix_at, plus_alone, plus_before_minus}
+use Rattle.toml_span_read.specs.Faults.{Run, plus_alone, plus_before_minus}
+use Rattle.toml_span_read.specs.Numbers.{radix_at}
 use Rattle.toml_span_read.proofs.Places.{behind_byte, run_some}
 use Rattle.toml_span_read.proofs.NumberLemmas.{run_stops, number_plain, number_behind_plus, plus_prefix, no_some, or_first}
 use Rattle.toml_span_read.proofs.numbers.number.Goals as goal

@@ -1,5 +1,6 @@
 use Rattle.std.proofs.Common.{rules, ◌≡◌, ◌+◌}
-use Rattle.toml_span_read.specs.Numbers.{Digits, NoRadixInteger, no_radix_digits, left_in_radix}
+use Rattle.toml_span_read.specs.Numbers.{Digits}
+use Rattle.toml_span_read.specs.Faults.{NoRadixInteger, no_radix_digits, left_in_radix}
 use Rattle.toml_span_read.proofs.NumberLemmas.{radix_result}
 use Rattle.toml_span_read.proofs.numbers.radix_integer.Goals as goal
 

@@ -1,6 +1,6 @@
 use Rattle.std.proofs.Common.{rules, arith, ◌≡◌, ◌+◌, ◌<◌, true, false, get_or}
 use Rattle.toml_span_lex.specs.Bytes.{is_keylike}
-use Rattle.toml_span_read.specs.Numbers.{special_dot_alone, special_dot}
+use Rattle.toml_span_read.specs.Faults.{special_dot_alone, special_dot}
 use Rattle.toml_span_read.proofs.Places.{behind_byte}
 use Rattle.toml_span_read.proofs.NumberLemmas.{run_stops}
 use Rattle.toml_span_read.proofs.numbers.special_dot.Goals as goal

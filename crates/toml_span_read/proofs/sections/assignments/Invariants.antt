@@ -2,7 +2,7 @@ use Rattle.std.proofs.Common.{ℕ, ◌≤◌, ◌-◌, length, map}
 use Rattle.std.specs.Str.{IsCharBoundary}
 use Rattle.toml_span_read.specs.Borrowed.{AreRight, assignments_written}
 use Rattle.toml_span_read.specs.Data.{event}
-use Rattle.toml_span_read.specs.Earlier.{Knows}
+use Rattle.toml_span_read.specs.code.Earlier.{Knows}
 use Rattle.toml_span_read.specs.Gaps.{MaximalGap}
 use Rattle.toml_span_read.specs.Limits.{WithinEvents}
 use Rattle.toml_span_read.proofs.LineLemmas.{WholeLines, StuckOn}

@@ -4,7 +4,7 @@ use Rattle.toml_span_read.specs.declared.fault.Fault.{Fault}
 use Rattle.toml_span_read.specs.Data.{Items, Pairs, view, event, onto, pairs_onto}
 use Rattle.toml_span_read.specs.Borrowed.{AreRight, joined, written, assignments_written}
 use Rattle.toml_span_read.specs.Limits.{WithinItems, WithinPairs}
-use Rattle.toml_span_read.specs.Earlier.{Knows}
+use Rattle.toml_span_read.specs.code.Earlier.{Knows}
 use Rattle.toml_span_read.specs.Grammar.{SpellsItems, SpellsPairs}
 use Rattle.toml_span_read.specs.Stuck.{StuckItems, StuckPairs}
 use Rattle.toml_span_read.proofs.values.+read.Given as goal

@@ -1,5 +1,5 @@
 use Rattle.std.proofs.Common.{◌≡◌, true, false, rules, arith, get_or}
-use Rattle.toml_span_read.specs.Stuck.{begins_bare}
+use Rattle.toml_span_read.specs.Faults.{begins_bare}
 use Rattle.toml_span_read.proofs.BorrowLemmas.{scalar_right}
 use Rattle.toml_span_read.proofs.KeyLemmas.{handed_on}
 use Rattle.toml_span_read.proofs.ValueMade.{no_value_stuck, deep_stuck, bare_begins, bare_stuck, bare_made}

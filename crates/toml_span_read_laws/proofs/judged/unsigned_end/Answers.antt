@@ -3,7 +3,8 @@ use Rattle.std.specs.Prelude.{◌==◌, slice_range}
 use Rattle.toml_span_lex.specs.Bytes.{is_keylike}
 use Rattle.toml_span_tree.specs.Node.{integer, float, finite}
 use Rattle.toml_span_tree.specs.Value.{float_value}
-use Rattle.toml_span_read.specs.Numbers.{RadixInteger, DecimalInteger, FloatLiteral, cleaned, SpecialGives, radix_at, goes_on}
+use Rattle.toml_span_read.specs.Numbers.{RadixInteger, DecimalInteger, FloatLiteral, cleaned, radix_at, goes_on}
+use Rattle.toml_span_read.specs.code.Numbers.{SpecialGives}
 use Rattle.toml_span_read.proofs.NumberLemmas.{run_stops, stands_alone, is_special, special_number, not_special}
 use Rattle.toml_span_read_laws.proofs.judged.unsigned_end.Goals as goal
 

@@ -1,5 +1,5 @@
 use Rattle.std.proofs.Common.{map}
-use Rattle.toml_span_read.specs.Lines.{block}
+use Rattle.toml_span_read.specs.Data.{block}
 use Rattle.toml_span_read_laws.proofs.LineLaws.{document_read}
 use Rattle.toml_span_read_laws.proofs.ValueLaws.{value_unique, value_excluded}
 use Rattle.toml_span_read_laws.proofs.WiderDocument.{document_wider}

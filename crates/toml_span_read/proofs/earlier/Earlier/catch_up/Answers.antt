@@ -1,5 +1,5 @@
 use Rattle.std.proofs.Common.{refl, sym}
-use Rattle.toml_span_read.specs.Earlier.{holds}
+use Rattle.toml_span_read.specs.code.Earlier.{holds}
 use Rattle.toml_span_read.proofs.EarlierKnows.{tells_init, tells_next, knows_caught}
 use Rattle.toml_span_read.proofs.earlier.Earlier.catch_up.Goals as goal
 

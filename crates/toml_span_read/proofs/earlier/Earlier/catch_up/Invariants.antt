@@ -1,5 +1,5 @@
 use Rattle.std.proofs.Common.{◌≡◌, ℕ, List, map, take}
-use Rattle.toml_span_read.specs.Earlier.{TellsEarliest, holds}
+use Rattle.toml_span_read.specs.code.Earlier.{TellsEarliest, holds}
 use Rattle.toml_span_read.specs.Data.{event}
 use Rattle.toml_span_read.proofs.earlier.Earlier.catch_up.Given as goal
 

@@ -1,7 +1,7 @@
 use Rattle.std.proofs.Common.{arith, map, Some, None, refl, sym}
 use Rattle.toml_span_read.specs.Data.{event}
 use Rattle.toml_span_read.specs.Keys.{part}
-use Rattle.toml_span_read.specs.Earlier.{holds}
+use Rattle.toml_span_read.specs.code.Earlier.{holds}
 use Rattle.toml_span_read.proofs.EarlierKnows.{length_parts, clear_short, clear_found, crossing_found, knows_more, tells_all, finds_same}
 use Rattle.toml_span_read.proofs.earlier.Earlier.fault.Goals as goal
 

@@ -1,16 +1,35 @@
--- Where headers, keys, arrays and inline tables start, in the order of the text.
-use Rattle.std.specs.Prelude.{ℕ, List, [], ◌∷◌, ◌++◌}
+-- Where headers, keys, values and their brackets stand: one behind the other, and between the quotes of a string.
+use Rattle.std.specs.Prelude.{◌≡◌, ℕ, ◌≤◌, Bool, List, [], ◌∷◌, ◌++◌, slice_index}
 use Rattle.toml_span_lex.specs.declared.span.Span.{Span}
-use Rattle.toml_span_read.specs.Data.{Node, node, Inner, scalar, array, inline, Items, no_items, item, Pairs, no_pairs, pair, Event}
+use Rattle.toml_span_lex.specs.Strings.{ContentFrom, IsContent, content_end}
+use Rattle.toml_span_read.specs.Data.{Event, Block, Node, node, Inner, scalar, array, inline, Items, no_items, item}
+use Rattle.toml_span_read.specs.Data.{Pairs, no_pairs, pair}
+use Rattle.toml_span_read.specs.Places.{Ascend, Inside}
 use Rattle.toml_span_read.specs.Keys.{Part}
-use Rattle.toml_span_read.specs.Lines.{Block}
+
+-- ---- one behind the other
+
+-- from i to j stand these assignments, each behind the one before it: the parts of its key ascend, and its value stands
+-- behind them
+abbrev pub EventsAscend : List Event → ℕ → ℕ → Type 0
+EventsAscend [] i j = i ≤ j
+EventsAscend (ev ∷ evs) i j =
+    (i ≤ ev.extent.start) × (a : ℕ) × Ascend ev.parts ev.extent.start a × Inside ev.value a ev.extent.end
+    × EventsAscend evs ev.extent.end j
+
+-- from i to j stand these sections, each behind the one before it, and in each its header and then its assignments
+abbrev pub BlocksAscend : List Block → ℕ → ℕ → Type 0
+BlocksAscend [] i j = i ≤ j
+BlocksAscend (b ∷ bs) i j =
+    (i ≤ b.header_span.start) × Ascend b.header b.header_span.start b.header_span.end
+    × EventsAscend b.events b.header_span.end b.extent.end × BlocksAscend bs b.extent.end j
+
+-- ---- where keys start
 
 -- of the parts of a key
 abbrev pub part_starts : List Part → List ℕ
 part_starts [] = []
 part_starts (p ∷ ps) = p.span.start ∷ part_starts ps
-
--- ---- keys
 
 -- of the parts of the keys in a value, at every nesting
 abbrev mutual
@@ -40,9 +59,10 @@ abbrev pub block_key_starts : List Block → List ℕ
 block_key_starts [] = []
 block_key_starts (b ∷ bs) = part_starts b.header ++ (event_key_starts b.events ++ block_key_starts bs)
 
--- ---- keys and brackets
+-- ---- where keys and brackets start
 
--- of the arrays, the inline tables and the parts of keys in a value, and of the value itself where it is an array or an inline table
+-- of the arrays, the inline tables and the parts of keys in a value, and of the value itself where it is an array or an
+-- inline table
 abbrev mutual
   pub starts : Node → List ℕ
   starts (node k span) = inner_starts k span
@@ -74,3 +94,13 @@ header_starts (p ∷ ps) span = span.start ∷ part_starts (p ∷ ps)
 abbrev pub block_starts : List Block → List ℕ
 block_starts [] = []
 block_starts (b ∷ bs) = header_starts b.header b.header_span ++ (event_starts b.events ++ block_starts bs)
+
+-- ---- between the quotes of a string
+
+-- The span is all that stands between the quotes of the string from i to j, but for a line end right behind three
+-- opening quotes, and the value is what it stands for.
+pub record CutsContent (text : List ℕ) (i j : ℕ) (span : Span) (value : List ℕ) (multi : Bool) : Type 0 where
+  pub begins : ContentFrom multi text i span.start
+  pub forward : span.start ≤ span.end
+  pub ends : span.end ≡ content_end multi j
+  pub stands_for : IsContent (slice_index text i) multi text span.start value span.end j

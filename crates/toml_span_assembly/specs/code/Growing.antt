@@ -1,26 +1,32 @@
 -- What the sections that are read so far make, whatever sections follow.
-use Rattle.std.specs.Prelude.{◌≡◌, ℕ, List, [], ◌++◌, map, length, IfSome, IfNone, Option, Some, None, Result, Ok, Err}
+use Rattle.std.specs.Prelude.{◌≡◌, ⊤, ℕ, List, [], ◌++◌, map, length, Result, Ok, Err, Option, Some, None, IfNone}
+use Rattle.std.specs.Prelude.{IfSome}
 use Rattle.toml_span_lex.specs.declared.stop.Stop.{Stop}
 use Rattle.toml_span_lex.specs.declared.stop.Stop.TheVariants as stops
-use Rattle.toml_span_read.specs.Borrowed.{AreRight as AreRightRead, sections_written}
-use Rattle.toml_span_read.specs.Inside.{IsInside}
+use Rattle.toml_span_tree.specs.declared.error.Error.{Error}
+use Rattle.toml_span_read.specs.Data.{Block, block}
+use Rattle.toml_span_read.specs.Places.{IsInside}
 use Rattle.toml_span_read.specs.Keys.{Part}
-use Rattle.toml_span_read.specs.Lines.{Block, SpellsDocument, StuckDocument, block}
-use Rattle.toml_span_read.specs.declared.fault.Fault.{Fault}
+use Rattle.toml_span_read.specs.Borrowed.{AreRight as AreRightRead, sections_written}
+use Rattle.toml_span_read.specs.Grammar.{SpellsDocument}
 use Rattle.toml_span_read.specs.declared.section.Section.{Section}
-use Rattle.toml_span_claims.specs.declared.claims.Clash.{Clash}
+use Rattle.toml_span_read.specs.Stuck.{StuckDocument}
+use Rattle.toml_span_read.specs.declared.fault.Fault.{Fault}
 use Rattle.toml_span_claims.specs.declared.claims.Halt.{Halt}
 use Rattle.toml_span_claims.specs.declared.node.Node.{Node}
-use Rattle.toml_span_claims.specs.declared.node.Node.TheViews.{out-Node}
-use Rattle.toml_span_claims.specs.Borrowed.{AreFrom, AreRight, standing}
-use Rattle.toml_span_claims.specs.Claims.{event_claims, claims_behind, claims, head_of}
-use Rattle.toml_span_claims.specs.Clashes.{TellsFirst}
-use Rattle.toml_span_claims.specs.Machine.{nothing, told, put_all, told_by}
+use Rattle.toml_span_claims.specs.Claims.{event_claims, head_of, claims_behind, claims}
+use Rattle.toml_span_claims.specs.code.Placing.{Places, AreSections}
+use Rattle.toml_span_claims.specs.code.Relative.{section_at, grown}
+use Rattle.toml_span_claims.specs.code.Tree.{counts, cells, IsScope}
+use Rattle.toml_span_claims.specs.code.Machine.{nothing, told, put_all, told_by}
 use Rattle.toml_span_claims.specs.Paths.{entries_at, opened_by}
-use Rattle.toml_span_claims.specs.Placing.{AreSections, Places}
-use Rattle.toml_span_claims.specs.Relative.{section_at, grown}
-use Rattle.toml_span_claims.specs.Tree.{cells, counts, IsScope}
+use Rattle.toml_span_claims.specs.declared.claims.Clash.{Clash}
+use Rattle.toml_span_claims.specs.Clashes.{TellsFirst}
+use Rattle.toml_span_claims.specs.Borrowed.{AreRight}
+use Rattle.toml_span_claims.specs.code.Borrowed.{standing, AreFrom}
+use Rattle.toml_span_claims.specs.declared.node.Node.TheViews.{out-Node}
 use Rattle.toml_span_assembly.specs.declared.sections.Grown.{Grown}
+use Rattle.toml_span_assembly.specs.Parsing.{IsClashOf}
 
 -- a section placed from the root on
 abbrev pub Placed : Block → Node → Node → Result (Unit {0}) Halt → Type 0
@@ -71,3 +77,8 @@ abbrev pub GrownGives : List ℕ → ℕ → Result Grown (Stop Fault) → Type 
 GrownGives text limit (Ok g) = IsGrown text limit g
 GrownGives text limit (Err (stops.Memory e)) = Unit {0}
 GrownGives text limit (Err (stops.Fault e)) = StuckDocument text limit e
+
+-- of sections that were read only a clash is told
+abbrev pub IsClashStop : List Block → List ℕ → Stop Error → Type 0
+IsClashStop blocks text (stops.Memory e) = ⊤
+IsClashStop blocks text (stops.Fault error) = IsClashOf blocks text error

@@ -1,43 +1,44 @@
 -- What the functions that place claims give.
-use Rattle.std.specs.Prelude.{◌≡◌, ⊤, ◌⊎◌, false, ℕ, List, [], ◌∷◌, Option, Some, None, option_map, Result, Ok, Err}
+use Rattle.std.specs.Prelude.{◌≡◌, ⊤, ℕ, ◌⊎◌, false, List, [], ◌∷◌, Result, Ok, Err, Option, Some, None, option_map}
 use Rattle.std.specs.BTreeMap.{BTreeMap}
-use Rattle.std.specs.Global.{Box, Vec}
 use Rattle.std.specs.Cmp.Lexicographic.{slice_cmp}
 use Rattle.std.specs.Cow.{cow_str_bytes}
-use Rattle.std.specs.List.{AllZip}
 use Rattle.std.specs.List.Sorted.{IsStrictlySortedBy}
 use Rattle.std.specs.Map.{keys_of}
 use Rattle.std.specs.Ordering.{nat_cmp}
+use Rattle.std.specs.Global.{Vec, Box}
 use Rattle.std.specs.declared.alloc.AllocError.{AllocError}
-use Rattle.toml_span_lex.specs.declared.key.Key.{Key}
+use Rattle.std.specs.List.{AllZip}
 use Rattle.toml_span_lex.specs.declared.span.Span.{Span}
-use Rattle.toml_span_tree.specs.Node as tree
-use Rattle.toml_span_tree.specs.Path.{Step, Path, Place, reached, place_of as tree_place}
+use Rattle.toml_span_lex.specs.declared.key.Key.{Key}
+use Rattle.toml_span_tree.specs.Path.{Path, Step, place_of as tree_place, Place, reached}
 use Rattle.toml_span_tree.specs.Value.{view, inner_view, inner_of as tree_inner}
 use Rattle.toml_span_tree.specs.declared.value.Value.{Value}
+use Rattle.toml_span_tree.specs.Node as tree
 use Rattle.toml_span_tree.specs.declared.value.ValueInner.TheVariants.{Table as table_inner}
-use Rattle.toml_span_read.specs.Data.{Node as Read}
-use Rattle.toml_span_read.specs.Earlier.{span_of}
-use Rattle.toml_span_read.specs.Lines.{Block}
+use Rattle.toml_span_read.specs.Data.{Node as Read, span_of, Block}
+use Rattle.toml_span_claims.specs.declared.claims.Halt.{Halt}
+use Rattle.toml_span_claims.specs.declared.node.Node.{Node}
+use Rattle.toml_span_claims.specs.Claims.{Claims, value_claims, value_shape, inner_of, shape_of, claims}
+use Rattle.toml_span_claims.specs.code.Machine.{Gives, told, put_all, nothing, show_all, Cell, State, told_by}
+use Rattle.toml_span_claims.specs.code.Tree.{entries, cells, counts, marks, IsScope, IsChild, IsHeld, Sound}
+use Rattle.toml_span_claims.specs.code.Tree.{value_shows}
 use Rattle.toml_span_claims.specs.declared.claims.Mark.{Mark}
+use Rattle.toml_span_claims.specs.code.Marks.{remember, deciding}
 use Rattle.toml_span_claims.specs.declared.claims.Sort.{Sort}
 use Rattle.toml_span_claims.specs.declared.claims.Sort.TheVariants.{Section, Entry}
-use Rattle.toml_span_claims.specs.declared.claims.Halt.{Halt}
-use Rattle.toml_span_claims.specs.declared.claims.Halt.TheVariants.{Memory, Clash}
-use Rattle.toml_span_claims.specs.declared.node.Node.{Node}
+use Rattle.toml_span_claims.specs.Ordered.{IsOrdered, HoldsOrdered}
 use Rattle.toml_span_claims.specs.declared.node.Node.TheViews.{out-Node}
-use Rattle.toml_span_claims.specs.Claims.{Claims, value_claims, value_shape, inner_of, shape_of, claims}
+use Rattle.toml_span_claims.specs.declared.claims.Halt.TheVariants.{Memory, Clash}
 use Rattle.toml_span_claims.specs.Clashes.{Resolves, TellsFirst}
 use Rattle.toml_span_claims.specs.Flat.{Shows, flat}
-use Rattle.toml_span_claims.specs.Marks.{remember, deciding}
-use Rattle.toml_span_claims.specs.Ordered.{IsOrdered, HoldsOrdered}
-use Rattle.toml_span_claims.specs.Machine.{Cell, State, nothing, Gives, told, told_by, put_all, show_all}
-use Rattle.toml_span_claims.specs.Tree.{marks, entries, cells, counts, value_shows, IsScope, IsChild, IsHeld, Sound}
 
 -- The claims are placed from a node on, which then has so many entries, or else the first clash is told.
-abbrev pub Reaches : (Node → Type 0) → (Node → Type 0) → Node → Node → Result (Unit {0}) Halt → Claims → (Path → ℕ) → Type 0
+abbrev pub Reaches : (Node → Type 0) → (Node → Type 0) → Node → Node → Result (Unit {0}) Halt → Claims → (Path → ℕ)
+    → Type 0
 Reaches Before After old new r cs entries =
-    Before old → Gives r (told (cells old) cs) (λ _. (cells new ≡ put_all (cells old) cs) × (counts new ≡ entries) × After new)
+    Before old
+    → Gives r (told (cells old) cs) (λ _. (cells new ≡ put_all (cells old) cs) × (counts new ≡ entries) × After new)
 
 -- below a table, whose own claims stay
 abbrev pub Places : Node → Node → Result (Unit {0}) Halt → Claims → (Path → ℕ) → Type 0
@@ -49,7 +50,8 @@ Passes old new r cs entries = Reaches IsChild IsHeld old new r cs entries
 
 -- from a table on, which is claimed
 abbrev pub Opening : (Node → Type 0) → Mark → Node → Node → Result (Unit {0}) Halt → Claims → (Path → ℕ) → Type 0
-Opening Before m old new r cs entries = Reaches Before (λ n. IsScope n × (marks n ≡ remember (marks old) m)) old new r cs entries
+Opening Before m old new r cs entries =
+    Reaches Before (λ n. IsScope n × (marks n ≡ remember (marks old) m)) old new r cs entries
 
 -- a node that is claimed for a section, or a table that is claimed for an entry
 abbrev pub Opens : Sort → Node → Type 0
@@ -60,7 +62,8 @@ Opens sort n = Sound n × ((sort ≡ Section) ⊎ ((sort ≡ Entry) × (entries 
 -- the finished value shows what was read, itself and below it what it claims, and its tables are in order
 abbrev pub IsFinished : Read → Value → Type 0
 IsFinished v x =
-    ((at : Option Span) → tree_place (at, view x) ≡ record { shape = value_shape (inner_of v); key_span = at; span = span_of v })
+    ((at : Option Span)
+    → tree_place (at, view x) ≡ record { shape = value_shape (inner_of v); key_span = at; span = span_of v })
     × ((s : Step) (p : Path) → value_shows None (view x) (s ∷ p) ≡ (show_all nothing (value_claims v []) (s ∷ p)).shown)
     × IsOrdered (view x)
 
@@ -75,15 +78,19 @@ place_shown x = option_map (λ d. d.place) x.shown
 -- below it a tree shows what a state shows
 abbrev pub ShowsBelow : tree.Inner → State → Type 0
 ShowsBelow i st =
-    (s : Step) (p : Path) → option_map tree_place (reached (s ∷ p) (None, tree.node i (record { start = 0; end = 0 }))) ≡ place_shown (st (s ∷ p))
+    (s : Step) (p : Path)
+    → option_map tree_place (reached (s ∷ p) (None, tree.node i (record { start = 0; end = 0 })))
+    ≡ place_shown (st (s ∷ p))
 
 -- the same, with what decides, which no header does
 abbrev pub ShowsPlain : tree.Inner → State → Type 0
-ShowsPlain i st = (s : Step) (p : Path) → value_shows None (tree.node i (record { start = 0; end = 0 })) (s ∷ p) ≡ (st (s ∷ p)).shown
+ShowsPlain i st =
+    (s : Step) (p : Path) → value_shows None (tree.node i (record { start = 0; end = 0 })) (s ∷ p) ≡ (st (s ∷ p)).shown
 
 -- what a scope of an inline table, or of an array, gives
 abbrev pub ScopeGives : {A : Type 0} → Result A Halt → (A → tree.Inner) → Claims → Type 0
-ScopeGives r seen cs = Gives r (told nothing cs) (λ x. ShowsPlain (seen x) (show_all nothing cs) × HoldsOrdered (seen x))
+ScopeGives r seen cs =
+    Gives r (told nothing cs) (λ x. ShowsPlain (seen x) (show_all nothing cs) × HoldsOrdered (seen x))
 
 -- ---- finishing
 
@@ -92,7 +99,8 @@ Table = BTreeMap Key Value
 
 -- the names of a table ascend
 abbrev pub NamesAscend : Table → Type 0
-NamesAscend t = IsStrictlySortedBy (λ k l. slice_cmp nat_cmp (cow_str_bytes k.name) (cow_str_bytes l.name)) (keys_of t.entries)
+NamesAscend t =
+    IsStrictlySortedBy (λ k l. slice_cmp nat_cmp (cow_str_bytes k.name) (cow_str_bytes l.name)) (keys_of t.entries)
 
 abbrev pub Array : Type 0
 Array = Vec Value
@@ -129,8 +137,10 @@ abbrev pub AreSections : List Block → Type 0
 AreSections [] = ⊤
 AreSections (b ∷ bs) = (b.header ≡ [] → b.array ≡ false) × AreSections bs
 
--- The tree is given exactly where no two claims clash, shows the flat document, and is in order. Or the first clash is told.
+-- The tree is given exactly where no two claims clash, shows the flat document, and is in order. Or the first clash is
+-- told.
 abbrev pub Assembles : List Block → ℕ → Result Value Halt → Type 0
-Assembles bs length (Ok root) = Resolves [] (claims bs) × Shows (view root) (flat length (claims bs)) × IsOrdered (view root)
+Assembles bs length (Ok root) =
+    Resolves [] (claims bs) × Shows (view root) (flat length (claims bs)) × IsOrdered (view root)
 Assembles bs length (Err (Clash c)) = TellsFirst [] (claims bs) (told_by c)
 Assembles bs length (Err (Memory e)) = ⊤

@@ -1,26 +1,28 @@
 -- What a node of the tree under construction holds, path by path.
-use Rattle.std.specs.Prelude.{◌≡◌, ⊤, ◌⊎◌, ℕ, zero, suc, Bool, true, false, List, [], ◌∷◌, length, Option, Some, None, option_map}
-use Rattle.std.specs.BTreeMap.{BTreeMap}
-use Rattle.std.specs.Box.{box_value}
+use Rattle.std.specs.Prelude.{◌≡◌, ⊤, ℕ, zero, suc, ◌⊎◌, Bool, true, false, List, [], ◌∷◌, length, Option, Some, None}
+use Rattle.std.specs.Prelude.{option_map}
 use Rattle.std.specs.Cow.{cow_str_bytes}
-use Rattle.std.specs.Global.{Box}
-use Rattle.std.specs.Map.{lookup, lookup_entry}
 use Rattle.std.specs.Ordering.{nat_cmp, is_eq}
 use Rattle.std.specs.Cmp.Lexicographic.{slice_cmp}
+use Rattle.std.specs.Box.{box_value}
+use Rattle.std.specs.Map.{lookup, lookup_entry}
+use Rattle.std.specs.BTreeMap.{BTreeMap}
+use Rattle.std.specs.Global.{Box}
 use Rattle.toml_span_lex.specs.declared.key.Key.{Key}
 use Rattle.toml_span_lex.specs.declared.span.Span.{Span}
 use Rattle.toml_span_tree.specs.declared.value.Value.{Value}
+use Rattle.toml_span_tree.specs.Path.{Place, Path, reached, place_of as tree_place, key, position}
 use Rattle.toml_span_tree.specs.Node as tree
-use Rattle.toml_span_tree.specs.Path.{Path, key, position, Place, reached, place_of as tree_place}
-use Rattle.toml_span_tree.specs.Value.{view, span_of}
+use Rattle.toml_span_tree.specs.Value.{span_of, view}
 use Rattle.toml_span_claims.specs.declared.claims.Mark.{Mark}
-use Rattle.toml_span_claims.specs.declared.claims.Sort.TheVariants.{ArrayOfTables, Entry, Assigned}
-use Rattle.toml_span_claims.specs.declared.claims.Sort.{Sort}
 use Rattle.toml_span_claims.specs.declared.node.Node.{Node}
 use Rattle.toml_span_claims.specs.declared.node.Node.TheViews.{out-Node}
-use Rattle.toml_span_claims.specs.Claims.{pair_mark, place_of}
-use Rattle.toml_span_claims.specs.Marks.{by_header, deciding}
-use Rattle.toml_span_claims.specs.Machine.{Cell, no_cell, Decided, State}
+use Rattle.toml_span_claims.specs.Claims.{place_of, pair_mark}
+use Rattle.toml_span_claims.specs.Flat.{by_header}
+use Rattle.toml_span_claims.specs.code.Machine.{Decided, State, no_cell, Cell}
+use Rattle.toml_span_claims.specs.declared.claims.Sort.TheVariants.{Assigned, ArrayOfTables, Entry}
+use Rattle.toml_span_claims.specs.code.Marks.{deciding}
+use Rattle.toml_span_claims.specs.declared.claims.Sort.{Sort}
 use Rattle.toml_span_claims.specs.Ordered.{IsOrdered}
 
 -- the key is of this name

@@ -1,13 +1,14 @@
 -- What headers and assignments claim, seen from the node at which they start.
-use Rattle.std.specs.Prelude.{ℕ, zero, suc, List, [], ◌∷◌, if◌then◌else◌}
+use Rattle.std.specs.Prelude.{ℕ, zero, suc, if◌then◌else◌, List, [], ◌∷◌}
 use Rattle.toml_span_tree.specs.Path.{Step, key, position, Path}
 use Rattle.toml_span_read.specs.Data.{Node}
 use Rattle.toml_span_read.specs.Keys.{Part}
+use Rattle.toml_span_claims.specs.Claims.{Claim, Claims, no_claims, claimed, scope, assigned, dotted, value_claims}
+use Rattle.toml_span_claims.specs.Claims.{header_claim, array_claims}
 use Rattle.toml_span_claims.specs.declared.claims.Sort.{Sort}
 use Rattle.toml_span_claims.specs.declared.claims.Sort.TheVariants.{Passed, Section, ArrayOfTables, Entry}
 use Rattle.toml_span_claims.specs.declared.claims.Head.{Head}
-use Rattle.toml_span_claims.specs.Claims.{Claim, Claims, no_claims, claimed, scope, assigned, dotted, header_claim, array_claims, value_claims}
-use Rattle.toml_span_claims.specs.Machine.{graft}
+use Rattle.toml_span_claims.specs.code.Machine.{graft}
 
 -- a claim below a step, and all claims below it
 abbrev pub step_down : Step → Claim → Claim
@@ -58,7 +59,8 @@ unfoldable pub section_at : (Path → ℕ) → Head → List Part → Claims →
 section_at e h [] tail = tail
 section_at e h (k ∷ []) tail = under (key k.name) (ending h k tail (e (key k.name ∷ [])))
 section_at e h (k ∷ l ∷ more) tail =
-    under (key k.name) (entered (e (key k.name ∷ [])) (λ q. e (key k.name ∷ q)) (λ f. opening h Passed k (section_at f h (l ∷ more) tail)))
+    under (key k.name)
+    (entered (e (key k.name ∷ [])) (λ q. e (key k.name ∷ q)) (λ f. opening h Passed k (section_at f h (l ∷ more) tail)))
 
 -- from a node that the header passes through
 abbrev pub passing : Head → Part → List Part → Claims → (Path → ℕ) → Claims

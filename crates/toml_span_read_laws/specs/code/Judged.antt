@@ -1,21 +1,26 @@
 -- What stands at a place of a text: a form, or what is wrong where it is due.
-use Rattle.std.specs.Prelude.{◌≡◌, ℕ, ◌+◌, ◌⊎◌, true, ◌||◌, ◌==◌, List, slice_index, Option, Some, None, Result, Ok, Err}
+use Rattle.std.specs.Prelude.{◌≡◌, ℕ, ◌+◌, ◌⊎◌, true, ◌||◌, ◌==◌, List, slice_index, Result, Ok, Err, Option, Some}
+use Rattle.std.specs.Prelude.{None}
 use Rattle.std.specs.Str.{IsCharBoundary}
-use Rattle.toml_span_lex.specs.Bytes.{is_blank, is_keylike, MaximalRun}
+use Rattle.toml_span_lex.specs.Bytes.{is_blank, is_keylike, MaximalRun, equals, plus, right_brace, right_bracket}
 use Rattle.toml_span_lex.specs.Laws.{SomethingStands}
 use Rattle.toml_span_tree.specs.Node.{Scalar}
 use Rattle.toml_span_tree.specs.declared.date.DateText.{DateText}
 use Rattle.toml_span_read.specs.declared.fault.Fault.{Fault}
+use Rattle.toml_span_read.specs.Numbers.{IsNumber, radix_at}
+use Rattle.toml_span_read.specs.Faults.{NoRadixInteger, NoDecimal, NoNumber}
+use Rattle.toml_span_read.specs.code.Gaps.{Further, DotGives, BehindGives, SignGives, EqualsGives, TailGives}
 use Rattle.toml_span_read.specs.declared.gaps.Behind.{Behind}
-use Rattle.toml_span_read.specs.Gaps.{Further, MaximalGap, DotGives, BehindGives, SignGives, EqualsGives, TailGives}
-use Rattle.toml_span_read.specs.Dates.{begins_date, DateGives}
-use Rattle.toml_span_read.specs.Numbers.{IsNumber, NoNumber, NoRadixInteger, NoDecimal, radix_at}
+use Rattle.toml_span_read.specs.Gaps.{MaximalGap}
+use Rattle.toml_span_read.specs.Dates.{begins_date}
+use Rattle.toml_span_read.specs.code.Dates.{DateGives}
 
 -- the number whose run is from a to b, behind its plus, if it has one, at i
 abbrev pub UnsignedStands : List ℕ → ℕ → ℕ → ℕ → Result ℕ Fault → Type 0
 UnsignedStands text i a b (Ok j) = (s : Scalar) × IsNumber s text a j
 UnsignedStands text i a b (Err fault) =
-    ((radix : ℕ) × (radix_at text a ≡ Some radix) × NoRadixInteger radix text (a + 2) b fault) ⊎ ((radix_at text a ≡ None) × NoDecimal text i a b fault)
+    ((radix : ℕ) × (radix_at text a ≡ Some radix) × NoRadixInteger radix text (a + 2) b fault)
+    ⊎ ((radix_at text a ≡ None) × NoDecimal text i a b fault)
 
 -- the literal of a number, or the fault of none
 abbrev pub NumberStands : List ℕ → ℕ → Result ℕ Fault → Type 0
@@ -34,10 +39,11 @@ pub record Judged (text : List ℕ) (i : ℕ) : Type 0 where
   pub blank : (j : ℕ) × MaximalRun is_blank text i j × IsCharBoundary text j
   pub run : (j : ℕ) × MaximalRun is_keylike text i j × IsCharBoundary text j
   pub dot : (found : Option ℕ) × DotGives text i found
-  pub element : (found : Behind) × BehindGives 93 text i found
-  pub pair : (found : Behind) × BehindGives 125 text i found
-  pub sign : (found : Result ℕ ℕ) × SignGives 61 text i found
+  pub element : (found : Behind) × BehindGives right_bracket text i found
+  pub pair : (found : Behind) × BehindGives right_brace text i found
+  pub sign : (found : Result ℕ ℕ) × SignGives equals text i found
   pub equals : (found : Result ℕ ℕ) × EqualsGives text i found
   pub tail : (found : Result ℕ ℕ) × TailGives text i found
   pub date : begins_date text i ≡ true → (found : Result (DateText × ℕ) Fault) × DateGives text i found
-  pub number : (is_keylike (slice_index text i) || slice_index text i == 43) ≡ true → (found : Result ℕ Fault) × NumberStands text i found × EndsFurther text i found
+  pub number : (is_keylike (slice_index text i) || slice_index text i == plus) ≡ true
+      → (found : Result ℕ Fault) × NumberStands text i found × EndsFurther text i found

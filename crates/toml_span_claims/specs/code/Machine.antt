@@ -1,14 +1,16 @@
 -- What the tree under construction keeps of the claims so far, path by path, and what it tells.
-use Rattle.std.specs.Prelude.{◌≡◌, ⊤, ◌||◌, not, Bool, if◌then◌else◌, ℕ, List, [], ◌∷◌, Option, Some, None, option_map, Result, Ok, Err, string_bytes}
-use Rattle.toml_span_tree.specs.Path.{Path, Step, Place}
+use Rattle.std.specs.Prelude.{◌≡◌, ⊤, ℕ, Bool, not, ◌||◌, if◌then◌else◌, List, [], ◌∷◌, Result, Ok, Err, Option, Some}
+use Rattle.std.specs.Prelude.{None, option_map, string_bytes}
+use Rattle.toml_span_tree.specs.Path.{Place, Path, Step}
 use Rattle.toml_span_claims.specs.declared.claims.Mark.{Mark}
+use Rattle.toml_span_claims.specs.Claims.{Claim, Claims, no_claims, claimed, scope}
+use Rattle.toml_span_claims.specs.Flat.{by_header}
+use Rattle.toml_span_claims.specs.code.Marks.{remember}
+use Rattle.toml_span_claims.specs.Paths.{same_path, same_step}
+use Rattle.toml_span_claims.specs.Clashes.{partner, Told, named, or_else}
 use Rattle.toml_span_claims.specs.declared.claims.Clash as code
 use Rattle.toml_span_claims.specs.declared.claims.Halt.{Halt}
 use Rattle.toml_span_claims.specs.declared.claims.Halt.TheVariants.{Memory, Clash}
-use Rattle.toml_span_claims.specs.Paths.{same_step, same_path}
-use Rattle.toml_span_claims.specs.Claims.{Claim, Claims, no_claims, claimed, scope}
-use Rattle.toml_span_claims.specs.Clashes.{or_else, partner, Told, named}
-use Rattle.toml_span_claims.specs.Marks.{by_header, remember}
 
 -- what a path shows so far: whether a header decides, and what stands there
 pub record Decided : Type 0 where

@@ -1,12 +1,16 @@
 -- What a node of the tree under construction keeps of the claims on it.
-use Rattle.std.specs.Prelude.{◌≡◌, ⊤, ℕ, List, [], ◌∷◌, ◌++◌, Bool, true, false, if◌then◌else◌, Option, Some, None, nat_eq, string_bytes}
+use Rattle.std.specs.Prelude.{◌≡◌, ⊤, ℕ, Bool, true, nat_eq, if◌then◌else◌, List, [], ◌∷◌, ◌++◌, Option, Some, None}
+use Rattle.std.specs.Prelude.{string_bytes}
 use Rattle.std.specs.List.{list_any}
+use Rattle.toml_span_read.specs.Places.{IsInside}
 use Rattle.toml_span_claims.specs.declared.claims.Sort.{Sort}
-use Rattle.toml_span_claims.specs.declared.claims.Sort.TheVariants.{Passed, Section, ArrayOfTables, Entry, Dotted, Assigned}
+use Rattle.toml_span_claims.specs.declared.claims.Sort.TheVariants.{Passed, Section, ArrayOfTables, Entry, Dotted}
+use Rattle.toml_span_claims.specs.declared.claims.Sort.TheVariants.{Assigned}
 use Rattle.toml_span_claims.specs.declared.claims.Mark.{Mark}
 use Rattle.toml_span_claims.specs.declared.claims.Meeting.{Meeting}
 use Rattle.toml_span_claims.specs.declared.claims.Halt.{Halt}
 use Rattle.toml_span_claims.specs.declared.claims.Halt.TheVariants.{Memory, Clash}
+use Rattle.toml_span_claims.specs.Flat.{by_header}
 use Rattle.toml_span_claims.specs.Clashes.{or_else}
 
 abbrev pub sort_number : Sort → ℕ
@@ -33,11 +37,6 @@ abbrev pub IsMemory : Halt → Type 0
 IsMemory (Memory e) = ⊤
 IsMemory (Clash c) = ⊥
 
-abbrev pub by_header : Sort → Bool
-by_header Dotted = false
-by_header Assigned = false
-by_header _ = true
-
 abbrev pub first_by_header : List Mark → Option Mark
 first_by_header [] = None
 first_by_header (mark ∷ marks) = if by_header mark.sort then Some mark else first_by_header marks
@@ -49,3 +48,12 @@ first (mark ∷ marks) = Some mark
 -- the claim that says where a node stands: that of the first header, or else the first one
 abbrev pub deciding : List Mark → Option Mark
 deciding marks = or_else (first_by_header marks) (first marks)
+
+-- the key of a claim, and of a header's claim its line too
+abbrev pub IsMarkInside : ℕ → Mark → Type 0
+IsMarkInside n mark = IsInside n mark.key × (by_header mark.sort ≡ true → IsInside n mark.line)
+
+-- a clash is told inside the first n bytes
+abbrev pub IsHaltInside : ℕ → Halt → Type 0
+IsHaltInside n (Memory e) = ⊤
+IsHaltInside n (Clash c) = IsInside n c.meeting.place

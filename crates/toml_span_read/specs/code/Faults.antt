@@ -1,0 +1,20 @@
+-- Faults of single functions: a placed one, or what is read.
+use Rattle.std.specs.Prelude.{ℕ, List, Result, Ok, Err}
+use Rattle.toml_span_lex.specs.declared.stop.Stop.{Stop}
+use Rattle.toml_span_lex.specs.declared.stop.Stop.TheVariants as stops
+use Rattle.toml_span_read.specs.declared.fault.Fault.{Fault}
+use Rattle.toml_span_read.specs.Places.{IsPlaced}
+use Rattle.toml_span_read.specs.code.Gaps.{Further}
+
+abbrev pub IsPlacedStop : List ℕ → Stop Fault → Type 0
+IsPlacedStop text (stops.Memory e) = Unit {0}
+IsPlacedStop text (stops.Fault fault) = IsPlaced text fault
+
+-- what is read ends further on, or the fault is placed
+abbrev pub Advances : {A : Type 0} → List ℕ → ℕ → Result (A × ℕ) (Stop Fault) → Type 0
+Advances text i (Ok found) = Further text i found.1
+Advances text i (Err stop) = IsPlacedStop text stop
+
+abbrev pub IsPlacedEnd : {A : Type 0} → List ℕ → Result A (Stop Fault) → Type 0
+IsPlacedEnd text (Ok found) = Unit {0}
+IsPlacedEnd text (Err stop) = IsPlacedStop text stop

@@ -1,0 +1,40 @@
+-- What the functions of gaps and signs give.
+use Rattle.std.specs.Prelude.{◌≡◌, ℕ, ◌<◌, ◌≤◌, false, ◌==◌, List, slice_index, Result, Ok, Err, Option, Some, None}
+use Rattle.std.specs.Str.{IsCharBoundary}
+use Rattle.toml_span_lex.specs.Bytes.{is_blank, MaximalRun, comma, equals}
+use Rattle.toml_span_read.specs.Gaps.{GapPiece, begins_gap, Tail, NoTail, Dot, NoDot, Sign, Closes, Neither, MaximalGap}
+use Rattle.toml_span_read.specs.Gaps.{Equals}
+use Rattle.toml_span_read.specs.declared.gaps.Behind.{Behind}
+use Rattle.toml_span_read.specs.declared.gaps.Behind.TheVariants as behind
+
+-- j is behind i, and a character begins there or the text ends
+pub record Further (text : List ℕ) (i j : ℕ) : Type 0 where
+  pub on : i < j
+  pub boundary : IsCharBoundary text j
+
+abbrev pub GapPieceGives : List ℕ → ℕ → Option ℕ → Type 0
+GapPieceGives text i None = begins_gap text i ≡ false
+GapPieceGives text i (Some j) = GapPiece text i j × Further text i j
+
+abbrev pub TailGives : List ℕ → ℕ → Result ℕ ℕ → Type 0
+TailGives text i (Ok j) = Tail text i j × (i ≤ j) × IsCharBoundary text j
+TailGives text i (Err k) = NoTail text i k × IsCharBoundary text k
+
+abbrev pub DotGives : List ℕ → ℕ → Option ℕ → Type 0
+DotGives text i None = NoDot text i
+DotGives text i (Some j) = Dot text i j × Further text i j
+
+abbrev pub BehindGives : ℕ → List ℕ → ℕ → Behind → Type 0
+BehindGives c text i (behind.Comma j) = Sign comma text i j × Further text i j
+BehindGives c text i (behind.Closed j) = Closes c text i j × Further text i j
+BehindGives c text i (behind.Neither j) = Neither c text i j × IsCharBoundary text j
+
+-- a sign with gaps round it, or where it is due
+abbrev pub SignGives : ℕ → List ℕ → ℕ → Result ℕ ℕ → Type 0
+SignGives c text i (Ok j) = Sign c text i j × Further text i j
+SignGives c text i (Err k) = MaximalGap text i k × ((slice_index text k == c) ≡ false) × IsCharBoundary text k
+
+abbrev pub EqualsGives : List ℕ → ℕ → Result ℕ ℕ → Type 0
+EqualsGives text i (Ok j) = Equals text i j × Further text i j
+EqualsGives text i (Err k) =
+    MaximalRun is_blank text i k × ((slice_index text k == equals) ≡ false) × IsCharBoundary text k

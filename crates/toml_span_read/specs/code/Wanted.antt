@@ -1,0 +1,47 @@
+-- What the functions give that look at a place where another token is due.
+use Rattle.std.specs.Prelude.{ℕ, ◌+◌, ◌<◌, List, Result, Ok, Err}
+use Rattle.std.specs.Cow.{cow_str_bytes}
+use Rattle.toml_span_lex.specs.declared.stop.Stop.{Stop}
+use Rattle.toml_span_lex.specs.declared.stop.Stop.TheVariants as stops
+use Rattle.toml_span_lex.specs.Strings.{IsString, Borrows}
+use Rattle.toml_span_lex.specs.declared.tokens.Error.{Error}
+use Rattle.toml_span_lex.specs.declared.tokens.Error.TheVariants as tokens
+use Rattle.toml_span_read.specs.declared.fault.Found.{Found}
+use Rattle.toml_span_read.specs.declared.fault.Fault.{Fault}
+use Rattle.toml_span_read.specs.Faults.{IsFound, IsTokenFault, IsWanted, IsNoValue}
+use Rattle.toml_span_read.specs.declared.fault.Due.{Due}
+use Rattle.toml_span_read.specs.declared.wanted.StringToken.{StringToken}
+use Rattle.toml_span_read.specs.code.Gaps.{Further}
+
+abbrev pub FoundGives : List ℕ → ℕ → Result (Found × ℕ) (Stop Fault) → Type 0
+FoundGives text i (Ok (found, j)) = IsFound text i j found
+FoundGives text i (Err (stops.Memory e)) = Unit {0}
+FoundGives text i (Err (stops.Fault fault)) = IsTokenFault text i fault
+
+abbrev pub WantedGives : List ℕ → ℕ → Due → Stop Fault → Type 0
+WantedGives text i expected (stops.Memory e) = Unit {0}
+WantedGives text i expected (stops.Fault fault) = IsWanted text i expected fault
+
+abbrev pub NoValueGives : List ℕ → ℕ → Stop Fault → Type 0
+NoValueGives text i (stops.Memory e) = Unit {0}
+NoValueGives text i (stops.Fault fault) = IsNoValue text i fault
+
+-- what reading a string at i gives
+abbrev pub StringReads : List ℕ → ℕ → Result StringToken (Stop Fault) → Type 0
+StringReads text i (Ok token) =
+    (source : List ℕ) × IsString text i token.end token.span source (cow_str_bytes token.content) token.is_multiline
+    × Borrows text i token.end token.span token.content × Further text i token.end
+StringReads text i (Err (stops.Memory e)) = Unit {0}
+StringReads text i (Err (stops.Fault fault)) = IsTokenFault text i fault
+
+-- the places that a token's refusal names are below n
+abbrev pub Bounded : ℕ → Error → Type 0
+Bounded n (tokens.InvalidCharInString at c) = at < n
+Bounded n (tokens.InvalidEscape at c) = at < n
+Bounded n (tokens.InvalidHexEscape at c) = at < n
+Bounded n (tokens.InvalidEscapeValue at len value) = at + len < n
+Bounded n (tokens.NewlineInString at) = at < n
+Bounded n (tokens.Unexpected at c) = at < n
+Bounded n (tokens.UnterminatedString at) = at < n
+Bounded n (tokens.MultilineStringKey start end) = start < n
+Bounded n (tokens.Wanted at expected found) = at < n
