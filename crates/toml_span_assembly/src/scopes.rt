@@ -53,7 +53,8 @@ pub(crate) fn admit_beside_value<'de>(
     mark: Mark,
     key: &Key<'de>,
 ) -> Result<(), Halt>
-    ensures gives { Gives result (met (closed_marks (closed_in (cow_str_bytes key.now.name) values.now)) mark (cow_str_bytes key.now.name)) (λ _. ⊤) }
+    ensures gives { Gives result (met (closed_marks (closed_in (cow_str_bytes key.now.name) values.now)) mark
+        (cow_str_bytes key.now.name)) (λ _. ⊤) }
     ensures placed { (n : ℕ) → IsMarkInside n mark → IfErr result (IsHaltInside n) }
 {
     match values.get_key_value(key) {
@@ -74,7 +75,8 @@ fn admit_beside_table<'de>(
     mark: Mark,
     key: &Key<'de>,
 ) -> Result<(), Halt>
-    ensures gives { Gives result (met (held_marks (child_in (cow_str_bytes key.now.name) tables.now)) mark (cow_str_bytes key.now.name)) (λ _. ⊤) }
+    ensures gives { Gives result (met (held_marks (child_in (cow_str_bytes key.now.name) tables.now)) mark
+        (cow_str_bytes key.now.name)) (λ _. ⊤) }
     ensures placed { (n : ℕ) → IsMarkInside n mark → IfErr result (IsHaltInside n) }
 {
     match tables.get(key) {
@@ -91,9 +93,12 @@ fn assign<'de>(
     value: Result<Value<'de>, Halt>,
     span: Span,
 ) -> Result<(), Halt>
-    ensures gives { (v : Read) → ValueGives value.entry v → span ≡ span_of v → Places node.old node.new result (pair_at [] (part_of key.entry) v) (counts node.old) }
-    ensures placed { (n : ℕ) → IsInside n key.entry.span → IfErr value.entry (IsHaltInside n) → IfErr result (IsHaltInside n) }
-    ensures borrows { (text : List ℕ) → (ps : List Part) → IsFrom text ps (key_written key.entry) → ValueRight text ps value.entry → Keeps text ps node.old node.new result }
+    ensures gives { (v : Read) → ValueGives value.entry v → span ≡ span_of v
+        → Places node.old node.new result (pair_at [] (part_of key.entry) v) (counts node.old) }
+    ensures placed { (n : ℕ) → IsInside n key.entry.span → IfErr value.entry (IsHaltInside n)
+        → IfErr result (IsHaltInside n) }
+    ensures borrows { (text : List ℕ) → (ps : List Part) → IsFrom text ps (key_written key.entry)
+        → ValueRight text ps value.entry → Keeps text ps node.old node.new result }
 {
     let mark = pair_mark(Sort::Assigned, &key, span);
     admit_beside_table(alloc, &node.tables, mark, &key)?;
@@ -124,9 +129,12 @@ fn place_pair<'de>(
     value: Result<Value<'de>, Halt>,
     span: Span,
 ) -> Result<(), Halt>
-    ensures gives { (v : Read) → ValueGives value.entry v → span ≡ span_of v → Places node.old node.new result (pair_at (map part_of inner.now) (part_of last.entry) v) (counts node.old) }
-    ensures placed { (n : ℕ) → PartsInside n (map part_of inner.now) → IsInside n last.entry.span → IfErr value.entry (IsHaltInside n) → IfErr result (IsHaltInside n) }
-    ensures borrows { (text : List ℕ) → (ps : List Part) → AreFrom text ps (keys_written inner.now) → IsFrom text ps (key_written last.entry)
+    ensures gives { (v : Read) → ValueGives value.entry v → span ≡ span_of v
+        → Places node.old node.new result (pair_at (map part_of inner.now) (part_of last.entry) v) (counts node.old) }
+    ensures placed { (n : ℕ) → PartsInside n (map part_of inner.now) → IsInside n last.entry.span
+        → IfErr value.entry (IsHaltInside n) → IfErr result (IsHaltInside n) }
+    ensures borrows { (text : List ℕ) → (ps : List Part) → AreFrom text ps (keys_written inner.now)
+        → IsFrom text ps (key_written last.entry)
         → ValueRight text ps value.entry → Keeps text ps node.old node.new result }
 {
     let [part, rest @ ..] = inner else {
@@ -161,9 +169,13 @@ fn pass_child<'de>(
     value: Result<Value<'de>, Halt>,
     span: Span,
 ) -> Result<(), Halt>
-    ensures gives { (v : Read) → ValueGives value.entry v → span ≡ span_of v → Passes child.old.value child.new.value result (through_pair (part_of part.now) (map part_of rest.now) (part_of last.entry) v) (counts child.old.value) }
-    ensures placed { (n : ℕ) → IsInside n part.now.span → PartsInside n (map part_of rest.now) → IsInside n last.entry.span → IfErr value.entry (IsHaltInside n) → IfErr result (IsHaltInside n) }
-    ensures borrows { (text : List ℕ) → (ps : List Part) → IsFrom text ps (key_written part.now) → AreFrom text ps (keys_written rest.now) → IsFrom text ps (key_written last.entry)
+    ensures gives { (v : Read) → ValueGives value.entry v → span ≡ span_of v
+        → Passes child.old.value child.new.value result (through_pair (part_of part.now) (map part_of rest.now)
+        (part_of last.entry) v) (counts child.old.value) }
+    ensures placed { (n : ℕ) → IsInside n part.now.span → PartsInside n (map part_of rest.now)
+        → IsInside n last.entry.span → IfErr value.entry (IsHaltInside n) → IfErr result (IsHaltInside n) }
+    ensures borrows { (text : List ℕ) → (ps : List Part) → IsFrom text ps (key_written part.now)
+        → AreFrom text ps (keys_written rest.now) → IsFrom text ps (key_written last.entry)
         → ValueRight text ps value.entry → Keeps text ps child.old.value child.new.value result }
 {
     pass_pair(alloc, child.as_mut(), part, rest, last, value, span)
@@ -180,9 +192,13 @@ fn pass_pair<'de>(
     value: Result<Value<'de>, Halt>,
     span: Span,
 ) -> Result<(), Halt>
-    ensures gives { (v : Read) → ValueGives value.entry v → span ≡ span_of v → Passes node.old node.new result (through_pair (part_of part.now) (map part_of rest.now) (part_of last.entry) v) (counts node.old) }
-    ensures placed { (n : ℕ) → IsInside n part.now.span → PartsInside n (map part_of rest.now) → IsInside n last.entry.span → IfErr value.entry (IsHaltInside n) → IfErr result (IsHaltInside n) }
-    ensures borrows { (text : List ℕ) → (ps : List Part) → IsFrom text ps (key_written part.now) → AreFrom text ps (keys_written rest.now) → IsFrom text ps (key_written last.entry)
+    ensures gives { (v : Read) → ValueGives value.entry v → span ≡ span_of v
+        → Passes node.old node.new result (through_pair (part_of part.now) (map part_of rest.now)
+        (part_of last.entry) v) (counts node.old) }
+    ensures placed { (n : ℕ) → IsInside n part.now.span → PartsInside n (map part_of rest.now)
+        → IsInside n last.entry.span → IfErr value.entry (IsHaltInside n) → IfErr result (IsHaltInside n) }
+    ensures borrows { (text : List ℕ) → (ps : List Part) → IsFrom text ps (key_written part.now)
+        → AreFrom text ps (keys_written rest.now) → IsFrom text ps (key_written last.entry)
         → ValueRight text ps value.entry → Keeps text ps node.old node.new result }
 {
     claim(
@@ -199,7 +215,8 @@ fn pass_pair<'de>(
 fn place_one<'de>(alloc: Global, pair: Assignment<'de>, node: &mut Node<'de>) -> Result<(), Halt>
     ensures gives { Places node.old node.new result (assignment_claims (event pair.entry) []) (counts node.old) }
     ensures placed { (n : ℕ) → EventInside n (event pair.entry) → IfErr result (IsHaltInside n) }
-    ensures borrows { (text : List ℕ) → (ps : List Part) → AreFrom text ps (assignment_written pair.entry) → Keeps text ps node.old node.new result }
+    ensures borrows { (text : List ℕ) → (ps : List Part) → AreFrom text ps (assignment_written pair.entry)
+        → Keeps text ps node.old node.new result }
 {
     let Assignment {
         parts: DottedKey { inner, last },
@@ -223,7 +240,8 @@ fn place_pairs<'de>(
 ) -> Result<(), Halt>
     ensures gives { Places node.old node.new result (event_claims (map event pairs.entry.items) []) (counts node.old) }
     ensures placed { (n : ℕ) → EventsInside n (map event pairs.entry.items) → IfErr result (IsHaltInside n) }
-    ensures borrows { (text : List ℕ) → (ps : List Part) → AreFrom text ps (assignments_written pairs.entry.items) → Keeps text ps node.old node.new result }
+    ensures borrows { (text : List ℕ) → (ps : List Part) → AreFrom text ps (assignments_written pairs.entry.items)
+        → Keeps text ps node.old node.new result }
 {
     for pair in pairs {
         place_one(alloc, pair, node)?;
@@ -239,7 +257,8 @@ pub(crate) fn place_all<'de>(
 ) -> Result<(), Halt>
     ensures gives { Places node.old node.new result (event_claims (map event pairs.entry.items) []) (counts node.old) }
     ensures placed { (n : ℕ) → EventsInside n (map event pairs.entry.items) → IfErr result (IsHaltInside n) }
-    ensures borrows { (text : List ℕ) → (ps : List Part) → AreFrom text ps (assignments_written pairs.entry.items) → Keeps text ps node.old node.new result }
+    ensures borrows { (text : List ℕ) → (ps : List Part) → AreFrom text ps (assignments_written pairs.entry.items)
+        → Keeps text ps node.old node.new result }
 {
     if pairs.len() <= FEW {
         return place_pairs(alloc, pairs, node);
@@ -253,9 +272,11 @@ pub(crate) fn place_all<'de>(
 /// The table of an inline table.
 #[cycle(value_of)]
 fn table_of<'de>(alloc: Global, pairs: Vec<Assignment<'de>>) -> Result<Table<'de>, Halt>
-    ensures gives { ScopeGives result (λ t. inner_view (inners.Table t)) (event_claims (map event pairs.entry.items) []) }
+    ensures gives { ScopeGives result (λ t. inner_view (inners.Table t))
+        (event_claims (map event pairs.entry.items) []) }
     ensures placed { (n : ℕ) → EventsInside n (map event pairs.entry.items) → IfErr result (IsHaltInside n) }
-    ensures borrows { (text : List ℕ) → (ps : List Part) → AreFrom text ps (assignments_written pairs.entry.items) → IfOk result (λ table. AreRight text ps (table_standing table.entries)) }
+    ensures borrows { (text : List ℕ) → (ps : List Part) → AreFrom text ps (assignments_written pairs.entry.items)
+        → IfOk result (λ table. AreRight text ps (table_standing table.entries)) }
 {
     let mut scope = Node::new(alloc);
     place_pairs(alloc, pairs, &mut scope)?;
@@ -265,9 +286,12 @@ fn table_of<'de>(alloc: Global, pairs: Vec<Assignment<'de>>) -> Result<Table<'de
 /// The elements of an array.
 #[cycle(value_of)]
 fn array_of<'de>(alloc: Global, elements: Vec<Val<'de>>) -> Result<Array<'de>, Halt>
-    ensures gives { ScopeGives result (λ xs. inner_view (inners.Array xs)) (item_claims (onto (map view elements.entry.items) no_items) 0 []) }
-    ensures placed { (n : ℕ) → ItemKeysInside n (onto (map view elements.entry.items) no_items) → IfErr result (IsHaltInside n) }
-    ensures borrows { (text : List ℕ) → (ps : List Part) → AreFrom text ps (joined (map written elements.entry.items)) → IfOk result (λ array. AreRight text ps (array_standing array.items)) }
+    ensures gives { ScopeGives result (λ xs. inner_view (inners.Array xs))
+        (item_claims (onto (map view elements.entry.items) no_items) 0 []) }
+    ensures placed { (n : ℕ) → ItemKeysInside n (onto (map view elements.entry.items) no_items)
+        → IfErr result (IsHaltInside n) }
+    ensures borrows { (text : List ℕ) → (ps : List Part) → AreFrom text ps (joined (map written elements.entry.items))
+        → IfOk result (λ array. AreRight text ps (array_standing array.items)) }
 {
     let mut array = Vec::with_capacity(alloc, elements.len())?;
     for element in elements {
@@ -281,7 +305,8 @@ fn array_of<'de>(alloc: Global, elements: Vec<Val<'de>>) -> Result<Array<'de>, H
 fn value_of<'de>(alloc: Global, val: Val<'de>) -> Result<Value<'de>, Halt>
     ensures gives { ValueGives result (view val.entry) }
     ensures placed { (n : ℕ) → KeysInside n (view val.entry) → IfErr result (IsHaltInside n) }
-    ensures borrows { (text : List ℕ) → (ps : List Part) → AreFrom text ps (written val.entry) → ValueRight text ps result }
+    ensures borrows { (text : List ℕ) → (ps : List Part) → AreFrom text ps (written val.entry)
+        → ValueRight text ps result }
 {
     let Val { kind, span } = val;
     let inner = match kind {

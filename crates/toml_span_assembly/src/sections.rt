@@ -60,9 +60,12 @@ fn place_section<'de>(
     head: Head,
     pairs: Vec<Assignment<'de>>,
 ) -> Result<(), Halt>
-    ensures gives { Places node.old node.new result (section_at (counts node.old) head (map part_of parts.now) (event_claims (map event pairs.entry.items) [])) (grown (counts node.old) head (map part_of parts.now)) }
-    ensures placed { (n : ℕ) → PartsInside n (map part_of parts.now) → IsInside n head.line → EventsInside n (map event pairs.entry.items) → IfErr result (IsHaltInside n) }
-    ensures borrows { (text : List ℕ) → (ps : List Part) → AreFrom text ps (keys_written parts.now) → AreFrom text ps (assignments_written pairs.entry.items)
+    ensures gives { Places node.old node.new result (section_at (counts node.old) head (map part_of parts.now)
+        (event_claims (map event pairs.entry.items) [])) (grown (counts node.old) head (map part_of parts.now)) }
+    ensures placed { (n : ℕ) → PartsInside n (map part_of parts.now) → IsInside n head.line
+        → EventsInside n (map event pairs.entry.items) → IfErr result (IsHaltInside n) }
+    ensures borrows { (text : List ℕ) → (ps : List Part) → AreFrom text ps (keys_written parts.now)
+        → AreFrom text ps (assignments_written pairs.entry.items)
         → Keeps text ps node.old node.new result }
 {
     let [part, rest @ ..] = parts else {
@@ -92,9 +95,14 @@ fn pass_child<'de>(
     head: Head,
     pairs: Vec<Assignment<'de>>,
 ) -> Result<(), Halt>
-    ensures gives { Passes child.old.value child.new.value result (through (counts child.old.value) head (part_of part.now) (map part_of rest.now) (event_claims (map event pairs.entry.items) [])) (grown_through (counts child.old.value) head (map part_of rest.now)) }
-    ensures placed { (n : ℕ) → IsInside n part.now.span → PartsInside n (map part_of rest.now) → IsInside n head.line → EventsInside n (map event pairs.entry.items) → IfErr result (IsHaltInside n) }
-    ensures borrows { (text : List ℕ) → (ps : List Part) → IsFrom text ps (key_written part.now) → AreFrom text ps (keys_written rest.now) → AreFrom text ps (assignments_written pairs.entry.items)
+    ensures gives { Passes child.old.value child.new.value result
+        (through (counts child.old.value) head (part_of part.now) (map part_of rest.now)
+        (event_claims (map event pairs.entry.items) [])) (grown_through (counts child.old.value) head
+        (map part_of rest.now)) }
+    ensures placed { (n : ℕ) → IsInside n part.now.span → PartsInside n (map part_of rest.now) → IsInside n head.line
+        → EventsInside n (map event pairs.entry.items) → IfErr result (IsHaltInside n) }
+    ensures borrows { (text : List ℕ) → (ps : List Part) → IsFrom text ps (key_written part.now)
+        → AreFrom text ps (keys_written rest.now) → AreFrom text ps (assignments_written pairs.entry.items)
         → Keeps text ps child.old.value child.new.value result }
 {
     pass_header(alloc, child.as_mut(), part, rest, head, pairs)
@@ -110,9 +118,13 @@ fn pass_header<'de>(
     head: Head,
     pairs: Vec<Assignment<'de>>,
 ) -> Result<(), Halt>
-    ensures gives { Passes node.old node.new result (through (counts node.old) head (part_of part.now) (map part_of rest.now) (event_claims (map event pairs.entry.items) [])) (grown_through (counts node.old) head (map part_of rest.now)) }
-    ensures placed { (n : ℕ) → IsInside n part.now.span → PartsInside n (map part_of rest.now) → IsInside n head.line → EventsInside n (map event pairs.entry.items) → IfErr result (IsHaltInside n) }
-    ensures borrows { (text : List ℕ) → (ps : List Part) → IsFrom text ps (key_written part.now) → AreFrom text ps (keys_written rest.now) → AreFrom text ps (assignments_written pairs.entry.items)
+    ensures gives { Passes node.old node.new result (through (counts node.old) head (part_of part.now)
+        (map part_of rest.now) (event_claims (map event pairs.entry.items) []))
+        (grown_through (counts node.old) head (map part_of rest.now)) }
+    ensures placed { (n : ℕ) → IsInside n part.now.span → PartsInside n (map part_of rest.now) → IsInside n head.line
+        → EventsInside n (map event pairs.entry.items) → IfErr result (IsHaltInside n) }
+    ensures borrows { (text : List ℕ) → (ps : List Part) → IsFrom text ps (key_written part.now)
+        → AreFrom text ps (keys_written rest.now) → AreFrom text ps (assignments_written pairs.entry.items)
         → Keeps text ps node.old node.new result }
 {
     if rest.is_empty() {
@@ -134,9 +146,13 @@ fn descend<'de>(
     head: Head,
     pairs: Vec<Assignment<'de>>,
 ) -> Result<(), Halt>
-    ensures gives { Opening IsScope (claims.header_mark head Passed part.now.span) node.old node.new result (passing head (part_of part.now) (map part_of rest.now) (event_claims (map event pairs.entry.items) []) (counts node.old)) (grown (counts node.old) head (map part_of rest.now)) }
-    ensures placed { (n : ℕ) → IsInside n part.now.span → PartsInside n (map part_of rest.now) → IsInside n head.line → EventsInside n (map event pairs.entry.items) → IfErr result (IsHaltInside n) }
-    ensures borrows { (text : List ℕ) → (ps : List Part) → IsFrom text ps (key_written part.now) → AreFrom text ps (keys_written rest.now) → AreFrom text ps (assignments_written pairs.entry.items)
+    ensures gives { Opening IsScope (claims.header_mark head Passed part.now.span) node.old node.new result
+        (passing head (part_of part.now) (map part_of rest.now) (event_claims (map event pairs.entry.items) [])
+        (counts node.old)) (grown (counts node.old) head (map part_of rest.now)) }
+    ensures placed { (n : ℕ) → IsInside n part.now.span → PartsInside n (map part_of rest.now) → IsInside n head.line
+        → EventsInside n (map event pairs.entry.items) → IfErr result (IsHaltInside n) }
+    ensures borrows { (text : List ℕ) → (ps : List Part) → IsFrom text ps (key_written part.now)
+        → AreFrom text ps (keys_written rest.now) → AreFrom text ps (assignments_written pairs.entry.items)
         → Keeps text ps node.old node.new result }
 {
     claim(
@@ -157,9 +173,12 @@ fn open_table<'de>(
     head: Head,
     pairs: Vec<Assignment<'de>>,
 ) -> Result<(), Halt>
-    ensures gives { Opening (Opens sort) (claims.header_mark head sort part.now.span) node.old node.new result (opening head sort (part_of part.now) (event_claims (map event pairs.entry.items) [])) (counts node.old) }
-    ensures placed { (n : ℕ) → IsInside n part.now.span → IsInside n head.line → EventsInside n (map event pairs.entry.items) → IfErr result (IsHaltInside n) }
-    ensures borrows { (text : List ℕ) → (ps : List Part) → AreFrom text ps (assignments_written pairs.entry.items) → Keeps text ps node.old node.new result }
+    ensures gives { Opening (Opens sort) (claims.header_mark head sort part.now.span) node.old node.new result
+        (opening head sort (part_of part.now) (event_claims (map event pairs.entry.items) [])) (counts node.old) }
+    ensures placed { (n : ℕ) → IsInside n part.now.span → IsInside n head.line
+        → EventsInside n (map event pairs.entry.items) → IfErr result (IsHaltInside n) }
+    ensures borrows { (text : List ℕ) → (ps : List Part) → AreFrom text ps (assignments_written pairs.entry.items)
+        → Keeps text ps node.old node.new result }
 {
     claim(alloc, &mut node.marks, header_mark(head, sort, part), part)?;
     place_all(alloc, pairs, node)
@@ -173,9 +192,13 @@ fn add_entry<'de>(
     head: Head,
     pairs: Vec<Assignment<'de>>,
 ) -> Result<(), Halt>
-    ensures gives { Reaches IsOpen IsHeld node.old node.new result (adding head (part_of part.now) (event_claims (map event pairs.entry.items) []) (counts node.old [])) (one_more (counts node.old)) }
-    ensures placed { (n : ℕ) → IsInside n part.now.span → IsInside n head.line → EventsInside n (map event pairs.entry.items) → IfErr result (IsHaltInside n) }
-    ensures borrows { (text : List ℕ) → (ps : List Part) → AreFrom text ps (assignments_written pairs.entry.items) → Keeps text ps node.old node.new result }
+    ensures gives { Reaches IsOpen IsHeld node.old node.new result
+        (adding head (part_of part.now) (event_claims (map event pairs.entry.items) []) (counts node.old []))
+        (one_more (counts node.old)) }
+    ensures placed { (n : ℕ) → IsInside n part.now.span → IsInside n head.line
+        → EventsInside n (map event pairs.entry.items) → IfErr result (IsHaltInside n) }
+    ensures borrows { (text : List ℕ) → (ps : List Part) → AreFrom text ps (assignments_written pairs.entry.items)
+        → Keeps text ps node.old node.new result }
 {
     let mut entry = Node::new(alloc);
     open_table(alloc, &mut entry, Sort::Entry, part, head, pairs)?;
@@ -191,9 +214,12 @@ fn end_header<'de>(
     head: Head,
     pairs: Vec<Assignment<'de>>,
 ) -> Result<(), Halt>
-    ensures gives { Passes node.old node.new result (ending head (part_of part.now) (event_claims (map event pairs.entry.items) []) (counts node.old [])) (grown_here (counts node.old) head) }
-    ensures placed { (n : ℕ) → IsInside n part.now.span → IsInside n head.line → EventsInside n (map event pairs.entry.items) → IfErr result (IsHaltInside n) }
-    ensures borrows { (text : List ℕ) → (ps : List Part) → AreFrom text ps (assignments_written pairs.entry.items) → Keeps text ps node.old node.new result }
+    ensures gives { Passes node.old node.new result (ending head (part_of part.now)
+        (event_claims (map event pairs.entry.items) []) (counts node.old [])) (grown_here (counts node.old) head) }
+    ensures placed { (n : ℕ) → IsInside n part.now.span → IsInside n head.line
+        → EventsInside n (map event pairs.entry.items) → IfErr result (IsHaltInside n) }
+    ensures borrows { (text : List ℕ) → (ps : List Part) → AreFrom text ps (assignments_written pairs.entry.items)
+        → Keeps text ps node.old node.new result }
 {
     if !head.array {
         return open_table(alloc, node, Sort::Section, part, head, pairs);

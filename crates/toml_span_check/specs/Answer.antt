@@ -1,5 +1,6 @@
 -- What is told of the bytes of a file.
-use Rattle.std.specs.Prelude.{◌≡◌, ◌<◌, ◌≤◌, ◌⊎◌, ℕ, Bool, true, false, IsUtf8, List, [], ◌++◌, length, codes, Option, Some, None}
+use Rattle.std.specs.Prelude.{◌≡◌, ◌<◌, ◌≤◌, ◌⊎◌, ℕ, Bool, true, false, IsUtf8, List, [], ◌++◌, length, codes, Option}
+use Rattle.std.specs.Prelude.{Some, None}
 use Rattle.toml_span_tree.specs.declared.error.Error.{Error}
 use Rattle.toml_span_tree.specs.declared.value.Value.{Value}
 use Rattle.toml_span_tree.specs.Diagnostic.{labels_of}
@@ -53,7 +54,8 @@ abbrev pub not_utf8 : Format → List ℕ → ℕ × List ℕ
 not_utf8 format name = (1, fault_text format (codes "not-utf-8") (codes "the file is no UTF-8") [] name [])
 
 -- The status and the text for the bytes of a file: more than the bound, no text, or a document or none.
-pub record IsAnswer (format : Format) (task : Task) (pointer : List ℕ) (name : List ℕ) (bytes : List ℕ) (answer : ℕ × List ℕ) : Type 0 where
+pub record IsAnswer (format : Format) (task : Task) (pointer : List ℕ) (name : List ℕ) (bytes : List ℕ)
+    (answer : ℕ × List ℕ) : Type 0 where
   pub long : bound < length bytes → answer ≡ too_long format name
   pub no_text : length bytes ≤ bound → ¬ (IsUtf8 bytes) → answer ≡ not_utf8 format name
   pub read : length bytes ≤ bound → IsUtf8 bytes → IsRead format task pointer name bytes answer

@@ -43,14 +43,16 @@ pub data Told (format : Format) (task : Task) (pointer : List ℕ) : List Readin
       → Told format task pointer (rs ++ (name, Err reason) ∷ []) out (errors ++ complaint name reason) 2
 
 -- the files of these names were read in their order, and this is told of them
-pub record Tells (format : Format) (task : Task) (pointer : List ℕ) (names : List (List ℕ)) (old new : Option (List Reading)) (out errors : List ℕ) (status : ℕ) : Type 0 where
+pub record Tells (format : Format) (task : Task) (pointer : List ℕ) (names : List (List ℕ))
+    (old new : Option (List Reading)) (out errors : List ℕ) (status : ℕ) : Type 0 where
   pub readings : List Reading
   pub asked : map (λ r. r.0) readings ≡ names
   pub logged : Logs old new readings
   pub told : Told format task pointer readings out errors status
 
 -- A run: status 3 where a write fails, and 4 without memory. Else all files are looked at, and what is told is written.
-pub record Runs (format : Format) (task : Task) (pointer : List ℕ) (names : List (List ℕ)) (old new : Option (List Reading)) (told told' warned warned' : Option (List ℕ)) (status : ℕ) : Type 0 where
+pub record Runs (format : Format) (task : Task) (pointer : List ℕ) (names : List (List ℕ))
+    (old new : Option (List Reading)) (told told' warned warned' : Option (List ℕ)) (status : ℕ) : Type 0 where
   pub tells : ¬ (status ≡ 3) → ¬ (status ≡ 4) → (out errors : List ℕ)
       × Tells format task pointer names old new out errors status × Appends told told' out
       × Appends warned warned' errors

@@ -225,7 +225,8 @@ pub fn admit(alloc: Global, marks: &[Mark], mark: Mark, key: &Key<'_>) -> Result
 
 /// Keeps a claim on a node, unless it clashes with an earlier one. Of each sort the first one is kept.
 pub fn claim(alloc: Global, marks: &mut Marks, mark: Mark, key: &Key<'_>) -> Result<(), Halt>
-    ensures gives { Gives result (met marks.old.items mark (cow_str_bytes key.now.name)) (λ _. marks.new.items ≡ kept.remember marks.old.items mark) }
+    ensures gives { Gives result (met marks.old.items mark (cow_str_bytes key.now.name))
+        (λ _. marks.new.items ≡ kept.remember marks.old.items mark) }
     ensures placed { (n : ℕ) → IsMarkInside n mark → IfErr result (IsHaltInside n) }
 {
     admit(alloc, marks.as_slice(), mark, key)?;

@@ -92,7 +92,8 @@ fn in_order(table: &Table<'_>)
 #[cycle(finish)]
 pub fn into_table<'de>(tables: Nodes<'de>, mut values: Table<'de>) -> Result<Table<'de>, AllocError>
     ensures finishes { Finishes tables.entry values.entry result }
-    ensures borrows { (text : List ℕ) → (ps : List Part) → AreRight text ps (boxes_standing tables.entry.entries) → AreRight text ps (table_standing values.entry.entries)
+    ensures borrows { (text : List ℕ) → (ps : List Part) → AreRight text ps (boxes_standing tables.entry.entries)
+        → AreRight text ps (table_standing values.entry.entries)
         → IfOk result (λ table. AreRight text ps (table_standing table.entries)) }
     // Where there are no nodes, no memory is wanted.
     ensures bare { tables.entry.entries ≡ [] → IsOk result }
@@ -113,7 +114,8 @@ pub fn into_table<'de>(tables: Nodes<'de>, mut values: Table<'de>) -> Result<Tab
 #[cycle(finish)]
 fn into_value<'de>(node: Node<'de>) -> Result<(Span, Value<'de>), AllocError>
     ensures becomes { Becomes node.entry result }
-    ensures borrows { (text : List ℕ) → (ps : List Part) → AreRight text ps (standing node.entry) → IfOk result (λ found. ((held found.1).0 ≡ false) × AreRight text ps (value_standing found.1)) }
+    ensures borrows { (text : List ℕ) → (ps : List Part) → AreRight text ps (standing node.entry)
+        → IfOk result (λ found. ((held found.1).0 ≡ false) × AreRight text ps (value_standing found.1)) }
 {
     let Node {
         marks,
@@ -137,7 +139,8 @@ fn into_value<'de>(node: Node<'de>) -> Result<(Span, Value<'de>), AllocError>
 #[cycle(finish)]
 fn into_array<'de>(entries: Vec<Node<'de>>) -> Result<Array<'de>, AllocError>
     ensures becomes { EachBecomes entries.entry.items result }
-    ensures borrows { (text : List ℕ) → (ps : List Part) → AreRight text ps (entries_of entries.entry.items) → IfOk result (λ array. AreRight text ps (array_standing array.items)) }
+    ensures borrows { (text : List ℕ) → (ps : List Part) → AreRight text ps (entries_of entries.entry.items)
+        → IfOk result (λ array. AreRight text ps (array_standing array.items)) }
 {
     let mut array = Vec::with_capacity(*entries.allocator(), entries.len())?;
     for entry in entries {

@@ -40,7 +40,8 @@ fn put<'de>(
     inner: &[Key<'de>],
     last: &Key<'de>,
 ) -> Result<(), AllocError>
-    ensures { OnOk result (code.Puts (spec.path (map part inner.now ++ (part last.now ∷ []))) last.now.span (code.holds node.old) (code.holds node.new)) }
+    ensures { OnOk result (code.Puts (spec.path (map part inner.now ++ (part last.now ∷ []))) last.now.span
+        (code.holds node.old) (code.holds node.new)) }
 {
     match inner {
         [] => put_last(alloc, node, last),
@@ -58,7 +59,8 @@ fn put<'de>(
 
 /// Puts a value under a key.
 fn put_last<'de>(alloc: Global, node: &mut Node<'de>, last: &Key<'de>) -> Result<(), AllocError>
-    ensures { OnOk result (code.Puts (cow_str_bytes last.now.name ∷ []) last.now.span (code.holds node.old) (code.holds node.new)) }
+    ensures { OnOk result (code.Puts (cow_str_bytes last.now.name ∷ []) last.now.span (code.holds node.old)
+        (code.holds node.new)) }
 {
     match node.below.get_mut(last) {
         Some(child) => {

@@ -1,5 +1,6 @@
 //! Numbers.
-ghost use Rattle.std.specs.Prelude.{◌≡◌, ℕ, ◌+◌, ◌*◌, ◌<◌, ◌≤◌, ◌||◌, ◌&&◌, ◌==◌, ◌⊎◌, not, true, false, length, slice_index, filter, string_bytes, IfOk, IfSome, Ok};
+ghost use Rattle.std.specs.Prelude.{◌≡◌, ℕ, ◌+◌, ◌*◌, ◌<◌, ◌≤◌, ◌||◌, ◌&&◌, ◌==◌, ◌⊎◌, not, true, false, length};
+ghost use Rattle.std.specs.Prelude.{slice_index, filter, string_bytes, IfOk, IfSome, Ok};
 ghost use Rattle.std.specs.Str.{IsCharBoundary};
 ghost use Rattle.toml_span_lex.specs.Bytes.{is_keylike, MaximalRun, period, underscore, plus};
 ghost use Rattle.std.specs.Char.{is_ascii_digit};

@@ -204,9 +204,11 @@ fn last_end(assignments: &[Assignment<'_>], without: usize) -> usize
 
 /// The section of a header with its assignments.
 fn section_of<'de>(header: Header<'de>, assignments: Vec<Assignment<'de>>) -> Section<'de>
-    ensures within { (limit : ℕ) → length header.entry.parts.items ≤ limit → WithinEvents limit (map event assignments.entry.items) → WithinSection limit result }
+    ensures within { (limit : ℕ) → length header.entry.parts.items ≤ limit
+        → WithinEvents limit (map event assignments.entry.items) → WithinSection limit result }
     ensures gives { block result ≡ block_of header.entry (map event assignments.entry.items) }
-    ensures written { section_written result ≡ keys_written header.entry.parts.items ++ assignments_written assignments.entry.items }
+    ensures written { section_written result ≡ keys_written header.entry.parts.items
+        ++ assignments_written assignments.entry.items }
 {
     let Header {
         parts,
@@ -228,7 +230,8 @@ fn section_of<'de>(header: Header<'de>, assignments: Vec<Assignment<'de>>) -> Se
 
 /// The section of the assignments before the first header, if there are any.
 fn first_section<'de>(alloc: Global, assignments: Vec<Assignment<'de>>) -> Option<Section<'de>>
-    ensures within { (limit : ℕ) → WithinEvents limit (map event assignments.entry.items) → IfSome result (λ section. WithinSection limit section) }
+    ensures within { (limit : ℕ) → WithinEvents limit (map event assignments.entry.items)
+        → IfSome result (λ section. WithinSection limit section) }
     ensures gives { first_blocks result ≡ first_block (map event assignments.entry.items) }
     ensures written { IfSome result (λ section. section_written section ≡ assignments_written assignments.entry.items) }
 {
@@ -331,7 +334,8 @@ pub fn read_sections<'de>(
     ensures placed { RefusedInside text.now result }
     // Memory is wanted only where more than blank lines stand in the text.
     ensures memory { (start : ℕ) × FirstPlace text.now start × KeepsForm text.now start result }
-    // Strings and keys are borrowed exactly where they equal the text at their span. Empty ones on one line are borrowed.
+    // Strings and keys are borrowed exactly where they equal the text at their span. Empty ones on one line are
+    // borrowed.
     ensures borrows { IfOk result (λ found. AreRight text.now (sections_written found.items)) }
 {
     match sections(alloc, text, limit) {

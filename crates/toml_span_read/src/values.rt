@@ -1,5 +1,6 @@
 //! Values.
-ghost use Rattle.std.specs.Prelude.{◌≡◌, ◌+◌, ◌<◌, ◌≤◌, ◌||◌, ◌==◌, ◌⊎◌, ◌++◌, ◌∷◌, [], true, false, length, slice_index, map, IfOk};
+ghost use Rattle.std.specs.Prelude.{◌≡◌, ◌+◌, ◌<◌, ◌≤◌, ◌||◌, ◌==◌, ◌⊎◌, ◌++◌, ◌∷◌, [], true, false, length};
+ghost use Rattle.std.specs.Prelude.{slice_index, map, IfOk};
 ghost use Rattle.std.specs.Str.{IsCharBoundary};
 ghost use Rattle.toml_span_lex.specs.Bytes.{is_keylike, quotation_mark, apostrophe, left_bracket, left_brace};
 ghost use Rattle.toml_span_read.specs.code.Faults.{Advances, IsPlacedStop};
@@ -340,7 +341,8 @@ fn scalar_of<'de>(kind: ValKind<'de>, start: usize, end: usize) -> Val<'de>
 
 /// The array of these elements.
 fn array_of<'de>(items: Vec<Val<'de>>, start: usize, end: usize) -> Val<'de>
-    ensures view { view result ≡ node (array_node (onto (map view items.entry.items) no_items)) (record { start = start; end = end }) }
+    ensures view { view result ≡ node (array_node (onto (map view items.entry.items) no_items))
+        (record { start = start; end = end }) }
     ensures written { written result ≡ joined (map written items.entry.items) }
 {
     let kind = ValKind::Array(items);
@@ -352,7 +354,8 @@ fn array_of<'de>(items: Vec<Val<'de>>, start: usize, end: usize) -> Val<'de>
 
 /// The inline table of these pairs.
 fn inline_of<'de>(pairs: Vec<Assignment<'de>>, start: usize, end: usize) -> Val<'de>
-    ensures view { view result ≡ node (inline_node (pairs_onto (map event pairs.entry.items) no_pairs)) (record { start = start; end = end }) }
+    ensures view { view result ≡ node (inline_node (pairs_onto (map event pairs.entry.items) no_pairs))
+        (record { start = start; end = end }) }
     ensures written { written result ≡ assignments_written pairs.entry.items }
 {
     let kind = ValKind::Inline(pairs);
@@ -369,7 +372,8 @@ pub fn assigned<'de>(
     start: usize,
     end: usize,
 ) -> Assignment<'de>
-    ensures event { event result ≡ record { parts = spec.parts parts.entry; value = view value.entry; extent = record { start = start; end = end } } }
+    ensures event { event result
+        ≡ record { parts = spec.parts parts.entry; value = view value.entry; extent = record { start = start; end = end } } }
     ensures written { assignment_written result ≡ dotted_written parts.entry ++ written value.entry }
 {
     let extent = Span { start, end };

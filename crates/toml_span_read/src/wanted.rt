@@ -1,5 +1,6 @@
 //! What stands where another token is due.
-ghost use Rattle.std.specs.Prelude.{◌≡◌, ◌<◌, ◌≤◌, ◌||◌, ◌==◌, ◌⊎◌, if◌then◌else◌, length, slice_index, false, IfOk, IfSome, Ok};
+ghost use Rattle.std.specs.Prelude.{◌≡◌, ◌<◌, ◌≤◌, ◌||◌, ◌==◌, ◌⊎◌, if◌then◌else◌, length, slice_index, false, IfOk};
+ghost use Rattle.std.specs.Prelude.{IfSome, Ok};
 ghost use Rattle.std.specs.Str.{IsCharBoundary};
 ghost use Rattle.toml_span_lex.specs.Bytes.{quotation_mark, apostrophe};
 ghost use Rattle.toml_span_lex.specs.Strings.{BorrowsWhereSame};

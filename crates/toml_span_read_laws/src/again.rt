@@ -7,11 +7,13 @@ ghost use Rattle.toml_span_read_laws.specs.Again.{SpellsAgain, BlocksReadAgain};
 /// The text that spells a value spells it again: behind `x = ` it is a document of one assignment, whose key
 /// is `x` and whose value is the same, with all its spans moved.
 pub fn spelled_again()
-    ensures { (text : List ℕ) (limit depth i j : ℕ) (v : Node) → 1 ≤ depth → Spells v text limit depth i j → SpellsAgain v text limit i j }
+    ensures { (text : List ℕ) (limit depth i j : ℕ) (v : Node) → 1 ≤ depth → Spells v text limit depth i j
+        → SpellsAgain v text limit i j }
 {}
 
 /// In a document each number, truth value, date, array and inline table, at every nesting, is spelled again by
 /// the text at its span.
 pub fn values_read_again()
-    ensures { (text : List ℕ) (limit : ℕ) (blocks : List Block) → SpellsDocument blocks text limit → BlocksReadAgain text limit blocks }
+    ensures { (text : List ℕ) (limit : ℕ) (blocks : List Block) → SpellsDocument blocks text limit
+        → BlocksReadAgain text limit blocks }
 {}

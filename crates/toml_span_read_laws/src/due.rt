@@ -14,27 +14,32 @@ ghost use Rattle.toml_span_read.specs.Stuck.{StuckDocument, ReadsDocument};
 
 /// Each fault of a document is one that is told where something is due.
 pub fn faults_are_due()
-    ensures { (text : List ℕ) (limit : ℕ) (fault : Fault) → 1 ≤ limit → StuckDocument text limit fault → IsDue text limit fault }
+    ensures { (text : List ℕ) (limit : ℕ) (fault : Fault) → 1 ≤ limit → StuckDocument text limit fault
+        → IsDue text limit fault }
 {}
 
 /// What is told where something is due is a fault of the document.
 pub fn due_faults()
-    ensures { (text : List ℕ) (limit : ℕ) (fault : Fault) → 1 ≤ limit → IsDue text limit fault → StuckDocument text limit fault }
+    ensures { (text : List ℕ) (limit : ℕ) (fault : Fault) → 1 ≤ limit → IsDue text limit fault
+        → StuckDocument text limit fault }
 {}
 
 /// One fault is told of a text, wherever something is due in it.
 pub fn one_due_fault()
-    ensures { (text : List ℕ) (limit : ℕ) (fault other : Fault) → 1 ≤ limit → IsDue text limit fault → IsDue text limit other → fault ≡ other }
+    ensures { (text : List ℕ) (limit : ℕ) (fault other : Fault) → 1 ≤ limit → IsDue text limit fault
+        → IsDue text limit other → fault ≡ other }
 {}
 
 /// Where a text spells a document, nothing is told.
 pub fn document_or_due()
-    ensures { (text : List ℕ) (limit : ℕ) (blocks : List Block) (fault : Fault) → 1 ≤ limit → SpellsDocument blocks text limit → IsDue text limit fault → ⊥ }
+    ensures { (text : List ℕ) (limit : ℕ) (blocks : List Block) (fault : Fault) → 1 ≤ limit
+        → SpellsDocument blocks text limit → IsDue text limit fault → ⊥ }
 {}
 
 /// What a text is refused for is told where something is due.
 pub fn refused_where_due()
-    ensures { (text : List ℕ) (limit : ℕ) (result : Result (Vec Section Global) (Stop Error)) → 1 ≤ limit → ReadsDocument text limit result → RefusedWhereDue text limit result }
+    ensures { (text : List ℕ) (limit : ℕ) (result : Result (Vec Section Global) (Stop Error)) → 1 ≤ limit
+        → ReadsDocument text limit result → RefusedWhereDue text limit result }
 {}
 
 /// A token that stands where another one is due is called as the lexer calls it.

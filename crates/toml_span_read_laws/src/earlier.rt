@@ -6,16 +6,19 @@ ghost use Rattle.toml_span_read.specs.Earlier.{Clear, Crossing};
 
 /// Every key is clear of the earlier values, or crosses one of them.
 pub fn every_key_is_judged()
-    ensures { (earlier : List Event) (next : Event) → Clear earlier next ⊎ ((fault : Fault) × Crossing earlier next fault) }
+    ensures { (earlier : List Event) (next : Event) → Clear earlier next
+        ⊎ ((fault : Fault) × Crossing earlier next fault) }
 {}
 
 /// A key that is clear of the earlier values crosses none of them.
 pub fn clear_or_crossing()
-    ensures { (earlier : List Event) (next : Event) (fault : Fault) → Clear earlier next → Crossing earlier next fault → ⊥ }
+    ensures { (earlier : List Event) (next : Event) (fault : Fault) → Clear earlier next → Crossing earlier next fault
+        → ⊥ }
 {}
 
 /// A key that crosses earlier values has one fault: its span and the value that it names are those of
 /// the outermost part.
 pub fn one_crossing()
-    ensures { (earlier : List Event) (next : Event) (one other : Fault) → Crossing earlier next one → Crossing earlier next other → one ≡ other }
+    ensures { (earlier : List Event) (next : Event) (one other : Fault) → Crossing earlier next one
+        → Crossing earlier next other → one ≡ other }
 {}

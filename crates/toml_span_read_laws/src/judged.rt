@@ -88,7 +88,8 @@ fn number_end(text: &str, at: usize) -> Result<usize, Fault>
 /// Where a bare run or a plus is, the literal of a number stands, or what is wrong where it is due.
 pub fn number_or_stuck(text: &str, at: usize)
     requires { IsCharBoundary text.now at }
-    ensures { (is_keylike (slice_index text.now at) || slice_index text.now at == 43) ≡ true → (found : Result ℕ Fault) × NumberStands text.now at found × EndsFurther text.now at found }
+    ensures { (is_keylike (slice_index text.now at) || slice_index text.now at == 43) ≡ true
+        → (found : Result ℕ Fault) × NumberStands text.now at found × EndsFurther text.now at found }
 {
     let byte = byte_at(text, at);
     if toml_span_lex::bytes::is_keylike(byte) || byte == b'+' {
@@ -99,7 +100,8 @@ pub fn number_or_stuck(text: &str, at: usize)
 /// Where a date begins, the text of one stands, or what is wrong where it is due.
 pub fn date_or_stuck(text: &str, at: usize)
     requires { IsCharBoundary text.now at }
-    ensures { date_spec.begins_date text.now at ≡ true → (found : Result (DateText × ℕ) Fault) × DateGives text.now at found }
+    ensures { date_spec.begins_date text.now at ≡ true → (found : Result (DateText × ℕ) Fault)
+        × DateGives text.now at found }
 {
     if begins_date(text, at) {
         let _ = date(text, at);
@@ -155,21 +157,26 @@ pub fn places_are_judged(text: &str)
 
 /// At each place of a text a dotted key within the limit stands, or one is stuck there.
 pub fn key_or_stuck(text: &str)
-    ensures { (limit i : ℕ) → 1 ≤ limit → IsCharBoundary text.now i → ((j : ℕ) × (parts : List Part) × Dotted parts text.now i j × (length parts ≤ limit)) ⊎ ((fault : Fault) × StuckDotted text.now limit i fault) }
+    ensures { (limit i : ℕ) → 1 ≤ limit → IsCharBoundary text.now i
+        → ((j : ℕ) × (parts : List Part) × Dotted parts text.now i j × (length parts ≤ limit))
+        ⊎ ((fault : Fault) × StuckDotted text.now limit i fault) }
 {
     places_are_judged(text);
 }
 
 /// At each place of a text, at each depth, a value within the limit stands, or one is stuck there.
 pub fn value_or_stuck(text: &str)
-    ensures { (limit depth i : ℕ) → 1 ≤ limit → IsCharBoundary text.now i → ((j : ℕ) × (v : Node) × Spells v text.now limit depth i j) ⊎ ((fault : Fault) × StuckValue text.now limit depth i fault) }
+    ensures { (limit depth i : ℕ) → 1 ≤ limit → IsCharBoundary text.now i
+        → ((j : ℕ) × (v : Node) × Spells v text.now limit depth i j)
+        ⊎ ((fault : Fault) × StuckValue text.now limit depth i fault) }
 {
     places_are_judged(text);
 }
 
 /// Each text spells a document within the limit, or is stuck.
 pub fn document_or_stuck(text: &str)
-    ensures { (limit : ℕ) → 1 ≤ limit → ((blocks : List Block) × SpellsDocument blocks text.now limit) ⊎ ((fault : Fault) × StuckDocument text.now limit fault) }
+    ensures { (limit : ℕ) → 1 ≤ limit → ((blocks : List Block) × SpellsDocument blocks text.now limit)
+        ⊎ ((fault : Fault) × StuckDocument text.now limit fault) }
 {
     places_are_judged(text);
     let _ = first_place(text);

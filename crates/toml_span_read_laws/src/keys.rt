@@ -12,18 +12,23 @@ pub fn one_key()
 
 /// At most one dotted key stands at a place.
 pub fn one_dotted_key()
-    ensures { (text : List ℕ) (i j k : ℕ) (ps qs : List Part) → Dotted ps text i j → Dotted qs text i k → (ps ≡ qs) × (j ≡ k) }
+    ensures { (text : List ℕ) (i j k : ℕ) (ps qs : List Part) → Dotted ps text i j → Dotted qs text i k
+        → (ps ≡ qs) × (j ≡ k) }
 {}
 
 /// Where a dotted key within the limit stands, none gets stuck.
 pub fn dotted_key_or_fault()
-    ensures { (text : List ℕ) (limit i j : ℕ) (ps : List Part) (fault : Fault) → Dotted ps text i j → length ps ≤ limit → StuckDotted text limit i fault → ⊥ }
+    ensures { (text : List ℕ) (limit i j : ℕ) (ps : List Part) (fault : Fault) → Dotted ps text i j → length ps ≤ limit
+        → StuckDotted text limit i fault → ⊥ }
 {}
 
 /// Where a key is due and none stands, one fault does: of a single key, of a dotted one, and of the parts of a
 /// header behind some of them.
 pub fn one_key_fault()
-    ensures single { (text : List ℕ) (i : ℕ) (fault other : Fault) → NoKey text i fault → NoKey text i other → fault ≡ other }
-    ensures dotted { (text : List ℕ) (limit i : ℕ) (fault other : Fault) → StuckDotted text limit i fault → StuckDotted text limit i other → fault ≡ other }
-    ensures header { (text : List ℕ) (limit n i : ℕ) (fault other : Fault) → StuckHeaderKey text limit n i fault → StuckHeaderKey text limit n i other → fault ≡ other }
+    ensures single { (text : List ℕ) (i : ℕ) (fault other : Fault) → NoKey text i fault → NoKey text i other
+        → fault ≡ other }
+    ensures dotted { (text : List ℕ) (limit i : ℕ) (fault other : Fault) → StuckDotted text limit i fault
+        → StuckDotted text limit i other → fault ≡ other }
+    ensures header { (text : List ℕ) (limit n i : ℕ) (fault other : Fault) → StuckHeaderKey text limit n i fault
+        → StuckHeaderKey text limit n i other → fault ≡ other }
 {}

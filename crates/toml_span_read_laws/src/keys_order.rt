@@ -5,5 +5,6 @@ ghost use Rattle.toml_span_read.specs.Places.{Ascend};
 
 /// The parts of a dotted key stand one behind the other, within it, and it within the text.
 pub fn parts_ascend()
-    ensures { (parts : List Part) (text : List ℕ) (i j : ℕ) → Dotted parts text i j → Ascend parts i j × (j ≤ length text) }
+    ensures { (parts : List Part) (text : List ℕ) (i j : ℕ) → Dotted parts text i j
+        → Ascend parts i j × (j ≤ length text) }
 {}

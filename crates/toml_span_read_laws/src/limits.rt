@@ -11,17 +11,21 @@ ghost use Rattle.toml_span_read.specs.Stuck.{ReadsDocument, AreRead};
 
 /// A text that spells a document within a limit spells the same document within each greater one.
 pub fn wider_document()
-    ensures { (text : List ℕ) (limit wider : ℕ) (blocks : List Block) → limit ≤ wider → SpellsDocument blocks text limit → SpellsDocument blocks text wider }
+    ensures { (text : List ℕ) (limit wider : ℕ) (blocks : List Block) → limit ≤ wider → SpellsDocument blocks text limit
+        → SpellsDocument blocks text wider }
 {}
 
 /// A text that is read within a limit is read within each greater one, and as the same sections, unless
 /// memory runs out.
 pub fn read_within_wider()
-    ensures { (text : List ℕ) (limit wider : ℕ) (found : Vec Section Global) (result : Result (Vec Section Global) (Stop Error)) → limit ≤ wider → ReadsDocument text limit (Ok found) → ReadsDocument text wider result → AreRead (map block found.items) result }
+    ensures { (text : List ℕ) (limit wider : ℕ) (found : Vec Section Global)
+        (result : Result (Vec Section Global) (Stop Error)) → limit ≤ wider → ReadsDocument text limit (Ok found)
+        → ReadsDocument text wider result → AreRead (map block found.items) result }
 {}
 
 /// Every header and every dotted key of the sections that a text spells has at most as many parts as the limit,
 /// and no value is deeper.
 pub fn sections_within_the_limit()
-    ensures { (text : List ℕ) (limit : ℕ) (sections : List Section) → SpellsDocument (map block sections) text limit → WithinSections limit sections }
+    ensures { (text : List ℕ) (limit : ℕ) (sections : List Section) → SpellsDocument (map block sections) text limit
+        → WithinSections limit sections }
 {}

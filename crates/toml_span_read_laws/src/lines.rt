@@ -17,54 +17,68 @@ ghost use Rattle.toml_span_read.specs.Faults.{StuckTail};
 
 /// A text spells at most one document.
 pub fn one_document()
-    ensures { (text : List ℕ) (limit : ℕ) (blocks others : List Block) → SpellsDocument blocks text limit → SpellsDocument others text limit → blocks ≡ others }
+    ensures { (text : List ℕ) (limit : ℕ) (blocks others : List Block) → SpellsDocument blocks text limit
+        → SpellsDocument others text limit → blocks ≡ others }
 {}
 
 /// Where a text spells a document, nothing is stuck in it.
 pub fn document_or_fault()
-    ensures { (text : List ℕ) (limit : ℕ) (blocks : List Block) (fault : Fault) → SpellsDocument blocks text limit → StuckDocument text limit fault → ⊥ }
+    ensures { (text : List ℕ) (limit : ℕ) (blocks : List Block) (fault : Fault) → SpellsDocument blocks text limit
+        → StuckDocument text limit fault → ⊥ }
 {}
 
 /// What spells a document is read as it, unless memory runs out.
 pub fn read_where_spelled()
-    ensures { (text : List ℕ) (limit : ℕ) (result : Result (Vec Section Global) (Stop Error)) (blocks : List Block) → ReadsDocument text limit result → SpellsDocument blocks text limit → AreRead blocks result }
+    ensures { (text : List ℕ) (limit : ℕ) (result : Result (Vec Section Global) (Stop Error)) (blocks : List Block)
+        → ReadsDocument text limit result → SpellsDocument blocks text limit → AreRead blocks result }
 {}
 
 /// At most one header stands at a place.
 pub fn one_header()
-    ensures { (text : List ℕ) (limit i j k : ℕ) (ps qs : List Part) (array other : Bool) → SpellsHeader ps array text limit i j → SpellsHeader qs other text limit i k → (ps ≡ qs) × (array ≡ other) × (j ≡ k) }
+    ensures { (text : List ℕ) (limit i j k : ℕ) (ps qs : List Part) (array other : Bool)
+        → SpellsHeader ps array text limit i j → SpellsHeader qs other text limit i k
+        → (ps ≡ qs) × (array ≡ other) × (j ≡ k) }
 {}
 
 /// Where a header stands, none gets stuck.
 pub fn header_or_fault()
-    ensures { (text : List ℕ) (limit i j : ℕ) (ps : List Part) (array : Bool) (fault : Fault) → SpellsHeader ps array text limit i j → StuckHeader text limit i fault → ⊥ }
+    ensures { (text : List ℕ) (limit i j : ℕ) (ps : List Part) (array : Bool) (fault : Fault)
+        → SpellsHeader ps array text limit i j → StuckHeader text limit i fault → ⊥ }
 {}
 
 /// What stands before a form is blank lines, and the spaces and tabs before it.
 pub fn blank_lines()
-    ensures before { (text : List ℕ) (i j : ℕ) → MaximalGap text i j → BehindLines text j → (ends : List ℕ) × (k : ℕ) × BlankLines text i ends k × MaximalRun is_blank text k j }
-    ensures behind { (text : List ℕ) (i j k : ℕ) (ends : List ℕ) → BlankLines text i ends k → MaximalRun is_blank text k j → begins_gap text j ≡ false → MaximalGap text i j }
+    ensures before { (text : List ℕ) (i j : ℕ) → MaximalGap text i j → BehindLines text j
+        → (ends : List ℕ) × (k : ℕ) × BlankLines text i ends k × MaximalRun is_blank text k j }
+    ensures behind { (text : List ℕ) (i j k : ℕ) (ends : List ℕ) → BlankLines text i ends k
+        → MaximalRun is_blank text k j → begins_gap text j ≡ false → MaximalGap text i j }
 {}
 
 /// The headers, the keys and the values that a text spells stand one behind the other.
 pub fn document_ascends()
-    ensures { (text : List ℕ) (limit : ℕ) (blocks : List Block) → SpellsDocument blocks text limit → BlocksAscend blocks 0 (length text) }
+    ensures { (text : List ℕ) (limit : ℕ) (blocks : List Block) → SpellsDocument blocks text limit
+        → BlocksAscend blocks 0 (length text) }
 {}
 
 /// Their keys and headers stand inside the text, those of inline tables too.
 pub fn sections_inside_the_text()
-    ensures { (text : List ℕ) (limit : ℕ) (sections : List Section) → SpellsDocument (map block sections) text limit → SectionsInside (length text) sections }
+    ensures { (text : List ℕ) (limit : ℕ) (sections : List Section) → SpellsDocument (map block sections) text limit
+        → SectionsInside (length text) sections }
 {}
 
 /// Where a line or a header is due and none stands, one fault does: of an assignment, of the rest of its line,
 /// and of a header.
 pub fn one_line_fault()
-    ensures assignment { (text : List ℕ) (limit i : ℕ) (fault other : Fault) → StuckEvent text limit i fault → StuckEvent text limit i other → fault ≡ other }
-    ensures rest { (text : List ℕ) (i : ℕ) (fault other : Fault) → StuckTail text i fault → StuckTail text i other → fault ≡ other }
-    ensures header { (text : List ℕ) (limit i : ℕ) (fault other : Fault) → StuckHeader text limit i fault → StuckHeader text limit i other → fault ≡ other }
+    ensures assignment { (text : List ℕ) (limit i : ℕ) (fault other : Fault) → StuckEvent text limit i fault
+        → StuckEvent text limit i other → fault ≡ other }
+    ensures rest { (text : List ℕ) (i : ℕ) (fault other : Fault) → StuckTail text i fault → StuckTail text i other
+        → fault ≡ other }
+    ensures header { (text : List ℕ) (limit i : ℕ) (fault other : Fault) → StuckHeader text limit i fault
+        → StuckHeader text limit i other → fault ≡ other }
 {}
 
 /// A text that is stuck is stuck at one fault.
 pub fn one_fault()
-    ensures { (text : List ℕ) (limit : ℕ) (fault other : Fault) → StuckDocument text limit fault → StuckDocument text limit other → fault ≡ other }
+    ensures { (text : List ℕ) (limit : ℕ) (fault other : Fault) → StuckDocument text limit fault
+        → StuckDocument text limit other → fault ≡ other }
 {}

@@ -8,10 +8,12 @@ ghost use Rattle.toml_span_read_laws.specs.Places.{block_key_starts, block_start
 /// The keys of a document, parts of headers and those in inline tables among them, start each behind the
 /// one before it: no two start at one place.
 pub fn keys_start_apart()
-    ensures { (text : List ℕ) (limit : ℕ) (blocks : List Block) → SpellsDocument blocks text limit → IsStrictlyIncreasing (block_key_starts blocks) }
+    ensures { (text : List ℕ) (limit : ℕ) (blocks : List Block) → SpellsDocument blocks text limit
+        → IsStrictlyIncreasing (block_key_starts blocks) }
 {}
 
 /// So do its headers, keys, arrays and inline tables together, in the order of the text.
 pub fn brackets_start_apart()
-    ensures { (text : List ℕ) (limit : ℕ) (blocks : List Block) → SpellsDocument blocks text limit → IsStrictlyIncreasing (block_starts blocks) }
+    ensures { (text : List ℕ) (limit : ℕ) (blocks : List Block) → SpellsDocument blocks text limit
+        → IsStrictlyIncreasing (block_starts blocks) }
 {}

@@ -7,10 +7,12 @@ ghost use Rattle.toml_span_read_laws.specs.Undated.{SpellsUndated, SpellsUndated
 
 /// A value that is spelled without dates, where no colon is behind it, is spelled with them.
 pub fn undated_value()
-    ensures { (text : List ℕ) (limit depth i j : ℕ) (v : Node) → (slice_index text j == colon) ≡ false → SpellsUndated v text limit depth i j → Spells v text limit depth i j }
+    ensures { (text : List ℕ) (limit depth i j : ℕ) (v : Node) → (slice_index text j == colon) ≡ false
+        → SpellsUndated v text limit depth i j → Spells v text limit depth i j }
 {}
 
 /// A document that a text spells without dates is the one that it spells with them.
 pub fn undated_document()
-    ensures { (text : List ℕ) (limit : ℕ) (blocks : List Block) → SpellsUndatedDocument blocks text limit → SpellsDocument blocks text limit }
+    ensures { (text : List ℕ) (limit : ℕ) (blocks : List Block) → SpellsUndatedDocument blocks text limit
+        → SpellsDocument blocks text limit }
 {}

@@ -12,29 +12,34 @@ ghost use Rattle.toml_span_read.specs.code.Values.{ValueGives, IsReadAs};
 
 /// At most one value is spelled at a place.
 pub fn one_value()
-    ensures { (text : List ℕ) (limit depth i j k : ℕ) (v w : Node) → Spells v text limit depth i j → Spells w text limit depth i k → (v ≡ w) × (j ≡ k) }
+    ensures { (text : List ℕ) (limit depth i j k : ℕ) (v w : Node) → Spells v text limit depth i j
+        → Spells w text limit depth i k → (v ≡ w) × (j ≡ k) }
 {}
 
 /// Where a value is spelled, nothing is stuck.
 pub fn value_or_fault()
-    ensures { (text : List ℕ) (limit depth i j : ℕ) (v : Node) (fault : Fault) → Spells v text limit depth i j → StuckValue text limit depth i fault → ⊥ }
+    ensures { (text : List ℕ) (limit depth i j : ℕ) (v : Node) (fault : Fault) → Spells v text limit depth i j
+        → StuckValue text limit depth i fault → ⊥ }
 {}
 
 /// A value that is spelled within a limit is spelled within each greater one.
 pub fn wider_limit()
-    ensures { (text : List ℕ) (limit wider depth i j : ℕ) (v : Node) → limit ≤ wider → Spells v text limit depth i j → Spells v text wider depth i j }
+    ensures { (text : List ℕ) (limit wider depth i j : ℕ) (v : Node) → limit ≤ wider → Spells v text limit depth i j
+        → Spells v text wider depth i j }
 {}
 
 /// A value that is spelled is read: what gives a value or the fault of none gives this one, unless memory
 /// runs out.
 pub fn value_is_read()
-    ensures { (text : List ℕ) (limit depth i j : ℕ) (v : Node) (read : Result (Val × ℕ) (Stop Fault)) → ValueGives text limit depth i read → Spells v text limit depth i j → IsReadAs v j read }
+    ensures { (text : List ℕ) (limit depth i j : ℕ) (v : Node) (read : Result (Val × ℕ) (Stop Fault))
+        → ValueGives text limit depth i read → Spells v text limit depth i j → IsReadAs v j read }
 {}
 
 /// The spans of a value and of all values and keys in it lie within the text that spells it, one behind the
 /// other.
 pub fn spans_within()
-    ensures { (text : List ℕ) (limit depth i j : ℕ) (v : Node) → Spells v text limit depth i j → Inside v i j × (i ≤ j) × (j ≤ length text) }
+    ensures { (text : List ℕ) (limit depth i j : ℕ) (v : Node) → Spells v text limit depth i j
+        → Inside v i j × (i ≤ j) × (j ≤ length text) }
 {}
 
 /// A value that is spelled is within the limit.
@@ -44,5 +49,6 @@ pub fn depth_within()
 
 /// Where a value is due and none is spelled, one fault stands there or within it.
 pub fn one_value_fault()
-    ensures { (text : List ℕ) (limit depth i : ℕ) (fault other : Fault) → StuckValue text limit depth i fault → StuckValue text limit depth i other → fault ≡ other }
+    ensures { (text : List ℕ) (limit depth i : ℕ) (fault other : Fault) → StuckValue text limit depth i fault
+        → StuckValue text limit depth i other → fault ≡ other }
 {}

@@ -1,5 +1,6 @@
 -- Places in a text, and the line of a place.
-use Rattle.std.specs.Prelude.{ℕ, zero, suc, ◌+◌, ◌-◌, max, Bool, ◌==◌, ◌&&◌, not, nat_lt, nat_le, List, length, take, drop, slice_index, slice_range, if◌then◌else◌}
+use Rattle.std.specs.Prelude.{ℕ, zero, suc, ◌+◌, ◌-◌, max, Bool, ◌==◌, ◌&&◌, not, nat_lt, nat_le, List, length, take}
+use Rattle.std.specs.Prelude.{drop, slice_index, slice_range, if◌then◌else◌}
 use Rattle.std.specs.List.{count_by, position_or_len}
 use Rattle.std.specs.Str.{chars}
 use Rattle.toml_span_lex.specs.declared.span.Span.{Span}

@@ -1,5 +1,6 @@
 -- The text that shows a diagnostic.
-use Rattle.std.specs.Prelude.{ℕ, ◌-◌, max, Bool, true, false, ◌==◌, List, [], ◌∷◌, ◌++◌, codes, length, Option, Some, None, if◌then◌else◌, replicate}
+use Rattle.std.specs.Prelude.{ℕ, ◌-◌, max, Bool, true, false, ◌==◌, List, [], ◌∷◌, ◌++◌, codes, length, Option, Some}
+use Rattle.std.specs.Prelude.{None, if◌then◌else◌, replicate}
 use Rattle.std.specs.Fmt.{decimal}
 use Rattle.std.specs.List.{fold}
 use Rattle.toml_span_tree.specs.Diagnostic.{LabelContent}

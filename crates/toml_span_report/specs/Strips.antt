@@ -3,7 +3,8 @@ use Rattle.std.specs.Prelude.{ℕ, min, Bool, nat_lt, nat_le, List, [], ◌∷�
 use Rattle.std.specs.List.{fold, insert, position_or_len}
 use Rattle.toml_span_tree.specs.Diagnostic.{LabelContent}
 use Rattle.toml_span_report.specs.declared.strips.Strip.{Strip}
-use Rattle.toml_span_report.specs.Places.{line_start, line_end, line_number, column, span_start, span_end, window_start, window_end}
+use Rattle.toml_span_report.specs.Places.{line_start, line_end, line_number, column, span_start, span_end, window_start}
+use Rattle.toml_span_report.specs.Places.{window_end}
 
 -- A part of a line that is marked, with what is shown of the line before and behind it.
 pub record Part : Type 0 where

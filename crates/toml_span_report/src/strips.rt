@@ -119,7 +119,8 @@ pub(crate) fn all_strips<'a, F>(
     text: &'a str,
     labels: &'a [Label<F>],
 ) -> Result<Vec<Strip<'a>>, AllocError>
-    ensures { IfOk result (λ strips. map part_of strips.items ≡ spec.all_parts text.now (map label_content labels.now)) }
+    ensures { IfOk result (λ strips. map part_of strips.items
+        ≡ spec.all_parts text.now (map label_content labels.now)) }
 {
     let mut strips = Vec::with_capacity(alloc, labels.len())?;
     for label in labels {

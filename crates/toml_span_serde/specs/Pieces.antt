@@ -2,7 +2,8 @@
 -- end, and so has each key.
 use Rattle.std.specs.Prelude.{ℕ, List, [], ◌∷◌, ◌++◌}
 use Rattle.toml_span_lex.specs.declared.span.Span.{Span}
-use Rattle.toml_span_tree.specs.Node.{Scalar, Node, node, Inner, taken, scalar, array, table, Items, no_items, item, Members, no_members, member}
+use Rattle.toml_span_tree.specs.Node.{Scalar, Node, node, Inner, taken, scalar, array, table, Items, no_items, item}
+use Rattle.toml_span_tree.specs.Node.{Members, no_members, member}
 
 pub data Content : Type 0 where
   value : Scalar → Content

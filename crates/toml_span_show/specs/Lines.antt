@@ -1,10 +1,12 @@
 -- What is shown: a line for each node of a tree, before those of what it holds, or the one line of an error.
-use Rattle.std.specs.Prelude.{ℕ, suc, ◌+◌, ◌/◌, ◌%◌, ◌&&◌, Bool, not, nat_le, nat_lt, nat_eq, List, [], ◌∷◌, ◌++◌, if◌then◌else◌, codes, unwrap_or}
+use Rattle.std.specs.Prelude.{ℕ, suc, ◌+◌, ◌/◌, ◌%◌, ◌&&◌, Bool, not, nat_le, nat_lt, nat_eq, List, [], ◌∷◌, ◌++◌}
+use Rattle.std.specs.Prelude.{if◌then◌else◌, codes, unwrap_or}
 use Rattle.std.specs.List.{flat_map}
 use Rattle.std.specs.Fmt.{decimal}
 use Rattle.toml_span_tree.specs.Error.{Fault}
 use Rattle.toml_span_tree.specs.Message.{code_of}
-use Rattle.toml_span_tree.specs.Node.{Node, node, Inner, taken, scalar, array, table, Items, no_items, item, Members, no_members, member}
+use Rattle.toml_span_tree.specs.Node.{Node, node, Inner, taken, scalar, array, table, Items, no_items, item, Members}
+use Rattle.toml_span_tree.specs.Node.{no_members, member}
 use Rattle.toml_span_tree.specs.Value.{holds_nothing, kind_name}
 
 -- printed, and neither a slash nor a percent sign
@@ -39,7 +41,8 @@ line path kind start end = shown_path path ++ codes " " ++ kind ++ codes " " ++ 
 -- the lines of a node at a path: its own, and then those of what it holds; one that is taken has none
 abbrev mutual
   pub node_lines : List ℕ → Node → List ℕ
-  node_lines path (node i span) = if holds_nothing i then [] else line path (kind_name i) span.start span.end ++ held_lines path i
+  node_lines path (node i span) =
+      if holds_nothing i then [] else line path (kind_name i) span.start span.end ++ held_lines path i
 
   pub held_lines : List ℕ → Inner → List ℕ
   held_lines path taken = []
@@ -65,4 +68,5 @@ shown_place place = decimal place.0 ++ codes ":" ++ decimal place.1
 
 -- the line of an error
 abbrev pub error_line : Fault → List ℕ
-error_line f = codes "error " ++ code_of f.kind ++ codes " " ++ shown_span f.span.start f.span.end ++ codes " " ++ shown_place (unwrap_or f.line_info (0, 0)) ++ codes "\n"
+error_line f = codes "error " ++ code_of f.kind ++ codes " " ++ shown_span f.span.start f.span.end ++ codes " "
+    ++ shown_place (unwrap_or f.line_info (0, 0)) ++ codes "\n"

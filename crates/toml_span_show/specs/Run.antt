@@ -1,5 +1,6 @@
 -- What the program writes for the bytes that it reads.
-use Rattle.std.specs.Prelude.{◌≡◌, ◌↔◌, ◌<◌, ℕ, ◌+◌, ◌≤◌, Bool, true, false, not, ◌||◌, nat_eq, nat_lt, IsTrue, IsUtf8, List, length, take, Option, codes, ◌⊎◌}
+use Rattle.std.specs.Prelude.{◌≡◌, ◌↔◌, ◌<◌, ℕ, ◌+◌, ◌≤◌, Bool, true, false, not, ◌||◌, nat_eq, nat_lt, IsTrue, IsUtf8}
+use Rattle.std.specs.Prelude.{List, length, take, Option, codes, ◌⊎◌}
 use Rattle.toml_span_show.specs.declared.run.Cut.{Cut}
 use Rattle.toml_span_show.specs.declared.run.Cut.TheVariants.{Failed, Memory}
 use Rattle.toml_span_show.specs.Shown.{IsDocument, IsRefused}
@@ -11,9 +12,11 @@ bound = 16777216
 
 -- the lines of a document, or the line of an error
 abbrev pub IsShown : List ℕ → ℕ → ℕ → List ℕ → Type 0
-IsShown bytes limit status text = ((status ≡ 0) × IsDocument bytes limit text) ⊎ ((status ≡ 1) × IsRefused bytes limit text)
+IsShown bytes limit status text =
+    ((status ≡ 0) × IsDocument bytes limit text) ⊎ ((status ≡ 1) × IsRefused bytes limit text)
 
--- The status and the text for the bytes of an input: more than the bound, no text, or a document or none within the limit.
+-- The status and the text for the bytes of an input: more than the bound, no text, or a document or none within the
+-- limit.
 pub record IsAnswer (bytes : List ℕ) (limit : ℕ) (status : ℕ) (text : List ℕ) : Type 0 where
   pub too_long : bound < length bytes → (status ≡ 2) × (text ≡ codes "error too-long\n")
   pub no_text : length bytes ≤ bound → ¬ (IsUtf8 bytes) → (status ≡ 2) × (text ≡ codes "error not-utf-8\n")
@@ -31,8 +34,10 @@ HasReadAll old new bytes = HasRead old new bytes × ((length bytes ≡ bound + 1
 abbrev pub HasWritten : Option (List ℕ) → Option (List ℕ) → List ℕ → Type 0
 HasWritten old new text = (n : ℕ) × (n ≤ length text) × Appends old new (take n text)
 
--- a run within a limit: what is left to read before and after, whether reading failed, what is written before and after, whether writing failed, and the status
-pub record Runs (limit : ℕ) (left left' : Option (List ℕ)) (unread : Bool) (told told' : Option (List ℕ)) (unwritten : Bool) (status : ℕ) : Type 0 where
+-- a run within a limit: what is left to read before and after, whether reading failed, what is written before and
+-- after, whether writing failed, and the status
+pub record Runs (limit : ℕ) (left left' : Option (List ℕ)) (unread : Bool) (told told' : Option (List ℕ))
+    (unwritten : Bool) (status : ℕ) : Type 0 where
   -- never more than the bound and one byte are read
   pub reads : (bytes : List ℕ) × HasRead left left' bytes
   -- status 3 exactly where one of the two failed
@@ -40,9 +45,11 @@ pub record Runs (limit : ℕ) (left left' : Option (List ℕ)) (unread : Bool) (
   -- after a failed read, and without memory, nothing is written
   pub silent : IsTrue (unread || nat_eq status 4) → Keeps told told'
   -- after a failed write a prefix of an answer is written
-  pub cut : IsTrue unwritten → (bytes text : List ℕ) × (answered : ℕ) × HasReadAll left left' bytes × IsAnswer bytes limit answered text × HasWritten told told' text
+  pub cut : IsTrue unwritten → (bytes text : List ℕ) × (answered : ℕ) × HasReadAll left left' bytes
+      × IsAnswer bytes limit answered text × HasWritten told told' text
   -- else the answer's status and its text
-  pub answers : nat_lt status 3 ≡ true → (bytes text : List ℕ) × HasReadAll left left' bytes × IsAnswer bytes limit status text × Appends told told' text
+  pub answers : nat_lt status 3 ≡ true → (bytes text : List ℕ) × HasReadAll left left' bytes
+      × IsAnswer bytes limit status text × Appends told told' text
   pub known : status ≤ 4
 
 -- the first bytes of a text were written: all of it where no write failed

@@ -1,9 +1,11 @@
--- What is shown of a text: a line for each node of its flat document, in the order of their paths, or the line of an error.
+-- What is shown of a text: a line for each node of its flat document, in the order of their paths, or the line of an
+-- error.
 use Rattle.std.specs.Prelude.{◌≡◌, ◌<◌, ◌↔◌, ◌⊎◌, ⊤, ℕ, List, [], ◌∷◌, length, Option, Some, codes}
 use Rattle.std.specs.List.{flat_map, AllByRecursion}
 use Rattle.toml_span_tree.specs.declared.error.Error.{Error}
 use Rattle.toml_span_tree.specs.Error.{fault_of}
-use Rattle.toml_span_tree.specs.Path.{Path, Step, key, position, Shape, shape_taken, shape_scalar, shape_array, shape_table, Place}
+use Rattle.toml_span_tree.specs.Path.{Path, Step, key, position, Shape, shape_taken, shape_scalar, shape_array}
+use Rattle.toml_span_tree.specs.Path.{shape_table, Place}
 use Rattle.toml_span_tree.specs.Value.{scalar_kind}
 use Rattle.toml_span_read.specs.Data.{Block}
 use Rattle.toml_span_read.specs.Grammar.{SpellsDocument}
@@ -75,7 +77,8 @@ pub record IsDocument (bytes : List ℕ) (limit : ℕ) (text : List ℕ) : Type 
   pub resolves : Resolves [] (claims blocks)
   pub shown : ShowsPlaces (flat (length bytes) (claims blocks)) text
 
--- The bytes are stuck at a fault or, where they spell sections within the limit, two claims clash. The text is the line of such
--- a fault, or of the first clash.
+-- The bytes are stuck at a fault or, where they spell sections within the limit, two claims clash. The text is the line
+-- of such a fault, or of the first clash.
 abbrev pub IsRefused : List ℕ → ℕ → List ℕ → Type 0
-IsRefused bytes limit text = (error : Error) × (IsFault bytes limit error ⊎ IsClash bytes limit error) × (text ≡ error_line (fault_of error))
+IsRefused bytes limit text =
+    (error : Error) × (IsFault bytes limit error ⊎ IsClash bytes limit error) × (text ≡ error_line (fault_of error))

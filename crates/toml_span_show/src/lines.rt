@@ -98,7 +98,8 @@ struct Shown {
 impl Shown {
     /// Adds the line of a node.
     fn push_line(&mut self, kind: &str, span: Span) -> Result<(), AllocError>
-        ensures out { OnOk result (self.new.out.items ≡ self.old.out.items ++ spec.line self.old.path.items kind.now span.start span.end) }
+        ensures out { OnOk result (self.new.out.items ≡ self.old.out.items
+            ++ spec.line self.old.path.items kind.now span.start span.end) }
         ensures path { self.new.path.items ≡ self.old.path.items }
     {
         if self.path.is_empty() {
@@ -118,7 +119,8 @@ impl Shown {
 /// Adds the lines of a value, its own before those of what it holds. A value that is taken has none.
 #[cycle(push_value)]
 fn push_value(shown: &mut Shown, value: &Value<'_>) -> Result<(), AllocError>
-    ensures out { OnOk result (shown.new.out.items ≡ shown.old.out.items ++ spec.node_lines shown.old.path.items (view value.now)) }
+    ensures out { OnOk result (shown.new.out.items ≡ shown.old.out.items
+        ++ spec.node_lines shown.old.path.items (view value.now)) }
     ensures path { OnOk result (shown.new.path.items ≡ shown.old.path.items) }
 {
     if value.is_taken() {
@@ -142,7 +144,8 @@ fn push_value(shown: &mut Shown, value: &Value<'_>) -> Result<(), AllocError>
 /// Adds the lines of an array's elements.
 #[cycle(push_value)]
 fn push_elements(shown: &mut Shown, elements: &[Value<'_>]) -> Result<(), AllocError>
-    ensures out { OnOk result (shown.new.out.items ≡ shown.old.out.items ++ spec.items_lines shown.old.path.items 0 (items_view elements.now)) }
+    ensures out { OnOk result (shown.new.out.items ≡ shown.old.out.items
+        ++ spec.items_lines shown.old.path.items 0 (items_view elements.now)) }
     ensures path { OnOk result (shown.new.path.items ≡ shown.old.path.items) }
 {
     let length = shown.path.len();
@@ -157,7 +160,8 @@ fn push_elements(shown: &mut Shown, elements: &[Value<'_>]) -> Result<(), AllocE
 /// Adds the lines of a table's entries.
 #[cycle(push_value)]
 fn push_entries(shown: &mut Shown, table: &Table<'_>) -> Result<(), AllocError>
-    ensures out { OnOk result (shown.new.out.items ≡ shown.old.out.items ++ spec.members_lines shown.old.path.items (members_view table.now.entries)) }
+    ensures out { OnOk result (shown.new.out.items ≡ shown.old.out.items
+        ++ spec.members_lines shown.old.path.items (members_view table.now.entries)) }
     ensures path { OnOk result (shown.new.path.items ≡ shown.old.path.items) }
 {
     let length = shown.path.len();

@@ -25,7 +25,8 @@ enum Cut {
 /// Reads all there is, but no more than the bound and one byte.
 fn read_bytes<R: Source>(alloc: Global, reader: &mut R) -> Result<Vec<u8>, Cut>
     requires { R.failed reader.old ≡ false }
-    ensures ok { IfOk result (λ v. HasReadAll (R.remaining reader.old) (R.remaining reader.new) v.items × (R.failed reader.new ≡ false)) }
+    ensures ok { IfOk result (λ v. HasReadAll (R.remaining reader.old) (R.remaining reader.new) v.items
+        × (R.failed reader.new ≡ false)) }
     ensures err { IfErr result (λ c. HasCut (R.remaining reader.old) (R.remaining reader.new) (R.failed reader.new) c) }
 {
     let mut bytes = Vec::new(alloc);

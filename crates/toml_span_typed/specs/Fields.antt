@@ -71,7 +71,8 @@ abbrev pub AsRead : {T : Type 0} → (Node → Result T Faults → Node → Type
 AsRead reads before after = (x : _) × reads before (Ok x) after
 
 -- the answer, if it is an element, is Some of one that is read
-abbrev pub AsSome : {T : Type 0} → (Node → Result T Faults → Node → Type 0) → Node → Result (Option T) Faults → Node → Type 0
+abbrev pub AsSome : {T : Type 0} → (Node → Result T Faults → Node → Type 0) → Node → Result (Option T) Faults → Node
+    → Type 0
 AsSome reads before (Ok (Some x)) after = reads before (Ok x) after
 AsSome reads before (Ok None) after = ⊥
 AsSome reads before (Err faults) after = reads before (Err faults) after

@@ -55,7 +55,8 @@ IsPair first second (Err (stop.Fault faults)) = Pairs first second (Err faults)
 IsPair first second (Err (stop.Memory error)) = ⊤
 
 -- the readings of both elements of an array of two, joined; the array is taken
-abbrev pub pair_reads : {A B : Type 0} → (Node → Result A Faults → Node → Type 0) → (Node → Result B Faults → Node → Type 0)
+abbrev pub pair_reads : {A B : Type 0} → (Node → Result A Faults → Node → Type 0)
+    → (Node → Result B Faults → Node → Type 0)
     → Node → Result (A × B) Faults → Node → Type 0
 pair_reads reads-a reads-b (node (array (item a (item b no_items))) span) answer after =
     (first : Result _ Faults) × (second : Result _ Faults) × IsReadAs reads-a a first × IsReadAs reads-b b second

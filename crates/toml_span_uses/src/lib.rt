@@ -24,7 +24,8 @@ pub fn span_at<'de>(
     text: &'de str,
     pointer: &'de str,
 ) -> Result<Option<Span>, Stop<Error<'de>>>
-    ensures found { IfOk result (λ o. IsDocument text.now (λ places. (span : Bytes) → (o ≡ Some span) ↔ StandsAt pointer.now places (λ place. place.span ≡ span))) }
+    ensures found { IfOk result (λ o. IsDocument text.now (λ places. (span : Bytes) → (o ≡ Some span)
+        ↔ StandsAt pointer.now places (λ place. place.span ≡ span))) }
     ensures refused { IfErr result (IsRefusal text.now 128) }
 {
     let root = parse(alloc, text)?;
@@ -40,7 +41,8 @@ pub fn integer_at<'de>(
     text: &'de str,
     pointer: &'de str,
 ) -> Result<Option<i64>, Stop<Error<'de>>>
-    ensures { IfOk result (λ o. IsDocument text.now (λ places. (z : ℤ) → (o ≡ Some z) ↔ StandsAt pointer.now places (λ place. place.shape ≡ shape_scalar (integer z)))) }
+    ensures { IfOk result (λ o. IsDocument text.now (λ places. (z : ℤ) → (o ≡ Some z)
+        ↔ StandsAt pointer.now places (λ place. place.shape ≡ shape_scalar (integer z)))) }
 {
     let root = parse(alloc, text)?;
     match root.pointer(pointer) {
@@ -68,7 +70,8 @@ pub fn refused_at(alloc: Global, text: &str) -> Result<Option<(Span, usize, usiz
 /// The port that the document has, or why it has none.
 #[tactic(auto, using(toml_span_typed::proofs::Whole::found_whole))]
 pub fn port_of<'de>(alloc: Global, text: &'de str) -> Result<u16, Stop<Error<'de>>>
-    ensures port { IfOk result (λ port. IsDocument text.now (λ places. (place : Place) × (places (key (codes "port") ∷ []) ≡ Some place) × (place.shape ≡ shape_scalar (integer (pos port))))) }
+    ensures port { IfOk result (λ port. IsDocument text.now (λ places. (place : Place)
+        × (places (key (codes "port") ∷ []) ≡ Some place) × (place.shape ≡ shape_scalar (integer (pos port))))) }
     ensures refused { IfErr result (NoPort text.now) }
 {
     let mut root = parse(alloc, text)?;

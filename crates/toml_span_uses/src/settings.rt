@@ -47,7 +47,8 @@ pub fn settings_of<'de>(
     alloc: Global,
     text: &'de str,
 ) -> Result<Settings<'de>, Stop<DeserError<'de>>>
-    ensures settings { IfOk result (λ settings. IsDocument text.now (λ places. AreSettings (whole text.now) places settings)) }
+    ensures settings { IfOk result (λ settings. IsDocument text.now
+        (λ places. AreSettings (whole text.now) places settings)) }
     ensures refused { IfErr result (NoSettings text.now) }
 {
     let mut root = match parse(alloc, text) {

@@ -74,7 +74,8 @@ abbrev pub SpecialGives : List ℕ → Option FloatText → Type 0
 SpecialGives word None =
     (word ≡ codes "inf" → ⊥) × (word ≡ codes "-inf" → ⊥) × (word ≡ codes "nan" → ⊥) × (word ≡ codes "-nan" → ⊥)
 SpecialGives word (Some x) =
-    ((word ≡ codes "inf") × (float_value x ≡ infinite false)) ⊎ ((word ≡ codes "-inf") × (float_value x ≡ infinite true))
+    ((word ≡ codes "inf") × (float_value x ≡ infinite false))
+    ⊎ ((word ≡ codes "-inf") × (float_value x ≡ infinite true))
     ⊎ ((word ≡ codes "nan") × (float_value x ≡ not_a_number false))
     ⊎ ((word ≡ codes "-nan") × (float_value x ≡ not_a_number true))
 
