@@ -1,5 +1,5 @@
 -- A dotted key that goes through a value is never what is told first.
-use Rattle.std.proofs.Common.{◌≡◌, ℕ, zero, suc, ◌<◌, ◌≤◌, ◌⊎◌, Bool, true, false, List, [], ◌∷◌, ◌++◌, Option, Some, None, length, arith, refl, sym, ap, ◌∙◌, subst, append_assoc, inl, inr}
+use Rattle.std.proofs.Common.{◌≡◌, ℕ, zero, suc, ◌<◌, ◌≤◌, ◌⊎◌, Bool, true, false, List, [], ◌∷◌, ◌++◌, length, arith, refl, sym, ap, ◌∙◌, subst, append_assoc, inl, inr}
 use Rattle.std.specs.Prelude.{⊤, if◌then◌else◌}
 use Rattle.std.proofs.lemmas.Bool.{cases_Bool}
 use Rattle.toml_span_tree.specs.Path.{Path, Step, key, position}
@@ -10,12 +10,12 @@ use Rattle.toml_span_claims.specs.declared.claims.Blame.TheVariants.{Table, Key}
 use Rattle.toml_span_claims.specs.declared.claims.Sort.TheVariants.{Section, Entry, Dotted, Assigned}
 use Rattle.toml_span_claims.specs.declared.claims.Head.{Head}
 use Rattle.toml_span_claims.specs.Claims.{Claim, Claims, no_claims, claimed, scope, followed, event_claims, header_claim, array_claims, end_claims, header_claims, section_claims, claims_behind, claims, head_of}
-use Rattle.toml_span_claims.specs.Clashes.{Told, blame, clash, IsFree}
+use Rattle.toml_span_claims.specs.Clashes.{blame}
 use Rattle.toml_span_claims.specs.Flat.{all_claims}
 use Rattle.toml_span_claims.specs.Marks.{by_header}
 use Rattle.toml_span_claims.specs.Paths.{same_path, below, at, enter, target, entries_at, opened_by, section_path}
 use Rattle.toml_span_assembly.proofs.EachClaim.{same_path-eq}
-use Rattle.toml_span.specs.Clashing.{IsIn, DoClash, IsPair, IsFirstPair}
+use Rattle.toml_span.specs.Clashing.{IsIn, IsPair, IsFirstPair}
 use Rattle.toml_span.specs.Order.{start_of}
 use Rattle.toml_span.specs.Scopes.{own}
 use Rattle.toml_span.proofs.Apart.{in-right}
