@@ -2,10 +2,10 @@
 -- docs/THEOREM.md come first, with all that they claim and with their trees.
 use Rattle.std.specs.Prelude.{◌≡◌, refl, ⊤, ℕ, ◌+◌, Bool, true, false, List, [], ◌∷◌, ◌++◌, map, length, Option, Some, None, codes, pos}
 use Rattle.toml_span_lex.specs.declared.span.Span.{Span}
-use Rattle.toml_span_tree.specs.Error.{Fault, duplicate_key}
+use Rattle.toml_span_tree.specs.Error.{duplicate_key}
 use Rattle.toml_span_tree.specs.Node as tree
 use Rattle.toml_span_tree.specs.Node.{text, integer}
-use Rattle.toml_span_tree.specs.Path.{Path, Step, key, position, Shape, shape_scalar, shape_array, shape_table, Place, place_at}
+use Rattle.toml_span_tree.specs.Path.{Path, key, position, Shape, shape_scalar, shape_array, shape_table, Place, place_at}
 use Rattle.toml_span_read.specs.Data.{Node, node, scalar, array, inline, no_items, item, no_pairs, pair, Event, Block}
 use Rattle.toml_span_read.specs.Keys.{Part}
 use Rattle.toml_span_read.specs.Grammar.{first_block, last_end}

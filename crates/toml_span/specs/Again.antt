@@ -16,8 +16,7 @@ abbrev pub moved_place : ℕ → ℕ → Place → Place
 moved_place from to x =
     record { shape = x.shape; key_span = option_map (moved_span from to) x.key_span; span = moved_span from to x.span }
 
--- What stands at the path and below it stands at the other path of the other places, with its spans moved, those of
--- keys too.
+-- What stands at the path and below stands at the other path of the other places, with its spans moved, also of keys.
 abbrev pub StandsMoved : ℕ → ℕ → (Path → Option Place) → Path → (Path → Option Place) → Path → Type 0
 StandsMoved from to places path others other =
     (p : Path) → part others other p ≡ option_map (moved_place from to) (part places path p)
