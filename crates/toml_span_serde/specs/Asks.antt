@@ -14,8 +14,8 @@ abbrev pub AsksEnd : List Name → Type 0
 AsksEnd names = (n : Name) × (names ≡ n ∷ []) × (n.name.now ≡ codes "$toml_span::end")
 
 -- what the format answers, asked for the start and for the end of what comes
-abbrev pub HasSpan : {F E M : Type 0} → (F → List ℕ → Bool → List Name → ℕ → F → Type 0) → Deserializer F E M → Span
-    → Type 0
+abbrev pub HasSpan : {F E M : Type 0} → (F → List ℕ → Bool → List Name → ℕ → F → Type 0)
+    → Deserializer F E M → Span → Type 0
 HasSpan {F} {E} {M} picks from span =
     (starts ends : List Name) × (asked last : Deserializer F E M) × AsksStart starts × AsksEnd ends
     × Picks picks from false starts span.start asked × Picks picks asked false ends span.end last
