@@ -23,12 +23,7 @@ impl<'de> Deserialize<'de> for Holders {
 }
 
 /// Writes the answer of a row, or says that there is no such call.
-pub fn answer(
-    alloc: Global,
-    call: &str,
-    text: &str,
-    out: &mut String,
-) -> Result<bool, AllocError> {
+pub fn answer(alloc: Global, call: &str, text: &str, out: &mut String) -> Result<bool, AllocError> {
     if call != "holders" {
         return Ok(false);
     }
