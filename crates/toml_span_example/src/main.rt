@@ -50,7 +50,7 @@ impl<'de> Deserialize<'de> for Settings {
             level: Level = "log-level", or(Level::Normal);
             limits: Limits;
             mirrors: Vec<Mirror>;
-            tags: Vec<String>, optional;
+            tags: Option<Vec<String>>;
         })
     }
 }
