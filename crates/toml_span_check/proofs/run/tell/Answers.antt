@@ -4,7 +4,7 @@ use Rattle.toml_span_check.proofs.Tellings.{tells-start, tells-more, names-more}
 use Rattle.toml_span_check.proofs.run.tell.Goals as goal
 
 pub loop-name-init : goal.loop-name-init
-loop-name-init g c = tells-start c.args.format c.args.task c.args.pointer.now (g.I.Inputs.log c.args.inputs.now) _ _ c.new.ensures.bytes c.new-2.ensures.bytes
+loop-name-init g c = tells-start c.args.format c.args.task c.args.pointer.now (g.I.Inputs.log c.args.inputs.now) _ _ c.new.ensures.items c.new-2.ensures.bytes
 
 pub loop-name-preserved : goal.loop-name-preserved
 loop-name-preserved g c =
