@@ -76,5 +76,67 @@ if [ "$status" -ne 3 ]; then
     echo "check runs: a write that fails ended with status $status (wanted: 3)"
 fi
 
+# each request for memory refused in turn: status 4 and nothing is written, or else the whole answer. The requests are
+# counted before the C library has them, by a library that the kit's clang makes; fd 9 is told how many they are.
+cat >"$work/refuse.c" <<'END'
+extern void *__libc_malloc(unsigned long);
+extern void *__libc_realloc(void *, unsigned long);
+extern char *getenv(const char *);
+extern int dprintf(int, const char *, ...);
+static long made;
+static long refused = -1;
+static int is_refused(void) {
+    if (refused < 0) {
+        refused = 0;
+        for (const char *digit = getenv("REFUSED"); *digit; digit++) refused = refused * 10 + (*digit - '0');
+    }
+    return ++made == refused;
+}
+void *malloc(unsigned long size) { return is_refused() ? 0 : __libc_malloc(size); }
+void *realloc(void *block, unsigned long size) { return is_refused() ? 0 : __libc_realloc(block, size); }
+__attribute__((destructor)) static void tell(void) { dprintf(9, "%ld\n", made); }
+END
+kit=$(dirname "$(rt doc)")/toolchain/bin
+"$kit/clang" --target=x86_64-unknown-linux-gnu -O1 -fPIC -c "$work/refuse.c" -o "$work/refuse.o"
+"$kit/ld.lld" -shared "$work/refuse.o" -o "$work/refuse.so"
+
+# ask NUMBER WORD..: runs the program on these words, with the request of this number refused
+ask() {
+    (cd data && timeout 60 env LD_PRELOAD="$work/refuse.so" REFUSED="$1" "$program" "${@:2}" \
+        </dev/null >"$work/written" 2>"$work/complaint" 9>"$work/made")
+    status=$?
+}
+
+# refuse WORD..: runs the program on these words with each request refused
+refuse() {
+    local whole made request untold=0
+    ask 0 "$@"
+    whole=$status
+    cp "$work/written" "$work/whole"
+    made=$(<"$work/made")
+    for ((request = 1; request <= made; request++)); do
+        count=$((count + 1))
+        ask "$request" "$@"
+        if [ "$status" -eq 4 ] && [ ! -s "$work/written" ] && [ ! -s "$work/complaint" ]; then continue; fi
+        untold=$((untold + 1))
+        if [ "$status" -ne "$whole" ] || ! cmp -s "$work/written" "$work/whole"; then
+            wrong=$((wrong + 1))
+            echo "check runs: $*: with request $request refused it ended with status $status (wanted: 4)"
+        fi
+    done
+    if [ "${made:-0}" -lt 20 ] || [ "$untold" -gt 1 ]; then
+        wrong=$((wrong + 1))
+        echo "check runs: $*: of $made requests $untold have no status 4"
+    fi
+}
+
+refuse settings.toml
+refuse --color always latin.toml settings.toml
+refuse --format short settings.toml
+refuse --format json settings.toml nothing.toml
+refuse --tagged tree.toml
+refuse --items tree.toml
+refuse --get /list/3 tree.toml
+
 echo "check runs: $((count - wrong)) of $count right"
 [ "$wrong" -eq 0 ]

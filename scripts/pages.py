@@ -12,6 +12,9 @@ What is looked at is marked:
     ```toml row        is the text of a row of toml_span_rows
     ```toml run NAME   is the input crates/toml_span_show/runs/NAME (or `stdin`, beside it)
     ```text run NAME   is what the program writes on it (NAME.stdout, or `stdout`)
+    ```toml data NAME  is the file crates/toml_span_check/data/NAME
+    ```console run NAME    is `$ toml_span_check` with the words of crates/toml_span_check/runs/NAME.args, and then what
+                       the checker writes and complains of (NAME.stdout, NAME.stderr)
     ```sh              names files of scripts/, docs/ and crates/ that are there
     <!-- rows: CALL -->    before a table: the first cell of each line has the text of a row of this call, as
                        `parse 128`, and all that stands in code behind it stands in that row's answer: as words
@@ -34,6 +37,8 @@ import sys
 TOP = os.path.dirname(os.path.dirname(os.path.abspath(__file__)))
 ROWS = "crates/toml_span_rows"
 SHOW = "crates/toml_span_show"
+CHECK = "crates/toml_span_check"
+RUN = (".args", ".stdout", ".stderr")
 FIELDS = ("first", "expected", "found", "key", "name")
 
 
@@ -183,6 +188,8 @@ class Page:
                 self.fault(at, f"these lines do not stand so in {ROWS}/stdout: quote them as they are there now")
         elif words == ["toml", "row"]:
             self.document(at, lines)
+        elif words[:2] in (["toml", "data"], ["console", "run"]) and len(words) == 3:
+            self.checked(at, words[1] == "data", words[2], lines)
         elif words[1:2] == ["run"] and len(words) == 3 and words[0] in ("toml", "text"):
             self.run(at, words[0] == "toml", words[2], lines)
         elif words[:1] in (["sh"], ["bash"], ["console"]):
@@ -266,6 +273,18 @@ class Page:
             return self.fault(at - 1, f"there is no {path}: name a run that is there")
         if text_of(path).rstrip("\n") != "\n".join(lines).rstrip("\n"):
             self.fault(at, f"this is not {path}: quote it as it is now")
+
+    def checked(self, at, is_data, name, lines):
+        """A file that the checker reads, or a run of it."""
+        self.count("runs")
+        wanted = [f"{CHECK}/data/{name}"] if is_data else [f"{CHECK}/runs/{name}{end}" for end in RUN]
+        if not os.path.isfile(f"{TOP}/{wanted[0]}"):
+            return self.fault(at - 1, f"there is no {wanted[0]}: name what is there now")
+        texts = [text_of(path).rstrip("\n") for path in wanted if os.path.isfile(f"{TOP}/{path}")]
+        if not is_data:
+            texts[0] = f"$ toml_span_check {texts[0]}".replace("\n", " ")
+        if "\n".join(it for it in texts if it) != "\n".join(lines).rstrip("\n"):
+            self.fault(at, f"this is not {', '.join(wanted)}: quote it as it is now")
 
     def commands(self, at, lines):
         for k, line in enumerate(lines):

@@ -1,2 +1,3 @@
+pub mod Statuses
 pub mod Tellings
 pub mod Walks

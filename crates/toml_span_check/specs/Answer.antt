@@ -1,6 +1,6 @@
 -- What is told of the bytes of a file.
-use Rattle.std.specs.Prelude.{◌≡◌, ◌<◌, ◌≤◌, ◌⊎◌, ℕ, Bool, true, false, IsUtf8, List, [], ◌++◌, length, codes, Option}
-use Rattle.std.specs.Prelude.{Some, None}
+use Rattle.std.specs.Prelude.{◌≡◌, ◌<◌, ◌≤◌, ◌⊎◌, ℕ, true, false, IsUtf8, List, [], ◌++◌, length, codes, Option, Some}
+use Rattle.std.specs.Prelude.{None}
 use Rattle.toml_span_tree.specs.declared.error.Error.{Error}
 use Rattle.toml_span_tree.specs.declared.value.Value.{Value}
 use Rattle.toml_span_tree.specs.Diagnostic.{labels_of}
@@ -14,7 +14,10 @@ use Rattle.toml_span_check.specs.Faults.{fault_text}
 use Rattle.toml_span_check.specs.Shown.{shown}
 use Rattle.toml_span_check.specs.declared.faults.Format.{Format}
 use Rattle.toml_span_check.specs.declared.answer.Task.{Task}
-use Rattle.toml_span_check.specs.declared.answer.Task.TheVariants.{Check, Plain, Tagged}
+use Rattle.toml_span_check.specs.declared.answer.Task.TheVariants.{Check, Show}
+use Rattle.toml_span_check.specs.declared.answer.Form.{Form}
+use Rattle.toml_span_check.specs.declared.answer.Form.TheVariants.{Plain, Tagged, Items}
+use Rattle.toml_span_lines.specs.Lines.{tree_lines}
 
 -- the most bytes that a document may have
 abbrev pub bound : ℕ
@@ -24,15 +27,20 @@ abbrev pub nothing_there : Format → List ℕ → List ℕ → ℕ × List ℕ
 nothing_there format pointer name =
     (1, fault_text format (codes "nothing-there") (codes "nothing stands at `" ++ pointer ++ codes "`") [] name [])
 
+-- a value in a form
+abbrev pub formed : Form → Node → List ℕ
+formed Plain n = shown false n ++ codes "\n"
+formed Tagged n = shown true n ++ codes "\n"
+formed Items n = tree_lines n
+
 -- what a document gives: a status and a text
-abbrev pub found : Format → Bool → List ℕ → List ℕ → Option Node → ℕ × List ℕ
-found format is_tagged pointer name (Some n) = (0, shown is_tagged n ++ codes "\n")
-found format is_tagged pointer name None = nothing_there format pointer name
+abbrev pub found : Format → Form → List ℕ → List ℕ → Option Node → ℕ × List ℕ
+found format form pointer name (Some n) = (0, formed form n)
+found format form pointer name None = nothing_there format pointer name
 
 abbrev pub given : Format → Task → List ℕ → List ℕ → Node → ℕ × List ℕ
 given format Check pointer name n = (0, [])
-given format Plain pointer name n = found format false pointer name (pointed pointer n)
-given format Tagged pointer name n = found format true pointer name (pointed pointer n)
+given format (Show form) pointer name n = found format form pointer name (pointed pointer n)
 
 -- the text of an error
 abbrev pub error_text : Format → Error → List ℕ → List ℕ → List ℕ

@@ -41,6 +41,6 @@ fault_json code message marks name text =
     head_json code message name ++ codes ",\"labels\":[" ++ labels_json text false marks ++ codes "}\n"
 
 abbrev pub fault_text : Format → List ℕ → List ℕ → List (LabelContent ℕ) → List ℕ → List ℕ → List ℕ
-fault_text Text code message marks name text = report code message marks name text
+fault_text (Text style) code message marks name text = report style code message marks name text
 fault_text Short code message marks name text = brief code message marks name text
 fault_text Json code message marks name text = fault_json code message marks name text

@@ -1,7 +1,9 @@
 -- What the program writes for the files that it reads.
-use Rattle.std.specs.Prelude.{◌≡◌, ⊤, ℕ, max, List, [], ◌∷◌, ◌++◌, map, codes, Option, Some, None, Result, Ok, Err, Vec}
+use Rattle.std.specs.Prelude.{◌≡◌, ◌↔◌, ◌≤◌, ⊤, ℕ, max, Bool, ◌||◌, IsTrue, List, [], ◌∷◌, ◌++◌, map, codes, Option}
+use Rattle.std.specs.Prelude.{Some, None, Result, Ok, Err, Vec}
 use Rattle.std.specs.Global.{Global}
-use Rattle.std.specs.Io.KnownBytes.{Appends}
+use Rattle.std.specs.Io.KnownBytes.{Appends, Keeps}
+use Rattle.toml_span_lines.specs.Run.{HasWritten}
 use Rattle.toml_span_check.specs.Answer.{IsAnswer}
 use Rattle.toml_span_check.specs.declared.answer.Task.{Task}
 use Rattle.toml_span_check.specs.declared.faults.Format.{Format}
@@ -50,12 +52,23 @@ pub record Tells (format : Format) (task : Task) (pointer : List ℕ) (names : L
   pub logged : Logs old new readings
   pub told : Told format task pointer readings out errors status
 
--- A run: status 3 where a write fails, and 4 without memory. Else all files are looked at, and what is told is written.
+-- A run: standard output before and after and whether writing it failed, the same of standard error, and the status.
 pub record Runs (format : Format) (task : Task) (pointer : List ℕ) (names : List (List ℕ))
-    (old new : Option (List Reading)) (told told' warned warned' : Option (List ℕ)) (status : ℕ) : Type 0 where
+    (old new : Option (List Reading)) (told told' : Option (List ℕ)) (untold : Bool) (warned warned' : Option (List ℕ))
+    (unwarned : Bool) (status : ℕ) : Type 0 where
+  -- status 3 exactly where a write failed
+  pub failed : (status ≡ 3) ↔ IsTrue (untold || unwarned)
+  -- without memory nothing is written
+  pub silent : status ≡ 4 → Keeps told told' × Keeps warned warned'
+  -- after a failed write the first bytes of what is told are written
+  pub cut : status ≡ 3 → (out errors : List ℕ) × (answered : ℕ)
+      × Tells format task pointer names old new out errors answered × HasWritten told told' out
+      × HasWritten warned warned' errors
+  -- else all files are looked at, and what is told is written
   pub tells : ¬ (status ≡ 3) → ¬ (status ≡ 4) → (out errors : List ℕ)
       × Tells format task pointer names old new out errors status × Appends told told' out
       × Appends warned warned' errors
+  pub known : status ≤ 4
 
 -- for a private clause: what one more reading adds
 abbrev pub Adds : Format → Task → List ℕ → List ℕ → Result (List ℕ) Unread → List ℕ × List ℕ × ℕ

@@ -1,5 +1,5 @@
 //! What is told of the bytes of a file.
-ghost use Rattle.std.specs.Prelude.{◌≡◌, [], ◌++◌, IfOk, option_map, string_bytes};
+ghost use Rattle.std.specs.Prelude.{◌≡◌, [], ◌++◌, IfOk, option_map};
 ghost use Rattle.toml_span_tree.specs.Value.{view};
 ghost use Rattle.toml_span_check.specs.Answer as spec;
 ghost use Rattle.toml_span_check.specs.Faults as faults;
@@ -9,19 +9,29 @@ use crate::shown::shown;
 use std::alloc::{AllocError, Global};
 use toml_span::de::parse;
 use toml_span::{Diagnostic, Error, Stop, Value};
+use toml_span_lines::lines::tree_lines;
 
 /// The most bytes that a document may have.
 pub(crate) const BOUND: usize = 16_777_216;
+
+/// How a document is shown.
+#[derive(Clone, Copy, PartialEq, Eq)]
+pub(crate) enum Form {
+    /// As JSON.
+    Plain,
+    /// As JSON with the type of each scalar.
+    Tagged,
+    /// As lines, one for each node.
+    Items,
+}
 
 /// What is to be done with a document.
 #[derive(Clone, Copy, PartialEq, Eq)]
 pub(crate) enum Task {
     /// To tell its fault.
     Check,
-    /// To show it as JSON.
-    Plain,
-    /// To show it as JSON with the type of each scalar.
-    Tagged,
+    /// To show it.
+    Show(Form),
 }
 
 /// The text for a fault that has no place.
@@ -31,15 +41,15 @@ fn plain_fault(
     code: &str,
     message: &str,
     name: &str,
-) -> Result<String, AllocError>
-    ensures { IfOk result (λ out. string_bytes out ≡ faults.fault_text format code.now message.now [] name.now []) }
+) -> Result<Vec<u8>, AllocError>
+    ensures { IfOk result (λ out. out.items ≡ faults.fault_text format code.now message.now [] name.now []) }
 {
     let diagnostic = Diagnostic {
         code: String::from_str(alloc, code)?,
         message: String::from_str(alloc, message)?,
         labels: Vec::new(alloc),
     };
-    fault_text(alloc, format, &diagnostic, name, "")
+    Ok(fault_text(alloc, format, &diagnostic, name, "")?.into_bytes())
 }
 
 /// The text for an error of a text.
@@ -49,12 +59,12 @@ fn error_text(
     error: &Error<'_>,
     name: &str,
     text: &str,
-) -> Result<String, AllocError>
-    ensures { IfOk result (λ out. string_bytes out ≡ spec.error_text format error.now name.now text.now) }
+) -> Result<Vec<u8>, AllocError>
+    ensures { IfOk result (λ out. out.items ≡ spec.error_text format error.now name.now text.now) }
 {
     let mut diagnostic = error.to_diagnostic(alloc, 0usize)?;
     diagnostic.message = error.to_string(alloc)?;
-    fault_text(alloc, format, &diagnostic, name, text)
+    Ok(fault_text(alloc, format, &diagnostic, name, text)?.into_bytes())
 }
 
 /// The status and the text where a pointer names nothing.
@@ -63,8 +73,8 @@ fn nothing_there(
     format: Format,
     pointer: &str,
     name: &str,
-) -> Result<(u8, String), AllocError>
-    ensures { IfOk result (λ a. (a.0, string_bytes a.1) ≡ spec.nothing_there format pointer.now name.now) }
+) -> Result<(u8, Vec<u8>), AllocError>
+    ensures { IfOk result (λ a. (a.0, a.1.items) ≡ spec.nothing_there format pointer.now name.now) }
 {
     let mut message = String::from_str(alloc, "nothing stands at `")?;
     message.push_str(pointer)?;
@@ -74,8 +84,8 @@ fn nothing_there(
 }
 
 /// The status and the text for a file that is longer than the bound.
-fn too_long(alloc: Global, format: Format, name: &str) -> Result<(u8, String), AllocError>
-    ensures { IfOk result (λ a. (a.0, string_bytes a.1) ≡ spec.too_long format name.now) }
+fn too_long(alloc: Global, format: Format, name: &str) -> Result<(u8, Vec<u8>), AllocError>
+    ensures { IfOk result (λ a. (a.0, a.1.items) ≡ spec.too_long format name.now) }
 {
     let out = plain_fault(
         alloc,
@@ -88,31 +98,39 @@ fn too_long(alloc: Global, format: Format, name: &str) -> Result<(u8, String), A
 }
 
 /// The status and the text for a file that is no text.
-fn not_utf8(alloc: Global, format: Format, name: &str) -> Result<(u8, String), AllocError>
-    ensures { IfOk result (λ a. (a.0, string_bytes a.1) ≡ spec.not_utf8 format name.now) }
+fn not_utf8(alloc: Global, format: Format, name: &str) -> Result<(u8, Vec<u8>), AllocError>
+    ensures { IfOk result (λ a. (a.0, a.1.items) ≡ spec.not_utf8 format name.now) }
 {
     let out = plain_fault(alloc, format, "not-utf-8", "the file is no UTF-8", name)?;
     Ok((1, out))
+}
+
+/// A value in a form.
+fn formed(alloc: Global, form: Form, value: &Value<'_>) -> Result<Vec<u8>, AllocError>
+    ensures { IfOk result (λ out. out.items ≡ spec.formed form (view value.now)) }
+{
+    if form == Form::Items {
+        return tree_lines(alloc, value);
+    }
+    let mut out = shown(alloc, value, form == Form::Tagged)?;
+    out.push_str("\n")?;
+    Ok(out.into_bytes())
 }
 
 /// The status and the text for what a pointer names, if it names something.
 fn found(
     alloc: Global,
     format: Format,
-    is_tagged: bool,
+    form: Form,
     pointer: &str,
     name: &str,
     value: Option<&Value<'_>>,
-) -> Result<(u8, String), AllocError>
-    ensures { IfOk result (λ a. (a.0, string_bytes a.1)
-        ≡ spec.found format is_tagged pointer.now name.now (option_map (λ v. view v.now) value.entry)) }
+) -> Result<(u8, Vec<u8>), AllocError>
+    ensures { IfOk result (λ a. (a.0, a.1.items)
+        ≡ spec.found format form pointer.now name.now (option_map (λ v. view v.now) value.entry)) }
 {
     match value {
-        Some(value) => {
-            let mut out = shown(alloc, value, is_tagged)?;
-            out.push_str("\n")?;
-            Ok((0, out))
-        }
+        Some(value) => Ok((0, formed(alloc, form, value)?)),
         None => nothing_there(alloc, format, pointer, name),
     }
 }
@@ -125,13 +143,12 @@ fn given<'t>(
     pointer: &'t str,
     name: &str,
     root: &Value<'t>,
-) -> Result<(u8, String), AllocError>
-    ensures { IfOk result (λ a. (a.0, string_bytes a.1) ≡ spec.given format task pointer.now name.now (view root.now)) }
+) -> Result<(u8, Vec<u8>), AllocError>
+    ensures { IfOk result (λ a. (a.0, a.1.items) ≡ spec.given format task pointer.now name.now (view root.now)) }
 {
     match task {
-        Task::Check => Ok((0, String::new(alloc))),
-        Task::Plain => found(alloc, format, false, pointer, name, root.pointer(pointer)),
-        Task::Tagged => found(alloc, format, true, pointer, name, root.pointer(pointer)),
+        Task::Check => Ok((0, Vec::new(alloc))),
+        Task::Show(form) => found(alloc, format, form, pointer, name, root.pointer(pointer)),
     }
 }
 
@@ -143,8 +160,8 @@ fn answer_text<'t>(
     pointer: &'t str,
     name: &str,
     text: &'t str,
-) -> Result<(u8, String), AllocError>
-    ensures { IfOk result (λ a. spec.IsRead format task pointer.now name.now text.now (a.0, string_bytes a.1)) }
+) -> Result<(u8, Vec<u8>), AllocError>
+    ensures { IfOk result (λ a. spec.IsRead format task pointer.now name.now text.now (a.0, a.1.items)) }
 {
     match parse(alloc, text) {
         Ok(root) => {
@@ -167,8 +184,8 @@ pub(crate) fn answer<'t>(
     pointer: &'t str,
     name: &str,
     bytes: &'t [u8],
-) -> Result<(u8, String), AllocError>
-    ensures { IfOk result (λ a. spec.IsAnswer format task pointer.now name.now bytes.now (a.0, string_bytes a.1)) }
+) -> Result<(u8, Vec<u8>), AllocError>
+    ensures { IfOk result (λ a. spec.IsAnswer format task pointer.now name.now bytes.now (a.0, a.1.items)) }
 {
     if bytes.len() > BOUND {
         return too_long(alloc, format, name);

@@ -8,13 +8,13 @@ use crate::shown::{push_comma, push_quoted, truth};
 use std::alloc::{AllocError, Global};
 use std::fmt::Write;
 use toml_span::{Diagnostic, Label, Span};
-use toml_span_report::{line_column, render, render_line};
+use toml_span_report::{Style, line_column, render, render_line};
 
 /// How a fault is told.
 #[derive(Clone, Copy, PartialEq, Eq)]
 pub(crate) enum Format {
     /// In lines, with marks.
-    Text,
+    Text(Style),
     /// In one line.
     Short,
     /// As one line of JSON.
@@ -149,7 +149,7 @@ pub(crate) fn fault_text(
         (map label_content diagnostic.now.labels.items) name.now text.now) }
 {
     match format {
-        Format::Text => render(alloc, diagnostic, name, text),
+        Format::Text(style) => render(alloc, style, diagnostic, name, text),
         Format::Short => render_line(alloc, diagnostic, name, text),
         Format::Json => fault_json(alloc, diagnostic, name, text),
     }

@@ -1,4 +1,4 @@
-//! Checks TOML files: tells the fault of each one that is no document, and shows documents as JSON.
+//! Checks TOML files: tells the fault of each one that is no document, and shows documents as JSON or as lines.
 #![tactic(auto)]
 
 mod answer;
@@ -9,35 +9,31 @@ mod run;
 mod shown;
 
 use crate::input::Host;
-use crate::options::{USAGE, options_of};
+use crate::options::options_of;
 use crate::run::run;
-use std::alloc::AllocError;
+use clap::error::ErrorKind;
 use std::env;
-use std::io::Write;
+use std::io::IsTerminal;
 use std::process::ExitCode;
-
-/// The words behind the program's name.
-fn words_of(rt: &HostRuntime) -> Result<Vec<String>, AllocError> {
-    let mut words = Vec::new(rt.alloc());
-    let Ok(args) = env::args(rt) else {
-        return Ok(words);
-    };
-    for word in args.skip(1) {
-        words.push(word)?;
-    }
-    Ok(words)
-}
+use toml_span_lines::told::Told;
 
 /// Runs the program, and answers its status.
-fn status_of(rt: HostRuntime) -> Result<u8, AllocError> {
+fn status_of(rt: HostRuntime) -> anyhow::Result<u8> {
     let alloc = rt.alloc();
-    let words = words_of(&rt)?;
-    let mut out = rt.stdout();
-    let mut errors = rt.stderr();
-    let Some(options) = options_of(alloc, words.as_slice())? else {
-        let _ = errors.write_all(USAGE.as_bytes());
-        return Ok(2);
+    let words: Vec<String> = env::args(&rt)?.collect(alloc)?;
+    let out = rt.stdout();
+    let options = match options_of(alloc, words.as_slice(), out.is_terminal()) {
+        Ok(options) => options,
+        Err(error) => {
+            if error.kind() == ErrorKind::OutOfMemory {
+                return Ok(4);
+            }
+            error.print(&rt)?;
+            return Ok(error.exit_code() as u8);
+        }
     };
+    let mut out = Told::new(out);
+    let mut errors = Told::new(rt.stderr());
     let mut inputs = Host { rt };
     Ok(run(
         alloc,

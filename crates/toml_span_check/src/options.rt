@@ -1,19 +1,24 @@
 //! The words of the command line.
-use crate::answer::Task;
+use crate::answer::{Form, Task};
 use crate::faults::Format;
-use std::alloc::{AllocError, Global};
+use clap::{Arg, ArgAction, ArgMatches, Command, Error};
+use std::alloc::Global;
+use toml_span_report::Style;
 
 /// How the program is used.
 pub(crate) const USAGE: &str = "\
-usage: toml_span_check [--format text|json|short] [--get POINTER] [--tagged] [FILE..]
+usage: toml_span_check [--format text|json|short] [--color auto|always|never]
+                       [--get POINTER] [--tagged | --items] [FILE..]
 
 Tells the fault of each FILE that is no TOML document. With no FILE, and for `-`, standard input is read.
 
   --format text    each fault in lines, with marks (the default)
   --format short   each fault in one line, as FILE:LINE:COLUMN: CODE: MESSAGE
   --format json    each fault as one line of JSON
+  --color WHEN     whether marks have colours: always, never, or auto (the default), on a terminal
   --get POINTER    shows the value at POINTER, as /a/b/0, as JSON
   --tagged         shows the document, or what --get names, with the type of each scalar, as toml-test reads it
+  --items          shows the document, or what --get names, as a line for each node, with the bytes where it stands
   --               takes each further word as a FILE
 
 Status: 0 all are read, 1 one has a fault, 2 one can't be read or the words are wrong, 3 a write fails, 4 no memory.
@@ -29,56 +34,75 @@ pub(crate) struct Options<'w> {
     pub(crate) names: Vec<&'w str>,
 }
 
-/// The format of this name.
-fn format_of(name: &str) -> Option<Format> {
-    match name {
-        "text" => Some(Format::Text),
-        "short" => Some(Format::Short),
-        "json" => Some(Format::Json),
-        _ => None,
+/// The words that the program knows.
+fn command<'w>(alloc: Global) -> Result<Command<'w>, Error> {
+    let format = Arg::new(alloc, "format")
+        .long("format")
+        .value_parser(["text", "json", "short"].as_slice())
+        .default_value("text");
+    let color = Arg::new(alloc, "color")
+        .long("color")
+        .value_parser(["auto", "always", "never"].as_slice())
+        .default_value("auto");
+    let get = Arg::new(alloc, "get").long("get");
+    let tagged = Arg::new(alloc, "tagged")
+        .long("tagged")
+        .action(ArgAction::SetTrue);
+    let items = Arg::new(alloc, "items")
+        .long("items")
+        .action(ArgAction::SetTrue)
+        .conflicts_with("tagged")?;
+    let files = Arg::new(alloc, "FILE").num_args(0..).default_value("-");
+    let command = Command::new(alloc, "toml_span_check")
+        .override_help(USAGE)
+        .arg(format)?
+        .arg(color)?
+        .arg(get)?
+        .arg(tagged)?
+        .arg(items)?
+        .arg(files)?;
+    Ok(command)
+}
+
+/// How faults are told.
+fn format_of(matches: &ArgMatches<'_>, is_terminal: bool) -> Format {
+    let style = match matches.get_str("color") {
+        Some("always") => Style::Coloured,
+        Some("auto") if is_terminal => Style::Coloured,
+        _ => Style::Plain,
+    };
+    match matches.get_str("format") {
+        Some("short") => Format::Short,
+        Some("json") => Format::Json,
+        _ => Format::Text(style),
     }
 }
 
-/// What these words ask for. None where they are wrong.
+/// What is done with documents.
+fn task_of(matches: &ArgMatches<'_>) -> Task {
+    if matches.get_flag("items") {
+        Task::Show(Form::Items)
+    } else if matches.get_flag("tagged") {
+        Task::Show(Form::Tagged)
+    } else if matches.contains_id("get") {
+        Task::Show(Form::Plain)
+    } else {
+        Task::Check
+    }
+}
+
+/// What these words ask for, of which the first is the program's name.
 pub(crate) fn options_of<'w>(
     alloc: Global,
     words: &'w [String],
-) -> Result<Option<Options<'w>>, AllocError> {
-    let mut options = Options {
-        format: Format::Text,
-        task: Task::Check,
-        pointer: "",
-        names: Vec::new(alloc),
-    };
-    let mut at = 0;
-    let mut only_names = false;
-    while at < words.len() {
-        let word = words[at].as_str();
-        at += 1;
-        if only_names || word == "-" || !word.starts_with('-') {
-            options.names.push(word)?;
-        } else if word == "--" {
-            only_names = true;
-        } else if word == "--tagged" {
-            options.task = Task::Tagged;
-        } else if word == "--get" && at < words.len() {
-            options.pointer = words[at].as_str();
-            if options.task == Task::Check {
-                options.task = Task::Plain;
-            }
-            at += 1;
-        } else if word == "--format" && at < words.len() {
-            let Some(format) = format_of(words[at].as_str()) else {
-                return Ok(None);
-            };
-            options.format = format;
-            at += 1;
-        } else {
-            return Ok(None);
-        }
-    }
-    if options.names.is_empty() {
-        options.names.push("-")?;
-    }
-    Ok(Some(options))
+    is_terminal: bool,
+) -> Result<Options<'w>, Error> {
+    let matches = command(alloc)?.try_get_matches_from(words)?;
+    let names = matches.get_strs("FILE").unwrap_or(&[]);
+    Ok(Options {
+        format: format_of(&matches, is_terminal),
+        task: task_of(&matches),
+        pointer: matches.get_str("get").unwrap_or(""),
+        names: Vec::from_slice(alloc, names)?,
+    })
 }

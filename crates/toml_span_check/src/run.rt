@@ -1,5 +1,5 @@
 //! The run of the program.
-ghost use Rattle.std.specs.Prelude.{◌≡◌, ◌++◌, IfOk, OnOk, map, string_bytes};
+ghost use Rattle.std.specs.Prelude.{◌≡◌, ◌++◌, IfOk, OnOk, false, map, string_bytes};
 ghost use Rattle.toml_span_check.specs.Run as spec;
 ghost use Rattle.toml_span_check.specs.Run.{Runs, Tells, complaint};
 
@@ -7,13 +7,14 @@ use crate::answer::{Task, answer};
 use crate::faults::Format;
 use crate::input::{Inputs, Unread};
 use std::alloc::{AllocError, Global};
-use std::io::Write;
+use toml_span_lines::run::write_bytes;
+use toml_span_lines::sink::Sink;
 
 /// What is told of files.
 #[derive(Drop)]
 struct Telling {
     /// What their bytes give.
-    out: String,
+    out: Vec<u8>,
     /// What is said of those that can't be read.
     errors: String,
     status: u8,
@@ -53,13 +54,13 @@ fn tell_one(
     telling: &mut Telling,
 ) -> Result<(), AllocError>
     ensures { OnOk result (spec.Adds format task pointer.now name.now (spec.read_of reading)
-        (string_bytes telling.old.out, string_bytes telling.old.errors, telling.old.status)
-        (string_bytes telling.new.out, string_bytes telling.new.errors, telling.new.status)) }
+        (telling.old.out.items, string_bytes telling.old.errors, telling.old.status)
+        (telling.new.out.items, string_bytes telling.new.errors, telling.new.status)) }
 {
     match reading {
         Ok(bytes) => {
             let told = answer(alloc, format, task, pointer, name, bytes.as_slice())?;
-            telling.out.push_str(told.1.as_str())?;
+            telling.out.extend_from_slice(told.1.as_slice())?;
             telling.status = telling.status.max(told.0);
             Ok(())
         }
@@ -82,10 +83,10 @@ fn tell<I: Inputs>(
 ) -> Result<Telling, AllocError>
     ensures { IfOk result (λ t. Tells format task pointer.now (map (λ name. name.now) names.now)
         (I.log inputs.old) (I.log inputs.new)
-        (string_bytes t.out) (string_bytes t.errors) t.status) }
+        t.out.items (string_bytes t.errors) t.status) }
 {
     let mut telling = Telling {
-        out: String::new(alloc),
+        out: Vec::new(alloc),
         errors: String::new(alloc),
         status: 0,
     };
@@ -98,7 +99,7 @@ fn tell<I: Inputs>(
 
 /// Reads the files of these names, and writes what is told of them. Answers the status with which the program ends:
 /// 0 where all are read, 1 where one has a fault, 2 where one can't be read, 3 where a write fails, 4 without memory.
-pub(crate) fn run<I: Inputs, O: Write, E: Write>(
+pub(crate) fn run<I: Inputs, O: Sink, E: Sink>(
     alloc: Global,
     format: Format,
     task: Task,
@@ -108,17 +109,18 @@ pub(crate) fn run<I: Inputs, O: Write, E: Write>(
     out: &mut O,
     errors: &mut E,
 ) -> u8
+    requires out { O.failed out.old ≡ false }
+    requires errors { E.failed errors.old ≡ false }
     ensures { Runs format task pointer.now (map (λ name. name.now) names.now) (I.log inputs.old) (I.log inputs.new)
-        (O.contents out.old) (O.contents out.new) (E.contents errors.old) (E.contents errors.new) result }
+        (O.contents out.old) (O.contents out.new) (O.failed out.new)
+        (E.contents errors.old) (E.contents errors.new) (E.failed errors.new) result }
 {
     let Ok(telling) = tell(alloc, format, task, pointer, names, inputs) else {
         return 4;
     };
-    if errors.write_all(telling.errors.as_bytes()).is_err() {
-        return 3;
+    if write_bytes(errors, telling.errors.as_bytes()) && write_bytes(out, telling.out.as_slice()) {
+        telling.status
+    } else {
+        3
     }
-    if out.write_all(telling.out.as_bytes()).is_err() {
-        return 3;
-    }
-    telling.status
 }

@@ -9,7 +9,7 @@ use std::str::FromStr;
 use std::{fmt, io};
 use toml_span::de_helpers::parsed;
 use toml_span::{DeserError, Deserialize, Stop, Value, from_str};
-use toml_span_report::render_error;
+use toml_span_report::{Style, render_error};
 use toml_span_typed::read_table;
 
 /// The settings. Other keys are refused.
@@ -105,7 +105,13 @@ fn main(rt: HostRuntime) -> io::Result<ExitCode> {
         }
         Err(Stop::Fault(errors)) => {
             for error in errors.iter() {
-                let shown = render_error(alloc, error, "settings.toml", text.as_str())?;
+                let shown = render_error(
+                    alloc,
+                    Style::Plain,
+                    error,
+                    "settings.toml",
+                    text.as_str(),
+                )?;
                 print!(rt; "{shown}")?;
             }
             Ok(ExitCode::FAILURE)

@@ -1,4 +1,5 @@
 pub mod Characters
+pub mod Colours
 pub mod Places
 pub mod Report
 pub mod Strips

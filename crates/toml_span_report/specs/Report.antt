@@ -5,7 +5,11 @@ use Rattle.std.specs.Fmt.{decimal}
 use Rattle.std.specs.List.{fold}
 use Rattle.toml_span_tree.specs.Diagnostic.{LabelContent}
 use Rattle.toml_span_report.specs.Characters.{shown, columns}
+use Rattle.toml_span_report.specs.Colours.{painted}
 use Rattle.toml_span_report.specs.Strips.{Part, all_parts}
+use Rattle.toml_span_report.specs.declared.colours.Ink.{Ink}
+use Rattle.toml_span_report.specs.declared.colours.Ink.TheVariants.{Red, Blue, Bold}
+use Rattle.toml_span_report.specs.declared.colours.Style.{Style}
 
 -- a text that is not empty, behind something
 abbrev pub behind : List ℕ → List ℕ → List ℕ
@@ -13,8 +17,10 @@ behind sign [] = []
 behind sign (x ∷ xs) = sign ++ x ∷ xs
 
 -- `error[code]: message`
-abbrev pub headline : List ℕ → List ℕ → List ℕ
-headline code message = codes "error[" ++ shown code ++ codes "]" ++ behind (codes ": ") (shown message) ++ codes "\n"
+abbrev pub headline : Style → List ℕ → List ℕ → List ℕ
+headline style code message =
+    painted style Red (codes "error[" ++ shown code ++ codes "]")
+    ++ painted style Bold (behind (codes ": ") (shown message)) ++ codes "\n"
 
 -- the part at which the error stands: the first of a primary label, or else the first
 abbrev pub first_primary : List Part → Option Part
@@ -45,8 +51,8 @@ abbrev pub width_of : List Part → ℕ
 width_of parts = length (decimal (greatest parts))
 
 -- what stands to the left of a line, and a bar
-abbrev pub gutter : ℕ → List ℕ → List ℕ
-gutter width number = replicate (width - length number) 32 ++ number ++ codes " |"
+abbrev pub gutter : Style → ℕ → List ℕ → List ℕ
+gutter style width number = painted style Blue (replicate (width - length number) 32 ++ number ++ codes " |")
 
 -- a line is cut where dots stand
 abbrev pub dots : Bool → List ℕ
@@ -57,8 +63,8 @@ dots false = []
 abbrev pub source : Part → List ℕ
 source p = dots p.is_cut_before ++ shown p.before ++ shown p.marked ++ shown p.behind ++ dots p.is_cut_behind
 
-abbrev pub source_line : ℕ → Part → List ℕ
-source_line width p = gutter width (decimal p.number) ++ behind (codes " ") (source p) ++ codes "\n"
+abbrev pub source_line : Style → ℕ → Part → List ℕ
+source_line style width p = gutter style width (decimal p.number) ++ behind (codes " ") (source p) ++ codes "\n"
 
 -- the marks under it, as many as the marked text takes columns, and one at least; and the message
 abbrev pub sign : Bool → ℕ
@@ -69,30 +75,37 @@ abbrev pub marks : Part → List ℕ
 marks p = replicate (columns (dots p.is_cut_before ++ shown p.before)) 32
     ++ replicate (max (columns (shown p.marked)) 1) (sign p.is_primary)
 
-abbrev pub marks_line : ℕ → Part → List ℕ
-marks_line width p = gutter width [] ++ codes " " ++ marks p ++ behind (codes " ") (shown p.message) ++ codes "\n"
+abbrev pub ink : Bool → Ink
+ink true = Red
+ink false = Blue
+
+abbrev pub marks_line : Style → ℕ → Part → List ℕ
+marks_line style width p =
+    gutter style width [] ++ codes " "
+    ++ painted style (ink p.is_primary) (marks p ++ behind (codes " ") (shown p.message)) ++ codes "\n"
 
 -- The first line has a bar above it. A line that was shown last is not shown again, and dots stand for lines between.
-abbrev pub opening : ℕ → Option ℕ → Part → List ℕ
-opening width None p = gutter width [] ++ codes "\n" ++ source_line width p
-opening width (Some above) p =
+abbrev pub opening : Style → ℕ → Option ℕ → Part → List ℕ
+opening style width None p = gutter style width [] ++ codes "\n" ++ source_line style width p
+opening style width (Some above) p =
     if above == p.number then []
-    else if p.number - above == 1 then source_line width p
-    else codes "...\n" ++ source_line width p
+    else if p.number - above == 1 then source_line style width p
+    else codes "...\n" ++ source_line style width p
 
-abbrev pub drawn : ℕ → Option ℕ → List Part → List ℕ
-drawn width above [] = []
-drawn width above (p ∷ ps) = opening width above p ++ marks_line width p ++ drawn width (Some p.number) ps
+abbrev pub drawn : Style → ℕ → Option ℕ → List Part → List ℕ
+drawn style width above [] = []
+drawn style width above (p ∷ ps) =
+    opening style width above p ++ marks_line style width p ++ drawn style width (Some p.number) ps
 
 -- The whole text: the headline, the place of the error, and the lines of the labels with what they say.
-abbrev pub report_of : List ℕ → List ℕ → List ℕ → List Part → List ℕ
-report_of code message name parts =
-    headline code message
-    ++ replicate (width_of parts) 32 ++ codes "--> " ++ shown name ++ shown_place (main_part parts) ++ codes "\n"
-    ++ drawn (width_of parts) None parts
+abbrev pub report_of : Style → List ℕ → List ℕ → List ℕ → List Part → List ℕ
+report_of style code message name parts =
+    headline style code message
+    ++ painted style Blue (replicate (width_of parts) 32 ++ codes "--> ") ++ shown name
+    ++ shown_place (main_part parts) ++ codes "\n" ++ drawn style (width_of parts) None parts
 
-abbrev pub report : {F : Type 0} → List ℕ → List ℕ → List (LabelContent F) → List ℕ → List ℕ → List ℕ
-report code message marks name text = report_of code message name (all_parts text marks)
+abbrev pub report : {F : Type 0} → Style → List ℕ → List ℕ → List (LabelContent F) → List ℕ → List ℕ → List ℕ
+report style code message marks name text = report_of style code message name (all_parts text marks)
 
 -- one line: `name:line:column: code: message`
 abbrev pub brief_of : List ℕ → List ℕ → List ℕ → List Part → List ℕ

@@ -2,9 +2,11 @@
 #![tactic(auto)]
 
 mod characters;
+mod colours;
 mod places;
 mod report;
 mod strips;
 
+pub use colours::Style;
 pub use places::line_column;
 pub use report::{render, render_error, render_line};

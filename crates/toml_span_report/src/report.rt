@@ -7,6 +7,7 @@ ghost use Rattle.toml_span_report.specs.Report as spec;
 ghost use Rattle.toml_span_report.specs.Strips.{part_of};
 
 use crate::characters::{columns, push_shown, push_times, shown};
+use crate::colours::{Ink, Style, push_painted};
 use crate::strips::{Strip, all_strips};
 use std::alloc::{AllocError, Global};
 use std::fmt::Write;
@@ -26,17 +27,21 @@ fn push_behind(out: &mut String, sign: &str, text: &str) -> Result<(), AllocErro
 /// Adds the code and the message.
 fn push_headline(
     alloc: Global,
+    style: Style,
     out: &mut String,
     code: &str,
     message: &str,
 ) -> Result<(), AllocError>
-    ensures { OnOk result (string_bytes out.new ≡ string_bytes out.old ++ spec.headline code.now message.now) }
+    ensures { OnOk result (string_bytes out.new ≡ string_bytes out.old ++ spec.headline style code.now message.now) }
 {
-    out.push_str("error[")?;
-    push_shown(out, code)?;
-    out.push_str("]")?;
+    let mut front = String::from_str(alloc, "error[")?;
+    push_shown(&mut front, code)?;
+    front.push_str("]")?;
+    push_painted(out, style, Ink::Red, front.as_str())?;
     let message = shown(alloc, message)?;
-    push_behind(out, ": ", message.as_str())?;
+    let mut back = String::new(alloc);
+    push_behind(&mut back, ": ", message.as_str())?;
+    push_painted(out, style, Ink::Bold, back.as_str())?;
     out.push_str("\n")
 }
 
@@ -76,13 +81,25 @@ fn width_of(alloc: Global, strips: &[Strip<'_>]) -> Result<usize, AllocError>
     Ok(digits.len())
 }
 
+/// How lines are drawn.
+#[derive(Clone, Copy)]
+struct Frame {
+    alloc: Global,
+    style: Style,
+    /// The columns of the line numbers.
+    width: usize,
+}
+
 /// Adds what stands to the left of a line, and a bar.
-fn push_gutter(out: &mut String, width: usize, number: &str) -> Result<(), AllocError>
-    ensures { OnOk result (string_bytes out.new ≡ string_bytes out.old ++ spec.gutter width number.now) }
+fn push_gutter(frame: Frame, out: &mut String, number: &str) -> Result<(), AllocError>
+    ensures { OnOk result (string_bytes out.new ≡ string_bytes out.old
+        ++ spec.gutter frame.style frame.width number.now) }
 {
-    push_times(out, width.saturating_sub(number.len()), ' ')?;
-    out.push_str(number)?;
-    out.push_str(" |")
+    let mut left = String::new(frame.alloc);
+    push_times(&mut left, frame.width.saturating_sub(number.len()), ' ')?;
+    left.push_str(number)?;
+    left.push_str(" |")?;
+    push_painted(out, frame.style, Ink::Blue, left.as_str())
 }
 
 fn push_dots(out: &mut String, is_cut: bool) -> Result<(), AllocError>
@@ -95,17 +112,13 @@ fn push_dots(out: &mut String, is_cut: bool) -> Result<(), AllocError>
 }
 
 /// Adds the line of a strip.
-fn push_source_line(
-    alloc: Global,
-    out: &mut String,
-    width: usize,
-    strip: &Strip<'_>,
-) -> Result<(), AllocError>
-    ensures { OnOk result (string_bytes out.new ≡ string_bytes out.old ++ spec.source_line width (part_of strip.now)) }
+fn push_source_line(frame: Frame, out: &mut String, strip: &Strip<'_>) -> Result<(), AllocError>
+    ensures { OnOk result (string_bytes out.new ≡ string_bytes out.old
+        ++ spec.source_line frame.style frame.width (part_of strip.now)) }
 {
-    let number = strip.number.to_string(alloc)?;
-    push_gutter(out, width, number.as_str())?;
-    let mut source = String::new(alloc);
+    let number = strip.number.to_string(frame.alloc)?;
+    push_gutter(frame, out, number.as_str())?;
+    let mut source = String::new(frame.alloc);
     push_dots(&mut source, strip.is_cut_before)?;
     push_shown(&mut source, strip.before)?;
     push_shown(&mut source, strip.marked)?;
@@ -128,37 +141,41 @@ fn push_marks(alloc: Global, out: &mut String, strip: &Strip<'_>) -> Result<(), 
     push_times(out, columns(marked.as_str()).max(1), sign)
 }
 
-/// Adds the line of marks, and what is to be said.
-fn push_marks_line(
-    alloc: Global,
-    out: &mut String,
-    width: usize,
-    strip: &Strip<'_>,
-) -> Result<(), AllocError>
-    ensures { OnOk result (string_bytes out.new ≡ string_bytes out.old ++ spec.marks_line width (part_of strip.now)) }
+/// The colour of a label's marks.
+fn ink(is_primary: bool) -> Ink
+    ensures { result ≡ spec.ink is_primary }
 {
-    push_gutter(out, width, "")?;
+    if is_primary { Ink::Red } else { Ink::Blue }
+}
+
+/// Adds the line of marks, and what is to be said.
+fn push_marks_line(frame: Frame, out: &mut String, strip: &Strip<'_>) -> Result<(), AllocError>
+    ensures { OnOk result (string_bytes out.new ≡ string_bytes out.old
+        ++ spec.marks_line frame.style frame.width (part_of strip.now)) }
+{
+    push_gutter(frame, out, "")?;
     out.push_str(" ")?;
-    push_marks(alloc, out, strip)?;
-    let message = shown(alloc, strip.message)?;
-    push_behind(out, " ", message.as_str())?;
+    let mut marks = String::new(frame.alloc);
+    push_marks(frame.alloc, &mut marks, strip)?;
+    let message = shown(frame.alloc, strip.message)?;
+    push_behind(&mut marks, " ", message.as_str())?;
+    push_painted(out, frame.style, ink(strip.is_primary), marks.as_str())?;
     out.push_str("\n")
 }
 
 /// Adds the line of a strip where it is not shown yet, and what stands above it.
 fn push_opening(
-    alloc: Global,
+    frame: Frame,
     out: &mut String,
-    width: usize,
     above: Option<usize>,
     strip: &Strip<'_>,
 ) -> Result<(), AllocError>
     ensures { OnOk result (string_bytes out.new ≡ string_bytes out.old
-        ++ spec.opening width above (part_of strip.now)) }
+        ++ spec.opening frame.style frame.width above (part_of strip.now)) }
 {
     match above {
         None => {
-            push_gutter(out, width, "")?;
+            push_gutter(frame, out, "")?;
             out.push_str("\n")?;
         }
         Some(above) => {
@@ -170,23 +187,18 @@ fn push_opening(
             }
         }
     }
-    push_source_line(alloc, out, width, strip)
+    push_source_line(frame, out, strip)
 }
 
 /// Adds the lines of all strips, with their marks.
-fn push_strips(
-    alloc: Global,
-    out: &mut String,
-    width: usize,
-    strips: &[Strip<'_>],
-) -> Result<(), AllocError>
+fn push_strips(frame: Frame, out: &mut String, strips: &[Strip<'_>]) -> Result<(), AllocError>
     ensures { OnOk result (string_bytes out.new ≡ string_bytes out.old
-        ++ spec.drawn width None (map part_of strips.now)) }
+        ++ spec.drawn frame.style frame.width None (map part_of strips.now)) }
 {
     let mut above = None;
     for strip in strips {
-        push_opening(alloc, out, width, above, strip)?;
-        push_marks_line(alloc, out, width, strip)?;
+        push_opening(frame, out, above, strip)?;
+        push_marks_line(frame, out, strip)?;
         above = Some(strip.number);
     }
     Ok(())
@@ -195,23 +207,31 @@ fn push_strips(
 /// The text for a code, a message and strips.
 fn report(
     alloc: Global,
+    style: Style,
     code: &str,
     message: &str,
     name: &str,
     strips: &[Strip<'_>],
 ) -> Result<String, AllocError>
     ensures { IfOk result (λ out. string_bytes out
-        ≡ spec.report_of code.now message.now name.now (map part_of strips.now)) }
+        ≡ spec.report_of style code.now message.now name.now (map part_of strips.now)) }
 {
     let width = width_of(alloc, strips)?;
     let mut out = String::new(alloc);
-    push_headline(alloc, &mut out, code, message)?;
-    push_times(&mut out, width, ' ')?;
-    out.push_str("--> ")?;
+    push_headline(alloc, style, &mut out, code, message)?;
+    let mut arrow = String::new(alloc);
+    push_times(&mut arrow, width, ' ')?;
+    arrow.push_str("--> ")?;
+    push_painted(&mut out, style, Ink::Blue, arrow.as_str())?;
     push_shown(&mut out, name)?;
     push_place(&mut out, main_strip(strips))?;
     out.push_str("\n")?;
-    push_strips(alloc, &mut out, width, strips)?;
+    let frame = Frame {
+        alloc,
+        style,
+        width,
+    };
+    push_strips(frame, &mut out, strips)?;
     Ok(out)
 }
 
@@ -223,20 +243,22 @@ fn report(
 /// is moved to the nearest place before it, and a reversed span is empty. An empty one has one mark.
 ///
 /// A tab is shown as four spaces, and control characters by pictures of theirs. Of a long line 80 bytes before a label
-/// and 160 from it on are shown. Only want of memory is refused.
+/// and 160 from it on are shown. Colours, where the style has them, add nothing else. Only want of memory is refused.
 pub fn render<F>(
     alloc: Global,
+    style: Style,
     diagnostic: &Diagnostic<F>,
     name: &str,
     text: &str,
 ) -> Result<String, AllocError>
     ensures { IfOk result (λ out. string_bytes out
-        ≡ spec.report (string_bytes diagnostic.now.code) (string_bytes diagnostic.now.message)
+        ≡ spec.report style (string_bytes diagnostic.now.code) (string_bytes diagnostic.now.message)
         (map label_content diagnostic.now.labels.items) name.now text.now) }
 {
     let strips = all_strips(alloc, text, diagnostic.labels.as_slice())?;
     report(
         alloc,
+        style,
         diagnostic.code.as_str(),
         diagnostic.message.as_str(),
         name,
@@ -291,12 +313,13 @@ pub fn render_line<F>(
 /// The text that shows an error, as `render` shows its diagnostic, with the error's own text as the message.
 pub fn render_error(
     alloc: Global,
+    style: Style,
     error: &Error<'_>,
     name: &str,
     text: &str,
 ) -> Result<String, AllocError>
     ensures { IfOk result (λ out. string_bytes out
-        ≡ spec.report {F = ℕ} (code_of (kind_of error.now.kind)) (display_text (kind_of error.now.kind))
+        ≡ spec.report {F = ℕ} style (code_of (kind_of error.now.kind)) (display_text (kind_of error.now.kind))
         (labels_of 0 error.now.span (kind_of error.now.kind)) name.now text.now) }
 {
     let diagnostic = error.to_diagnostic(alloc, 0usize)?;
@@ -304,6 +327,7 @@ pub fn render_error(
     let strips = all_strips(alloc, text, diagnostic.labels.as_slice())?;
     report(
         alloc,
+        style,
         diagnostic.code.as_str(),
         message.as_str(),
         name,

@@ -18,3 +18,4 @@ pub use reader::{Misread, Reader};
 pub use row::Row;
 pub use shown::render_stop;
 pub use spanned::Spanned;
+pub use toml_span_report::Style;

@@ -2,7 +2,7 @@
 use serde::Deserialize;
 use std::alloc::Global;
 use std::io;
-use toml_span_serde::{Spanned, from_str, render_stop};
+use toml_span_serde::{Spanned, Style, from_str, render_stop};
 
 #[derive(Debug, Drop, Deserialize)]
 #[serde(deny_unknown_fields)]
@@ -32,6 +32,9 @@ pub struct Settings<'a> {
 pub fn show(rt: &impl Print, alloc: Global, text: &str) -> io::Result<()> {
     match from_str::<Settings<'_>>(alloc, text) {
         Ok(settings) => println!(rt; "{settings:?}"),
-        Err(stop) => print!(rt; "{}", render_stop(alloc, stop, "settings.toml", text)?),
+        Err(stop) => {
+            let shown = render_stop(alloc, Style::Plain, stop, "settings.toml", text)?;
+            print!(rt; "{shown}")
+        }
     }
 }

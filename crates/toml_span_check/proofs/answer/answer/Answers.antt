@@ -1,4 +1,4 @@
-use Rattle.std.proofs.Common.{◌≡◌, ◌≤◌, ◌<◌, ℕ, List, Result, Ok, Err, IfOk, IsUtf8, length, string_bytes, String, subst, arith}
+use Rattle.std.proofs.Common.{◌≡◌, ◌≤◌, ◌<◌, ℕ, List, Result, Ok, Err, IfOk, IsUtf8, Vec, length, subst, arith}
 use Rattle.std.specs.Global.{Global}
 use Rattle.std.specs.declared.alloc.AllocError.{AllocError}
 use Rattle.toml_span_check.specs.declared.answer.Task.{Task}
@@ -7,9 +7,9 @@ use Rattle.toml_span_check.specs.Answer.{bound, too_long, not_utf8, IsRead, IsAn
 use Rattle.toml_span_check.proofs.answer.answer.Goals as goal
 
 abbrev Made : Type 0
-Made = Result (ℕ × String Global) AllocError
+Made = Result (ℕ × Vec ℕ Global) AllocError
 
-long : (r : Made) (format : Format) (task : Task) (pointer name bytes : List ℕ) → bound < length bytes → IfOk r (λ a. (a.0, string_bytes a.1) ≡ too_long format name) → IfOk r (λ a. IsAnswer format task pointer name bytes (a.0, string_bytes a.1))
+long : (r : Made) (format : Format) (task : Task) (pointer name bytes : List ℕ) → bound < length bytes → IfOk r (λ a. (a.0, a.1.items) ≡ too_long format name) → IfOk r (λ a. IsAnswer format task pointer name bytes (a.0, a.1.items))
 long (Err e) format task pointer name bytes above h = tt
 long (Ok a) format task pointer name bytes above h = record {
   long = λ _. h;
@@ -17,7 +17,7 @@ long (Ok a) format task pointer name bytes above h = record {
   read = λ short. absurd (omega arith);
 }
 
-no_text : (r : Made) (format : Format) (task : Task) (pointer name bytes : List ℕ) → length bytes ≤ bound → ¬ (IsUtf8 bytes) → IfOk r (λ a. (a.0, string_bytes a.1) ≡ not_utf8 format name) → IfOk r (λ a. IsAnswer format task pointer name bytes (a.0, string_bytes a.1))
+no_text : (r : Made) (format : Format) (task : Task) (pointer name bytes : List ℕ) → length bytes ≤ bound → ¬ (IsUtf8 bytes) → IfOk r (λ a. (a.0, a.1.items) ≡ not_utf8 format name) → IfOk r (λ a. IsAnswer format task pointer name bytes (a.0, a.1.items))
 no_text (Err e) format task pointer name bytes small none h = tt
 no_text (Ok a) format task pointer name bytes small none h = record {
   long = λ above. absurd (omega arith);
@@ -25,12 +25,12 @@ no_text (Ok a) format task pointer name bytes small none h = record {
   read = λ _ some. absurd (none some);
 }
 
-read : (r : Made) (format : Format) (task : Task) (pointer name bytes text : List ℕ) → length bytes ≤ bound → IsUtf8 bytes → text ≡ bytes → IfOk r (λ a. IsRead format task pointer name text (a.0, string_bytes a.1)) → IfOk r (λ a. IsAnswer format task pointer name bytes (a.0, string_bytes a.1))
+read : (r : Made) (format : Format) (task : Task) (pointer name bytes text : List ℕ) → length bytes ≤ bound → IsUtf8 bytes → text ≡ bytes → IfOk r (λ a. IsRead format task pointer name text (a.0, a.1.items)) → IfOk r (λ a. IsAnswer format task pointer name bytes (a.0, a.1.items))
 read (Err e) format task pointer name bytes text small utf8 is h = tt
 read (Ok a) format task pointer name bytes text small utf8 is h = record {
   long = λ above. absurd (omega arith);
   no_text = λ _ none. absurd (none utf8);
-  read = λ _ _. subst (λ (b : List ℕ). IsRead format task pointer name b (a.0, string_bytes a.1)) is h;
+  read = λ _ _. subst (λ (b : List ℕ). IsRead format task pointer name b (a.0, a.1.items)) is h;
 }
 
 pub returns-then-bytes-gt-BOUND : goal.returns-then-bytes-gt-BOUND

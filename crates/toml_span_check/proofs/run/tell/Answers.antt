@@ -4,7 +4,7 @@ use Rattle.toml_span_check.proofs.Tellings.{tells-start, tells-more, names-more}
 use Rattle.toml_span_check.proofs.run.tell.Goals as goal
 
 pub loop-name-init : goal.loop-name-init
-loop-name-init g c = tells-start c.args.format c.args.task c.args.pointer.now (g.I.Inputs.log c.args.inputs.now) _ _ c.new.ensures.bytes c.new-2.ensures.bytes
+loop-name-init g c = tells-start c.args.format c.args.task c.args.pointer.now (g.I.Inputs.log c.args.inputs.now) _ _ c.new.ensures.items c.new-2.ensures.bytes
 
 pub loop-name-preserved : goal.loop-name-preserved
 loop-name-preserved g c =
@@ -12,5 +12,5 @@ loop-name-preserved g c =
     let none : Bor (List ℕ) = record { ref_ptr = (0, 0); now = [] } in
     tells-more c.args.format c.args.task c.args.pointer.now _ _ (get_or c.args.names.now l.name-index none).now
     (g.I.Inputs.log c.args.inputs.now) (g.I.Inputs.log l.inputs) (g.I.Inputs.log c.read.new.self) (read_of c.in_ok-reading.reading)
-    (string_bytes l.telling.out) (string_bytes l.telling.errors) l.telling.status _ _ _ l.invariant
+    l.telling.out.items (string_bytes l.telling.errors) l.telling.status _ _ _ l.invariant
     (names-more c.args.names.now l.name-index none c.loop-name-test.true) c.in_ok-reading.ensures c.in_ok-tell_one.ensures

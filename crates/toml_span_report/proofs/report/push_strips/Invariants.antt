@@ -5,5 +5,5 @@ use Rattle.toml_span_report.proofs.report.push_strips.Given as goal
 
 abbrev pub invariant-loop-strip : goal.invariant-loop-strip
 invariant-loop-strip l =
-    string_bytes l.out ++ drawn l.width l.above (map part_of (drop l.strip-index l.strips))
-    ≡ string_bytes l.fn.out ++ drawn l.width None (map part_of l.strips)
+    string_bytes l.out ++ drawn l.frame.style l.frame.width l.above (map part_of (drop l.strip-index l.strips))
+    ≡ string_bytes l.fn.out ++ drawn l.frame.style l.frame.width None (map part_of l.strips)

@@ -1,0 +1,52 @@
+-- The statuses that are told: 0 or 1 of bytes, and 2 at most.
+use Rattle.std.proofs.Common.{◌≡◌, ◌↔◌, ℕ, ◌≤◌, Bool, true, false, ◌||◌, IsTrue, List, length, Option, Some, None, refl, sym, subst, ◌∙◌, inl, inr, arith}
+use Rattle.std.proofs.lemmas.Bool.{cases_lt, false≢true}
+use Rattle.std.proofs.lemmas.Str.{IsUtf8-from_is_utf8, is_utf8-from_IsUtf8}
+use Rattle.std.specs.Str.{IsUtf8, is_utf8}
+use Rattle.toml_span_tree.specs.Node.{Node}
+use Rattle.toml_span_check.specs.Answer.{bound, found, given, IsAnswer, IsRead}
+use Rattle.toml_span_check.specs.Run.{Reading, Told, nothing, answered, unread}
+use Rattle.toml_span_check.specs.declared.answer.Form.{Form}
+use Rattle.toml_span_check.specs.declared.answer.Task.{Task}
+use Rattle.toml_span_check.specs.declared.answer.Task.TheVariants.{Check, Show}
+use Rattle.toml_span_check.specs.declared.faults.Format.{Format}
+
+found-small : (format : Format) (form : Form) (pointer name : List ℕ) (n : Option Node) → (found format form pointer name n).0 ≤ 1
+found-small format form pointer name (Some n) = omega arith
+found-small format form pointer name None = omega arith
+
+given-small : (format : Format) (task : Task) (pointer name : List ℕ) (n : Node) → (given format task pointer name n).0 ≤ 1
+given-small format Check pointer name n = omega arith
+given-small format (Show form) pointer name n = found-small format form pointer name _
+
+read-small : (format : Format) (task : Task) (pointer name text : List ℕ) (answer : ℕ × List ℕ) → IsRead format task pointer name text answer → answer.0 ≤ 1
+read-small format task pointer name text answer (inl (root, tree, is)) = subst (λ (a : ℕ × List ℕ). a.0 ≤ 1) (sym is) (given-small format task pointer name _)
+read-small format task pointer name text answer (inr (error, why, is)) = subst (λ (a : ℕ × List ℕ). a.0 ≤ 1) (sym is) (omega arith)
+
+short-small : (format : Format) (task : Task) (pointer name bytes : List ℕ) (answer : ℕ × List ℕ) (is : Bool) → is_utf8 bytes ≡ is → length bytes ≤ bound →
+    IsAnswer format task pointer name bytes answer → answer.0 ≤ 1
+short-small format task pointer name bytes answer true is short a =
+    read-small format task pointer name bytes answer (a.read short (IsUtf8-from_is_utf8 bytes is))
+short-small format task pointer name bytes answer false is short a =
+    let none : IsUtf8 bytes → ⊥ = λ utf8. false≢true (sym is ∙ is_utf8-from_IsUtf8 bytes utf8) in
+    subst (λ (b : ℕ × List ℕ). b.0 ≤ 1) (sym (a.no_text short none)) (omega arith)
+
+answer-small : (format : Format) (task : Task) (pointer name bytes : List ℕ) (answer : ℕ × List ℕ) → IsAnswer format task pointer name bytes answer → answer.0 ≤ 1
+answer-small format task pointer name bytes answer a = elim (cases_lt bound (length bytes)) [
+  | inl long ↦ subst (λ (b : ℕ × List ℕ). b.0 ≤ 1) (sym (a.long long)) (omega arith)
+  | inr short ↦ short-small format task pointer name bytes answer (is_utf8 bytes) refl short a
+]
+
+pub told-small : (format : Format) (task : Task) (pointer : List ℕ) (rs : List Reading) (out errors : List ℕ) (status : ℕ) → Told format task pointer rs out errors status → status ≤ 2
+told-small format task pointer rs out errors status nothing = omega arith
+told-small format task pointer rs out errors status (answered before said warned earlier name bytes answer told is) =
+    let old = told-small format task pointer before said warned earlier told in
+    let more = answer-small format task pointer name bytes answer is in
+    omega arith
+told-small format task pointer rs out errors status (unread before said warned earlier name reason told) = omega arith
+
+-- where neither write failed, the status is not that of a failed one
+pub neither-failed : (untold unwarned : Bool) (status : ℕ) → status ≤ 2 → untold ≡ false → unwarned ≡ false → (status ≡ 3) ↔ IsTrue (untold || unwarned)
+neither-failed true unwarned status small good fine = cc
+neither-failed false true status small good fine = cc
+neither-failed false false status small good fine = (λ is. absurd (omega (arith, small, is)), λ h. absurd (false≢true h))

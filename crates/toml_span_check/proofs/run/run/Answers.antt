@@ -1,0 +1,19 @@
+use Rattle.std.proofs.Common.{◌∙◌, ap, arith, not}
+use Rattle.toml_span_check.proofs.Statuses.{told-small, neither-failed}
+use Rattle.toml_span_check.proofs.run.run.Goals as goal
+
+pub returns-then-write_bytes-2 : goal.returns-then-write_bytes-2
+returns-then-write_bytes-2 g c =
+    let tells = c.in-Ok.ensures in
+    let small = told-small _ _ _ _ _ _ _ tells.told in
+    let untold = c.write_bytes-then-write_bytes.ensures.told ∙ ap not c.if-write_bytes-2.true in
+    let unwarned = c.write_bytes.ensures.told ∙ ap not c.if-write_bytes.true in
+    let written = c.write_bytes-then-write_bytes.ensures.whole c.if-write_bytes-2.true in
+    let warned = c.write_bytes.ensures.whole c.if-write_bytes.true in
+    record {
+      failed = neither-failed _ _ _ small untold unwarned;
+      silent = λ is. absurd (omega (arith, small, is));
+      cut = λ is. absurd (omega (arith, small, is));
+      tells = λ _ _. (c.in-Ok.telling.out.items, _, tells, rw c.as_slice.ensures.value at written, rw c.as_bytes.ensures.value at warned);
+      known = omega (arith, small);
+    }

@@ -1,0 +1,71 @@
+-- At most one text shows some places.
+use Rattle.std.proofs.Common.{◌≡◌, ◌<◌, ℕ, List, [], ◌∷◌, Option, flat_map, refl, sym, ap, subst, ◌∙◌, inl, inr, arith}
+use Rattle.std.specs.List.{AllByRecursion}
+use Rattle.toml_span_tree.specs.Path.{Path, key, position, Place}
+use Rattle.toml_span_claims.specs.Ordered.{IsBefore}
+use Rattle.toml_span_lines.specs.Shown.{Entry, entry_line, Ascends, HasPlaces, IsIn, IsPathBefore, IsStepBefore, ShowsPlaces}
+
+-- ---- two that are before each other
+
+abbrev IsOneWay : {A : Type 0} → (A → A → Type 0) → Type 0
+IsOneWay {A} less = (x y : A) → less x y → less y x → ⊥
+
+one-way : {A : Type 0} (less : A → A → Type 0) → IsOneWay less → IsOneWay (IsBefore less)
+one-way less f [] [] h g = h
+one-way less f [] (y ∷ ys) h g = g
+one-way less f (x ∷ xs) [] h g = h
+one-way less f (x ∷ xs) (y ∷ ys) (inl h) (inl g) = f x y h g
+one-way less f (x ∷ xs) (y ∷ ys) (inl h) (inr g) = let here = subst (λ z. less x z) g.0 h in f x x here here
+one-way less f (x ∷ xs) (y ∷ ys) (inr h) (inl g) = let here = subst (λ z. less y z) h.0 g in f y y here here
+one-way less f (x ∷ xs) (y ∷ ys) (inr h) (inr g) = one-way less f xs ys h.1 g.1
+
+step-one-way : IsOneWay IsStepBefore
+step-one-way (key name) (key other) h g = one-way (λ (m n : ℕ). m < n) (λ m n a b. omega (arith, a, b)) name other h g
+step-one-way (position i) (position j) h g = omega (arith, h, g)
+step-one-way (key name) (position j) h g = h
+step-one-way (position i) (key name) h g = h
+
+path-one-way : (p q : Path) → IsPathBefore p q → IsPathBefore q p → ⊥
+path-one-way p q h g = one-way IsStepBefore step-one-way p q h g
+
+-- ---- lists that have the same entries
+
+-- what all later entries are behind
+at-entry : (p : Path) (es : List Entry) (e : Entry) → AllByRecursion (λ f. IsPathBefore p f.0) es → IsIn e es → IsPathBefore p e.0
+at-entry p [] e h i = absurd i
+at-entry p (f ∷ es) e h (inl is) = subst (λ (x : Entry). IsPathBefore p x.0) (sym is) h.0
+at-entry p (f ∷ es) e h (inr i) = at-entry p es e h.1 i
+
+abbrev HasAll : List Entry → List Entry → Type 0
+HasAll es fs = (e : Entry) → IsIn e es → IsIn e fs
+
+-- both begin with the same entry
+same-first : (e f : Entry) (es fs : List Entry) → Ascends (e ∷ es) → Ascends (f ∷ fs) → IsIn e (f ∷ fs) → IsIn f (e ∷ es) → e ≡ f
+same-first e f es fs a b (inl is) j = is
+same-first e f es fs a b (inr i) (inl is) = sym is
+same-first e f es fs a b (inr i) (inr j) = absurd (path-one-way f.0 e.0 (at-entry f.0 fs e b.0 i) (at-entry e.0 es f a.0 j))
+
+later : (e f : Entry) (es fs : List Entry) → Ascends (e ∷ es) → e ≡ f → HasAll (e ∷ es) (f ∷ fs) → HasAll es fs
+later e f es fs a same h x i = elim (h x (inr i)) [
+  | inl is ↦
+      let here : x ≡ e = is ∙ sym same in
+      let behind = subst (λ (y : Entry). IsPathBefore e.0 y.0) here (at-entry e.0 es x a.0 i) in
+      absurd (path-one-way e.0 e.0 behind behind)
+  | inr j ↦ j
+]
+
+same-entries : (es fs : List Entry) → Ascends es → Ascends fs → HasAll es fs → HasAll fs es → es ≡ fs
+same-entries [] [] a b h g = refl
+same-entries [] (f ∷ fs) a b h g = absurd (g f (inl refl))
+same-entries (e ∷ es) [] a b h g = absurd (h e (inl refl))
+same-entries (e ∷ es) (f ∷ fs) a b h g =
+    let first = same-first e f es fs a b (h e (inl refl)) (g f (inl refl)) in
+    ap (λ (x : Entry). x ∷ es) first ∙ ap (λ l. f ∷ l) (same-entries es fs a.1 b.1 (later e f es fs a first h) (later f e fs es b (sym first) g))
+
+same-places : (places : Path → Option Place) (es fs : List Entry) → HasPlaces places es → HasPlaces places fs → HasAll es fs
+same-places places es fs h g e i = (g e.0 e.1).0 ((h e.0 e.1).1 i)
+
+pub one-text : (places : Path → Option Place) (text other : List ℕ) → ShowsPlaces places text → ShowsPlaces places other → text ≡ other
+one-text places text other (es, up, has, is) (fs, rise, own, so) =
+    let same = same-entries es fs up rise (same-places places es fs has own) (same-places places fs es own has) in
+    is ∙ ap (λ l. flat_map entry_line l) same ∙ sym so

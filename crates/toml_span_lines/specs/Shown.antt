@@ -1,0 +1,84 @@
+-- What is shown of a text: a line for each node of its flat document, in the order of their paths, or the line of an
+-- error.
+use Rattle.std.specs.Prelude.{◌≡◌, ◌<◌, ◌↔◌, ◌⊎◌, ⊤, ℕ, List, [], ◌∷◌, length, Option, Some, codes}
+use Rattle.std.specs.List.{flat_map, AllByRecursion}
+use Rattle.toml_span_tree.specs.declared.error.Error.{Error}
+use Rattle.toml_span_tree.specs.Error.{fault_of}
+use Rattle.toml_span_tree.specs.Path.{Path, Step, key, position, Shape, shape_taken, shape_scalar, shape_array}
+use Rattle.toml_span_tree.specs.Path.{shape_table, Place}
+use Rattle.toml_span_tree.specs.Value.{scalar_kind}
+use Rattle.toml_span_read.specs.Data.{Block}
+use Rattle.toml_span_read.specs.Grammar.{SpellsDocument}
+use Rattle.toml_span_claims.specs.Claims.{claims}
+use Rattle.toml_span_claims.specs.Clashes.{Resolves}
+use Rattle.toml_span_claims.specs.Flat.{flat}
+use Rattle.toml_span_claims.specs.Ordered.{IsBefore, IsNameBefore}
+use Rattle.toml_span_assembly.specs.Parsing.{IsFault, IsClash}
+use Rattle.toml_span_lines.specs.Lines.{key_segment, position_segment, line, error_line}
+
+-- ---- the order of paths
+
+-- keys by their bytes, and positions by their numbers
+abbrev pub IsStepBefore : Step → Step → Type 0
+IsStepBefore (key name) (key other) = IsNameBefore name other
+IsStepBefore (position i) (position j) = i < j
+IsStepBefore (key name) (position j) = ⊥
+IsStepBefore (position i) (key other) = ⊥
+
+abbrev pub IsPathBefore : Path → Path → Type 0
+IsPathBefore p q = IsBefore IsStepBefore p q
+
+-- ---- places
+
+-- a path, and what stands there
+abbrev pub Entry : Type 0
+Entry = Path × Place
+
+abbrev pub IsIn : Entry → List Entry → Type 0
+IsIn e [] = ⊥
+IsIn e (f ∷ fs) = (e ≡ f) ⊎ IsIn e fs
+
+-- each path is before those of all later entries
+abbrev pub Ascends : List Entry → Type 0
+Ascends [] = ⊤
+Ascends (e ∷ es) = AllByRecursion (λ f. IsPathBefore e.0 f.0) es × Ascends es
+
+-- at each path stands what the list has there, and nothing where it has nothing
+abbrev pub HasPlaces : (Path → Option Place) → List Entry → Type 0
+HasPlaces places es = (p : Path) (x : Place) → (places p ≡ Some x) ↔ IsIn (p, x) es
+
+-- ---- lines
+
+abbrev pub segment : Step → List ℕ
+segment (key name) = key_segment name
+segment (position i) = position_segment i
+
+-- the name of the kind
+abbrev pub shape_name : Shape → List ℕ
+shape_name shape_taken = []
+shape_name (shape_scalar s) = scalar_kind s
+shape_name shape_array = codes "array"
+shape_name shape_table = codes "table"
+
+-- the path, the kind and the span
+abbrev pub entry_line : Entry → List ℕ
+entry_line e = line (flat_map segment e.0) (shape_name e.1.shape) e.1.span.start e.1.span.end
+
+-- The text is a line for each place, in the order of the paths.
+abbrev pub ShowsPlaces : (Path → Option Place) → List ℕ → Type 0
+ShowsPlaces places text = (es : List Entry) × Ascends es × HasPlaces places es × (text ≡ flat_map entry_line es)
+
+-- ---- texts
+
+-- The bytes spell sections within the limit, no two of their claims clash, and the text shows their flat document.
+pub record IsDocument (bytes : List ℕ) (limit : ℕ) (text : List ℕ) : Type 0 where
+  pub blocks : List Block
+  pub spelled : SpellsDocument blocks bytes limit
+  pub resolves : Resolves [] (claims blocks)
+  pub shown : ShowsPlaces (flat (length bytes) (claims blocks)) text
+
+-- The bytes are stuck at a fault or, where they spell sections within the limit, two claims clash. The text is the line
+-- of such a fault, or of the first clash.
+abbrev pub IsRefused : List ℕ → ℕ → List ℕ → Type 0
+IsRefused bytes limit text =
+    (error : Error) × (IsFault bytes limit error ⊎ IsClash bytes limit error) × (text ≡ error_line (fault_of error))

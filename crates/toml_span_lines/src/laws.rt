@@ -1,0 +1,40 @@
+//! Laws of what is shown.
+ghost use Rattle.std.specs.Prelude.{◌≡◌, ℕ, Bool, true, nat_lt, List, Option, Some};
+ghost use Rattle.toml_span_tree.specs.Error.{fault_of};
+ghost use Rattle.toml_span_tree.specs.Path.{Path, Place};
+ghost use Rattle.toml_span_tree.specs.declared.error.Error.{Error};
+ghost use Rattle.toml_span_assembly.specs.Parsing.{IsClash};
+ghost use Rattle.toml_span_lines.specs.Lines.{error_line};
+ghost use Rattle.toml_span_lines.specs.Run.{IsAnswer, Runs};
+ghost use Rattle.toml_span_lines.specs.Shown.{IsDocument, IsRefused, ShowsPlaces};
+
+/// One text shows some places.
+pub fn one_text()
+    ensures { (places : Path → Option Place) (text other : List ℕ) → ShowsPlaces places text → ShowsPlaces places other
+        → text ≡ other }
+{}
+
+/// Bytes that are a document are shown by one text, and are not refused. Where two claims clash, one text
+/// tells it, and so it is with whatever the bytes are refused for.
+pub fn one_answer()
+    ensures document { (bytes : List ℕ) (limit : ℕ) (text other : List ℕ) → IsDocument bytes limit text
+        → IsDocument bytes limit other → text ≡ other }
+    ensures refused { (bytes : List ℕ) (limit : ℕ) (text other : List ℕ) → IsDocument bytes limit text
+        → IsRefused bytes limit other → ⊥ }
+    ensures clash { (bytes : List ℕ) (limit : ℕ) (error : Error) (text : List ℕ) → IsClash bytes limit error
+        → IsRefused bytes limit text → text ≡ error_line (fault_of error) }
+    ensures told { (bytes : List ℕ) (limit : ℕ) (text other : List ℕ) → IsRefused bytes limit text
+        → IsRefused bytes limit other → text ≡ other }
+{}
+
+/// The bytes that are read decide the status and the text, want of memory and failing ends aside: bytes have
+/// one answer, and two runs over the same input, of which neither wants memory and no read or write fails, end
+/// with the same status and write the same.
+pub fn one_output()
+    ensures answer { (bytes : List ℕ) (limit status other : ℕ) (text last : List ℕ) → IsAnswer bytes limit status text
+        → IsAnswer bytes limit other last → (status ≡ other) × (text ≡ last) }
+    ensures run { (limit status other : ℕ) (input told : List ℕ) (left rest new last : Option (List ℕ)) (a b c d : Bool)
+        → Runs limit (Some input) left a (Some told) new b status
+        → Runs limit (Some input) rest c (Some told) last d other → nat_lt status 3 ≡ true → nat_lt other 3 ≡ true
+        → (status ≡ other) × (new ≡ last) }
+{}

@@ -1,0 +1,133 @@
+//! The run of the program.
+ghost use Rattle.std.specs.Prelude.{◌≡◌, ◌≤◌, IfOk, IfErr, false};
+ghost use Rattle.toml_span_lines.specs.Run.{HasReadAll, HasCut, Runs, WritesOut, IsAnswer, IsShown};
+
+use crate::lines::{error_line, tree_lines};
+use crate::sink::Sink;
+use crate::source::Source;
+use std::alloc::{AllocError, Global};
+use toml_span::Stop;
+use toml_span::de::parse_with_limit;
+
+/// The most bytes that a document may have.
+const BOUND: usize = 16_777_216;
+
+/// How deep a value, a header and a dotted key of a document may be.
+const LIMIT: usize = 128;
+
+/// Why not all was read.
+#[derive(Clone, Copy, PartialEq, Eq, Drop)]
+enum Cut {
+    Memory,
+    Failed,
+}
+
+/// Reads all there is, but no more than the bound and one byte.
+fn read_bytes<R: Source>(alloc: Global, reader: &mut R) -> Result<Vec<u8>, Cut>
+    requires { R.failed reader.old ≡ false }
+    ensures ok { IfOk result (λ v. HasReadAll (R.remaining reader.old) (R.remaining reader.new) v.items
+        × (R.failed reader.new ≡ false)) }
+    ensures err { IfErr result (λ c. HasCut (R.remaining reader.old) (R.remaining reader.new) (R.failed reader.new) c) }
+{
+    let mut bytes = Vec::new(alloc);
+    let mut buf = [0u8; 8192];
+    while bytes.len() < BOUND + 1 {
+        let room = buf.len().min(BOUND + 1 - bytes.len());
+        match reader.read(&mut buf[..room]) {
+            Ok(0) => return Ok(bytes),
+            Ok(n) => {
+                if bytes.extend_from_slice(&buf[..n]).is_err() {
+                    return Err(Cut::Memory);
+                }
+            }
+            Err(_) => return Err(Cut::Failed),
+        }
+    }
+    Ok(bytes)
+}
+
+/// Writes a text, up to a write that fails. Whether all was written.
+pub fn write_bytes<W: Sink>(writer: &mut W, text: &[u8]) -> bool
+    requires { W.failed writer.old ≡ false }
+    ensures { WritesOut (W.contents writer.old) (W.contents writer.new) text.now (W.failed writer.new) result }
+{
+    let mut at = 0;
+    while at < text.len() {
+        match writer.write(&text[at..]) {
+            Ok(0) => return false,
+            Ok(n) => at += n,
+            Err(_) => return false,
+        }
+    }
+    true
+}
+
+/// The status and the text for a document: 0 and its tree, or 1 and its error.
+fn answer_text(alloc: Global, text: &str, limit: usize) -> Result<(u8, Vec<u8>), AllocError>
+    requires some { 1 ≤ limit }
+    requires small { limit ≤ 128 }
+    ensures { IfOk result (λ a. IsShown text.now limit a.0 a.1.items) }
+{
+    match parse_with_limit(alloc, text, limit) {
+        Ok(root) => Ok((0, tree_lines(alloc, &root)?)),
+        Err(Stop::Fault(error)) => Ok((1, error_line(alloc, &error)?)),
+        Err(Stop::Memory(error)) => Err(error),
+    }
+}
+
+/// The status and the text for the bytes of an input.
+fn answer(alloc: Global, bytes: &[u8], limit: usize) -> Result<(u8, Vec<u8>), AllocError>
+    requires some { 1 ≤ limit }
+    requires small { limit ≤ 128 }
+    ensures { IfOk result (λ a. IsAnswer bytes.now limit a.0 a.1.items) }
+{
+    if bytes.len() > BOUND {
+        return Ok((2, Vec::from_slice(alloc, b"error too-long\n")?));
+    }
+    match str::from_utf8(bytes) {
+        Ok(text) => answer_text(alloc, text, limit),
+        Err(_) => Ok((2, Vec::from_slice(alloc, b"error not-utf-8\n")?)),
+    }
+}
+
+/// Reads a document, and writes its tree or its error and nothing else. The limit is that of `parse_with_limit`.
+///
+/// Answers the status with which the program ends: 0 for a tree, 1 for an error of the text, 2 for bytes that are too
+/// many or no UTF-8, 3 where reading or writing broke off, 4 for want of memory, of which nothing is written.
+pub fn run_with_limit<R: Source, W: Sink>(
+    alloc: Global,
+    limit: usize,
+    reader: &mut R,
+    writer: &mut W,
+) -> u8
+    requires some { 1 ≤ limit }
+    requires small { limit ≤ 128 }
+    requires reader { R.failed reader.old ≡ false }
+    requires writer { W.failed writer.old ≡ false }
+    ensures { Runs limit (R.remaining reader.old) (R.remaining reader.new) (R.failed reader.new)
+        (W.contents writer.old) (W.contents writer.new) (W.failed writer.new) result }
+{
+    let bytes = match read_bytes(alloc, reader) {
+        Ok(bytes) => bytes,
+        Err(Cut::Failed) => return 3,
+        Err(Cut::Memory) => return 4,
+    };
+    let Ok((status, text)) = answer(alloc, bytes.as_slice(), limit) else {
+        return 4;
+    };
+    if write_bytes(writer, text.as_slice()) {
+        status
+    } else {
+        3
+    }
+}
+
+/// The run with the limit of 128 levels.
+pub fn run<R: Source, W: Sink>(alloc: Global, reader: &mut R, writer: &mut W) -> u8
+    requires reader { R.failed reader.old ≡ false }
+    requires writer { W.failed writer.old ≡ false }
+    ensures { Runs 128 (R.remaining reader.old) (R.remaining reader.new) (R.failed reader.new)
+        (W.contents writer.old) (W.contents writer.new) (W.failed writer.new) result }
+{
+    run_with_limit(alloc, LIMIT, reader, writer)
+}

@@ -1,0 +1,28 @@
+//! What is read from.
+ghost use Rattle.std.specs.Prelude.{◌≡◌, ℕ, Bool, false, List, Option};
+ghost use Rattle.std.specs.Io.{ReadsAtMost};
+ghost use Rattle.std.specs.Io.KnownBytes.{ReadConsumes};
+ghost use Rattle.toml_span_lines.specs.Ends.{after_read};
+
+use std::io;
+
+/// A reader that tells whether it has failed.
+pub trait Source {
+    /// The bytes that reads will give, where they are known.
+    ghost remaining: { Self → Option (List ℕ) };
+
+    /// A read has answered an error.
+    ghost failed: { Self → Bool };
+
+    /// Reads bytes into the front of the buffer, and answers how many. 0 is the end of what there is,
+    /// unless the buffer is empty.
+    fn read(&mut self, buf: &mut [u8]) -> io::Result<usize>
+        requires { failed self.old ≡ false }
+        ensures bound { ReadsAtMost result buf.new }
+        ensures bytes { ReadConsumes (remaining self.old) (remaining self.new) result buf.new }
+        ensures failed_after { failed self.new ≡ after_read (failed self.old) result };
+
+    /// Whether a read has answered an error.
+    fn has_failed(&self) -> bool
+        ensures { result ≡ failed self.now };
+}

@@ -1,5 +1,0 @@
-use Rattle.toml_span_show.proofs.OneAnswer.{one-shown, not-refused, one-told, one-refused}
-use Rattle.toml_span_show.proofs.laws.one_answer.Goals as goal
-
-pub returns : goal.returns
-returns c = record { document = one-shown; refused = not-refused; clash = one-told; told = one-refused }

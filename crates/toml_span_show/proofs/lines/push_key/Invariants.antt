@@ -1,8 +1,0 @@
-use Rattle.std.proofs.Common.{◌≡◌, ◌++◌, ◌∷◌, drop}
-use Rattle.std.specs.List.{flat_map}
-use Rattle.toml_span_show.specs.Lines.{shown_byte}
-use Rattle.toml_span_show.proofs.lines.push_key.Given as goal
-
-abbrev pub invariant-loop-byte : goal.invariant-loop-byte
-invariant-loop-byte l =
-    l.path.items ++ flat_map shown_byte (drop l.byte-index l.byte-items) ≡ l.fn.path.items ++ (47 ∷ flat_map shown_byte l.byte-items)
