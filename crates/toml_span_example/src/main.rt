@@ -97,21 +97,16 @@ impl<'de> Deserialize<'de> for Level {
 
 fn main(rt: HostRuntime) -> io::Result<ExitCode> {
     let alloc = rt.alloc();
-    let text = io::read_to_string(alloc, rt.stdin())?;
-    match from_str::<Settings>(alloc, text.as_str()) {
+    let input = io::read_to_string(alloc, rt.stdin())?;
+    let text = input.as_str();
+    match from_str::<Settings>(alloc, text) {
         Ok(settings) => {
             println!(rt; "{settings:#?}")?;
             Ok(ExitCode::SUCCESS)
         }
         Err(Stop::Fault(errors)) => {
             for error in errors.iter() {
-                let shown = render_error(
-                    alloc,
-                    Style::Plain,
-                    error,
-                    "settings.toml",
-                    text.as_str(),
-                )?;
+                let shown = render_error(alloc, Style::Plain, error, "settings.toml", text)?;
                 print!(rt; "{shown}")?;
             }
             Ok(ExitCode::FAILURE)
