@@ -70,13 +70,17 @@ primary file span message = record { primary = true; file = file; span = span; m
 abbrev pub secondary : {F : Type 0} → F → Span → List ℕ → LabelContent F
 secondary file span message = record { primary = false; file = file; span = span; message = message }
 
+-- the label at the error's own span
+abbrev pub own_label : {F : Type 0} → F → Span → Kind → LabelContent F
+own_label file span kind = primary file span (label_text_of kind)
+
 -- the labels in order
 abbrev pub labels_of : {F : Type 0} → F → Span → Kind → List (LabelContent F)
 labels_of file span (duplicate_table name first) =
-    secondary file first (codes "first table instance") ∷ primary file span (codes "duplicate table") ∷ []
+    secondary file first (codes "first table instance") ∷ own_label file span (duplicate_table name first) ∷ []
 labels_of file span (duplicate_key key first) =
-    secondary file first (codes "first key instance") ∷ primary file span (codes "duplicate key") ∷ []
+    secondary file first (codes "first key instance") ∷ own_label file span (duplicate_key key first) ∷ []
 labels_of file span (dotted_key_invalid_type first) =
-    primary file span (codes "attempted to extend table here") ∷ secondary file first (codes "non-table") ∷ []
+    own_label file span (dotted_key_invalid_type first) ∷ secondary file first (codes "non-table") ∷ []
 labels_of file span (unexpected_keys keys expected) = map (λ key. secondary file key.1 []) keys
-labels_of file span kind = primary file span (label_text_of kind) ∷ []
+labels_of file span kind = own_label file span kind ∷ []
