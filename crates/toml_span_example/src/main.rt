@@ -105,14 +105,8 @@ fn main(rt: HostRuntime) -> io::Result<ExitCode> {
         }
         Err(Stop::Fault(errors)) => {
             for error in errors.iter() {
-                let shown = render_error(
-                    alloc,
-                    Style::Plain,
-                    error,
-                    "settings.toml",
-                    text.as_str(),
-                )?;
-                print!(rt; "{shown}")?;
+                let out = render_error(alloc, Style::Plain, error, "settings.toml", text.as_str())?;
+                print!(rt; "{out}")?;
             }
             Ok(ExitCode::FAILURE)
         }
