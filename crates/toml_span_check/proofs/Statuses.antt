@@ -46,7 +46,7 @@ told-small format task pointer rs out errors status (answered before said warned
 told-small format task pointer rs out errors status (unread before said warned earlier name reason told) = omega arith
 
 -- where neither write failed, the status is not that of a failed one
-pub neither-failed : (untold unwarned : Bool) (status : ℕ) → status ≤ 2 → untold ≡ false → unwarned ≡ false → (status ≡ 3) ↔ IsTrue (untold || unwarned)
-neither-failed true unwarned status small good fine = cc
-neither-failed false true status small good fine = cc
-neither-failed false false status small good fine = (λ is. absurd (omega (arith, small, is)), λ h. absurd (false≢true h))
+pub neither-failed : (untold unwarned : Bool) (status : ℕ) → ¬ (status ≡ 3) → untold ≡ false → unwarned ≡ false → (status ≡ 3) ↔ IsTrue (untold || unwarned)
+neither-failed true unwarned status other good fine = cc
+neither-failed false true status other good fine = cc
+neither-failed false false status other good fine = (λ is. absurd (other is), λ h. absurd (false≢true h))
