@@ -13,7 +13,10 @@ use toml_span_typed::Deserialize;
 use toml_span_typed::de_helpers::{TableHelper, Unfinished};
 
 /// A helper over a table of which nothing is taken.
-pub fn opened<'de>(alloc: Global, table: &mut Value<'de>) -> Result<TableHelper<'de>, Outcome>
+pub(crate) fn opened<'de>(
+    alloc: Global,
+    table: &mut Value<'de>,
+) -> Result<TableHelper<'de>, Outcome>
     ensures { IfOk result (λ helper. AllWhole (state_of helper)) }
 {
     if !table.is_whole() {
@@ -27,7 +30,7 @@ pub fn opened<'de>(alloc: Global, table: &mut Value<'de>) -> Result<TableHelper<
 
 /// `required`.
 #[tactic(auto, using(toml_span_typed::proofs::Whole::found_whole))]
-pub fn required<'de, T: Deserialize<'de>>(
+pub(crate) fn required<'de, T: Deserialize<'de>>(
     helper: &mut TableHelper<'de>,
     name: &'de str,
 ) -> Result<T, Stop<Error<'de>>>
@@ -39,7 +42,7 @@ pub fn required<'de, T: Deserialize<'de>>(
 
 /// `required_s`.
 #[tactic(auto, using(toml_span_typed::proofs::Whole::found_whole))]
-pub fn required_s<'de, T: Deserialize<'de>>(
+pub(crate) fn required_s<'de, T: Deserialize<'de>>(
     helper: &mut TableHelper<'de>,
     name: &'de str,
 ) -> Result<Spanned<T>, Stop<Error<'de>>>
@@ -80,7 +83,7 @@ fn others<'de>(helper: &TableHelper<'de>, name: &'de str) -> usize {
 }
 
 /// What a read of a field gave. A refusal keeps no further error.
-pub fn given<'de, T: Drop>(
+pub(crate) fn given<'de, T: Drop>(
     helper: &TableHelper<'de>,
     errors: usize,
     read: Result<T, Stop<Error<'de>>>,
@@ -102,7 +105,7 @@ fn tells<T: Drop>(read: &Result<T, Stop<Error>>, told: Told<'_>) -> bool {
 
 /// Reads a field that tells a fault. A refusal keeps no error and leaves the other fields; where this one is
 /// gone, the second read tells that it is missing.
-pub fn failed<'de, T: Deserialize<'de>>(
+pub(crate) fn failed<'de, T: Deserialize<'de>>(
     helper: &mut TableHelper<'de>,
     name: &'de str,
     told: Told<'_>,
@@ -125,7 +128,7 @@ pub fn failed<'de, T: Deserialize<'de>>(
 
 /// Reads a field that gives nothing, and keeps so many errors if it is there. A refusal keeps none and leaves the
 /// other fields.
-pub fn nothing<'de, T: Deserialize<'de>>(
+pub(crate) fn nothing<'de, T: Deserialize<'de>>(
     helper: &mut TableHelper<'de>,
     name: &'de str,
     kept: usize,
@@ -146,7 +149,10 @@ pub fn nothing<'de, T: Deserialize<'de>>(
 }
 
 /// Reads a field with its place that is not there. A refusal leaves everything as it was.
-pub fn nothing_s<'de, T: Deserialize<'de>>(helper: &mut TableHelper<'de>, name: &'de str) -> Step
+pub(crate) fn nothing_s<'de, T: Deserialize<'de>>(
+    helper: &mut TableHelper<'de>,
+    name: &'de str,
+) -> Step
     requires { AllWhole (state_of helper.old) }
     ensures { AllWhole (state_of helper.new) }
 {
@@ -161,7 +167,7 @@ pub fn nothing_s<'de, T: Deserialize<'de>>(helper: &mut TableHelper<'de>, name: 
 }
 
 /// The entry of a field, moved out. A refusal leaves everything as it was.
-pub fn taken<'de>(
+pub(crate) fn taken<'de>(
     helper: &mut TableHelper<'de>,
     name: &'de str,
 ) -> Result<(Key<'de>, Value<'de>), Outcome>
@@ -183,7 +189,7 @@ pub fn taken<'de>(
 }
 
 /// Ends the reads, with these errors or with none. A refusal hands the helper back as it was.
-pub fn finalized<'de>(helper: TableHelper<'de>, wanted: &[Told<'_>]) -> Step {
+pub(crate) fn finalized<'de>(helper: TableHelper<'de>, wanted: &[Told<'_>]) -> Step {
     let errors = helper.errors.len();
     let entries = helper.table.len();
     match helper.finalize(None) {
