@@ -72,26 +72,31 @@ fn asked_twice(alloc: Global) -> Step {
     finalized(helper, [missing, missing, ("unexpected", 0, 5)].as_slice())
 }
 
-/// A number with its place, an absent one, and an entry.
+/// Reads a number with its place, an absent one, and an entry.
+fn read_entries(helper: &mut TableHelper<'static>) -> Step
+    requires { AllWhole (state_of helper.old) }
+{
+    let number = required_s::<u8>(helper, "n");
+    let number = given(helper, 0, number)?;
+    went(number.value == 7 && number.span == Span::new(4, 5))?;
+    nothing_s::<u8>(helper, "q")?;
+    let (key, value) = taken(helper, "m")?;
+    went(key.span == Span::new(6, 7) && value.as_str() == Some("q"))
+}
+
+/// These reads of a document that has nothing else.
 fn entries(alloc: Global) -> Step {
     let mut helper = helper_of(alloc, "n = 7\nm = \"q\"\n")?;
-    let number = required_s::<u8>(&mut helper, "n");
-    let number = given(&helper, 0, number)?;
-    went(number.value == 7 && number.span == Span::new(4, 5))?;
-    nothing_s::<u8>(&mut helper, "q")?;
-    let (key, value) = taken(&mut helper, "m")?;
-    went(key.span == Span::new(6, 7) && value.as_str() == Some("q"))?;
+    read_entries(&mut helper)?;
     finalized(helper, [].as_slice())
 }
 
-/// An array with two elements that are no such numbers. A refusal leaves the value taken.
-fn elements(alloc: Global) -> Step {
-    let mut helper = helper_of(alloc, "a = [1, 300, \"x\", 2]")?;
-    let (_key, mut value) = taken(&mut helper, "a")?;
+/// Reads an array with two elements that are no such numbers. A refusal leaves the value taken.
+fn read_elements(alloc: Global, value: &mut Value<'static>) -> Step {
     if !value.is_whole() {
         return Err(Outcome::Wrong);
     }
-    match Vec::<u8>::deserialize(alloc, &mut value) {
+    match Vec::<u8>::deserialize(alloc, value) {
         Ok(_) => Err(Outcome::Wrong),
         Err(Stop::Fault(faults)) => {
             let wanted = [("range", 8, 11), ("wanted", 14, 15)];
@@ -99,6 +104,13 @@ fn elements(alloc: Global) -> Step {
         }
         Err(Stop::Memory(_)) => Err(Outcome::refused(value.is_taken(), true)),
     }
+}
+
+/// This read of an entry of a document.
+fn elements(alloc: Global) -> Step {
+    let mut helper = helper_of(alloc, "a = [1, 300, \"x\", 2]")?;
+    let (_key, mut value) = taken(&mut helper, "a")?;
+    read_elements(alloc, &mut value)
 }
 
 /// How the case of a name went: reads of a document. `None` if there is no such case.

@@ -44,25 +44,29 @@ fn helper(
     }
 }
 
-/// How the read of a string went, which is unchanged by a refusal.
-fn string_read(alloc: Global) -> Outcome {
-    let mut value = string("abc");
+/// Reads a string, which is unchanged by a refusal.
+fn string_read(alloc: Global, value: &mut Value<'_>) -> Outcome {
     if !value.is_whole() {
         return Outcome::Wrong;
     }
-    match String::deserialize(alloc, &mut value) {
+    match String::deserialize(alloc, value) {
         Ok(text) => Outcome::answered(text.as_str() == "abc"),
         Err(Stop::Fault(_)) => Outcome::Wrong,
         Err(Stop::Memory(_)) => {
             let unchanged = value.as_str() == Some("abc");
-            if !value.is_whole() {
-                return Outcome::Wrong;
-            }
-            match String::deserialize(alloc, &mut value) {
-                Ok(text) => Outcome::refused(unchanged, text.as_str() == "abc"),
-                Err(_) => Outcome::Wrong,
-            }
+            Outcome::refused(unchanged, is_read(alloc, value))
         }
+    }
+}
+
+/// Whether the string is read.
+fn is_read(alloc: Global, value: &mut Value<'_>) -> bool {
+    if !value.is_whole() {
+        return false;
+    }
+    match String::deserialize(alloc, value) {
+        Ok(text) => text.as_str() == "abc",
+        Err(_) => false,
     }
 }
 
@@ -74,28 +78,32 @@ fn strings(alloc: Global) -> Result<Value<'static>, AllocError> {
     Ok(Value::new(ValueInner::Array(items)))
 }
 
-/// How the read of an array went, which a refusal leaves taken.
-fn array_read(alloc: Global) -> Outcome {
-    let Ok(mut value) = strings(alloc) else {
-        return Outcome::Refused;
-    };
+/// Reads an array, which a refusal leaves taken.
+fn array_read(alloc: Global, value: &mut Value<'_>) -> Outcome {
     if !value.is_whole() {
         return Outcome::Wrong;
     }
-    match Vec::<String>::deserialize(alloc, &mut value) {
+    match Vec::<String>::deserialize(alloc, value) {
         Ok(items) => Outcome::answered(items.len() == 2),
         Err(Stop::Fault(_)) => Outcome::Wrong,
         Err(Stop::Memory(_)) => Outcome::refused(value.is_taken(), true),
     }
 }
 
-/// How the parse of a string went that is no number. A refusal leaves the value taken.
-fn parsed(alloc: Global) -> Outcome {
-    let mut value = string("abc");
+/// How the read of an array of strings went.
+fn strings_read(alloc: Global) -> Outcome {
+    match strings(alloc) {
+        Ok(mut value) => array_read(alloc, &mut value),
+        Err(_) => Outcome::Refused,
+    }
+}
+
+/// Parses a string that is no number. A refusal leaves the value taken.
+fn parsed(alloc: Global, value: &mut Value<'_>) -> Outcome {
     if value.is_taken() {
         return Outcome::Wrong;
     }
-    match parse::<u8, _>(alloc, &mut value) {
+    match parse::<u8, _>(alloc, value) {
         Ok(_) => Outcome::Wrong,
         Err(Stop::Fault(error)) => Outcome::answered(matches!(&error.kind, ErrorKind::Custom(_))),
         Err(Stop::Memory(_)) => Outcome::refused(value.is_taken(), true),
@@ -157,9 +165,9 @@ fn merged(alloc: Global) -> Outcome {
 /// How the case of a name went: a read or a call of the helper. `None` if there is no such case.
 pub fn case(alloc: Global, name: &str) -> Option<Outcome> {
     match name {
-        "String" => Some(string_read(alloc)),
-        "Vec<String>" => Some(array_read(alloc)),
-        "parse" => Some(parsed(alloc)),
+        "String" => Some(string_read(alloc, &mut string("abc"))),
+        "Vec<String>" => Some(strings_read(alloc)),
+        "parse" => Some(parsed(alloc, &mut string("abc"))),
         "required" => Some(outcome_of(text_read(alloc))),
         "required missing" => Some(outcome_of(missing(alloc))),
         "optional" => Some(outcome_of(unread(alloc))),
