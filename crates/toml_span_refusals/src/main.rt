@@ -10,8 +10,10 @@
 #![tactic(auto)]
 
 mod documents;
+mod faults;
 mod fields;
 mod free;
+mod helper;
 mod lexer;
 mod outcome;
 mod tree;

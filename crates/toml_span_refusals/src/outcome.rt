@@ -1,5 +1,8 @@
 //! How a call that takes memory went.
 
+/// A case goes on, or it ends with an outcome.
+pub type Step = Result<(), Outcome>;
+
 /// How a call that takes memory went.
 #[derive(Clone, Copy, PartialEq, Eq)]
 pub enum Outcome {
@@ -28,5 +31,18 @@ impl Outcome {
         } else {
             Outcome::Wrong
         }
+    }
+}
+
+/// The step of a call that met no refusal: the case goes on if its answer is right.
+pub fn went(right: bool) -> Step {
+    if right { Ok(()) } else { Err(Outcome::Wrong) }
+}
+
+/// The outcome of a case with its last step.
+pub fn outcome_of(last: Step) -> Outcome {
+    match last {
+        Ok(()) => Outcome::Right,
+        Err(outcome) => outcome,
     }
 }

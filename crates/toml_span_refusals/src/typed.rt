@@ -1,8 +1,9 @@
 //! The typed reads and the calls of the table helper that take memory.
-ghost use Rattle.std.specs.Prelude.{IfSome};
+ghost use Rattle.std.specs.Prelude.{IfOk};
 ghost use Rattle.toml_span_typed.specs.TableHelper.{AllWhole, state_of};
 
-use crate::outcome::Outcome;
+use crate::helper::{failed, finalized, given, nothing, opened, required, taken};
+use crate::outcome::{Outcome, Step, outcome_of, went};
 use std::alloc::{AllocError, Global};
 use std::borrow::CowStr;
 use std::collections::BTreeMap;
@@ -10,7 +11,7 @@ use toml_span_lex::key::Key;
 use toml_span_lex::span::Span;
 use toml_span_lex::stop::Stop;
 use toml_span_tree::{Error, ErrorKind, Table, Value, ValueInner};
-use toml_span_typed::de_helpers::{TableHelper, Unfinished, parse};
+use toml_span_typed::de_helpers::{TableHelper, parse};
 use toml_span_typed::{DeserError, Deserialize, Unmerged};
 
 /// A string as a value.
@@ -29,41 +30,43 @@ fn table<'de>(alloc: Global, name: &'de str, text: &'de str) -> Result<Value<'de
     Ok(Value::with_span(ValueInner::Table(table), Span::new(0, 9)))
 }
 
-/// A helper over such a table, or `None` for want of memory.
-fn helper<'de>(alloc: Global, name: &'de str, text: &'de str) -> Option<TableHelper<'de>>
-    ensures { IfSome result (λ helper. AllWhole (state_of helper)) }
+/// A helper over such a table.
+fn helper(
+    alloc: Global,
+    name: &'static str,
+    text: &'static str,
+) -> Result<TableHelper<'static>, Outcome>
+    ensures { IfOk result (λ helper. AllWhole (state_of helper)) }
 {
-    let Ok(mut value) = table(alloc, name, text) else {
-        return None;
-    };
-    if !value.is_whole() {
-        return None;
-    }
-    match TableHelper::new(alloc, &mut value) {
-        Ok(helper) => Some(helper),
-        Err(_) => None,
+    match table(alloc, name, text) {
+        Ok(mut value) => opened(alloc, &mut value),
+        Err(_) => Err(Outcome::Refused),
     }
 }
 
-/// How the read of a string went, which is unchanged by a refusal.
-fn string_read(alloc: Global) -> Outcome {
-    let mut value = string("abc");
+/// Reads a string, which is unchanged by a refusal.
+fn string_read(alloc: Global, value: &mut Value<'_>) -> Outcome {
     if !value.is_whole() {
         return Outcome::Wrong;
     }
-    match String::deserialize(alloc, &mut value) {
+    match String::deserialize(alloc, value) {
         Ok(text) => Outcome::answered(text.as_str() == "abc"),
         Err(Stop::Fault(_)) => Outcome::Wrong,
         Err(Stop::Memory(_)) => {
             let unchanged = value.as_str() == Some("abc");
-            if !value.is_whole() {
-                return Outcome::Wrong;
-            }
-            match String::deserialize(alloc, &mut value) {
-                Ok(text) => Outcome::refused(unchanged, text.as_str() == "abc"),
-                Err(_) => Outcome::Wrong,
-            }
+            Outcome::refused(unchanged, is_read(alloc, value))
         }
+    }
+}
+
+/// Whether the string is read.
+fn is_read(alloc: Global, value: &mut Value<'_>) -> bool {
+    if !value.is_whole() {
+        return false;
+    }
+    match String::deserialize(alloc, value) {
+        Ok(text) => text.as_str() == "abc",
+        Err(_) => false,
     }
 }
 
@@ -75,104 +78,70 @@ fn strings(alloc: Global) -> Result<Value<'static>, AllocError> {
     Ok(Value::new(ValueInner::Array(items)))
 }
 
-/// How the read of an array went, which a refusal leaves taken.
-fn array_read(alloc: Global) -> Outcome {
-    let Ok(mut value) = strings(alloc) else {
-        return Outcome::Refused;
-    };
+/// Reads an array, which a refusal leaves taken.
+fn array_read(alloc: Global, value: &mut Value<'_>) -> Outcome {
     if !value.is_whole() {
         return Outcome::Wrong;
     }
-    match Vec::<String>::deserialize(alloc, &mut value) {
+    match Vec::<String>::deserialize(alloc, value) {
         Ok(items) => Outcome::answered(items.len() == 2),
         Err(Stop::Fault(_)) => Outcome::Wrong,
         Err(Stop::Memory(_)) => Outcome::refused(value.is_taken(), true),
     }
 }
 
-/// How the parse of a string went that is no number. A refusal leaves the value taken.
-fn parsed(alloc: Global) -> Outcome {
-    let mut value = string("abc");
+/// How the read of an array of strings went.
+fn strings_read(alloc: Global) -> Outcome {
+    match strings(alloc) {
+        Ok(mut value) => array_read(alloc, &mut value),
+        Err(_) => Outcome::Refused,
+    }
+}
+
+/// Parses a string that is no number. A refusal leaves the value taken.
+fn parsed(alloc: Global, value: &mut Value<'_>) -> Outcome {
     if value.is_taken() {
         return Outcome::Wrong;
     }
-    match parse::<u8, _>(alloc, &mut value) {
+    match parse::<u8, _>(alloc, value) {
         Ok(_) => Outcome::Wrong,
         Err(Stop::Fault(error)) => Outcome::answered(matches!(&error.kind, ErrorKind::Custom(_))),
         Err(Stop::Memory(_)) => Outcome::refused(value.is_taken(), true),
     }
 }
 
-/// How a required read of a string went. A refusal keeps no error.
-#[tactic(auto, using(toml_span_typed::proofs::Whole::found_whole))]
-fn required(alloc: Global) -> Outcome {
-    let Some(mut helper) = helper(alloc, "n", "abc") else {
-        return Outcome::Refused;
-    };
-    match helper.required::<String>("n") {
-        Ok(text) => Outcome::answered(text.as_str() == "abc" && helper.errors.is_empty()),
-        Err(Stop::Fault(_)) => Outcome::Wrong,
-        Err(Stop::Memory(_)) => Outcome::refused(helper.errors.is_empty(), true),
-    }
+/// A required read of a string.
+fn text_read(alloc: Global) -> Step {
+    let mut helper = helper(alloc, "n", "abc")?;
+    let text = required::<String>(&mut helper, "n");
+    went(given(&helper, 0, text)?.as_str() == "abc" && helper.errors.is_empty())
 }
 
-/// How a required read of a missing field went. A refusal keeps no error.
-#[tactic(auto, using(toml_span_typed::proofs::Whole::found_whole))]
-fn missing(alloc: Global) -> Outcome {
-    let Some(mut helper) = helper(alloc, "n", "abc") else {
-        return Outcome::Refused;
-    };
-    match helper.required::<u8>("q") {
-        Ok(_) => Outcome::Wrong,
-        Err(Stop::Fault(_)) => Outcome::answered(helper.errors.len() == 1 && helper.contains("n")),
-        Err(Stop::Memory(_)) => {
-            Outcome::refused(helper.errors.is_empty() && helper.contains("n"), true)
-        }
-    }
+/// A required read of a missing field.
+fn missing(alloc: Global) -> Step {
+    let mut helper = helper(alloc, "n", "abc")?;
+    let told = ("missing", 0, 9);
+    failed::<u8>(&mut helper, "q", told, told)?;
+    went(helper.errors.len() == 1 && helper.contains("n"))
 }
 
-/// How an optional read that fails went. A refusal keeps no error.
-#[tactic(auto, using(toml_span_typed::proofs::Whole::found_whole))]
-fn optional(alloc: Global) -> Outcome {
-    let Some(mut helper) = helper(alloc, "n", "abc") else {
-        return Outcome::Refused;
-    };
-    match helper.optional::<u8>("n") {
-        Ok(read) => Outcome::answered(read.is_none() && helper.errors.len() == 1),
-        Err(_) => Outcome::refused(helper.errors.is_empty(), true),
-    }
+/// An optional read that fails.
+fn unread(alloc: Global) -> Step {
+    let mut helper = helper(alloc, "n", "abc")?;
+    nothing::<u8>(&mut helper, "n", 1)
 }
 
-/// How a call went that moves an entry out. A refusal leaves it in.
-fn taken(alloc: Global) -> Outcome {
-    let Some(mut helper) = helper(alloc, "n", "abc") else {
-        return Outcome::Refused;
-    };
-    match helper.take("n") {
-        Ok(entry) => Outcome::answered(entry.is_some() && !helper.contains("n")),
-        Err(_) => {
-            let unchanged = helper.contains("n");
-            Outcome::refused(unchanged, matches!(helper.take("n"), Ok(Some(_))))
-        }
-    }
+/// A call that moves an entry out.
+fn entry(alloc: Global) -> Step {
+    let mut helper = helper(alloc, "n", "abc")?;
+    let (_key, _value) = taken(&mut helper, "n")?;
+    went(!helper.contains("n"))
 }
 
-/// How the end of the reads went where a key remains. A refusal hands the helper back.
-fn finalized(alloc: Global) -> Outcome {
-    let Some(helper) = helper(alloc, "z", "abc") else {
-        return Outcome::Refused;
-    };
-    match helper.finalize(None) {
-        Ok(()) => Outcome::Wrong,
-        Err(Unfinished::Faults(faults)) => Outcome::answered(faults.len() == 1),
-        Err(Unfinished::Memory(helper)) => {
-            let unchanged = helper.contains("z") && helper.errors.is_empty();
-            match helper.finalize(None) {
-                Err(Unfinished::Faults(faults)) => Outcome::refused(unchanged, faults.len() == 1),
-                _ => Outcome::Wrong,
-            }
-        }
-    }
+/// The end of the reads where a key remains.
+fn remaining(alloc: Global) -> Step {
+    let helper = helper(alloc, "z", "abc")?;
+    finalized(helper, [("unexpected", 0, 9)].as_slice())
 }
 
 /// A list of one error.
@@ -196,14 +165,14 @@ fn merged(alloc: Global) -> Outcome {
 /// How the case of a name went: a read or a call of the helper. `None` if there is no such case.
 pub fn case(alloc: Global, name: &str) -> Option<Outcome> {
     match name {
-        "String" => Some(string_read(alloc)),
-        "Vec<String>" => Some(array_read(alloc)),
-        "parse" => Some(parsed(alloc)),
-        "required" => Some(required(alloc)),
-        "required missing" => Some(missing(alloc)),
-        "optional" => Some(optional(alloc)),
-        "take" => Some(taken(alloc)),
-        "finalize" => Some(finalized(alloc)),
+        "String" => Some(string_read(alloc, &mut string("abc"))),
+        "Vec<String>" => Some(strings_read(alloc)),
+        "parse" => Some(parsed(alloc, &mut string("abc"))),
+        "required" => Some(outcome_of(text_read(alloc))),
+        "required missing" => Some(outcome_of(missing(alloc))),
+        "optional" => Some(outcome_of(unread(alloc))),
+        "take" => Some(outcome_of(entry(alloc))),
+        "finalize" => Some(outcome_of(remaining(alloc))),
         "merge" => Some(merged(alloc)),
         _ => None,
     }
