@@ -50,7 +50,7 @@ impl<'de> Deserialize<'de> for Settings {
             level: Level = "log-level", or(Level::Normal);
             limits: Limits;
             mirrors: Vec<Mirror>;
-            tags: Vec<String>, optional;
+            tags: Option<Vec<String>>;
         })
     }
 }
@@ -97,16 +97,17 @@ impl<'de> Deserialize<'de> for Level {
 
 fn main(rt: HostRuntime) -> io::Result<ExitCode> {
     let alloc = rt.alloc();
-    let text = io::read_to_string(alloc, rt.stdin())?;
-    match from_str::<Settings>(alloc, text.as_str()) {
+    let input = io::read_to_string(alloc, rt.stdin())?;
+    let text = input.as_str();
+    match from_str::<Settings>(alloc, text) {
         Ok(settings) => {
             println!(rt; "{settings:#?}")?;
             Ok(ExitCode::SUCCESS)
         }
         Err(Stop::Fault(errors)) => {
             for error in errors.iter() {
-                let out = render_error(alloc, Style::Plain, error, "settings.toml", text.as_str())?;
-                print!(rt; "{out}")?;
+                let shown = render_error(alloc, Style::Plain, error, "settings.toml", text)?;
+                print!(rt; "{shown}")?;
             }
             Ok(ExitCode::FAILURE)
         }
