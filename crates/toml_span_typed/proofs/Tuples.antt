@@ -1,12 +1,12 @@
 -- What is no array of two elements.
-use Rattle.std.proofs.Common.{◌≡◌, ◌≢◌, ℕ, suc, List, [], ◌∷◌, length, Result, Ok, Err, refl, ap, sym, subst, ◌∙◌}
+use Rattle.std.proofs.Common.{◌≡◌, ◌≢◌, ℕ, suc, List, [], ◌∷◌, length, Result, Err, refl, ap, sym, subst}
 use Rattle.toml_span_lex.specs.declared.span.Span.{Span}
 use Rattle.toml_span_lex.specs.declared.stop.Stop.{Stop}
 use Rattle.toml_span_lex.specs.declared.stop.Stop.TheVariants as stop
 use Rattle.toml_span_tree.specs.declared.value.Value.{Value}
 use Rattle.toml_span_tree.specs.Node.{Node, node, taken, scalar, array, table, item, no_items}
 use Rattle.toml_span_tree.specs.Value.{items_view}
-use Rattle.toml_span_typed.specs.Faults.{Faults, one}
+use Rattle.toml_span_typed.specs.Faults.{Faults}
 use Rattle.toml_span_typed.specs.Reads.{Answers, Taken, nodes_of}
 use Rattle.toml_span_typed.specs.Tuples.{Refuses, Tells, other_length, pair_reads}
 
