@@ -32,18 +32,29 @@ pub fn answer(
     text: &str,
     out: &mut String,
 ) -> Result<bool, AllocError> {
-    let Some(mut root) = tree(alloc, text)? else {
-        return Ok(false);
-    };
+    match tree(alloc, text)? {
+        Some(mut root) => answer_of(alloc, call, words, &mut root, out),
+        None => Ok(false),
+    }
+}
+
+/// The same of the tree of its text.
+fn answer_of<'de>(
+    alloc: Global,
+    call: &str,
+    words: &'de str,
+    root: &mut Value<'de>,
+    out: &mut String,
+) -> Result<bool, AllocError> {
     match call {
-        "typed" => read_row(alloc, words, "/a", &mut root, out),
-        "typed_root" => read_row(alloc, words, "", &mut root, out),
-        "errors" => errors_row(alloc, words, &mut root, out),
-        "merge" => merge_row(alloc, words, &mut root, out),
-        "expected" => expected_row(words, &mut root, out),
-        "parse_string" => parse_row(alloc, words, &mut root, out),
-        "open" => open_row(alloc, &mut root, out),
-        "fields" => fields::answer(alloc, words, &mut root, out),
+        "typed" => read_row(alloc, words, "/a", root, out),
+        "typed_root" => read_row(alloc, words, "", root, out),
+        "errors" => errors_row(alloc, words, root, out),
+        "merge" => merge_row(alloc, words, root, out),
+        "expected" => expected_row(words, root, out),
+        "parse_string" => parse_row(alloc, words, root, out),
+        "open" => open_row(alloc, root, out),
+        "fields" => fields::answer(alloc, words, root, out),
         _ => Ok(false),
     }
 }
