@@ -28,16 +28,16 @@ pub fn answer(
     out: &mut String,
 ) -> Result<bool, AllocError> {
     match call {
-        "span_at" => span_row(alloc, words, text, out)?,
-        "integer_at" => integer_row(alloc, words, text, out)?,
-        "refused_at" => refusal_row(alloc, text, out)?,
-        "port_of" => port_row(alloc, text, out)?,
-        "settings_of" => settings_row(alloc, text, out)?,
-        "port_told" => writeln!(out, "{}", port_told(alloc, text)?)?,
-        "servers_of" => servers_row(alloc, text, out)?,
-        "with_value" => value_row(alloc, words, text, out)?,
+        "span_at" => span_row(alloc, words, text, out),
+        "integer_at" => integer_row(alloc, words, text, out),
+        "refused_at" => refusal_row(alloc, text, out),
+        "port_of" => port_row(alloc, text, out),
+        "settings_of" => settings_row(alloc, text, out),
+        "port_told" => writeln!(out, "{}", port_told(alloc, text)?),
+        "servers_of" => servers_row(alloc, text, out),
+        "with_value" => value_row(alloc, words, text, out),
         _ => return Ok(false),
-    }
+    }?;
     Ok(true)
 }
 

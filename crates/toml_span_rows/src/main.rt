@@ -57,8 +57,8 @@ fn answer_of(
         || scalars::answer(alloc, call, words, text, out)?
         || trees::answer(alloc, call, words, text, out)?
         || diagnostics::answer(alloc, call, words, text, out)?
-        || typed::answer(alloc, call, words, text, out)?
         || callers::answer(alloc, call, words, text, out)?
+        || typed::answer(alloc, call, words, text, out)?
         || looks::answer(alloc, call, words, text, out)?
         || holders::answer(alloc, call, text, out)?;
     Ok(known)

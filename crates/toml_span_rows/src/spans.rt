@@ -122,11 +122,23 @@ fn answer_key(
         name: CowStr::Owned(String::from_str(alloc, text)?),
         span,
     };
+    let twin = key.clone(alloc)?;
     let other = Key {
         name: CowStr::Borrowed(rest),
         span: Span::new(1, 2),
     };
-    let twin = key.clone(alloc)?;
+    push_keys(&key, &twin, &other, out)?;
+    push_default_key(&Key::default(), out)?;
+    Ok(true)
+}
+
+/// Adds a key, the place of its clone, and how it compares with that and with another.
+fn push_keys(
+    key: &Key<'_>,
+    twin: &Key<'_>,
+    other: &Key<'_>,
+    out: &mut String,
+) -> Result<(), AllocError> {
     write!(out, "{key} {key:?}")?;
     push_span(twin.span, out)?;
     out.push_str(if key == twin {
@@ -134,13 +146,15 @@ fn answer_key(
     } else {
         " not equal to its clone, "
     })?;
-    out.push_str(word(key.cmp(&other)))?;
-    let default = Key::default();
-    push_span(default.span, out)?;
-    out.push_str(if default.name.as_ref().is_empty() {
+    out.push_str(word(key.cmp(other)))
+}
+
+/// Adds the place of a default key, and whether it has a name.
+fn push_default_key(key: &Key<'_>, out: &mut String) -> Result<(), AllocError> {
+    push_span(key.span, out)?;
+    out.push_str(if key.name.as_ref().is_empty() {
         " no name"
     } else {
         " a name"
-    })?;
-    Ok(true)
+    })
 }

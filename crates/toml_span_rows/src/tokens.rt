@@ -15,63 +15,6 @@ use toml_span_lex::stop::Stop;
 use toml_span_lex::tokenizer::Tokenizer;
 use toml_span_lex::tokens::{Error, Token};
 
-/// A call that expects a token.
-#[derive(Clone, Copy)]
-enum Expecting {
-    Eat,
-    EatSpanned,
-    Expect,
-    ExpectSpanned,
-}
-
-/// A call of a tokenizer.
-#[derive(Drop)]
-enum Operation<'t> {
-    Step,
-    Peek,
-    Describe,
-    TableKey,
-    EatNewlineOrEof,
-    EatComment,
-    EatWhitespace,
-    SkipToNewline,
-    One,
-    Current,
-    Clone,
-    Swap,
-    Expecting(Expecting, Token<'t>),
-}
-
-/// The call of a name that expects no token.
-fn plain(name: &str) -> Option<Operation<'_>> {
-    match name {
-        "step" => Some(Operation::Step),
-        "peek" => Some(Operation::Peek),
-        "describe" => Some(Operation::Describe),
-        "table_key" => Some(Operation::TableKey),
-        "eat_newline_or_eof" => Some(Operation::EatNewlineOrEof),
-        "eat_comment" => Some(Operation::EatComment),
-        "eat_whitespace" => Some(Operation::EatWhitespace),
-        "skip_to_newline" => Some(Operation::SkipToNewline),
-        "one" => Some(Operation::One),
-        "current" => Some(Operation::Current),
-        "clone" => Some(Operation::Clone),
-        "swap" => Some(Operation::Swap),
-        _ => None,
-    }
-}
-
-/// The call of a name that expects a token.
-fn call_expecting(name: &str) -> Option<Expecting> {
-    match name {
-        "eat" => Some(Expecting::Eat),
-        "eat_spanned" => Some(Expecting::EatSpanned),
-        "expect" => Some(Expecting::Expect),
-        "expect_spanned" => Some(Expecting::ExpectSpanned),
-        _ => None,
-    }
-}
-
 /// The token of a kind without content.
 fn sign(kind: &str) -> Option<Token<'_>> {
     match kind {
@@ -112,17 +55,6 @@ fn token_of(named: &str) -> Option<Token<'_>> {
     match named.split_once('(') {
         Some((kind, content)) => filled(kind, content.strip_suffix(')')?),
         None => sign(named),
-    }
-}
-
-/// The call that is named, and its name.
-fn operation_of(word: &str) -> Option<(&str, Operation<'_>)> {
-    match word.split_once('=') {
-        Some((name, named)) => {
-            let call = call_expecting(name)?;
-            Some((name, Operation::Expecting(call, token_of(named)?)))
-        }
-        None => Some((word, plain(word)?)),
     }
 }
 
@@ -221,23 +153,36 @@ fn push_character(out: &mut String, answer: Option<(usize, char)>) -> Result<(),
     }
 }
 
-/// Makes a call that expects a token, and adds its answer.
+fn push_comment(out: &mut String, answer: Result<bool, Error>) -> Result<(), AllocError> {
+    match answer {
+        Ok(truth) => write!(out, "{truth}"),
+        Err(error) => write!(out, "error {error:?}"),
+    }
+}
+
+fn push_expected(out: &mut String, answer: Result<Span, Stop<Error>>) -> Result<(), AllocError> {
+    match answer {
+        Ok(span) => push_span(out, span),
+        Err(stop) => push_stop(out, stop),
+    }
+}
+
+/// Makes the call of a name that expects a token, and adds its answer. Whether there is such a call.
 fn push_expecting<'t>(
     alloc: Global,
     tokenizer: &mut Tokenizer<'t>,
-    call: Expecting,
+    name: &str,
     token: Token<'t>,
     out: &mut String,
-) -> Result<(), AllocError> {
-    match call {
-        Expecting::Eat => push_truth(out, tokenizer.eat(alloc, token)),
-        Expecting::EatSpanned => push_found(out, tokenizer.eat_spanned(alloc, token)),
-        Expecting::Expect => push_done(out, tokenizer.expect(alloc, token)),
-        Expecting::ExpectSpanned => match tokenizer.expect_spanned(alloc, token) {
-            Ok(span) => push_span(out, span),
-            Err(stop) => push_stop(out, stop),
-        },
-    }
+) -> Result<bool, AllocError> {
+    match name {
+        "eat" => push_truth(out, tokenizer.eat(alloc, token)),
+        "eat_spanned" => push_found(out, tokenizer.eat_spanned(alloc, token)),
+        "expect" => push_done(out, tokenizer.expect(alloc, token)),
+        "expect_spanned" => push_expected(out, tokenizer.expect_spanned(alloc, token)),
+        _ => return Ok(false),
+    }?;
+    Ok(true)
 }
 
 /// A tokenizer, and a copy of it.
@@ -247,49 +192,61 @@ struct Tokenizers<'t> {
     copy: Tokenizer<'t>,
 }
 
-/// Adds the answer of a call of the tokenizer that is used.
+/// Makes the call of a name on the tokenizer that is used, and adds its answer. Whether there is such a call.
 fn push_call<'t>(
     alloc: Global,
     tokenizers: &mut Tokenizers<'t>,
-    operation: Operation<'t>,
+    name: &str,
     out: &mut String,
-) -> Result<(), AllocError> {
+) -> Result<bool, AllocError> {
     let tokenizer = &mut tokenizers.used;
-    match operation {
-        Operation::Step => push_step(out, tokenizer.step(alloc)),
-        Operation::Peek => push_step(out, tokenizer.peek(alloc)),
-        Operation::Describe => push_words(out, tokenizer.step(alloc)),
-        Operation::TableKey => push_key(out, tokenizer.table_key(alloc)),
-        Operation::EatNewlineOrEof => push_done(out, tokenizer.eat_newline_or_eof(alloc)),
-        Operation::EatComment => {
-            push_truth(
-                out,
-                tokenizer.eat_comment().map_err(|error| Stop::Fault(error)),
-            )
-        }
-        Operation::EatWhitespace => {
-            tokenizer.eat_whitespace();
-            out.push_str("done")
-        }
-        Operation::SkipToNewline => {
-            tokenizer.skip_to_newline();
-            out.push_str("done")
-        }
-        Operation::One => push_character(out, tokenizer.one()),
-        Operation::Current => {
-            let at = tokenizer.current();
-            write!(out, "{at}")
-        }
-        Operation::Clone => {
-            tokenizers.copy = tokenizer.clone()?;
-            out.push_str("done")
-        }
-        Operation::Swap => {
-            mem::swap(&mut tokenizers.used, &mut tokenizers.copy);
-            out.push_str("done")
-        }
-        Operation::Expecting(call, token) => push_expecting(alloc, tokenizer, call, token, out),
+    match name {
+        "step" => push_step(out, tokenizer.step(alloc)),
+        "peek" => push_step(out, tokenizer.peek(alloc)),
+        "describe" => push_words(out, tokenizer.step(alloc)),
+        "table_key" => push_key(out, tokenizer.table_key(alloc)),
+        "eat_newline_or_eof" => push_done(out, tokenizer.eat_newline_or_eof(alloc)),
+        "eat_comment" => push_comment(out, tokenizer.eat_comment()),
+        "one" => push_character(out, tokenizer.one()),
+        "current" => write!(out, "{}", tokenizer.current()),
+        _ => return push_quiet_call(tokenizers, name, out),
+    }?;
+    Ok(true)
+}
+
+/// The same for a call that answers nothing.
+fn push_quiet_call(
+    tokenizers: &mut Tokenizers<'_>,
+    name: &str,
+    out: &mut String,
+) -> Result<bool, AllocError> {
+    match name {
+        "eat_whitespace" => tokenizers.used.eat_whitespace(),
+        "skip_to_newline" => tokenizers.used.skip_to_newline(),
+        "clone" => tokenizers.copy = tokenizers.used.clone()?,
+        "swap" => mem::swap(&mut tokenizers.used, &mut tokenizers.copy),
+        _ => return Ok(false),
     }
+    out.push_str("done")?;
+    Ok(true)
+}
+
+/// Makes the call of a word, and adds its name and its answer. Whether there is such a call.
+fn push_operation<'t>(
+    alloc: Global,
+    tokenizers: &mut Tokenizers<'t>,
+    word: &'t str,
+    out: &mut String,
+) -> Result<bool, AllocError> {
+    let Some((name, named)) = word.split_once('=') else {
+        write!(out, "{word} ")?;
+        return push_call(alloc, tokenizers, word, out);
+    };
+    let Some(token) = token_of(named) else {
+        return Ok(false);
+    };
+    write!(out, "{name} ")?;
+    push_expecting(alloc, &mut tokenizers.used, name, token, out)
 }
 
 /// Makes the calls that are named on one tokenizer, and adds a line for each. Whether each is a call.
@@ -304,11 +261,9 @@ fn push_calls(
         copy: Tokenizer::new(text),
     };
     for word in operations {
-        let Some((name, operation)) = operation_of(word.as_str()) else {
+        if !push_operation(alloc, &mut tokenizers, word.as_str(), out)? {
             return Ok(false);
-        };
-        write!(out, "{name} ")?;
-        push_call(alloc, &mut tokenizers, operation, out)?;
+        }
         out.push('\n')?;
     }
     Ok(true)

@@ -58,10 +58,12 @@ fn limit_of(words: &str) -> Option<usize>
 fn push_ends(alloc: Global, root: &Value<'_>, out: &mut String) -> Result<(), AllocError> {
     let found = places::below(alloc, root)?;
     let all = found.len();
-    let same = found
-        .iter()
-        .filter(|place| shown::are_alike(root, place.value))
-        .count();
+    let mut same: usize = 0;
+    for place in &found {
+        if shown::are_alike(root, place.value) {
+            same = same.saturating_add(1);
+        }
+    }
     writeln!(out, "{all} values, {same} as the root")?;
     if let Some(first) = found.first() {
         push_line(first, 0, out)?;
@@ -106,13 +108,13 @@ fn push_json(alloc: Global, text: &str, out: &mut String) -> Result<(), AllocErr
 /// The answer to a call without words.
 fn push_plain(alloc: Global, call: &str, text: &str, out: &mut String) -> Result<bool, AllocError> {
     match call {
-        "json" => push_json(alloc, text, out)?,
-        "kinds" => kinds::push_kinds(alloc, text, out)?,
-        "again" => pieces::push_again(alloc, text, out)?,
-        "pieces" => pieces::push_pieces(alloc, text, out)?,
-        "cuts" => cuts::push_cuts(alloc, text, out)?,
+        "json" => push_json(alloc, text, out),
+        "kinds" => kinds::push_kinds(alloc, text, out),
+        "again" => pieces::push_again(alloc, text, out),
+        "pieces" => pieces::push_pieces(alloc, text, out),
+        "cuts" => cuts::push_cuts(alloc, text, out),
         _ => return Ok(false),
-    }
+    }?;
     Ok(true)
 }
 

@@ -32,15 +32,29 @@ pub fn answer(
     text: &str,
     out: &mut String,
 ) -> Result<bool, AllocError> {
+    match tree(alloc, text)? {
+        Some(mut root) => answer_of(alloc, call, words, &mut root, out),
+        None => Ok(false),
+    }
+}
+
+/// The same of the tree of its text.
+fn answer_of<'de>(
+    alloc: Global,
+    call: &str,
+    words: &'de str,
+    root: &mut Value<'de>,
+    out: &mut String,
+) -> Result<bool, AllocError> {
     match call {
-        "typed" => read_row(alloc, words, "/a", text, out),
-        "typed_root" => read_row(alloc, words, "", text, out),
-        "errors" => errors_row(alloc, words, text, out),
-        "merge" => merge_row(alloc, words, text, out),
-        "expected" => expected_row(alloc, words, text, out),
-        "parse_string" => parse_row(alloc, words, text, out),
-        "open" => open_row(alloc, text, out),
-        "fields" => fields::answer(alloc, words, text, out),
+        "typed" => read_row(alloc, words, "/a", root, out),
+        "typed_root" => read_row(alloc, words, "", root, out),
+        "errors" => errors_row(alloc, words, root, out),
+        "merge" => merge_row(alloc, words, root, out),
+        "expected" => expected_row(words, root, out),
+        "parse_string" => parse_row(alloc, words, root, out),
+        "open" => open_row(alloc, root, out),
+        "fields" => fields::answer(alloc, words, root, out),
         _ => Ok(false),
     }
 }
@@ -102,12 +116,9 @@ fn read_row<'de>(
     alloc: Global,
     name: &str,
     pointer: &'de str,
-    text: &'de str,
+    root: &mut Value<'de>,
     out: &mut String,
 ) -> Result<bool, AllocError> {
-    let Some(mut root) = tree(alloc, text)? else {
-        return Ok(false);
-    };
     let Some(value) = root.pointer_mut(pointer) else {
         return Ok(false);
     };
@@ -136,11 +147,13 @@ fn errors_of<'de>(
 }
 
 /// Answers `errors`.
-fn errors_row(alloc: Global, name: &str, text: &str, out: &mut String) -> Result<bool, AllocError> {
-    let Some(mut root) = tree(alloc, text)? else {
-        return Ok(false);
-    };
-    let Some(faults) = errors_of(alloc, &mut root, "/a", name)? else {
+fn errors_row(
+    alloc: Global,
+    name: &str,
+    root: &mut Value<'_>,
+    out: &mut String,
+) -> Result<bool, AllocError> {
+    let Some(faults) = errors_of(alloc, root, "/a", name)? else {
         return Ok(false);
     };
     push_lists(&faults, out)?;
@@ -148,17 +161,17 @@ fn errors_row(alloc: Global, name: &str, text: &str, out: &mut String) -> Result
 }
 
 /// Answers `merge`.
-fn merge_row(alloc: Global, names: &str, text: &str, out: &mut String) -> Result<bool, AllocError> {
-    let Some((first, second)) = names.split_once(' ') else {
+fn merge_row(
+    alloc: Global,
+    names: &str,
+    root: &mut Value<'_>,
+    out: &mut String,
+) -> Result<bool, AllocError> {
+    let (first, second) = names.split_once(' ').unwrap_or((names, ""));
+    let Some(mut faults) = errors_of(alloc, root, "/a", first)? else {
         return Ok(false);
     };
-    let Some(mut root) = tree(alloc, text)? else {
-        return Ok(false);
-    };
-    let Some(mut faults) = errors_of(alloc, &mut root, "/a", first)? else {
-        return Ok(false);
-    };
-    let Some(more) = errors_of(alloc, &mut root, "/b", second)? else {
+    let Some(more) = errors_of(alloc, root, "/b", second)? else {
         return Ok(false);
     };
     match faults.merge(alloc, more) {
@@ -169,15 +182,7 @@ fn merge_row(alloc: Global, names: &str, text: &str, out: &mut String) -> Result
 }
 
 /// Answers `expected`.
-fn expected_row(
-    alloc: Global,
-    wanted: &str,
-    text: &str,
-    out: &mut String,
-) -> Result<bool, AllocError> {
-    let Some(mut root) = tree(alloc, text)? else {
-        return Ok(false);
-    };
+fn expected_row(wanted: &str, root: &mut Value<'_>, out: &mut String) -> Result<bool, AllocError> {
     let Some(value) = root.pointer_mut("/a") else {
         return Ok(false);
     };
@@ -190,10 +195,12 @@ fn expected_row(
 }
 
 /// Answers `parse_string`.
-fn parse_row(alloc: Global, name: &str, text: &str, out: &mut String) -> Result<bool, AllocError> {
-    let Some(mut root) = tree(alloc, text)? else {
-        return Ok(false);
-    };
+fn parse_row(
+    alloc: Global,
+    name: &str,
+    root: &mut Value<'_>,
+    out: &mut String,
+) -> Result<bool, AllocError> {
     let Some(value) = root.pointer_mut("/a") else {
         return Ok(false);
     };
@@ -202,7 +209,7 @@ fn parse_row(alloc: Global, name: &str, text: &str, out: &mut String) -> Result<
     };
     push_outcome(&outcome, out)?;
     push_value("left", value, out)?;
-    push_below(&root, out)?;
+    push_below(root, out)?;
     Ok(true)
 }
 
@@ -216,10 +223,7 @@ fn push_below(root: &Value, out: &mut String) -> Result<(), AllocError> {
 }
 
 /// Answers `open`.
-fn open_row(alloc: Global, text: &str, out: &mut String) -> Result<bool, AllocError> {
-    let Some(mut root) = tree(alloc, text)? else {
-        return Ok(false);
-    };
+fn open_row(alloc: Global, root: &mut Value<'_>, out: &mut String) -> Result<bool, AllocError> {
     let Some(value) = root.pointer_mut("/a") else {
         return Ok(false);
     };

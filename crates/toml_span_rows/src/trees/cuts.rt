@@ -8,13 +8,17 @@ fn is_within(text: &str, fault: &Error<'_>) -> bool {
     let Some(before) = text.as_bytes().get(..fault.span.start) else {
         return false;
     };
-    let lines = before.iter().filter(|byte| **byte == b'\n').count();
-    let column = before
-        .iter()
-        .rev()
-        .take_while(|byte| **byte != b'\n')
-        .count();
-    fault.span.start <= fault.span.end && fault.line_info == Some((lines, column))
+    let mut line: usize = 0;
+    let mut column: usize = 0;
+    for byte in before {
+        if *byte == b'\n' {
+            line = line.saturating_add(1);
+            column = 0;
+        } else {
+            column = column.saturating_add(1);
+        }
+    }
+    fault.span.start <= fault.span.end && fault.line_info == Some((line, column))
 }
 
 /// Whether a text gives a tree of which nothing is taken, or a fault within it.

@@ -100,10 +100,13 @@ pub fn push_again(alloc: Global, text: &str, out: &mut String) -> Result<(), All
 pub fn push_pieces(alloc: Global, text: &str, out: &mut String) -> Result<(), AllocError> {
     let mut lines = String::new(alloc);
     push_again(alloc, text, &mut lines)?;
-    let all = lines.lines().count();
-    let same = lines
-        .lines()
-        .filter(|line| line.ends_with(" the same"))
-        .count();
+    let mut all: usize = 0;
+    let mut same: usize = 0;
+    for line in lines.lines() {
+        all = all.saturating_add(1);
+        if line.ends_with(" the same") {
+            same = same.saturating_add(1);
+        }
+    }
     writeln!(out, "{all} pieces, {same} the same")
 }

@@ -21,74 +21,37 @@ use std::alloc::{AllocError, Global};
 use toml_span::parse;
 use toml_span::value::{Value, ValueInner};
 
-/// What is called, but for its pointer or name.
-#[derive(Drop)]
-enum Call {
-    Find,
-    Set(i64),
-    Take,
-    TakeString(Option<String>),
-    Replace(i64),
-    IsTaken,
-    Debug,
-    HasKey,
-    HasKeys,
-    IsWhole,
-}
-
 /// A call on a tree, as its word says it.
 #[derive(Drop)]
 struct Operation<'w> {
     word: &'w str,
-    call: Call,
+    name: &'w str,
     /// The pointer or the name.
     place: String,
-}
-
-/// The message of a word's last part.
-fn message_of(alloc: Global, rest: Option<&str>) -> Result<Option<String>, Unread> {
-    match rest {
-        Some(rest) => Ok(Some(text_of(alloc, rest)?)),
-        None => Ok(None),
-    }
-}
-
-/// The number of a word's last part.
-fn number_of(rest: Option<&str>) -> Result<i64, Unread> {
-    match rest.unwrap_or("").parse::<i64>() {
-        Ok(number) => Ok(number),
-        Err(_) => Err(Unread::Escape),
-    }
-}
-
-/// The call of a name.
-fn call_of(alloc: Global, name: &str, rest: Option<&str>) -> Result<Call, Unread> {
-    match name {
-        "find" => Ok(Call::Find),
-        "set" => Ok(Call::Set(number_of(rest)?)),
-        "take" => Ok(Call::Take),
-        "take_string" => Ok(Call::TakeString(message_of(alloc, rest)?)),
-        "replace" => Ok(Call::Replace(number_of(rest)?)),
-        "taken" => Ok(Call::IsTaken),
-        "debug" => Ok(Call::Debug),
-        "has_key" => Ok(Call::HasKey),
-        "has_keys" => Ok(Call::HasKeys),
-        "whole" => Ok(Call::IsWhole),
-        _ => Err(Unread::Escape),
-    }
+    /// The number or the message.
+    rest: Option<String>,
 }
 
 /// The operation of a word.
 fn operation_of<'w>(alloc: Global, word: &'w str) -> Result<Operation<'w>, Unread> {
     let (name, behind) = word.split_once('=').unwrap_or((word, ""));
-    let (place, rest) = match behind.split_once('=') {
-        Some((place, rest)) => (place, Some(rest)),
-        None => (behind, None),
+    let Some((place, rest)) = behind.split_once('=') else {
+        let place = pointer_of(alloc, behind)?;
+        let rest = None;
+        return Ok(Operation {
+            word,
+            name,
+            place,
+            rest,
+        });
     };
+    let place = pointer_of(alloc, place)?;
+    let rest = Some(text_of(alloc, rest)?);
     Ok(Operation {
         word,
-        call: call_of(alloc, name, rest)?,
-        place: pointer_of(alloc, place)?,
+        name,
+        place,
+        rest,
     })
 }
 
@@ -192,51 +155,83 @@ fn push_debug<'t>(root: &Value<'t>, pointer: &'t str, out: &mut String) -> Resul
     }
 }
 
-/// Adds what a call answers.
+/// Adds what a call answers that changes the tree. Whether there is such a call.
+fn push_write<'t>(
+    root: &mut Value<'t>,
+    operation: &'t Operation<'_>,
+    out: &mut String,
+) -> Result<bool, AllocError> {
+    let place = operation.place.as_str();
+    let rest = match &operation.rest {
+        Some(rest) => Some(rest.as_str()),
+        None => None,
+    };
+    match operation.name {
+        "take" => push_take(root, place, out),
+        "take_string" => push_take_string(root, place, rest, out),
+        name => {
+            let Ok(number) = rest.unwrap_or("").parse::<i64>() else {
+                return Ok(false);
+            };
+            match name {
+                "set" => push_set(root, place, number, out),
+                "replace" => push_replace(root, place, number, out),
+                _ => return Ok(false),
+            }
+        }
+    }?;
+    Ok(true)
+}
+
+/// Adds what a call answers. Whether there is such a call.
 fn push_answer<'t>(
     root: &mut Value<'t>,
     operation: &'t Operation<'_>,
     out: &mut String,
-) -> Result<(), AllocError> {
+) -> Result<bool, AllocError> {
     let place = operation.place.as_str();
-    match &operation.call {
-        Call::Find => push_found(root, place, out),
-        Call::Set(number) => push_set(root, place, *number, out),
-        Call::Take => push_take(root, place, out),
-        Call::TakeString(message) => {
-            push_take_string(root, place, message.as_ref().map(|text| text.as_str()), out)
-        }
-        Call::Replace(number) => push_replace(root, place, *number, out),
-        Call::IsTaken => push_is_taken(root, place, out),
-        Call::Debug => push_debug(root, place, out),
-        Call::HasKey => push_truth(root.has_key(place), out),
-        Call::HasKeys => push_truth(root.has_keys(), out),
-        Call::IsWhole => push_truth(root.is_whole(), out),
-    }
+    match operation.name {
+        "find" => push_found(root, place, out),
+        "taken" => push_is_taken(root, place, out),
+        "debug" => push_debug(root, place, out),
+        "has_key" => push_truth(root.has_key(place), out),
+        "has_keys" => push_truth(root.has_keys(), out),
+        "whole" => push_truth(root.is_whole(), out),
+        _ => return push_write(root, operation, out),
+    }?;
+    Ok(true)
 }
 
-/// Adds what each call answers, and then the lines of the tree.
+/// Adds what each call answers, and then the lines of the tree. Whether there are such calls.
 fn push_each(
     alloc: Global,
     operations: &[Operation<'_>],
     text: &str,
     out: &mut String,
-) -> Result<(), AllocError> {
+) -> Result<bool, AllocError> {
     let mut root = match parse(alloc, text) {
         Ok(root) => root,
-        Err(stop) => return push_stop(stop, out),
+        Err(stop) => {
+            push_stop(stop, out)?;
+            return Ok(true);
+        }
     };
     for operation in operations {
         out.push_str(operation.word)?;
-        push_answer(&mut root, operation, out)?;
+        if !push_answer(&mut root, operation, out)? {
+            return Ok(false);
+        }
         out.push('\n')?;
     }
-    push_lines(alloc, &root, 0, out)
+    push_lines(alloc, &root, 0, out)?;
+    Ok(true)
 }
 
 /// Adds what the calls of words answer, and then the lines of the tree.
 pub fn push_writes(alloc: Global, words: &str, text: &str, out: &mut String) -> Result<(), Unread> {
     let operations = operations_of(alloc, words)?;
-    push_each(alloc, operations.as_slice(), text, out)?;
-    Ok(())
+    match push_each(alloc, operations.as_slice(), text, out)? {
+        true => Ok(()),
+        false => Err(Unread::Escape),
+    }
 }

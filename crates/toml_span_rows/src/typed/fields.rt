@@ -10,7 +10,7 @@ ghost use Rattle.toml_span_typed.specs.TableHelper.{AllWhole, state_of};
 use crate::tokens::push_span;
 use crate::typed::elements::Shown;
 use crate::typed::faults::{push_error, push_faults, push_lists};
-use crate::typed::{push_value, tree};
+use crate::typed::push_value;
 use std::alloc::{AllocError, Global};
 use std::fmt::Write;
 use toml_span::de_helpers::{TableHelper, Unfinished};
@@ -18,31 +18,20 @@ use toml_span::value::{Key, Value};
 use toml_span::{DeserError, Deserialize, Error, Stop};
 
 /// Answers `fields`.
-pub fn answer(
+pub fn answer<'de>(
     alloc: Global,
-    words: &str,
-    text: &str,
+    words: &'de str,
+    root: &mut Value<'de>,
     out: &mut String,
 ) -> Result<bool, AllocError> {
-    let Some(mut root) = tree(alloc, text)? else {
+    let Some(mut helper) = opened(alloc, root) else {
         return Ok(false);
     };
-    let Some(mut helper) = opened(alloc, &mut root) else {
-        return Ok(false);
-    };
-    let (calls, last) = match words.rsplit_once(' ') {
-        Some((calls, last)) => (Some(calls), last),
-        None => (None, words),
-    };
-    if let Some(calls) = calls {
-        if !each_call(&mut helper, calls, out)? {
-            return Ok(false);
-        }
-    }
-    if !last_call(helper, last, &mut root, out)? {
+    let (calls, last) = words.rsplit_once(' ').unwrap_or(("", words));
+    if !each_call(&mut helper, calls, out)? || !last_call(helper, last, root, out)? {
         return Ok(false);
     }
-    push_value("root", &root, out)?;
+    push_value("root", root, out)?;
     Ok(true)
 }
 
@@ -68,7 +57,7 @@ fn each_call<'de>(
     requires { AllWhole (state_of helper.old) }
 {
     for call in calls.split(' ') {
-        if !one_call(helper, call, out)? {
+        if !call.is_empty() && !one_call(helper, call, out)? {
             return Ok(false);
         }
     }
@@ -140,14 +129,14 @@ fn read_field<'de>(
         return Ok(false);
     };
     match kind {
-        "u8" => read_as::<u8>(helper, how, name, out)?,
-        "u16" => read_as::<u16>(helper, how, name, out)?,
-        "i64" => read_as::<i64>(helper, how, name, out)?,
-        "bool" => read_as::<bool>(helper, how, name, out)?,
-        "String" => read_as::<String>(helper, how, name, out)?,
-        "Vec<u8>" => read_as::<Vec<u8>>(helper, how, name, out)?,
+        "u8" => read_as::<u8>(helper, how, name, out),
+        "u16" => read_as::<u16>(helper, how, name, out),
+        "i64" => read_as::<i64>(helper, how, name, out),
+        "bool" => read_as::<bool>(helper, how, name, out),
+        "String" => read_as::<String>(helper, how, name, out),
+        "Vec<u8>" => read_as::<Vec<u8>>(helper, how, name, out),
         _ => return Ok(false),
-    }
+    }?;
     Ok(true)
 }
 
