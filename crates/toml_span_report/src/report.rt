@@ -92,7 +92,8 @@ struct Frame {
 
 /// Adds what stands to the left of a line, and a bar.
 fn push_gutter(frame: Frame, out: &mut String, number: &str) -> Result<(), AllocError>
-    ensures { OnOk result (string_bytes out.new ≡ string_bytes out.old ++ spec.gutter frame.style frame.width number.now) }
+    ensures { OnOk result (string_bytes out.new ≡ string_bytes out.old
+        ++ spec.gutter frame.style frame.width number.now) }
 {
     let mut left = String::new(frame.alloc);
     push_times(&mut left, frame.width.saturating_sub(number.len()), ' ')?;
