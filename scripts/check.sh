@@ -1,7 +1,7 @@
 #!/usr/bin/env bash
-# Checks TOML files: bash scripts/check.sh [--format text|json|short] [--get POINTER] [--tagged] [FILE..]
+# Checks TOML files: bash scripts/check.sh [WORD..] [FILE..]
 #
-# The words are the program's: run it with a wrong one, as `--help`, for its usage. With no FILE, or for `-`, it reads
+# The words are the program's: `--help` has its usage, docs/CHECK.md examples. With no FILE, or for `-`, it reads
 # standard input. The status is the program's: 0 all are read, 1 one has a fault, 2 one can't be read or the words are
 # wrong, 3 a failed write, 4 no memory; and 5 where the program can't be built.
 #

@@ -12,7 +12,8 @@ use Rattle.toml_span_serde.specs.declared.misfit.Error.{Error}
 
 -- the text that shows a fault, with the file's name
 abbrev pub shown : Style → Fault → List ℕ → List ℕ → List ℕ
-shown style f name text = report {F = ℕ} style (code_of f.kind) (display_text f.kind) (labels_of 0 f.span f.kind) name text
+shown style f name text =
+    report {F = ℕ} style (code_of f.kind) (display_text f.kind) (labels_of 0 f.span f.kind) name text
 
 abbrev pub IsShown : Style → Stop Error → List ℕ → List ℕ → List ℕ → Type 0
 IsShown style (stop.Memory e) name text out = ⊥
