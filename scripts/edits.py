@@ -228,7 +228,13 @@ def main():
             elif item.is_public:
                 rows += [(item.path, it, ", ".join(edits) or why_none(item.path, it)) for it, edits in has.items()]
         faults += [f"{crate}: {path} {clause} has no edit" for path, clause, edits in rows if not edits]
-        if rows:
+        if rows or count[crate]:
+            if not rows:  # a program: its clauses are those of functions that stand in private modules
+                by = {}
+                for (name, path, clause), edits in guards.items():
+                    if name == crate:
+                        by.setdefault((path, clause), []).extend(edits)
+                rows = [(path, clause, ", ".join(sorted(edits))) for (path, clause), edits in sorted(by.items())]
             word = "edit" if count[crate] == 1 else "edits"
             page += f"## {crate}\n\n{count[crate]} {word}.\n\n| function | clause | edits |\n| --- | --- | --- |\n"
             page += "".join(f"| `{path}` | {clause} | {edits} |\n" for path, clause, edits in rows) + "\n"

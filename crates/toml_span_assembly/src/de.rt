@@ -80,7 +80,7 @@ pub fn parse<'de>(alloc: Global, s: &'de str) -> Result<Value<'de>, Stop<Error<'
     ensures whole { IfOk result (λ root. is_whole (view root) ≡ true) }
     ensures borrows { IfOk result (IsBorrowedTree s.now 128) }
     ensures refused { IfErr result (IsRefusal s.now 128) }
-    // Memory is wanted only where more than blank lines stand in the text.
+    // Memory is wanted only where more than comments and blank lines stand in the text.
     ensures memory { (start : ℕ) × FirstPlace s.now start × KeepsForm s.now start result }
 {
     parse_with_limit(alloc, s, LIMIT)
@@ -102,7 +102,7 @@ pub fn parse_with_limit<'de>(
     ensures whole { IfOk result (λ root. is_whole (view root) ≡ true) }
     ensures borrows { IfOk result (IsBorrowedTree s.now limit) }
     ensures refused { IfErr result (IsRefusal s.now limit) }
-    // Memory is wanted only where more than blank lines stand in the text.
+    // Memory is wanted only where more than comments and blank lines stand in the text.
     ensures memory { (start : ℕ) × FirstPlace s.now start × KeepsForm s.now start result }
 {
     match grown_of(alloc, s, limit) {

@@ -181,7 +181,7 @@ AreRead bs (Ok found) = map block found.items ≡ bs
 AreRead bs (Err (stops.Memory e)) = Unit {0}
 AreRead bs (Err (stops.Fault error)) = ⊥
 
--- more than blank lines stand from i on
+-- more than comments and blank lines stand from i on
 abbrev pub HoldsForm : List ℕ → ℕ → Type 0
 HoldsForm text i = (k : ℕ) × MaximalGap text i k × (k < length text)
 

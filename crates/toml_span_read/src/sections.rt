@@ -332,7 +332,7 @@ pub fn read_sections<'de>(
     // The sections are those that the text spells. A fault stands where the forms before it lead.
     ensures document { ReadsDocument text.now limit result }
     ensures placed { RefusedInside text.now result }
-    // Memory is wanted only where more than blank lines stand in the text.
+    // Memory is wanted only where more than comments and blank lines stand in the text.
     ensures memory { (start : ℕ) × FirstPlace text.now start × KeepsForm text.now start result }
     // Strings and keys are borrowed exactly where they equal the text at their span. Empty ones on one line are
     // borrowed.
