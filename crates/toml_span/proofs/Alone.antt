@@ -6,7 +6,7 @@ use Rattle.toml_span_tree.specs.Node.{Scalar}
 use Rattle.toml_span_tree.specs.Path.{Path, shape_scalar}
 use Rattle.toml_span_read.specs.Data.{Node, node, scalar, array, inline, span_of, Block}
 use Rattle.toml_span_read.specs.Grammar.{SpellsDocument}
-use Rattle.toml_span_claims.specs.declared.claims.Blame.TheVariants.{Key}
+use Rattle.toml_span_claims.specs.declared.claims.Blame.TheVariants.{DuplicateKey}
 use Rattle.toml_span_claims.specs.declared.claims.Sort.{Sort}
 use Rattle.toml_span_claims.specs.declared.claims.Sort.TheVariants.{Passed, Section, ArrayOfTables, Entry, Dotted, Assigned}
 use Rattle.toml_span_claims.specs.Claims.{Claim, Claims, no_claims, claimed, scope, followed, value_claims, inner_claims, item_claims, pair_claims, value_shape, inner_of, claims}
@@ -58,7 +58,7 @@ value-before base xs ys a e fit peace here there value from =
     elim (is-value e.mark.sort) [
       | inr table ↦ value-table base (xs ++ ys) a e fit peace among also value table from
       | inl other ↦ elim (from-cases a.path e.path from) [
-        | inl same ↦ peaceful-across xs ys a e peace here there (do-clash a e Key same (ap (λ s. blame s e.mark.sort) value ∙ ap (blame Assigned) other))
+        | inl same ↦ peaceful-across xs ys a e peace here there (do-clash a e DuplicateKey same (ap (λ s. blame s e.mark.sort) value ∙ ap (blame Assigned) other))
         | inr under ↦ below-none base (xs ++ ys) a e fit peace among value also under
       ]
     ]
@@ -70,7 +70,7 @@ value-behind base xs ys e a fit peace here there value from =
     elim (is-value e.mark.sort) [
       | inr table ↦ value-table base (xs ++ ys) a e fit peace also among value table from
       | inl other ↦ elim (from-cases a.path e.path from) [
-        | inl same ↦ peaceful-across xs ys e a peace here there (do-clash e a Key (sym same) (ap (λ s. blame s a.mark.sort) other ∙ ap (blame Assigned) value))
+        | inl same ↦ peaceful-across xs ys e a peace here there (do-clash e a DuplicateKey (sym same) (ap (λ s. blame s a.mark.sort) other ∙ ap (blame Assigned) value))
         | inr under ↦ below-none base (xs ++ ys) a e fit peace also value among under
       ]
     ]

@@ -20,24 +20,24 @@ use Rattle.toml_span_read_laws.proofs.LineFaults.{document_one}
 use Rattle.toml_span_read_laws.proofs.LineLaws.{document_unique, document_excluded}
 use Rattle.toml_span_read_laws.proofs.ValueLaws.{value_unique, value_excluded}
 use Rattle.toml_span_claims.specs.Claims.{Claims, claims}
-use Rattle.toml_span_claims.specs.Clashes.{fault_told, Told, Resolves, TellsFirst}
+use Rattle.toml_span_claims.specs.Clashes.{fault_of_clash, NamedClash, Resolves, TellsFirst}
 use Rattle.toml_span_claims.specs.Flat.{flat}
-use Rattle.toml_span_claims.specs.code.Machine.{nothing, told}
+use Rattle.toml_span_claims.specs.code.Machine.{nothing, first_clash}
 use Rattle.toml_span_assembly.specs.Parsing.{IsTreeOf, IsTree, IsFault, IsClashOf, IsClash, IsRefusal}
 use Rattle.toml_span.specs.Outcomes.{Outcome, resolved, clashed, stuck_at, HasOutcome, IsAnswered, TellsClash, IsAnswerOf, IsAlike}
 use Rattle.toml_span_assembly.proofs.Judged.{told-none, told-some, resolves-told, first-told}
 
-judged : (cs : Claims) (o : Option Told) → told nothing cs ≡ o → Resolves [] cs ⊎ ((clash : Told) × TellsFirst [] cs clash)
+judged : (cs : Claims) (o : Option NamedClash) → first_clash nothing cs ≡ o → Resolves [] cs ⊎ ((clash : NamedClash) × TellsFirst [] cs clash)
 judged cs None is = inl (told-none cs is)
 judged cs (Some t) is = inr (t, told-some cs t is)
 
-pub resolves-or-told : (cs : Claims) → Resolves [] cs ⊎ ((clash : Told) × TellsFirst [] cs clash)
-resolves-or-told cs = judged cs (told nothing cs) refl
+pub resolves-or-told : (cs : Claims) → Resolves [] cs ⊎ ((clash : NamedClash) × TellsFirst [] cs clash)
+resolves-or-told cs = judged cs (first_clash nothing cs) refl
 
-pub one-first : (cs : Claims) (t u : Told) → TellsFirst [] cs t → TellsFirst [] cs u → t ≡ u
+pub one-first : (cs : Claims) (t u : NamedClash) → TellsFirst [] cs t → TellsFirst [] cs u → t ≡ u
 one-first cs t u h g = same_Some t u (sym (first-told cs t h) ∙ first-told cs u g)
 
-pub none-first : (cs : Claims) (t : Told) → Resolves [] cs → TellsFirst [] cs t → ⊥
+pub none-first : (cs : Claims) (t : NamedClash) → Resolves [] cs → TellsFirst [] cs t → ⊥
 none-first cs t h g = none-some t (sym (resolves-told cs h) ∙ first-told cs t g)
 
 -- ---- texts
@@ -84,9 +84,9 @@ same-clash text bs e f a b =
     let same = one-first (claims bs) a.clash b.clash a.first b.first in
     let here = subst (λ t. IsLineInfo text t.meeting.place.start b.line b.column) (sym same) b.place in
     let info = line_info-one text a.clash.meeting.place.start a.line a.column b.line b.column a.place here in
-    a.tells ∙ ap (λ t. fault_told t.meeting t.name (a.line, a.column)) same
-    ∙ ap (λ l. fault_told b.clash.meeting b.clash.name (l, a.column)) info.0
-    ∙ ap (λ c. fault_told b.clash.meeting b.clash.name (b.line, c)) info.1 ∙ sym b.tells
+    a.tells ∙ ap (λ t. fault_of_clash t.meeting t.name (a.line, a.column)) same
+    ∙ ap (λ l. fault_of_clash b.clash.meeting b.clash.name (l, a.column)) info.0
+    ∙ ap (λ c. fault_of_clash b.clash.meeting b.clash.name (b.line, c)) info.1 ∙ sym b.tells
 
 pub one-clash : (text : List ℕ) (limit : ℕ) (e f : Error) → IsClash text limit e → IsClash text limit f → fault_of e ≡ fault_of f
 one-clash text limit e f (bs, spelled, a) (cs, others, b) = same-clash text bs e f a (subst (λ l. IsClashOf l text f) (one-document text limit cs bs others spelled) b)
@@ -101,9 +101,9 @@ tells-one text fault a b (l, c, at, is) (m, d, here, same) =
     let info = line_info-one text fault.span.start l c m d at here in is ∙ (rw (info.0, info.1) (sym same))
 
 pub one-fault : (text : List ℕ) (limit : ℕ) (e f : Error) → IsFault text limit e → IsFault text limit f → fault_of e ≡ fault_of f
-one-fault text limit e f (fault, stuck, placed, tells) (other, also, there, told) =
+one-fault text limit e f (fault, stuck, placed, tells) (other, also, there, first_clash) =
     let same : other ≡ fault = document_one text limit other fault also stuck in
-    tells-one text fault (fault_of e) (fault_of f) tells (subst (λ x. Tells text x (fault_of f)) same told)
+    tells-one text fault (fault_of e) (fault_of f) tells (subst (λ x. Tells text x (fault_of f)) same first_clash)
 
 pub one-refusal : (text : List ℕ) (limit : ℕ) (e f : Error) → IsRefusal text limit (stops.Fault e) → IsRefusal text limit (stops.Fault f) → fault_of e ≡ fault_of f
 one-refusal text limit e f (inl a) (inl b) = one-fault text limit e f a b
@@ -126,10 +126,10 @@ alike text limit (Err (stops.Fault e)) (Err (stops.Fault f)) a b = one-refusal t
 
 -- ---- one outcome
 
-resolved-or-clashed : (text : List ℕ) (limit : ℕ) (bs cs : List Block) (t : Told) → HasOutcome text limit (resolved bs) → HasOutcome text limit (clashed cs t) → ⊥
+resolved-or-clashed : (text : List ℕ) (limit : ℕ) (bs cs : List Block) (t : NamedClash) → HasOutcome text limit (resolved bs) → HasOutcome text limit (clashed cs t) → ⊥
 resolved-or-clashed text limit bs cs t a b = none-first (claims bs) t a.1 (subst (λ l. TellsFirst [] (claims l) t) (one-document text limit cs bs b.0 a.0) b.1)
 
-same-clashed : (text : List ℕ) (limit : ℕ) (bs cs : List Block) (t u : Told) → HasOutcome text limit (clashed bs t) → HasOutcome text limit (clashed cs u) → clashed bs t ≡ clashed cs u
+same-clashed : (text : List ℕ) (limit : ℕ) (bs cs : List Block) (t u : NamedClash) → HasOutcome text limit (clashed bs t) → HasOutcome text limit (clashed cs u) → clashed bs t ≡ clashed cs u
 same-clashed text limit bs cs t u a b =
     let same : cs ≡ bs = one-document text limit cs bs b.0 a.0 in
     let first : t ≡ u = one-first (claims bs) t u a.1 (subst (λ l. TellsFirst [] (claims l) u) same b.1) in
@@ -146,7 +146,7 @@ one-outcome text limit (stuck_at e) (resolved cs) a b = absurd (never-stuck text
 one-outcome text limit (stuck_at e) (clashed cs t) a b = absurd (never-stuck text limit cs e b.0 a)
 one-outcome text limit (stuck_at e) (stuck_at f) a b = ap (λ x. stuck_at x) (document_one text limit e f a b)
 
-same-first : (text : List ℕ) (limit : ℕ) (bs : List Block) (t : Told) (e : Error) → HasOutcome text limit (clashed bs t) → IsClash text limit e → TellsClash text t e
+same-first : (text : List ℕ) (limit : ℕ) (bs : List Block) (t : NamedClash) (e : Error) → HasOutcome text limit (clashed bs t) → IsClash text limit e → TellsClash text t e
 same-first text limit bs t e h (cs, spelled, c) =
     let first = subst (λ l. TellsFirst [] (claims l) c.clash) (one-document text limit cs bs spelled h.0) c.first in
     let same : c.clash ≡ t = one-first (claims bs) c.clash t first h.1 in
@@ -169,11 +169,11 @@ decides text limit (stuck_at f) (Err (stops.Fault e)) h (inr (bs, spelled, c)) =
 -- ---- every text
 
 pub text-judged : (text : List ℕ) (limit : ℕ) → ((bs : List Block) × SpellsDocument bs text limit) ⊎ ((fault : Fault) × StuckDocument text limit fault)
-    → ((bs : List Block) × SpellsDocument bs text limit × (Resolves [] (claims bs) ⊎ ((clash : Told) × TellsFirst [] (claims bs) clash))) ⊎ ((fault : Fault) × StuckDocument text limit fault)
+    → ((bs : List Block) × SpellsDocument bs text limit × (Resolves [] (claims bs) ⊎ ((clash : NamedClash) × TellsFirst [] (claims bs) clash))) ⊎ ((fault : Fault) × StuckDocument text limit fault)
 text-judged text limit (inl (bs, spelled)) = inl (bs, spelled, resolves-or-told (claims bs))
 text-judged text limit (inr stuck) = inr stuck
 
-read-outcome : (text : List ℕ) (limit : ℕ) (bs : List Block) → SpellsDocument bs text limit → Resolves [] (claims bs) ⊎ ((clash : Told) × TellsFirst [] (claims bs) clash)
+read-outcome : (text : List ℕ) (limit : ℕ) (bs : List Block) → SpellsDocument bs text limit → Resolves [] (claims bs) ⊎ ((clash : NamedClash) × TellsFirst [] (claims bs) clash)
     → (x : Outcome) × HasOutcome text limit x
 read-outcome text limit bs spelled (inl resolves) = (resolved bs, (spelled, resolves))
 read-outcome text limit bs spelled (inr (clash, first)) = (clashed bs clash, (spelled, first))

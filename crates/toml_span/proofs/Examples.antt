@@ -12,17 +12,17 @@ use Rattle.toml_span_read.specs.Grammar.{first_block, last_end}
 use Rattle.toml_span_claims.specs.declared.claims.Sort.{Sort}
 use Rattle.toml_span_claims.specs.declared.claims.Sort.TheVariants.{Passed, Section, ArrayOfTables, Entry, Dotted, Assigned}
 use Rattle.toml_span_claims.specs.declared.claims.Blame.{Blame}
-use Rattle.toml_span_claims.specs.declared.claims.Blame.TheVariants.{Table, Key, Array}
+use Rattle.toml_span_claims.specs.declared.claims.Blame.TheVariants.{DuplicateTable, DuplicateKey, RedefineAsArray}
 use Rattle.toml_span_claims.specs.Paths.{same_path, enter, target, opened_by}
 use Rattle.toml_span_claims.specs.Claims.{Claim, Claims, no_claims, claimed, scope, table_claim, followed, key_claims, value_claims, inner_claims, item_claims, pair_claims, event_claims, end_claims, header_claims, section_claims, claims_behind, claims}
-use Rattle.toml_span_claims.specs.Clashes.{Told, Resolves, TellsFirst, fault_told}
+use Rattle.toml_span_claims.specs.Clashes.{NamedClash, Resolves, TellsFirst, fault_of_clash}
 use Rattle.toml_span_claims.specs.Flat.{all_claims, claims_at, first_by_header, flat}
-use Rattle.toml_span_claims.specs.code.Machine.{change, show_all, told}
+use Rattle.toml_span_claims.specs.code.Machine.{change, show_all, first_clash}
 use Rattle.toml_span_assembly.proofs.Judged.{told-none, told-some}
 
 -- what the examples evaluate
 computed : ⊤
-unfolding same_path enter target opened_by followed key_claims value_claims inner_claims item_claims pair_claims event_claims end_claims header_claims section_claims claims_behind change show_all told all_claims claims_at first_by_header flat
+unfolding same_path enter target opened_by followed key_claims value_claims inner_claims item_claims pair_claims event_claims end_claims header_claims section_claims claims_behind change show_all first_clash all_claims claims_at first_by_header flat
 computed = tt
 
 -- ---- how sections are written
@@ -170,7 +170,7 @@ abbrev unkeyed : Shape → Span → Option Place
 unkeyed shape span = Some (record { shape = shape; key_span = None; span = span })
 
 -- what is told: the name of the key that is claimed again, and both places
-abbrev tells : Blame → List ℕ → Span → Span → Told
+abbrev tells : Blame → List ℕ → Span → Span → NamedClash
 tells blame name first place = record { meeting = record { blame = blame; first = first; place = place }; name = name }
 
 abbrev table_of : tree.Members → Span → tree.Node
@@ -316,14 +316,14 @@ entries-shown = refl
 abbrev through : List Block
 through = entry_and (headed 26 34 (part a 27 ∷ part t 29 ∷ part y 31 ∷ []) [] ∷ [])
 
-abbrev t_again : Told
-t_again = tells Key t (at 6 7) (at 29 30)
+abbrev t_again : NamedClash
+t_again = tells DuplicateKey t (at 6 7) (at 29 30)
 
 through-told : TellsFirst [] (claims through) t_again
 unfolding computed
 through-told = told-some (claims through) t_again refl
 
-through-fault : fault_told t_again.meeting t_again.name (3, 3) ≡ record { kind = duplicate_key t (at 6 7); span = at 29 30; line_info = Some (3, 3) }
+through-fault : fault_of_clash t_again.meeting t_again.name (3, 3) ≡ record { kind = duplicate_key t (at 6 7); span = at 29 30; line_info = Some (3, 3) }
 through-fault = refl
 
 -- ---- two clashes: the later claim that comes first is told, with the earliest of those that it clashes with
@@ -336,9 +336,9 @@ twice =
     ∷ headed 14 18 (part x 15 ∷ []) (event 18 23 (part a 18 ∷ []) (digit 1 22) ∷ event 24 29 (part a 24 ∷ []) (digit 2 28) ∷ [])
     ∷ []
 
-twice-told : TellsFirst [] (claims twice) (tells Key a (at 3 4) (at 18 19))
+twice-told : TellsFirst [] (claims twice) (tells DuplicateKey a (at 3 4) (at 18 19))
 unfolding computed
-twice-told = told-some (claims twice) (tells Key a (at 3 4) (at 18 19)) refl
+twice-told = told-some (claims twice) (tells DuplicateKey a (at 3 4) (at 18 19)) refl
 
 -- ---- further documents
 
@@ -431,49 +431,49 @@ dotted_then_section =
     ∷ headed 16 20 (part a 17 ∷ []) (event 20 27 (part b 20 ∷ part y 22 ∷ []) (digit 2 26) ∷ [])
     ∷ []
 
-dotted_then_section-told : TellsFirst [] (claims dotted_then_section) (tells Key a (at 0 1) (at 17 18))
+dotted_then_section-told : TellsFirst [] (claims dotted_then_section) (tells DuplicateKey a (at 0 1) (at 17 18))
 unfolding computed
-dotted_then_section-told = told-some (claims dotted_then_section) (tells Key a (at 0 1) (at 17 18)) refl
+dotted_then_section-told = told-some (claims dotted_then_section) (tells DuplicateKey a (at 0 1) (at 17 18)) refl
 
 -- `a.b = 1` LF `a = 2` LF
 abbrev dotted_then_assigned : List Block
 dotted_then_assigned = first_block (event 0 7 (part a 0 ∷ part b 2 ∷ []) (digit 1 6) ∷ event 8 13 (part a 8 ∷ []) (digit 2 12) ∷ [])
 
-dotted_then_assigned-told : TellsFirst [] (claims dotted_then_assigned) (tells Key a (at 0 1) (at 8 9))
+dotted_then_assigned-told : TellsFirst [] (claims dotted_then_assigned) (tells DuplicateKey a (at 0 1) (at 8 9))
 unfolding computed
-dotted_then_assigned-told = told-some (claims dotted_then_assigned) (tells Key a (at 0 1) (at 8 9)) refl
+dotted_then_assigned-told = told-some (claims dotted_then_assigned) (tells DuplicateKey a (at 0 1) (at 8 9)) refl
 
 -- `[a.b]` LF `[[a]]` LF
 abbrev passed_then_array : List Block
 passed_then_array = headed 0 6 (part a 1 ∷ part b 3 ∷ []) [] ∷ entry 6 12 (part a 8 ∷ []) [] ∷ []
 
-passed_then_array-told : TellsFirst [] (claims passed_then_array) (tells Array a (at 0 6) (at 6 12))
+passed_then_array-told : TellsFirst [] (claims passed_then_array) (tells RedefineAsArray a (at 0 6) (at 6 12))
 unfolding computed
-passed_then_array-told = told-some (claims passed_then_array) (tells Array a (at 0 6) (at 6 12)) refl
+passed_then_array-told = told-some (claims passed_then_array) (tells RedefineAsArray a (at 0 6) (at 6 12)) refl
 
 -- `[[a]]` LF `[[a]]` LF `[a]` LF
 abbrev array_then_section : List Block
 array_then_section = entry 0 6 (part a 2 ∷ []) [] ∷ entry 6 12 (part a 8 ∷ []) [] ∷ headed 12 16 (part a 13 ∷ []) [] ∷ []
 
-array_then_section-told : TellsFirst [] (claims array_then_section) (tells Table a (at 0 6) (at 12 16))
+array_then_section-told : TellsFirst [] (claims array_then_section) (tells DuplicateTable a (at 0 6) (at 12 16))
 unfolding computed
-array_then_section-told = told-some (claims array_then_section) (tells Table a (at 0 6) (at 12 16)) refl
+array_then_section-told = told-some (claims array_then_section) (tells DuplicateTable a (at 0 6) (at 12 16)) refl
 
 -- `a = 1` LF `[a.b]` LF
 abbrev assigned_then_passed : List Block
 assigned_then_passed = first_block (event 0 5 (part a 0 ∷ []) (digit 1 4) ∷ []) ++ headed 6 12 (part a 7 ∷ part b 9 ∷ []) [] ∷ []
 
-assigned_then_passed-told : TellsFirst [] (claims assigned_then_passed) (tells Key a (at 0 1) (at 7 8))
+assigned_then_passed-told : TellsFirst [] (claims assigned_then_passed) (tells DuplicateKey a (at 0 1) (at 7 8))
 unfolding computed
-assigned_then_passed-told = told-some (claims assigned_then_passed) (tells Key a (at 0 1) (at 7 8)) refl
+assigned_then_passed-told = told-some (claims assigned_then_passed) (tells DuplicateKey a (at 0 1) (at 7 8)) refl
 
 -- `[a.b]` LF `[a]` LF `b = 1` LF
 abbrev section_then_assigned : List Block
 section_then_assigned = headed 0 6 (part a 1 ∷ part b 3 ∷ []) [] ∷ headed 6 10 (part a 7 ∷ []) (event 10 15 (part b 10 ∷ []) (digit 1 14) ∷ []) ∷ []
 
-section_then_assigned-told : TellsFirst [] (claims section_then_assigned) (tells Key b (at 3 4) (at 10 11))
+section_then_assigned-told : TellsFirst [] (claims section_then_assigned) (tells DuplicateKey b (at 3 4) (at 10 11))
 unfolding computed
-section_then_assigned-told = told-some (claims section_then_assigned) (tells Key b (at 3 4) (at 10 11)) refl
+section_then_assigned-told = told-some (claims section_then_assigned) (tells DuplicateKey b (at 3 4) (at 10 11)) refl
 
 -- `[[x.a.c]]` LF `[x]` LF `a.b = 1` LF
 abbrev dotted_beside_array : List Block
@@ -514,9 +514,9 @@ apple_and next = first_block (event 0 19 (part apple 0 ∷ part color 6 ∷ []) 
 abbrev apple_section : List Block
 apple_section = apple_and (headed 20 28 (part apple 21 ∷ []) [])
 
-apple_section-told : TellsFirst [] (claims apple_section) (tells Key apple (at 0 5) (at 21 26))
+apple_section-told : TellsFirst [] (claims apple_section) (tells DuplicateKey apple (at 0 5) (at 21 26))
 unfolding computed
-apple_section-told = told-some (claims apple_section) (tells Key apple (at 0 5) (at 21 26)) refl
+apple_section-told = told-some (claims apple_section) (tells DuplicateKey apple (at 0 5) (at 21 26)) refl
 
 -- `[apple.texture]` LF
 abbrev apple_passed : List Block
@@ -542,9 +542,9 @@ apple_passed-at-apple-texture = refl
 abbrev twice_inline : List Block
 twice_inline = first_block (event 0 18 (part a 0 ∷ []) (node (inline (pair (part b 5 ∷ []) (digit 1 9) (at 5 10) (pair (part b 12 ∷ []) (digit 2 16) (at 12 17) no_pairs))) (at 4 18)) ∷ [])
 
-twice_inline-told : TellsFirst [] (claims twice_inline) (tells Key b (at 5 6) (at 12 13))
+twice_inline-told : TellsFirst [] (claims twice_inline) (tells DuplicateKey b (at 5 6) (at 12 13))
 unfolding computed
-twice_inline-told = told-some (claims twice_inline) (tells Key b (at 5 6) (at 12 13)) refl
+twice_inline-told = told-some (claims twice_inline) (tells DuplicateKey b (at 5 6) (at 12 13)) refl
 
 -- `[x]` LF `y = ['z', 'zz']`
 abbrev array_of_texts : List Block

@@ -21,7 +21,7 @@ use Rattle.toml_span_typed.specs.declared.de_helpers.table_helper.TableHelper.{T
 use Rattle.toml_span_typed.specs.declared.de_helpers.table_helper.Unfinished.{Unfinished}
 use Rattle.toml_span_typed.specs.declared.de_helpers.table_helper.Unfinished.TheVariants as unfinished
 use Rattle.toml_span_typed.specs.TableHelper.{State, Opens, Requires, Tries, Refuses, Starved, found, fresh, keeping, noted, unasked, unexpected_entries, where_filled, without}
-use Rattle.toml_span.specs.Document.{part, IsValueOf}
+use Rattle.toml_span.specs.Document.{subtree, IsValueOf}
 use Rattle.toml_span.specs.Helpers.{hide, except, IsOver, table_of, RequiresAt, TriesAt, EndsWith, HasNoKeyBut}
 use Rattle.toml_span.proofs.OneTree.{At, shown, same-name, first-entry, later-entry, not-again}
 use Rattle.toml_span.proofs.Pointed.{part-value, node-reached}
@@ -91,7 +91,7 @@ over-noted places name s h =
 over-kept : (places : Path → Option Place) (faults : List Fault) (s : State) → IsOver places s → IsOver places (keeping faults s)
 over-kept places faults s h = h
 
-found-value : (places : Path → Option Place) (name : List ℕ) (s : State) (value : Node) → IsOver places s → found name s ≡ Some value → IsValueOf (part (except s.asked places) (key name ∷ [])) value
+found-value : (places : Path → Option Place) (name : List ℕ) (s : State) (value : Node) → IsOver places s → found name s ≡ Some value → IsValueOf (subtree (except s.asked places) (key name ∷ [])) value
 found-value places name s value h is =
     let (k, at) = node-reached (entry_at name s.members) value is in
     part-value (except s.asked places) (table_of s) (key name ∷ []) (k, value) h (ap (option_and_then (reached [])) at)

@@ -9,7 +9,7 @@ use Rattle.toml_span_claims.specs.declared.claims.Blame.{Blame}
 use Rattle.toml_span_claims.specs.declared.claims.Sort.{Sort}
 use Rattle.toml_span_claims.specs.declared.claims.Sort.TheVariants.{Passed, Section, ArrayOfTables, Entry, Dotted, Assigned}
 use Rattle.toml_span_claims.specs.Claims.{Claim, Claims, no_claims, claimed, scope, claims}
-use Rattle.toml_span_claims.specs.Clashes.{Told, named, blame, meeting, meets, clash, IsFree, Resolves, TellsFirst, told_here, told_behind, told_inside, told_after}
+use Rattle.toml_span_claims.specs.Clashes.{NamedClash, named, blame, meeting, meets, clash, IsFree, Resolves, TellsFirst, told_here, told_behind, told_inside, told_after}
 use Rattle.toml_span_claims.specs.Flat.{all_claims}
 use Rattle.toml_span_claims.specs.Paths.{same_path}
 use Rattle.toml_span.specs.Clashing.{IsIn, DoClash, IsPair, IsFirstPair}
@@ -33,7 +33,7 @@ mapped f None y h = absurd (none-some y h)
 mapped f (Some x) y h = (x, refl)
 
 -- two claims that clash are on one path, and their sorts clash
-pub clash-blames : (c d : Claim) (t : Told) → clash c d ≡ Some t → (same_path c.path d.path ≡ true) × ((b : Blame) × (blame c.mark.sort d.mark.sort ≡ Some b))
+pub clash-blames : (c d : Claim) (t : NamedClash) → clash c d ≡ Some t → (same_path c.path d.path ≡ true) × ((b : Blame) × (blame c.mark.sort d.mark.sort ≡ Some b))
 unfolding clash
 clash-blames c d t h = elim (cases_Bool (same_path c.path d.path)) [
   | inl here ↦
@@ -119,7 +119,7 @@ free-clash [] c d free h clashes = absurd h
 free-clash (x ∷ earlier) c d free (inl same) (t, clashes) = none-some t (sym free.0 ∙ ap (λ y. clash y d) (sym same) ∙ clashes)
 free-clash (x ∷ earlier) c d free (inr more) clashes = free-clash earlier c d free.1 more clashes
 
-none-of : (c d : Claim) (o : Option Told) → clash c d ≡ o → (DoClash c d → ⊥) → clash c d ≡ None
+none-of : (c d : Claim) (o : Option NamedClash) → clash c d ≡ o → (DoClash c d → ⊥) → clash c d ≡ None
 none-of c d None is free = is
 none-of c d (Some t) is free = absurd (free (t, is))
 
@@ -137,7 +137,7 @@ no-pair earlier (scope inner cs) c d ok (inr more) = no-pair earlier cs c d ok.1
 -- ---- the pair that is told
 
 -- the first pair, and what is told of it
-pub record Pair (earlier : List Claim) (cs : Claims) (t : Told) : Type 0 where
+pub record Pair (earlier : List Claim) (cs : Claims) (t : NamedClash) : Type 0 where
   pub c : Claim
   pub d : Claim
   pub is : IsFirstPair earlier cs c d
@@ -154,7 +154,7 @@ partner-first before after c d e free r h clashes = elim (in-cases e before (c �
 pub behind-claim : (earlier : List Claim) (x : Claim) (cs : Claims) → Rises (earlier ++ (x ∷ all_claims cs)) → (d : Claim) → IsIn d (all_claims cs) → IsLater x d
 behind-claim earlier x cs r d h = (rises-right earlier (x ∷ all_claims cs) r).0 d h
 
-pair-here : (before after : List Claim) (c d : Claim) (cs : Claims) (t : Told) → IsFree before d → clash c d ≡ Some t → Rises ((before ++ (c ∷ after)) ++ (d ∷ all_claims cs))
+pair-here : (before after : List Claim) (c d : Claim) (cs : Claims) (t : NamedClash) → IsFree before d → clash c d ≡ Some t → Rises ((before ++ (c ∷ after)) ++ (d ∷ all_claims cs))
     → Pair (before ++ (c ∷ after)) (claimed d cs) t
 pair-here before after c d cs t free is r =
     let earlier = before ++ (c ∷ after) in
@@ -180,7 +180,7 @@ pair-here before after c d cs t free is r =
     }
 
 -- a first pair behind a claim that is free
-pair-behind : (earlier : List Claim) (x : Claim) (cs : Claims) (t : Told) → IsFree earlier x → Pair (earlier ++ (x ∷ [])) cs t → Pair earlier (claimed x cs) t
+pair-behind : (earlier : List Claim) (x : Claim) (cs : Claims) (t : NamedClash) → IsFree earlier x → Pair (earlier ++ (x ∷ [])) cs t → Pair earlier (claimed x cs) t
 pair-behind earlier x cs t free p = record {
   c = p.c;
   d = p.d;
@@ -199,7 +199,7 @@ pair-behind earlier x cs t free p = record {
 }
 
 -- one in a scope inside, before all that is behind it
-pair-inside : (earlier : List Claim) (inner cs : Claims) (t : Told) → Rises (all_claims inner ++ all_claims cs) → Pair [] inner t → Pair earlier (scope inner cs) t
+pair-inside : (earlier : List Claim) (inner cs : Claims) (t : NamedClash) → Rises (all_claims inner ++ all_claims cs) → Pair [] inner t → Pair earlier (scope inner cs) t
 pair-inside earlier inner cs t r p =
     let after : (e f : Claim) → IsPair earlier cs e f → start_of p.d < start_of f = λ e f more.
     strictly p.d f (rises-across (all_claims inner) (all_claims cs) p.d f r (pair-in [] inner p.c p.d p.is.pair) (pair-in earlier cs e f more)) (later-plain e f (pair-clash earlier cs e f more)) in
@@ -221,7 +221,7 @@ pair-inside earlier inner cs t r p =
     }
 
 -- one behind a scope in which nothing clashes
-pair-after : (earlier : List Claim) (inner cs : Claims) (t : Told) → Resolves [] inner → Pair earlier cs t → Pair earlier (scope inner cs) t
+pair-after : (earlier : List Claim) (inner cs : Claims) (t : NamedClash) → Resolves [] inner → Pair earlier cs t → Pair earlier (scope inner cs) t
 pair-after earlier inner cs t ok p = record {
   c = p.c;
   d = p.d;
@@ -239,7 +239,7 @@ pair-after earlier inner cs t ok p = record {
   };
 }
 
-told-pair : (earlier : List Claim) (cs : Claims) (t : Told) → TellsFirst earlier cs t → Rises (earlier ++ all_claims cs) → Pair earlier cs t
+told-pair : (earlier : List Claim) (cs : Claims) (t : NamedClash) → TellsFirst earlier cs t → Rises (earlier ++ all_claims cs) → Pair earlier cs t
 unfolding all_claims
 told-pair _ _ _ (told_here before after c d cs t free is) r = pair-here before after c d cs t free is r
 told-pair _ _ _ (told_behind earlier c cs t free rest) r =
@@ -272,15 +272,15 @@ one-pair earlier cs c d e f a b =
 
 -- ---- documents
 
-document-pair : (text : List ℕ) (limit : ℕ) (bs : List Block) (t : Told) → SpellsDocument bs text limit → TellsFirst [] (claims bs) t → Pair [] (claims bs) t
+document-pair : (text : List ℕ) (limit : ℕ) (bs : List Block) (t : NamedClash) → SpellsDocument bs text limit → TellsFirst [] (claims bs) t → Pair [] (claims bs) t
 document-pair text limit bs t h first = told-pair [] (claims bs) t first (rising-rises (all_claims (claims bs)) 0 (length text) (document-rises bs text limit h))
 
-pub first-pair : (text : List ℕ) (limit : ℕ) (bs : List Block) (t : Told) → SpellsDocument bs text limit → TellsFirst [] (claims bs) t
+pub first-pair : (text : List ℕ) (limit : ℕ) (bs : List Block) (t : NamedClash) → SpellsDocument bs text limit → TellsFirst [] (claims bs) t
     → (c d : Claim) × IsFirstPair [] (claims bs) c d × (clash c d ≡ Some t)
 first-pair text limit bs t h first = let p = document-pair text limit bs t h first in (p.c, p.d, p.is, p.told)
 
-pair-told : (text : List ℕ) (limit : ℕ) (bs : List Block) (t : Told) (c d : Claim) → SpellsDocument bs text limit → IsFirstPair [] (claims bs) c d → clash c d ≡ Some t
-    → Resolves [] (claims bs) ⊎ ((u : Told) × TellsFirst [] (claims bs) u) → TellsFirst [] (claims bs) t
+pair-told : (text : List ℕ) (limit : ℕ) (bs : List Block) (t : NamedClash) (c d : Claim) → SpellsDocument bs text limit → IsFirstPair [] (claims bs) c d → clash c d ≡ Some t
+    → Resolves [] (claims bs) ⊎ ((u : NamedClash) × TellsFirst [] (claims bs) u) → TellsFirst [] (claims bs) t
 pair-told text limit bs t c d h is told (inl ok) = absurd (no-pair [] (claims bs) c d ok is.pair)
 pair-told text limit bs t c d h is told (inr (u, first)) =
     let p = document-pair text limit bs u h first in
@@ -288,6 +288,6 @@ pair-told text limit bs t c d h is told (inr (u, first)) =
     let now : u ≡ t = same_Some u t (sym p.told ∙ ap (λ x. clash x p.d) same.0 ∙ ap (λ x. clash c x) same.1 ∙ told) in
     subst (λ x. TellsFirst [] (claims bs) x) now first
 
-pub told-first : (text : List ℕ) (limit : ℕ) (bs : List Block) (t : Told) → SpellsDocument bs text limit → (c d : Claim) × IsFirstPair [] (claims bs) c d × (clash c d ≡ Some t)
+pub told-first : (text : List ℕ) (limit : ℕ) (bs : List Block) (t : NamedClash) → SpellsDocument bs text limit → (c d : Claim) × IsFirstPair [] (claims bs) c d × (clash c d ≡ Some t)
     → TellsFirst [] (claims bs) t
 told-first text limit bs t h (c, d, is, told) = pair-told text limit bs t c d h is told (resolves-or-told (claims bs))

@@ -10,7 +10,7 @@ use Rattle.toml_span_read.specs.Grammar.{Spells, SpellsInner, SpellsItems, Spell
 use Rattle.toml_span_read.specs.Keys.{Part}
 use Rattle.toml_span_claims.specs.declared.claims.Sort.TheVariants.{Dotted, Assigned}
 use Rattle.toml_span_claims.specs.Claims.{Claim, Claims, no_claims, claimed, scope, followed, key_claims, value_claims, inner_claims, item_claims, pair_claims, event_claims, element, assigned, dotted}
-use Rattle.toml_span_claims.specs.Paths.{below, at}
+use Rattle.toml_span_claims.specs.Paths.{with_key, with_position}
 use Rattle.toml_span.specs.Clashing.{IsIn, own}
 use Rattle.toml_span.proofs.Apart.{in-left, in-right}
 use Rattle.toml_span.proofs.FirstPair.{in-cases}
@@ -164,13 +164,13 @@ pub record Walked (R : List Claim → Path → Type 0) (base : Path) (es : List 
   pub known : Known R base es (l ++ own cs)
 
 -- the path of a part behind outer ones
-part-at : (base p : Path) (outer : List Part) (k : Part) → p ≡ base ++ keys outer → below p k ≡ base ++ keys (outer ++ (k ∷ []))
+part-at : (base p : Path) (outer : List Part) (k : Part) → p ≡ base ++ keys outer → with_key p k ≡ base ++ keys (outer ++ (k ∷ []))
 unfolding keys
 part-at base p outer k on =
     ap (λ q. q ++ (key k.name ∷ [])) on ∙ append_assoc base (keys outer) (key k.name ∷ []) ∙ ap (λ q. base ++ q) (sym (keys-append outer (k ∷ [])))
 
 key-walk : (R : List Claim → Path → Type 0) (laws : Bases R) (base : Path) (es : List Event) (next : Event) (outer parts : List Part) (v : Node) (inside : Path → Claims) (l : List Claim) (p : Path)
-    → Clear es next → R l base → next.parts ≡ outer ++ parts → p ≡ base ++ keys outer → ((k : Part) → Way l base (below p k)) → Known R base es l
+    → Clear es next → R l base → next.parts ≡ outer ++ parts → p ≡ base ++ keys outer → ((k : Part) → Way l base (with_key p k)) → Known R base es l
     → ((q : Path) → own (inside q) ≡ []) → ((q : Path) (m : List Claim) → Guarded m (inside q)) → Walked R base (es ++ (next ∷ [])) l (key_claims p parts v inside)
 unfolding key_claims
 key-walk R laws base es next outer [] v inside l p clear root is on way known none inner = record {
@@ -178,7 +178,7 @@ key-walk R laws base es next outer [] v inside l p clear root is on way known no
   known = known-on R laws base es (es ++ (next ∷ [])) l [] known (λ e. event-left e es (next ∷ [])) (λ c here sort. absurd here);
 }
 key-walk R laws base es next outer (k ∷ []) v inside l p clear root is on way known none inner =
-    let q = below p k in
+    let q = with_key p k in
     let a = assigned q k v in
     let at : q ≡ base ++ keys next.parts = part-at base p outer k on ∙ ap (λ ps. base ++ keys ps) (sym is) in
     let mine : Traced R (l ++ (a ∷ [])) q = record { base = base; root = laws.more l (a ∷ []) base root; way = way-on l (a ∷ []) base q (way k) } in
@@ -192,7 +192,7 @@ key-walk R laws base es next outer (k ∷ []) v inside l p clear root is on way 
           ]));
     }
 key-walk R laws base es next outer (k ∷ m ∷ more) v inside l p clear root is on way known none inner =
-    let q = below p k in
+    let q = with_key p k in
     let d = dotted q k v in
     let at = part-at base p outer k on in
     let there : Has (l ++ (d ∷ [])) Dotted q = (d, in-right d l (d ∷ []) (inl refl), refl, refl) in
@@ -201,7 +201,7 @@ key-walk R laws base es next outer (k ∷ m ∷ more) v inside l p clear root is
       | inr none ↦ absurd none
     ]) in
     let rest = key-walk R laws base es next (outer ++ (k ∷ [])) (m ∷ more) v inside (l ++ (d ∷ [])) q clear (laws.more l (d ∷ []) base root) (is ∙ sym (append_assoc outer (k ∷ []) (m ∷ more))) at
-    (λ n. next_key (below q n) q n.name refl there (way-on l (d ∷ []) base q (way k))) plain none inner in
+    (λ n. next_key (with_key q n) q n.name refl there (way-on l (d ∷ []) base q (way k))) plain none inner in
     record {
       guarded = (
         (λ dotted peace e here sort same.
@@ -239,7 +239,7 @@ begun : (R : List Claim → Path → Type 0) (laws : Bases R) (base : Path) (es 
     → ((q : Path) (m : List Claim) → Guarded m (value_claims next.value q)) → Walked R base (es ++ (next ∷ [])) l (key_claims base next.parts next.value (value_claims next.value))
 unfolding keys
 begun R laws base es next l clear root known inner =
-    key-walk R laws base es next [] next.parts next.value (value_claims next.value) l base clear root refl (sym (append-nil base)) (λ k. first_key (below base k) k.name refl) known
+    key-walk R laws base es next [] next.parts next.value (value_claims next.value) l base clear root refl (sym (append-nil base)) (λ k. first_key (with_key base k) k.name refl) known
     (value-own next.value) inner
 
 element-guarded : (v : Node) (q : Path) (rest : Claims) (l : List Claim) → ((m : List Claim) → Guarded m (value_claims v q)) → ((m : List Claim) → Guarded m rest)
@@ -262,9 +262,9 @@ mutual
   items-guarded : (vs : Items) (n : ℕ) (p : Path) (l : List Claim) (text : List ℕ) (limit d i j : ℕ) → SpellsItems vs text limit d i j → Guarded l (item_claims vs n p)
   items-guarded no_items n p l text limit d i j h = tt
   items-guarded (item v vs) n p l text limit d i j (m, h, inl (e, close)) =
-      element-guarded v (at p n) (item_claims vs (suc n) p) l (λ x. value-guarded v (at p n) x text limit d i m h) (λ x. rw e tt)
+      element-guarded v (with_position p n) (item_claims vs (suc n) p) l (λ x. value-guarded v (with_position p n) x text limit d i m h) (λ x. rw e tt)
   items-guarded (item v vs) n p l text limit d i j (m, h, inr (k, comma, rest)) =
-      element-guarded v (at p n) (item_claims vs (suc n) p) l (λ x. value-guarded v (at p n) x text limit d i m h) (λ x. items-guarded vs (suc n) p x text limit d k j rest)
+      element-guarded v (with_position p n) (item_claims vs (suc n) p) l (λ x. value-guarded v (with_position p n) x text limit d i m h) (λ x. items-guarded vs (suc n) p x text limit d k j rest)
 
   pairs-guarded : (ps : Pairs) (es : List Event) (p : Path) (l : List Claim) (text : List ℕ) (limit d i j : ℕ) → Known (IsAt p) p es l → SpellsPairs ps es text limit d i j
       → Guarded l (pair_claims ps p)

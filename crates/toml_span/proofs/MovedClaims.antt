@@ -10,7 +10,7 @@ use Rattle.toml_span_read_laws.specs.Again.{moved, moved_inner, moved_items, mov
 use Rattle.toml_span_claims.specs.Claims.{Claim, Claims, no_claims, claimed, scope, followed, key_claims, value_claims, inner_claims, item_claims, pair_claims, element, assigned, dotted}
 use Rattle.toml_span_claims.specs.Clashes.{blame, Resolves, or_else}
 use Rattle.toml_span_claims.specs.Flat.{all_claims, claims_at, decides, first, first_by_header, by_header}
-use Rattle.toml_span_claims.specs.Paths.{same_path, below, at}
+use Rattle.toml_span_claims.specs.Paths.{same_path, with_key, with_position}
 use Rattle.toml_span_claims.proofs.Grafts.{same_step-self}
 use Rattle.toml_span_assembly.proofs.EachClaim.{same_path-eq}
 use Rattle.toml_span.specs.Again.{moved_place}
@@ -66,11 +66,11 @@ unfolding key_claims
 key-moved from to [] v p r q s inside other b h = none_moved
 key-moved from to (k ∷ []) v p r q s inside other b h =
     let n = beside-step p r q s (key k.name) b in
-    claim_moved (assigned (below q k) k v) _ (inside (below q k)) _ (assigned-moved from to v k p r (below q k) (below s k) n) (h (below q k) (below s k) n)
+    claim_moved (assigned (with_key q k) k v) _ (inside (with_key q k)) _ (assigned-moved from to v k p r (with_key q k) (with_key s k) n) (h (with_key q k) (with_key s k) n)
 key-moved from to (k ∷ l ∷ more) v p r q s inside other b h =
     let n = beside-step p r q s (key k.name) b in
-    claim_moved (dotted (below q k) k v) _ (key_claims (below q k) (l ∷ more) v inside) _ (dotted-moved from to v k p r (below q k) (below s k) n)
-    (key-moved from to (l ∷ more) v p r (below q k) (below s k) inside other n h)
+    claim_moved (dotted (with_key q k) k v) _ (key_claims (with_key q k) (l ∷ more) v inside) _ (dotted-moved from to v k p r (with_key q k) (with_key s k) n)
+    (key-moved from to (l ∷ more) v p r (with_key q k) (with_key s k) inside other n h)
 
 mutual
   unfolding value_claims inner_claims item_claims pair_claims
@@ -87,9 +87,9 @@ mutual
   items-moved no_items n from to p r q s b = none_moved
   items-moved (item v vs) n from to p r q s b =
       let m = beside-step p r q s (position n) b in
-      claim_moved (element (at q n) v) (element (at s n) (moved from to v)) _ _ (element-moved from to v p r (at q n) (at s n) m)
-      (followed-moved from to p r (value_claims v (at q n)) (value_claims (moved from to v) (at s n)) (item_claims vs (suc n) q) (item_claims (moved_items from to vs) (suc n) s)
-      (value-moved v from to p r (at q n) (at s n) m) (items-moved vs (suc n) from to p r q s b))
+      claim_moved (element (with_position q n) v) (element (with_position s n) (moved from to v)) _ _ (element-moved from to v p r (with_position q n) (with_position s n) m)
+      (followed-moved from to p r (value_claims v (with_position q n)) (value_claims (moved from to v) (with_position s n)) (item_claims vs (suc n) q) (item_claims (moved_items from to vs) (suc n) s)
+      (value-moved v from to p r (with_position q n) (with_position s n) m) (items-moved vs (suc n) from to p r q s b))
 
   pairs-moved : (ps : Pairs) (from to : ℕ) (p r q s : Path) → Beside p r q s → AreMoved from to p r (pair_claims ps q) (pair_claims (moved_pairs from to ps) s)
   pairs-moved no_pairs from to p r q s b = none_moved

@@ -6,7 +6,7 @@ use Rattle.toml_span_tree.specs.Path.{Path, Step, key, position}
 use Rattle.toml_span_read.specs.Data.{Block}
 use Rattle.toml_span_read.specs.Grammar.{SpellsDocument}
 use Rattle.toml_span_claims.specs.declared.claims.Blame.{Blame}
-use Rattle.toml_span_claims.specs.declared.claims.Blame.TheVariants.{Key}
+use Rattle.toml_span_claims.specs.declared.claims.Blame.TheVariants.{DuplicateKey}
 use Rattle.toml_span_claims.specs.declared.claims.Sort.{Sort}
 use Rattle.toml_span_claims.specs.declared.claims.Sort.TheVariants.{Passed, Section, ArrayOfTables, Entry, Dotted, Assigned}
 use Rattle.toml_span_claims.specs.Claims.{Claim, Claims, no_claims, claimed, scope, claims}
@@ -26,7 +26,7 @@ unfolding clash
 do-clash c d b same is = (named d.name (meeting c.mark d.mark b), rw (same, path-self d.path, is) refl)
 
 -- a value and a table on one path clash, whichever comes first
-value-first : (s : Sort) → (s ≡ Assigned → ⊥) → (s ≡ Entry → ⊥) → blame Assigned s ≡ Some Key
+value-first : (s : Sort) → (s ≡ Assigned → ⊥) → (s ≡ Entry → ⊥) → blame Assigned s ≡ Some DuplicateKey
 value-first Passed value entry = refl
 value-first Section value entry = refl
 value-first ArrayOfTables value entry = refl
@@ -34,7 +34,7 @@ value-first Entry value entry = absurd (entry refl)
 value-first Dotted value entry = refl
 value-first Assigned value entry = absurd (value refl)
 
-table-first : (s : Sort) → (s ≡ Assigned → ⊥) → (s ≡ Entry → ⊥) → blame s Assigned ≡ Some Key
+table-first : (s : Sort) → (s ≡ Assigned → ⊥) → (s ≡ Entry → ⊥) → blame s Assigned ≡ Some DuplicateKey
 table-first Passed value entry = refl
 table-first Section value entry = refl
 table-first ArrayOfTables value entry = refl
@@ -82,8 +82,8 @@ peaceful-two (x ∷ l) c d h (inr more) (inr also) differ first last = peaceful-
 pub value-apart : (l : List Claim) (a e : Claim) → Peaceful l → IsIn a l → IsIn e l → a.mark.sort ≡ Assigned → (e.mark.sort ≡ Assigned → ⊥) → (e.mark.sort ≡ Entry → ⊥) → a.path ≡ e.path → ⊥
 value-apart l a e h here there value table entry same =
     peaceful-two l a e h here there (λ s. table (sym s ∙ value))
-    (do-clash a e Key same (ap (λ s. blame s e.mark.sort) value ∙ value-first e.mark.sort table entry))
-    (do-clash e a Key (sym same) (ap (blame e.mark.sort) value ∙ table-first e.mark.sort table entry))
+    (do-clash a e DuplicateKey same (ap (λ s. blame s e.mark.sort) value ∙ value-first e.mark.sort table entry))
+    (do-clash e a DuplicateKey (sym same) (ap (blame e.mark.sort) value ∙ table-first e.mark.sort table entry))
 
 -- ---- below a value nothing of its scope stands
 
@@ -304,7 +304,7 @@ pub values-apart : (base : Path) (xs ys : List Claim) (a b : Claim) (q : Path) �
 values-apart base xs ys a b q fit peace here there value other under below =
     let l = xs ++ ys in
     elim (on-one-way a.path b.path under.0 below.0 under.1 below.1 (sym under.2 ∙ below.2)) [
-      | inl on ↦ peaceful-across xs ys a b peace here there (do-clash a b Key on (ap (λ s. blame s b.mark.sort) value ∙ ap (blame Assigned) other))
+      | inl on ↦ peaceful-across xs ys a b peace here there (do-clash a b DuplicateKey on (ap (λ s. blame s b.mark.sort) value ∙ ap (blame Assigned) other))
       | inr (inl inside) ↦ below-none base l a b fit peace (in-left a xs ys here) value (in-right b xs ys there) inside
       | inr (inr outside) ↦ below-none base l b a fit peace (in-right b xs ys there) other (in-left a xs ys here) outside
     ]

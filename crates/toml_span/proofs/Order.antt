@@ -20,7 +20,7 @@ use Rattle.toml_span_claims.specs.declared.claims.Head.{Head}
 use Rattle.toml_span_claims.specs.Claims.{Claim, Claims, no_claims, claimed, scope, followed, key_span_of, table_claim, pair_mark, header_mark, key_claims, value_claims, inner_claims, item_claims, pair_claims, assignment_claims, event_claims, element, assigned, dotted, head_of, header_claim, array_claims, end_claims, header_claims, section_claims, claims_behind, claims}
 use Rattle.toml_span_claims.specs.Flat.{all_claims}
 use Rattle.toml_span.specs.Order.{start_of, Follows, Ascends}
-use Rattle.toml_span_claims.specs.Paths.{below, at, enter, entries_at, opened_by, section_path}
+use Rattle.toml_span_claims.specs.Paths.{with_key, with_position, enter, entries_at, opened_by, section_path}
 
 -- ---- lists of claims
 
@@ -134,9 +134,9 @@ key-rises : (q : Path) (parts : List Part) (v : Node) (inside : Path → Claims)
 unfolding key_claims
 key-rises q [] v inside i a j h r = rise-none i j (omega (arith, h, rising-forward (all_claims (inside q)) a j (r q)))
 key-rises q (k ∷ []) v inside i a j h r =
-    let here = below q k in rise-claimed (assigned here k v) (inside here) i a j (assigned-keyed here k v) h.0 (omega (arith, h.1, h.2)) (r here)
+    let here = with_key q k in rise-claimed (assigned here k v) (inside here) i a j (assigned-keyed here k v) h.0 (omega (arith, h.1, h.2)) (r here)
 key-rises q (k ∷ l ∷ more) v inside i a j h r =
-    let here = below q k in
+    let here = with_key q k in
     rise-claimed (dotted here k v) (key_claims here (l ∷ more) v inside) i k.span.end j (table-keyed here k (pair_mark Dotted k.span (span_of v))) h.0 h.1 (key-rises here (l ∷ more) v inside k.span.end a j h.2 r)
 
 mutual
@@ -167,9 +167,9 @@ mutual
   items-rise : (vs : Items) (n : ℕ) (q : Path) (text : List ℕ) (limit d i j : ℕ) → SpellsItems vs text limit d i j → Rise (item_claims vs n q) i j
   items-rise no_items n q text limit d i j h = rise-none i j (omega (arith, h.1))
   items-rise (item v vs) n q text limit d i j (m, h, inl (e, close)) =
-      element-rises v (at q n) (item_claims vs (suc n) q) text limit d i m j h (rw e (rise-none (m + 1) j (omega (arith, close.before.forward, close.ends))))
+      element-rises v (with_position q n) (item_claims vs (suc n) q) text limit d i m j h (rw e (rise-none (m + 1) j (omega (arith, close.before.forward, close.ends))))
   items-rise (item v vs) n q text limit d i j (m, h, inr (p, sign, rest)) =
-      element-rises v (at q n) (item_claims vs (suc n) q) text limit d i m j h
+      element-rises v (with_position q n) (item_claims vs (suc n) q) text limit d i m j h
       (rise-wide (item_claims vs (suc n) q) (m + 1) p j j (omega (arith, sign.before.forward, sign.behind.forward)) (omega arith) (items-rise vs (suc n) q text limit d p j rest))
 
   pairs-rise : (ps : Pairs) (es : List Event) (q : Path) (text : List ℕ) (limit d i j : ℕ) → SpellsPairs ps es text limit d i j → Rise (pair_claims ps q) i j
@@ -198,11 +198,11 @@ events-rise (e ∷ es) before q text limit i j (m, n, k, h, tail, clear, gap, re
 
 -- ---- sections
 
-array-rises : (h : Head) (q : Path) (k : Part) (n i j : ℕ) → i ≤ k.span.start → k.span.start < j → Rise (array_claims h q k n (claimed (header_claim h Entry (at q n) k) no_claims)) i j
+array-rises : (h : Head) (q : Path) (k : Part) (n i j : ℕ) → i ≤ k.span.start → k.span.start < j → Rise (array_claims h q k n (claimed (header_claim h Entry (with_position q n) k) no_claims)) i j
 unfolding all_claims
 array-rises h q k zero i j a b =
-    (a, (table-keyed q k (header_mark h ArrayOfTables k.span), inr (refl, refl, refl), (table-keyed (at q 0) k (header_mark h Entry k.span), b)))
-array-rises h q k (suc n) i j a b = (a, (table-keyed (at q (suc n)) k (header_mark h Entry k.span), b))
+    (a, (table-keyed q k (header_mark h ArrayOfTables k.span), inr (refl, refl, refl), (table-keyed (with_position q 0) k (header_mark h Entry k.span), b)))
+array-rises h q k (suc n) i j a b = (a, (table-keyed (with_position q (suc n)) k (header_mark h Entry k.span), b))
 
 end-rises : (h : Head) (q : Path) (k : Part) (n i j : ℕ) → i ≤ k.span.start → k.span.start < j → Rise (end_claims h q k n) i j
 unfolding end_claims all_claims
@@ -214,9 +214,9 @@ end-rises h q k n i j a b = elim (cases_Bool h.array) [
 header-rises : (e : Path → ℕ) (h : Head) (q : Path) (parts : List Part) (i j : ℕ) → Ascend parts i j → Rise (header_claims e h q parts) i j
 unfolding header_claims
 header-rises e h q [] i j a = rise-none i j a
-header-rises e h q (k ∷ []) i j a = end-rises h (below q k) k (e (below q k)) i j a.0 (omega (arith, a.1, a.2))
+header-rises e h q (k ∷ []) i j a = end-rises h (with_key q k) k (e (with_key q k)) i j a.0 (omega (arith, a.1, a.2))
 header-rises e h q (k ∷ l ∷ more) i j a =
-    let next = enter (e (below q k)) (below q k) in
+    let next = enter (e (with_key q k)) (with_key q k) in
     rise-claimed (header_claim h Passed next k) (header_claims e h next (l ∷ more)) i k.span.end j (table-keyed next k (header_mark h Passed k.span)) a.0 a.1 (header-rises e h next (l ∷ more) k.span.end j a.2)
 
 section-rises : (e : Path → ℕ) (b : Block) (before : List Event) (text : List ℕ) (limit h i k j : ℕ) → Ascend b.header h i → i ≤ k → SpellsEvents b.events before text limit k j

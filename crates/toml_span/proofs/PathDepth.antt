@@ -15,7 +15,7 @@ use Rattle.toml_span_read.specs.Grammar.{SpellsDocument, SpellsSections, SpellsE
 use Rattle.toml_span_read_laws.proofs.DepthLaws.{value_within}
 use Rattle.toml_span_claims.specs.declared.claims.Sort.TheVariants.{Entry}
 use Rattle.toml_span_claims.specs.declared.claims.Head.{Head}
-use Rattle.toml_span_claims.specs.Paths.{entries_at, opened_by, section_path, enter, target, below, at}
+use Rattle.toml_span_claims.specs.Paths.{entries_at, opened_by, section_path, enter, target, with_key, with_position}
 use Rattle.toml_span_claims.specs.Claims.{Claim, Claims, no_claims, claimed, key_claims, value_claims, inner_claims, item_claims, pair_claims, event_claims, array_claims, end_claims, header_claims, section_claims, claims_behind, claims, head_of, header_claim}
 use Rattle.toml_span_claims.specs.Flat.{flat}
 use Rattle.toml_span.specs.Laws.{keys_in}
@@ -55,12 +55,12 @@ room-steps : (ks : List Part) → room 1 ks ≡ 2 * length ks
 room-steps [] = refl
 room-steps (k ∷ ks) = let more = room-steps ks in omega (arith, more)
 
-size-below : (w : ℕ) (p : Path) (k : Part) → size w (below p k) ≡ size w p + 1
+size-below : (w : ℕ) (p : Path) (k : Part) → size w (with_key p k) ≡ size w p + 1
 size-below w [] k = refl
 size-below w (key name ∷ p) k = let more = size-below w p k in omega (arith, more)
 size-below w (position i ∷ p) k = let more = size-below w p k in omega (arith, more)
 
-size-at : (w : ℕ) (p : Path) (i : ℕ) → size w (at p i) ≡ size w p + w
+size-at : (w : ℕ) (p : Path) (i : ℕ) → size w (with_position p i) ≡ size w p + w
 size-at w [] i = omega arith
 size-at w (key name ∷ p) i = let more = size-at w p i in omega (arith, more)
 size-at w (position j ∷ p) i = let more = size-at w p i in omega (arith, more)
@@ -74,7 +74,7 @@ size-target : (w : ℕ) (e : Path → ℕ) (p : Path) (k : Part) (parts : List P
 unfolding target
 size-target w e p k [] = let here = size-below w p k in omega (arith, here)
 size-target w e p k (l ∷ more) =
-    let q = below p k in
+    let q = with_key p k in
     let here = size-below w p k in
     let on = size-enter w (e q) q in
     let rest = size-target w e (enter (e q) q) l more in
@@ -103,10 +103,10 @@ key-depth : (w n : ℕ) (p : Path) (parts : List Part) (v : Read) (inside : Path
     → ((q : Path) → size w q ≡ size w p + length parts → Each (IsWithin w n) (inside q)) → Each (IsWithin w n) (key_claims p parts v inside)
 unfolding key_claims
 key-depth w n p [] v inside few h = tt
-key-depth w n p (k ∷ []) v inside few h = let here = size-below w p k in (omega (arith, here, few), h (below p k) here)
+key-depth w n p (k ∷ []) v inside few h = let here = size-below w p k in (omega (arith, here, few), h (with_key p k) here)
 key-depth w n p (k ∷ l ∷ more) v inside few h =
     let here = size-below w p k in
-    (omega (arith, here, few), key-depth w n (below p k) (l ∷ more) v inside (omega (arith, here, few)) (λ q same. h q (omega (arith, here, same))))
+    (omega (arith, here, few), key-depth w n (with_key p k) (l ∷ more) v inside (omega (arith, here, few)) (λ q same. h q (omega (arith, here, same))))
 
 at-most : (w n limit d : ℕ) (v : Read) (p : Path) → size w p + limit ≤ n + d → Within limit d v → size w p ≤ n
 at-most w n limit d (node k span) p few h = omega (arith, few, h.0)
@@ -130,9 +130,9 @@ mutual
   item-depth w n limit d one no_items i p few h = tt
   item-depth w n limit d one (item v vs) i p few h =
       let here = size-at w p i in
-      let below : size w (at p i) + limit ≤ n + d = omega (arith, one, few, here) in (
-        at-most w n limit d v (at p i) below h.0,
-        each-followed (IsWithin w n) (value_claims v (at p i)) (item_claims vs (suc i) p) (value-depth w n limit d one v (at p i) below h.0) (item-depth w n limit d one vs (suc i) p few h.1),
+      let below : size w (with_position p i) + limit ≤ n + d = omega (arith, one, few, here) in (
+        at-most w n limit d v (with_position p i) below h.0,
+        each-followed (IsWithin w n) (value_claims v (with_position p i)) (item_claims vs (suc i) p) (value-depth w n limit d one v (with_position p i) below h.0) (item-depth w n limit d one vs (suc i) p few h.1),
       )
 
   pair-depth : (w n limit d : ℕ) → w ≤ 1 → (ps : Pairs) (p : Path) → size w p + limit ≤ n + d → WithinPairs limit d ps → Each (IsWithin w n) (pair_claims ps p)
@@ -159,18 +159,18 @@ end-depth w n h p k entries few = elim (cases_Bool h.array) [
   | inr tab ↦ rw tab (omega (arith, few), tt)
 ]
   where
-    added : (w n : ℕ) (h : Head) (p : Path) (k : Part) (entries : ℕ) → size w p + w ≤ n → Each (IsWithin w n) (array_claims h p k entries (claimed (header_claim h Entry (at p entries) k) no_claims))
+    added : (w n : ℕ) (h : Head) (p : Path) (k : Part) (entries : ℕ) → size w p + w ≤ n → Each (IsWithin w n) (array_claims h p k entries (claimed (header_claim h Entry (with_position p entries) k) no_claims))
     added w n h p k zero few = let here = size-at w p 0 in (omega (arith, few), (omega (arith, few, here), tt))
     added w n h p k (suc entries) few = let here = size-at w p (suc entries) in (omega (arith, few, here), tt)
 
 header-depth : (w n : ℕ) (e : Path → ℕ) (h : Head) (p : Path) (parts : List Part) → size w p + room w parts ≤ n → Each (IsWithin w n) (header_claims e h p parts)
 unfolding header_claims
 header-depth w n e h p [] few = tt
-header-depth w n e h p (k ∷ []) few = let here = size-below w p k in end-depth w n h (below p k) k (e (below p k)) (omega (arith, few, here))
+header-depth w n e h p (k ∷ []) few = let here = size-below w p k in end-depth w n h (with_key p k) k (e (with_key p k)) (omega (arith, few, here))
 header-depth w n e h p (k ∷ l ∷ more) few =
-    let q = enter (e (below p k)) (below p k) in
+    let q = enter (e (with_key p k)) (with_key p k) in
     let here = size-below w p k in
-    let on = size-enter w (e (below p k)) (below p k) in
+    let on = size-enter w (e (with_key p k)) (with_key p k) in
     (omega (arith, few, here, on), header-depth w n e h q (l ∷ more) (omega (arith, few, here, on)))
 
 -- ---- documents

@@ -17,7 +17,7 @@ use Rattle.toml_span_claims.specs.Flat.{flat, Shows}
 use Rattle.toml_span_claims.specs.Ordered.{IsOrdered, HoldsOrdered, AreOrdered, MembersOrdered}
 use Rattle.toml_span_assembly.specs.Parsing.{IsTree}
 use Rattle.toml_span_assembly.proofs.ShownWhole.{shown-filled}
-use Rattle.toml_span.specs.Document.{StandsAt, without_key, part, IsValueOf, PointsAt}
+use Rattle.toml_span.specs.Document.{StandsAt, without_key, subtree, IsValueOf, PointsAt}
 use Rattle.toml_span.proofs.Answered.{one-document}
 use Rattle.toml_span.proofs.OneTree.{At, one-value}
 
@@ -67,12 +67,12 @@ reached-ordered (s ∷ p) y x h is =
     reached-ordered p z x (below-ordered s (inner_of y.1) z (inside-ordered y.1 h) there) on
 
 -- the value at a path shows what stands below the path
-part-shown : (places : Path → Option Place) (n : Node) (path : Path) (x : At) → Shows n places → reached path (None, n) ≡ Some x → Shows x.1 (part places path)
+part-shown : (places : Path → Option Place) (n : Node) (path : Path) (x : At) → Shows n places → reached path (None, n) ≡ Some x → Shows x.1 (subtree places path)
 part-shown places n path x shows is [] = ap (option_map without_key) (sym (ap (option_map place_of) is) ∙ shows path)
 part-shown places n path x shows is (s ∷ p) =
     sym (ap (λ o. option_map place_of (option_and_then (reached (s ∷ p)) o)) is) ∙ sym (ap (option_map place_of) (reached-on path (s ∷ p) (None, n))) ∙ shows (path ++ (s ∷ p))
 
-pub part-value : (places : Path → Option Place) (n : Node) (path : Path) (x : At) → IsValueOf places n → reached path (None, n) ≡ Some x → IsValueOf (part places path) x.1
+pub part-value : (places : Path → Option Place) (n : Node) (path : Path) (x : At) → IsValueOf places n → reached path (None, n) ≡ Some x → IsValueOf (subtree places path) x.1
 part-value places n path x h is = (reached-ordered path (None, n) x h.0 is, part-shown places n path x h.1 is)
 
 -- ---- what stands at a path
@@ -118,7 +118,7 @@ value-named pointer n m length bs h (names, path, cut, named, value) =
     let places = flat length (claims bs) in
     let (place, stands) = keyed (places path) (place_of (None, m)) (value.1 []) in
     let (w, k, at, is) = found-there pointer names path place n length bs h.1 cut named stands in
-    is ∙ ap Some (one-value (part places path) w m (part-value places n path (k, w) h at) value)
+    is ∙ ap Some (one-value (subtree places path) w m (part-value places n path (k, w) h at) value)
 
 pub tree-value : (text : List ℕ) (limit : ℕ) (root : Value) (bs : List Block) → IsTree text limit root → IsOrdered (view root) → SpellsDocument bs text limit → IsValueOf (flat (length text) (claims bs)) (view root)
 tree-value text limit root bs (cs, others, tree) h spelled =

@@ -9,7 +9,7 @@ use Rattle.toml_span_claims.specs.declared.claims.Sort.{Sort}
 use Rattle.toml_span_claims.specs.declared.claims.Sort.TheVariants.{Passed, Section, ArrayOfTables, Entry, Assigned}
 use Rattle.toml_span_claims.specs.declared.claims.Head.{Head}
 use Rattle.toml_span_claims.specs.Claims.{Claim, Claims, no_claims, claimed, scope, followed, key_claims, value_claims, inner_claims, item_claims, pair_claims, event_claims, element, assigned, dotted, head_of, header_claim, array_claims, end_claims, header_claims, section_claims, claims_behind, claims}
-use Rattle.toml_span_claims.specs.Paths.{same_path, below, at, enter, target, entries_at, opened_by, section_path}
+use Rattle.toml_span_claims.specs.Paths.{same_path, with_key, with_position, enter, target, entries_at, opened_by, section_path}
 use Rattle.toml_span_claims.specs.code.Placing.{AreSections}
 use Rattle.toml_span_assembly.proofs.EachClaim.{same_path-eq}
 use Rattle.toml_span.specs.Clashing.{IsIn, own}
@@ -147,20 +147,20 @@ table-fits base earlier p k c stands on plain = record {
 }
 
 key-scoped : (base : Path) (earlier : List Claim) (p : Path) (parts : List Part) (v : Node) (inside : Path → Claims) → Stands base earlier p
-    → ((k : Part) (q : Path) (l : List Claim) → IsUnder base (below q k) → Scoped base l (Some (assigned (below q k) k v)) (inside (below q k))) → Scoped base earlier None (key_claims p parts v inside)
+    → ((k : Part) (q : Path) (l : List Claim) → IsUnder base (with_key q k) → Scoped base l (Some (assigned (with_key q k) k v)) (inside (with_key q k))) → Scoped base earlier None (key_claims p parts v inside)
 unfolding key_claims
 key-scoped base earlier p [] v inside stands h = tt
 key-scoped base earlier p (k ∷ []) v inside stands h =
-    (table-fits base earlier p k.name (assigned (below p k) k v) stands refl (λ e. cc), h k p (earlier ++ (assigned (below p k) k v ∷ [])) (child-under base p (key k.name) stands.0))
+    (table-fits base earlier p k.name (assigned (with_key p k) k v) stands refl (λ e. cc), h k p (earlier ++ (assigned (with_key p k) k v ∷ [])) (child-under base p (key k.name) stands.0))
 key-scoped base earlier p (k ∷ l ∷ more) v inside stands h =
-    let c = dotted (below p k) k v in (
+    let c = dotted (with_key p k) k v in (
       table-fits base earlier p k.name c stands refl (λ e. cc),
-      scoped-loose base (earlier ++ (c ∷ [])) (Some c) (key_claims (below p k) (l ∷ more) v inside)
-          (key-scoped base (earlier ++ (c ∷ [])) (below p k) (l ∷ more) v inside
+      scoped-loose base (earlier ++ (c ∷ [])) (Some c) (key_claims (with_key p k) (l ∷ more) v inside)
+          (key-scoped base (earlier ++ (c ∷ [])) (with_key p k) (l ∷ more) v inside
           (child-from base p (key k.name) stands.0, inr (c, in-right c earlier (c ∷ []) (inl refl), (λ e. cc), refl)) h),
     )
 
-element-fits : (p : Path) (earlier : List Claim) (n : ℕ) (v : Node) → Fits p earlier (element (at p n) v)
+element-fits : (p : Path) (earlier : List Claim) (n : ℕ) (v : Node) → Fits p earlier (element (with_position p n) v)
 element-fits p earlier n v = record {
   under = (position n, [], refl);
   parent = inl (position n, refl);
@@ -183,11 +183,11 @@ mutual
   items-scoped : (vs : Items) (n : ℕ) (p : Path) (earlier : List Claim) → Scoped p earlier None (item_claims vs n p)
   items-scoped no_items n p earlier = tt
   items-scoped (item v vs) n p earlier =
-      let c = element (at p n) v in
+      let c = element (with_position p n) v in
       let l = earlier ++ (c ∷ []) in (
         element-fits p earlier n v,
-        scoped-followed p l (Some c) (value_claims v (at p n)) (item_claims vs (suc n) p)
-            (value-scoped v p l c refl (position n, [], refl)) (items-scoped vs (suc n) p (l ++ own (value_claims v (at p n)))),
+        scoped-followed p l (Some c) (value_claims v (with_position p n)) (item_claims vs (suc n) p)
+            (value-scoped v p l c refl (position n, [], refl)) (items-scoped vs (suc n) p (l ++ own (value_claims v (with_position p n)))),
       )
 
   pairs-scoped : (ps : Pairs) (p : Path) (earlier : List Claim) → Scoped p earlier None (pair_claims ps p)
@@ -196,7 +196,7 @@ mutual
       let front = key_claims p parts v (value_claims v) in
       scoped-followed p earlier None front (pair_claims ps p)
       (key-scoped p earlier p parts v (value_claims v) (([], sym (append-nil p)), inl refl)
-      (λ k q l under. value-scoped v p l (assigned (below q k) k v) refl under))
+      (λ k q l under. value-scoped v p l (assigned (with_key q k) k v) refl under))
       (pairs-scoped ps p (earlier ++ own front))
 
 events-scoped : (es : List Event) (base : Path) (earlier : List Claim) (p : Path) → Stands base earlier p → Scoped base earlier None (event_claims es p)
@@ -206,17 +206,17 @@ events-scoped (e ∷ es) base earlier p stands =
     let front = key_claims p e.parts e.value (value_claims e.value) in
     scoped-followed base earlier None front (event_claims es p)
     (key-scoped base earlier p e.parts e.value (value_claims e.value) stands
-    (λ k q l under. value-scoped e.value base l (assigned (below q k) k e.value) refl under))
+    (λ k q l under. value-scoped e.value base l (assigned (with_key q k) k e.value) refl under))
     (events-scoped es base (earlier ++ own front) p (stands-on base earlier (own front) p stands))
 
 -- ---- headers
 
 -- an array of tables with so many entries
 abbrev HasEntries : List Claim → Path → ℕ → Type 0
-HasEntries l p n = (m : ℕ) → m < n → Has l ArrayOfTables p × Has l Entry (at p m)
+HasEntries l p n = (m : ℕ) → m < n → Has l ArrayOfTables p × Has l Entry (with_position p m)
 
 entries-on : (l more : List Claim) (p : Path) (n : ℕ) → HasEntries l p n → HasEntries (l ++ more) p n
-entries-on l more p n h m few = (has-on l more ArrayOfTables p (h m few).0, has-on l more Entry (at p m) (h m few).1)
+entries-on l more p n h m few = (has-on l more ArrayOfTables p (h m few).0, has-on l more Entry (with_position p m) (h m few).1)
 
 root-from : (p : Path) → IsFrom [] p
 root-from p = (p, refl)
@@ -232,16 +232,16 @@ entry-fits earlier p k n c (e, here, is, there) on plain passed = record {
   passed = λ is q m there. rw on (passed is);
 }
 
-passed-fits : (n : ℕ) (earlier : List Claim) (h : Head) (p : Path) (k : Part) → Stands [] earlier p → HasEntries earlier (below p k) n → Fits [] earlier (header_claim h Passed (enter n (below p k)) k)
+passed-fits : (n : ℕ) (earlier : List Claim) (h : Head) (p : Path) (k : Part) → Stands [] earlier p → HasEntries earlier (with_key p k) n → Fits [] earlier (header_claim h Passed (enter n (with_key p k)) k)
 unfolding enter
-passed-fits zero earlier h p k stands few = table-fits [] earlier p k.name (header_claim h Passed (below p k) k) stands refl (λ e. cc)
+passed-fits zero earlier h p k stands few = table-fits [] earlier p k.name (header_claim h Passed (with_key p k) k) stands refl (λ e. cc)
 passed-fits (suc n) earlier h p k stands few =
     let found = few n (omega arith) in
-    entry-fits earlier p k.name n (header_claim h Passed (at (below p k) n) k) found.0 refl (λ e. cc) (λ e. found.1)
+    entry-fits earlier p k.name n (header_claim h Passed (with_position (with_key p k) n) k) found.0 refl (λ e. cc) (λ e. found.1)
 
 -- what a header leaves at its end
 abbrev Ends : Bool → List Claim → Path → ℕ → Type 0
-Ends true l p n = Has l ArrayOfTables p × Has l Entry (at p n)
+Ends true l p n = Has l ArrayOfTables p × Has l Entry (with_position p n)
 Ends false l p n = Has l Section p
 
 -- a header's claims fit, and its end is claimed
@@ -249,31 +249,31 @@ record Header (earlier : List Claim) (h : Head) (p : Path) (n : ℕ) (cs : Claim
   scoped : Scoped [] earlier None cs
   ends : Ends h.array (earlier ++ own cs) p n
 
-added : (n : ℕ) (earlier : List Claim) (h : Head) (p : Path) (k : Part) → Stands [] earlier p → HasEntries earlier (below p k) n
-    → Scoped [] earlier None (array_claims h (below p k) k n (claimed (header_claim h Entry (at (below p k) n) k) no_claims))
-    × Ends true (earlier ++ own (array_claims h (below p k) k n (claimed (header_claim h Entry (at (below p k) n) k) no_claims))) (below p k) n
+added : (n : ℕ) (earlier : List Claim) (h : Head) (p : Path) (k : Part) → Stands [] earlier p → HasEntries earlier (with_key p k) n
+    → Scoped [] earlier None (array_claims h (with_key p k) k n (claimed (header_claim h Entry (with_position (with_key p k) n) k) no_claims))
+    × Ends true (earlier ++ own (array_claims h (with_key p k) k n (claimed (header_claim h Entry (with_position (with_key p k) n) k) no_claims))) (with_key p k) n
 added zero earlier h p k stands few =
-    let q = below p k in
+    let q = with_key p k in
     let a = header_claim h ArrayOfTables q k in
-    let c = header_claim h Entry (at q 0) k in
+    let c = header_claim h Entry (with_position q 0) k in
     let found : Has (earlier ++ (a ∷ [])) ArrayOfTables q = (a, in-right a earlier (a ∷ []) (inl refl), refl, refl) in (
       (table-fits [] earlier p k.name a stands refl (λ e. cc), (entry-fits (earlier ++ (a ∷ [])) p k.name 0 c found refl (λ e. cc) (λ e. cc), tt)),
       ((a, in-right a earlier (a ∷ c ∷ []) (inl refl), refl, refl), (c, in-right c earlier (a ∷ c ∷ []) (inr (inl refl)), refl, refl)),
     )
 added (suc n) earlier h p k stands few =
-    let q = below p k in
-    let c = header_claim h Entry (at q (suc n)) k in
+    let q = with_key p k in
+    let c = header_claim h Entry (with_position q (suc n)) k in
     let found = (few n (omega arith)).0 in (
       (entry-fits earlier p k.name (suc n) c found refl (λ e. cc) (λ e. cc), tt),
       (has-on earlier (c ∷ []) ArrayOfTables q found, (c, in-right c earlier (c ∷ []) (inl refl), refl, refl)),
     )
 
-end-header : (n : ℕ) (earlier : List Claim) (h : Head) (p : Path) (k : Part) → Stands [] earlier p → HasEntries earlier (below p k) n → Header earlier h (below p k) n (end_claims h (below p k) k n)
+end-header : (n : ℕ) (earlier : List Claim) (h : Head) (p : Path) (k : Part) → Stands [] earlier p → HasEntries earlier (with_key p k) n → Header earlier h (with_key p k) n (end_claims h (with_key p k) k n)
 unfolding end_claims
 end-header n earlier h p k stands few = elim (cases_Bool h.array) [
   | inl arr ↦ let both = added n earlier h p k stands few in record { scoped = rw arr both.0; ends = rw arr both.1 }
   | inr tab ↦
-      let c = header_claim h Section (below p k) k in
+      let c = header_claim h Section (with_key p k) k in
       record {
         scoped = rw tab (table-fits [] earlier p k.name c stands refl (λ e. cc), tt);
         ends = rw tab (c, in-right c earlier (c ∷ []) (inl refl), refl, refl);
@@ -287,15 +287,15 @@ Counted l e = (p : Path) → HasEntries l p (e p)
 header-scoped : (e : Path → ℕ) (earlier : List Claim) (h : Head) (p : Path) (k : Part) (parts : List Part) → Stands [] earlier p → Counted earlier e
     → Header earlier h (target e p (k ∷ parts)) (e (target e p (k ∷ parts))) (header_claims e h p (k ∷ parts))
 unfolding header_claims target
-header-scoped e earlier h p k [] stands counted = end-header (e (below p k)) earlier h p k stands (counted (below p k))
+header-scoped e earlier h p k [] stands counted = end-header (e (with_key p k)) earlier h p k stands (counted (with_key p k))
 header-scoped e earlier h p k (l ∷ more) stands counted =
-    let n = e (below p k) in
-    let q = enter n (below p k) in
+    let n = e (with_key p k) in
+    let q = enter n (with_key p k) in
     let c = header_claim h Passed q k in
     let on = earlier ++ (c ∷ []) in
     let rest = header-scoped e on h q l more (root-from q, inr (c, in-right c earlier (c ∷ []) (inl refl), (λ e. cc), refl)) (λ r. entries-on earlier (c ∷ []) r (e r) (counted r)) in
     record {
-      scoped = (passed-fits n earlier h p k stands (counted (below p k)), scoped-loose [] on (Some c) (header_claims e h q (l ∷ more)) rest.scoped);
+      scoped = (passed-fits n earlier h p k stands (counted (with_key p k)), scoped-loose [] on (Some c) (header_claims e h q (l ∷ more)) rest.scoped);
       ends = subst (λ xs. Ends h.array xs (target e q (l ∷ more)) (e (target e q (l ∷ more)))) (append_assoc earlier (c ∷ []) (own (header_claims e h q (l ∷ more)))) rest.ends;
     }
 
@@ -304,8 +304,8 @@ header-scoped e earlier h p k (l ∷ more) stands counted =
 makes-of : (l : List Claim) (sort : Sort) (p : Path) → (sort ≡ Assigned → ⊥) → Has l sort p → Makes l p
 makes-of l sort p plain (e, here, is, on) = (e, here, (λ no. plain (sym is ∙ no)), on)
 
-end-makes : (array : Bool) (l : List Claim) (p : Path) (n : ℕ) → Ends array l p n → Makes l (if array then at p n else p)
-end-makes true l p n h = makes-of l Entry (at p n) (λ e. cc) h.1
+end-makes : (array : Bool) (l : List Claim) (p : Path) (n : ℕ) → Ends array l p n → Makes l (if array then with_position p n else p)
+end-makes true l p n h = makes-of l Entry (with_position p n) (λ e. cc) h.1
 end-makes false l p n h = makes-of l Section p (λ e. cc) h
 
 pub own-followed : (xs ys : Claims) → own (followed xs ys) ≡ own xs ++ own ys
@@ -314,17 +314,17 @@ own-followed no_claims ys = refl
 own-followed (claimed c xs) ys = ap (λ l. c ∷ l) (own-followed xs ys)
 own-followed (scope inner xs) ys = own-followed xs ys
 
-one-more : (l : List Claim) (p : Path) (n : ℕ) → HasEntries l p n → Has l ArrayOfTables p → Has l Entry (at p n) → HasEntries l p (suc n)
+one-more : (l : List Claim) (p : Path) (n : ℕ) → HasEntries l p n → Has l ArrayOfTables p → Has l Entry (with_position p n) → HasEntries l p (suc n)
 one-more l p n h made entry m few = elim (cases_lt m n) [
   | inl before ↦ h m before
-  | inr last ↦ let same : m ≡ n = omega (arith, few, last) in (made, subst (λ i. Has l Entry (at p i)) (sym same) entry)
+  | inr last ↦ let same : m ≡ n = omega (arith, few, last) in (made, subst (λ i. Has l Entry (with_position p i)) (sym same) entry)
 ]
 
 counted-array : (l : List Claim) (before : List Path) (t : Path) → Counted l (entries_at before) → Ends true l t (entries_at before t) → Counted l (entries_at (t ∷ before))
 counted-array l before t counted ends p = elim (cases_Bool (same_path t p)) [
   | inl here ↦
       let same = same_path-eq t p here in
-      rw here (one-more l p (entries_at before p) (counted p) (subst (λ q. Has l ArrayOfTables q) same ends.0) (subst (λ q. Has l Entry (at q (entries_at before q))) same ends.1))
+      rw here (one-more l p (entries_at before p) (counted p) (subst (λ q. Has l ArrayOfTables q) same ends.0) (subst (λ q. Has l Entry (with_position q (entries_at before q))) same ends.1))
   | inr off ↦ rw off (counted p)
 ]
 
@@ -361,7 +361,7 @@ opened earlier b blocks (k ∷ parts) is headers counted =
     let l = earlier ++ own (header_claims e (head_of b) [] (k ∷ parts)) in
     record {
       scoped = rw is made.scoped;
-      stands = rw is (root-from (if b.array then at t (e t) else t), inr (end-makes b.array l t (e t) made.ends));
+      stands = rw is (root-from (if b.array then with_position t (e t) else t), inr (end-makes b.array l t (e t) made.ends));
       counted = rw is (counted-end b.array l (opened_by blocks) t (counted-on earlier (own (header_claims e (head_of b) [] (k ∷ parts))) e counted) made.ends);
     }
 

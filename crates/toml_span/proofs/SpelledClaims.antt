@@ -12,7 +12,7 @@ use Rattle.toml_span_claims.specs.declared.claims.Mark.{Mark}
 use Rattle.toml_span_claims.specs.declared.claims.Sort.{Sort}
 use Rattle.toml_span_claims.specs.declared.claims.Sort.TheVariants.{Passed, Section, ArrayOfTables, Entry, Dotted as DottedTable, Assigned}
 use Rattle.toml_span_claims.specs.declared.claims.Head.{Head}
-use Rattle.toml_span_claims.specs.Paths.{below, at, enter, entries_at, opened_by, section_path}
+use Rattle.toml_span_claims.specs.Paths.{with_key, with_position, enter, entries_at, opened_by, section_path}
 use Rattle.toml_span_claims.specs.Claims.{Claim, Claims, no_claims, claimed, scope, followed, shape_of, table_claim, header_mark, header_claim, pair_mark, value_shape, inner_of, element, key_claims, value_claims, inner_claims, item_claims, pair_claims, event_claims, array_claims, end_claims, header_claims, section_claims, claims_behind, claims, head_of}
 use Rattle.toml_span_assembly.proofs.EachClaim.{Each}
 
@@ -91,10 +91,10 @@ key-of_text : (text : List ℕ) (limit : ℕ) (p : Path) (parts : List Part) (v 
 unfolding key_claims
 key-of_text text limit p [] v s h = tt
 key-of_text text limit p (k ∷ []) v s h =
-    let q = below p k in (inl (record { value = v; spelled = s; shape = refl; span = refl }, no_claims, sym (followed-none (value_claims v q))), h q)
+    let q = with_key p k in (inl (record { value = v; spelled = s; shape = refl; span = refl }, no_claims, sym (followed-none (value_claims v q))), h q)
 key-of_text text limit p (k ∷ l ∷ more) v s h =
-    table-of_text text limit (below p k) k (pair_mark DottedTable k.span (span_of v)) (key_claims (below p k) (l ∷ more) v (value_claims v)) (λ e. cc)
-    (key-of_text text limit (below p k) (l ∷ more) v s h)
+    table-of_text text limit (with_key p k) k (pair_mark DottedTable k.span (span_of v)) (key_claims (with_key p k) (l ∷ more) v (value_claims v)) (λ e. cc)
+    (key-of_text text limit (with_key p k) (l ∷ more) v s h)
 
 element-of_text : (v : Node) (q : Path) (rest : Claims) (text : List ℕ) (limit : ℕ) → Spelled text limit v → AllSpelled text limit (value_claims v q) → AllSpelled text limit rest
     → AllSpelled text limit (claimed (element q v) (followed (value_claims v q) rest))
@@ -115,11 +115,11 @@ mutual
   items-of_text : (vs : Items) (n : ℕ) (p : Path) (text : List ℕ) (limit d i j : ℕ) → 1 ≤ d → SpellsItems vs text limit d i j → AllSpelled text limit (item_claims vs n p)
   items-of_text no_items n p text limit d i j deep h = tt
   items-of_text (item v vs) n p text limit d i j deep (m, h, inl (e, close)) =
-      element-of_text v (at p n) (item_claims vs (suc n) p) text limit (record { depth = d; from = i; to = m; deep = deep; spells = h })
-      (value-of_text v (at p n) text limit d i m deep h) (rw e tt)
+      element-of_text v (with_position p n) (item_claims vs (suc n) p) text limit (record { depth = d; from = i; to = m; deep = deep; spells = h })
+      (value-of_text v (with_position p n) text limit d i m deep h) (rw e tt)
   items-of_text (item v vs) n p text limit d i j deep (m, h, inr (k, comma, rest)) =
-      element-of_text v (at p n) (item_claims vs (suc n) p) text limit (record { depth = d; from = i; to = m; deep = deep; spells = h })
-      (value-of_text v (at p n) text limit d i m deep h) (items-of_text vs (suc n) p text limit d k j deep rest)
+      element-of_text v (with_position p n) (item_claims vs (suc n) p) text limit (record { depth = d; from = i; to = m; deep = deep; spells = h })
+      (value-of_text v (with_position p n) text limit d i m deep h) (items-of_text vs (suc n) p text limit d k j deep rest)
 
   pairs-of_text : (ps : Pairs) (es : List Event) (p : Path) (text : List ℕ) (limit d i j : ℕ) → 1 ≤ d → SpellsPairs ps es text limit d i j → AllSpelled text limit (pair_claims ps p)
   pairs-of_text no_pairs es p text limit d i j deep h = tt
@@ -152,10 +152,10 @@ events-of_text (e ∷ es) before p text limit i j (m, n, k, h, tail, clear, gap,
 made : (text : List ℕ) (limit : ℕ) (h : Head) (sort : Sort) (p : Path) (k : Part) (cs : Claims) → (sort ≡ Assigned → ⊥) → AllSpelled text limit cs → AllSpelled text limit (claimed (header_claim h sort p k) cs)
 made text limit h sort p k cs f g = table-of_text text limit p k (header_mark h sort k.span) cs f g
 
-entry-of_text : (text : List ℕ) (limit : ℕ) (h : Head) (p : Path) (k : Part) (n : ℕ) → AllSpelled text limit (array_claims h p k n (claimed (header_claim h Entry (at p n) k) no_claims))
+entry-of_text : (text : List ℕ) (limit : ℕ) (h : Head) (p : Path) (k : Part) (n : ℕ) → AllSpelled text limit (array_claims h p k n (claimed (header_claim h Entry (with_position p n) k) no_claims))
 entry-of_text text limit h p k zero =
-    made text limit h ArrayOfTables p k (claimed (header_claim h Entry (at p 0) k) no_claims) (λ e. cc) (made text limit h Entry (at p 0) k no_claims (λ e. cc) tt)
-entry-of_text text limit h p k (suc n) = made text limit h Entry (at p (suc n)) k no_claims (λ e. cc) tt
+    made text limit h ArrayOfTables p k (claimed (header_claim h Entry (with_position p 0) k) no_claims) (λ e. cc) (made text limit h Entry (with_position p 0) k no_claims (λ e. cc) tt)
+entry-of_text text limit h p k (suc n) = made text limit h Entry (with_position p (suc n)) k no_claims (λ e. cc) tt
 
 end-of_text : (text : List ℕ) (limit : ℕ) (h : Head) (p : Path) (k : Part) (n : ℕ) → AllSpelled text limit (end_claims h p k n)
 unfolding end_claims
@@ -167,9 +167,9 @@ end-of_text text limit h p k n = elim (cases_Bool h.array) [
 header-of_text : (text : List ℕ) (limit : ℕ) (e : Path → ℕ) (h : Head) (p : Path) (parts : List Part) → AllSpelled text limit (header_claims e h p parts)
 unfolding header_claims
 header-of_text text limit e h p [] = tt
-header-of_text text limit e h p (k ∷ []) = end-of_text text limit h (below p k) k (e (below p k))
+header-of_text text limit e h p (k ∷ []) = end-of_text text limit h (with_key p k) k (e (with_key p k))
 header-of_text text limit e h p (k ∷ l ∷ more) =
-    let q = enter (e (below p k)) (below p k) in made text limit h Passed q k (header_claims e h q (l ∷ more)) (λ e. cc) (header-of_text text limit e h q (l ∷ more))
+    let q = enter (e (with_key p k)) (with_key p k) in made text limit h Passed q k (header_claims e h q (l ∷ more)) (λ e. cc) (header-of_text text limit e h q (l ∷ more))
 
 -- ---- documents
 

@@ -6,13 +6,13 @@ use Rattle.toml_span_tree.specs.Path.{Path, Step, key, position}
 use Rattle.toml_span_read.specs.Data.{Event, Block}
 use Rattle.toml_span_read.specs.Keys.{Part, Dotted as IsDotted}
 use Rattle.toml_span_read.specs.Grammar.{SpellsDocument, SpellsLines, SpellsSections, first_block}
-use Rattle.toml_span_claims.specs.declared.claims.Blame.TheVariants.{Table, Key}
+use Rattle.toml_span_claims.specs.declared.claims.Blame.TheVariants.{DuplicateTable, DuplicateKey}
 use Rattle.toml_span_claims.specs.declared.claims.Sort.TheVariants.{Section, Entry, Dotted, Assigned}
 use Rattle.toml_span_claims.specs.declared.claims.Head.{Head}
 use Rattle.toml_span_claims.specs.Claims.{Claim, Claims, no_claims, claimed, scope, followed, event_claims, header_claim, array_claims, end_claims, header_claims, section_claims, claims_behind, claims, head_of}
-use Rattle.toml_span_claims.specs.Clashes.{Told, blame, clash, IsFree}
+use Rattle.toml_span_claims.specs.Clashes.{NamedClash, blame, clash, IsFree}
 use Rattle.toml_span_claims.specs.Flat.{all_claims, by_header}
-use Rattle.toml_span_claims.specs.Paths.{same_path, below, at, enter, target, entries_at, opened_by, section_path}
+use Rattle.toml_span_claims.specs.Paths.{same_path, with_key, with_position, enter, target, entries_at, opened_by, section_path}
 use Rattle.toml_span_assembly.proofs.EachClaim.{same_path-eq}
 use Rattle.toml_span.specs.Clashing.{IsIn, DoClash, IsPair, IsFirstPair, own}
 use Rattle.toml_span.specs.Order.{start_of}
@@ -29,7 +29,7 @@ use Rattle.toml_span.proofs.Scoped.{Has, front-same, has-on, key-position, last-
 -- the root, a table that a header opens, or an entry that was counted
 abbrev Opened : (Path → ℕ) → List Claim → Path → Type 0
 Opened e l p =
-    (p ≡ []) ⊎ ((q : Path) × (k : List ℕ) × (p ≡ q ++ (key k ∷ [])) × Has l Section p) ⊎ ((q : Path) × (n : ℕ) × (p ≡ at q n) × (n < e q))
+    (p ≡ []) ⊎ ((q : Path) × (k : List ℕ) × (p ≡ q ++ (key k ∷ [])) × Has l Section p) ⊎ ((q : Path) × (n : ℕ) × (p ≡ with_position q n) × (n < e q))
 
 nil-snoc : (p : Path) (s : Step) → [] ≡ p ++ (s ∷ []) → ⊥
 nil-snoc [] s h = cc
@@ -43,8 +43,8 @@ nil-under (x ∷ a) s rest h = cc
 twice-made : (l : List Claim) (p : Path) → Peaceful l → Has l Section p → Has l Dotted p → ⊥
 twice-made l p peace (c, here, is, on) (d, there, made, at) =
     peaceful-two l c d peace here there (λ same. let no : Section ≡ Dotted = sym is ∙ same ∙ made in cc)
-    (do-clash c d Key (on ∙ sym at) (ap (λ s. blame s d.mark.sort) is ∙ ap (blame Section) made))
-    (do-clash d c Key (at ∙ sym on) (ap (λ s. blame s c.mark.sort) made ∙ ap (blame Dotted) is))
+    (do-clash c d DuplicateKey (on ∙ sym at) (ap (λ s. blame s d.mark.sort) is ∙ ap (blame Section) made))
+    (do-clash d c DuplicateKey (at ∙ sym on) (ap (λ s. blame s c.mark.sort) made ∙ ap (blame Dotted) is))
 
 opened-apart : (e : Path → ℕ) (l : List Claim) (a b : Path) → Opened e l b → Way l a b → Has l Dotted b → Peaceful l → ⊥
 opened-apart e l a b (inl none) way made peace = let (s, rest, is) = way-under l a b way in nil-under a s rest (sym none ∙ is)
@@ -84,7 +84,7 @@ headed-plain (claimed x cs) c h (inl same) is = let no : false ≡ true = sym (a
 headed-plain (claimed x cs) c h (inr more) is = headed-plain cs c h.1 more is
 headed-plain (scope inner cs) c h here is = h
 
-entry-headed : (h : Head) (p : Path) (k : Part) (n : ℕ) → Headed (array_claims h p k n (claimed (header_claim h Entry (at p n) k) no_claims))
+entry-headed : (h : Head) (p : Path) (k : Part) (n : ℕ) → Headed (array_claims h p k n (claimed (header_claim h Entry (with_position p n) k) no_claims))
 entry-headed h p k zero = (refl, (refl, tt))
 entry-headed h p k (suc n) = (refl, tt)
 
@@ -98,20 +98,20 @@ end-headed h p k n = elim (cases_Bool h.array) [
 header-headed : (e : Path → ℕ) (h : Head) (p : Path) (parts : List Part) → Headed (header_claims e h p parts)
 unfolding header_claims
 header-headed e h p [] = tt
-header-headed e h p (k ∷ []) = end-headed h (below p k) k (e (below p k))
-header-headed e h p (k ∷ l ∷ more) = (refl, header-headed e h (enter (e (below p k)) (below p k)) (l ∷ more))
+header-headed e h p (k ∷ []) = end-headed h (with_key p k) k (e (with_key p k))
+header-headed e h p (k ∷ l ∷ more) = (refl, header-headed e h (enter (e (with_key p k)) (with_key p k)) (l ∷ more))
 
 -- what a header in single brackets opens
 section-there : (e : Path → ℕ) (h : Head) (p : Path) (k : Part) (parts : List Part) → h.array ≡ false → Has (own (header_claims e h p (k ∷ parts))) Section (target e p (k ∷ parts))
 unfolding header_claims target end_claims
-section-there e h p k [] single = rw single (header_claim h Section (below p k) k, inl refl, refl, refl)
+section-there e h p k [] single = rw single (header_claim h Section (with_key p k) k, inl refl, refl, refl)
 section-there e h p k (l ∷ more) single =
-    let (c, here, is, on) = section-there e h (enter (e (below p k)) (below p k)) l more single in (c, inr here, is, on)
+    let (c, here, is, on) = section-there e h (enter (e (with_key p k)) (with_key p k)) l more single in (c, inr here, is, on)
 
 target-key : (e : Path → ℕ) (p : Path) (k : Part) (parts : List Part) → (q : Path) × (n : List ℕ) × (target e p (k ∷ parts) ≡ q ++ (key n ∷ []))
 unfolding target
 target-key e p k [] = (p, k.name, refl)
-target-key e p k (l ∷ more) = target-key e (enter (e (below p k)) (below p k)) l more
+target-key e p k (l ∷ more) = target-key e (enter (e (with_key p k)) (with_key p k)) l more
 
 -- ---- sections
 
@@ -130,7 +130,7 @@ one-more before t q = elim (cases_Bool (same_path t q)) [
 counted-here : (before : List Path) (t : Path) → entries_at before t < entries_at (t ∷ before) t
 counted-here before t = rw (path-self t) (omega arith)
 
-new-entry : (before : List Path) (l all : List Claim) (t p : Path) → Opened (entries_at before) l p → p ≡ at t (entries_at before t) → Peaceful all → ⊥
+new-entry : (before : List Path) (l all : List Claim) (t p : Path) → Opened (entries_at before) l p → p ≡ with_position t (entries_at before t) → Peaceful all → ⊥
 new-entry before l all t p (inl none) same peace = nil-snoc t (position (entries_at before t)) (sym none ∙ same)
 new-entry before l all t p (inr (inl (q, k, is, found))) same peace = key-position q t k (entries_at before t) (sym is ∙ same)
 new-entry before l all t p (inr (inr (q, n, is, few))) same peace =
@@ -142,12 +142,12 @@ new-entry before l all t p (inr (inr (q, n, is, few))) same peace =
 new-table : (before : List Path) (l more : List Claim) (t : Path) (q : Path) (k : List ℕ) (p : Path) → t ≡ q ++ (key k ∷ []) → Has more Section t → Opened (entries_at before) l p → p ≡ t → Peaceful (l ++ more) → ⊥
 new-table before l more t q k p is found (inl none) same peace = nil-snoc q (key k) (sym none ∙ same ∙ is)
 new-table before l more t q k p is (d, there, later, at) (inr (inl (r, n, on, (c, here, earlier, first)))) same peace =
-    peaceful-across l more c d peace here there (do-clash c d Table (first ∙ same ∙ sym at) (ap (λ s. blame s d.mark.sort) earlier ∙ ap (blame Section) later))
+    peaceful-across l more c d peace here there (do-clash c d DuplicateTable (first ∙ same ∙ sym at) (ap (λ s. blame s d.mark.sort) earlier ∙ ap (blame Section) later))
 new-table before l more t q k p is found (inr (inr (r, n, on, few))) same peace = key-position q r k n (sym is ∙ sym same ∙ on)
 
 begins : (array : Bool) (before : List Path) (e : Path → ℕ) (l : List Claim) (h : Head) (k : Part) (parts : List Part) → h.array ≡ array → e ≡ entries_at before
     → Begins before (if array then target e [] (k ∷ parts) ∷ before else before) l (l ++ own (header_claims e h [] (k ∷ parts)))
-    (if array then at (target e [] (k ∷ parts)) (e (target e [] (k ∷ parts))) else target e [] (k ∷ parts))
+    (if array then with_position (target e [] (k ∷ parts)) (e (target e [] (k ∷ parts))) else target e [] (k ∷ parts))
 begins true before e l h k parts double same =
     let t = target e [] (k ∷ parts) in
     let all = l ++ own (header_claims e h [] (k ∷ parts)) in
@@ -155,7 +155,7 @@ begins true before e l h k parts double same =
     record {
       root = inr (inr (t, e t, refl, subst (λ n. n < entries_at (t ∷ before) t) (sym count) (counted-here before t)));
       grows = one-more before t;
-      new = λ p found is peace. new-entry before l all t p found (is ∙ ap (at t) count) peace;
+      new = λ p found is peace. new-entry before l all t p found (is ∙ ap (with_position t) count) peace;
     }
 begins false before e l h k parts single same =
     let t = target e [] (k ∷ parts) in

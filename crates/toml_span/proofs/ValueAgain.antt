@@ -21,7 +21,7 @@ use Rattle.toml_span.specs.Again.{moved_place, StandsMoved, AssignsBrackets, tex
 use Rattle.toml_span.specs.Clashing.{IsIn}
 use Rattle.toml_span.specs.Laws.{ValueReadsAgain}
 use Rattle.toml_span.specs.Outcomes.{HasOutcome, resolved}
-use Rattle.toml_span.specs.Document.{part, without_key}
+use Rattle.toml_span.specs.Document.{subtree, without_key}
 use Rattle.toml_span.proofs.Alone.{Alone, at-none, document-alone}
 use Rattle.toml_span.proofs.Answered.{one-document}
 use Rattle.toml_span.proofs.SpelledClaims.{followed-none}
@@ -175,7 +175,7 @@ pub flat-again : (text : List ℕ) (limit : ℕ) (bs : List Block) (c : Claim) �
 flat-again text limit bs c h ok is =
     let a = document-again text limit bs c h ok is in (a.again, a.outcome, a.stands (length text) (length (text_again text c.place.span)))
 
-part-same : (f g : Path → Option Place) (path p : Path) → ((q : Path) → f q ≡ g q) → part f path p ≡ part g path p
+part-same : (f g : Path → Option Place) (path p : Path) → ((q : Path) → f q ≡ g q) → subtree f path p ≡ subtree g path p
 part-same f g path [] same = ap (option_map without_key) (same path)
 part-same f g path (s ∷ p) same = same (path ++ (s ∷ p))
 

@@ -9,7 +9,7 @@ use Rattle.toml_span_claims.specs.declared.claims.Sort.TheVariants.{Assigned}
 use Rattle.toml_span_claims.specs.Claims.{Claim, claims}
 use Rattle.toml_span_claims.specs.Flat.{all_claims}
 use Rattle.toml_span.specs.Clashing.{IsIn}
-use Rattle.toml_span.specs.Document.{part}
+use Rattle.toml_span.specs.Document.{subtree}
 
 -- the place with its spans moved, so that what stood at `from` stands at `to`
 abbrev pub moved_place : ℕ → ℕ → Place → Place
@@ -19,7 +19,7 @@ moved_place from to x =
 -- What stands at the path and below stands at the other path of the other places, with its spans moved, also of keys.
 abbrev pub StandsMoved : ℕ → ℕ → (Path → Option Place) → Path → (Path → Option Place) → Path → Type 0
 StandsMoved from to places path others other =
-    (p : Path) → part others other p ≡ option_map (moved_place from to) (part places path p)
+    (p : Path) → subtree others other p ≡ option_map (moved_place from to) (subtree places path p)
 
 -- of these sections the claim assigns an array in brackets or an inline table
 abbrev pub AssignsBrackets : List Block → Claim → Type 0

@@ -1,7 +1,7 @@
 -- Claims of one scope: which of them clash, and which two are the first by the places of their keys.
 use Rattle.std.specs.Prelude.{◌≡◌, ◌<◌, ◌⊎◌, List, [], ◌∷◌, ◌++◌, Some}
 use Rattle.toml_span_claims.specs.Claims.{Claim, Claims, no_claims, claimed, scope}
-use Rattle.toml_span_claims.specs.Clashes.{Told, clash}
+use Rattle.toml_span_claims.specs.Clashes.{NamedClash, clash}
 use Rattle.toml_span.specs.Order.{start_of}
 
 -- the claim stands in the list
@@ -11,7 +11,7 @@ IsIn c (d ∷ ds) = (c ≡ d) ⊎ IsIn c ds
 
 -- an earlier claim clashes with a later one
 abbrev pub DoClash : Claim → Claim → Type 0
-DoClash c d = (t : Told) × (clash c d ≡ Some t)
+DoClash c d = (t : NamedClash) × (clash c d ≡ Some t)
 
 -- Behind these earlier claims of the scope, or in a scope inside, a claim clashes with an earlier one of its scope.
 abbrev pub IsPair : List Claim → Claims → Claim → Claim → Type 0

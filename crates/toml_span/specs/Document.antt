@@ -29,9 +29,9 @@ abbrev pub without_key : Place → Place
 without_key x = record { shape = x.shape; key_span = None; span = x.span }
 
 -- what stands at a path and below it, seen from there
-abbrev pub part : (Path → Option Place) → Path → Path → Option Place
-part places path [] = option_map without_key (places path)
-part places path (s ∷ p) = places (path ++ (s ∷ p))
+abbrev pub subtree : (Path → Option Place) → Path → Path → Option Place
+subtree places path [] = option_map without_key (places path)
+subtree places path (s ∷ p) = places (path ++ (s ∷ p))
 
 -- The value shows just these places, and its tables are in the order of their names. There is one such value at most.
 abbrev pub IsValueOf : (Path → Option Place) → Node → Type 0
@@ -41,4 +41,4 @@ IsValueOf places n = IsOrdered n × Shows n places
 abbrev pub PointsAt : List ℕ → (Path → Option Place) → Node → Type 0
 PointsAt pointer places n =
     (names : List (List ℕ)) × (path : Path) × (pointer_segments pointer ≡ Some names) × NamesPath names path
-    × IsValueOf (part places path) n
+    × IsValueOf (subtree places path) n

@@ -12,7 +12,7 @@ use Rattle.toml_span_tree.specs.declared.error.Error.{Error}
 use Rattle.toml_span_tree.specs.Error.{fault_of, Fault, unexpected_keys}
 use Rattle.toml_span_typed.specs.TableHelper.{State, Starved, keeping, missing, noted, names_in, where_filled}
 use Rattle.toml_span_typed.specs.Faults.{Faults, all}
-use Rattle.toml_span.specs.Document.{IsValueOf, part}
+use Rattle.toml_span.specs.Document.{IsValueOf, subtree}
 
 -- a table's places without what stands under a name
 abbrev pub hide : List ℕ → (Path → Option Place) → Path → Option Place
@@ -48,10 +48,10 @@ ReadsPart reads places answer = (value : Node) × (left : Node) × IsValueOf pla
 abbrev pub RequiresAt : {T : Type 0} → (Node → Result T Faults → Node → Type 0) → List ℕ → (Path → Option Place) → State
     → Result T (Stop Error) → State → Type 0
 RequiresAt reads name places before (Ok x) after =
-    ReadsPart reads (part places (key name ∷ [])) (Ok x) × (after ≡ noted name before)
+    ReadsPart reads (subtree places (key name ∷ [])) (Ok x) × (after ≡ noted name before)
 RequiresAt reads name places before (Err (stop.Fault error)) after = MatchOption (places (key name ∷ []))
     ((fault_of error ≡ missing name before) × (after ≡ keeping (missing name before ∷ []) (noted name before)))
-    (λ place. (faults : Faults) × ReadsPart reads (part places (key name ∷ [])) (Err faults)
+    (λ place. (faults : Faults) × ReadsPart reads (subtree places (key name ∷ [])) (Err faults)
     × (fault_of error ≡ faults.last) × (after ≡ keeping (all faults) (noted name before)))
 RequiresAt reads name places before (Err (stop.Memory error)) after = Starved name before after
 
@@ -59,10 +59,10 @@ RequiresAt reads name places before (Err (stop.Memory error)) after = Starved na
 abbrev pub TriesAt : {T : Type 0} → (Node → Result T Faults → Node → Type 0) → List ℕ → (Path → Option Place) → State
     → Result (Option T) AllocError → State → Type 0
 TriesAt reads name places before (Ok (Some x)) after =
-    ReadsPart reads (part places (key name ∷ [])) (Ok x) × (after ≡ noted name before)
+    ReadsPart reads (subtree places (key name ∷ [])) (Ok x) × (after ≡ noted name before)
 TriesAt reads name places before (Ok None) after = MatchOption (places (key name ∷ []))
     (after ≡ noted name before)
-    (λ place. (faults : Faults) × ReadsPart reads (part places (key name ∷ [])) (Err faults)
+    (λ place. (faults : Faults) × ReadsPart reads (subtree places (key name ∷ [])) (Err faults)
     × (after ≡ keeping (all faults) (noted name before)))
 TriesAt reads name places before (Err error) after = Starved name before after
 

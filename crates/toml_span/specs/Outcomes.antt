@@ -13,14 +13,14 @@ use Rattle.toml_span_read.specs.Grammar.{SpellsDocument}
 use Rattle.toml_span_read.specs.Stuck.{StuckDocument}
 use Rattle.toml_span_read.specs.Places.{IsLineInfo}
 use Rattle.toml_span_read.specs.Faults.{Tells}
-use Rattle.toml_span_claims.specs.Clashes.{Told, Resolves, TellsFirst, fault_told}
+use Rattle.toml_span_claims.specs.Clashes.{NamedClash, Resolves, TellsFirst, fault_of_clash}
 use Rattle.toml_span_claims.specs.Claims.{claims}
 use Rattle.toml_span_assembly.specs.Parsing.{IsTree, IsRefusal, IsTreeOf}
 
 -- the sections that it spells; those and their first clash; or the fault at which it is stuck
 pub data Outcome : Type 0 where
   resolved : List Block → Outcome
-  clashed : List Block → Told → Outcome
+  clashed : List Block → NamedClash → Outcome
   stuck_at : Fault → Outcome
 
 -- The text spells these sections, and no two of their claims clash; or it spells them, and this clash is their first;
@@ -36,10 +36,10 @@ IsAnswered text limit (Ok root) = IsTree text limit root
 IsAnswered text limit (Err stop) = IsRefusal text limit stop
 
 -- the error tells this clash, with its line and its column
-abbrev pub TellsClash : List ℕ → Told → Error → Type 0
+abbrev pub TellsClash : List ℕ → NamedClash → Error → Type 0
 TellsClash text clash error =
     (line column : ℕ) × IsLineInfo text clash.meeting.place.start line column
-    × (fault_of error ≡ fault_told clash.meeting clash.name (line, column))
+    × (fault_of error ≡ fault_of_clash clash.meeting clash.name (line, column))
 
 -- The tree of these sections, an error that tells this clash, or one that tells this fault; or want of memory.
 abbrev pub IsAnswerOf : List ℕ → Outcome → Result Value (Stop Error) → Type 0

@@ -7,7 +7,7 @@ use Rattle.toml_span_read.specs.Data.{Node as Read, node, Inner, scalar, array, 
 use Rattle.toml_span_read.specs.Keys.{Part}
 use Rattle.toml_span_claims.specs.declared.claims.Sort.TheVariants.{Passed, Section, ArrayOfTables, Entry}
 use Rattle.toml_span_claims.specs.declared.claims.Head.{Head}
-use Rattle.toml_span_claims.specs.Paths.{same_step, same_path, below, at, enter, target, entries_at, opened_by}
+use Rattle.toml_span_claims.specs.Paths.{same_step, same_path, with_key, with_position, enter, target, entries_at, opened_by}
 use Rattle.toml_span_claims.specs.Claims.{Claims, no_claims, claimed, scope, followed, key_claims, value_claims, inner_claims, item_claims, pair_claims, event_claims, section_claims, assignment_claims, element, assigned, dotted, head_of, header_claim, array_claims, end_claims, header_claims}
 use Rattle.toml_span_claims.specs.code.Machine.{graft}
 use Rattle.toml_span_claims.specs.code.Relative.{under, pair_at, opening, adding, ending, entered, through, section_at, one_more, grown_here, grown_below, grown_through, grown}
@@ -24,9 +24,9 @@ pub key_claims-under : (s : Step) (p : Path) (parts : List Part) (v : Read) (ins
     → key_claims (s ∷ p) parts v inside ≡ under s (key_claims p parts v inside)
 unfolding key_claims under
 key_claims-under s p [] v inside moves = refl
-key_claims-under s p (k ∷ []) v inside moves = ap (claimed (assigned (s ∷ below p k) k v)) (moves s (below p k))
+key_claims-under s p (k ∷ []) v inside moves = ap (claimed (assigned (s ∷ with_key p k) k v)) (moves s (with_key p k))
 key_claims-under s p (k ∷ l ∷ more) v inside moves =
-    ap (claimed (dotted (s ∷ below p k) k v)) (key_claims-under s (below p k) (l ∷ more) v inside moves)
+    ap (claimed (dotted (s ∷ with_key p k) k v)) (key_claims-under s (with_key p k) (l ∷ more) v inside moves)
 
 -- what moves, and then what moves
 followed-under : (s : Step) (xs ys as' bs : Claims) → xs ≡ under s as' → ys ≡ under s bs → followed xs ys ≡ under s (followed as' bs)
@@ -46,9 +46,9 @@ mutual
   pub item_claims-under : (vs : Items) (i : ℕ) (s : Step) (p : Path) → item_claims vs i (s ∷ p) ≡ under s (item_claims vs i p)
   item_claims-under no_items i s p = refl
   item_claims-under (item v vs) i s p =
-      ap (claimed (element (s ∷ at p i) v))
-      (followed-under s (value_claims v (s ∷ at p i)) (item_claims vs (suc i) (s ∷ p)) (value_claims v (at p i)) (item_claims vs (suc i) p)
-      (value_claims-under v s (at p i)) (item_claims-under vs (suc i) s p))
+      ap (claimed (element (s ∷ with_position p i) v))
+      (followed-under s (value_claims v (s ∷ with_position p i)) (item_claims vs (suc i) (s ∷ p)) (value_claims v (with_position p i)) (item_claims vs (suc i) p)
+      (value_claims-under v s (with_position p i)) (item_claims-under vs (suc i) s p))
 
   pub pair_claims-under : (ps : Pairs) (s : Step) (p : Path) → pair_claims ps (s ∷ p) ≡ under s (pair_claims ps p)
   pair_claims-under no_pairs s p = refl
@@ -68,7 +68,7 @@ event_claims-under (e ∷ es) s p =
 
 -- an inner part of a key, and those behind it
 pub key_claims-more : (p : Path) (k : Part) (inner : List Part) (last : Part) (v : Read) (inside : Path → Claims)
-    → key_claims p (k ∷ (inner ++ (last ∷ []))) v inside ≡ claimed (dotted (below p k) k v) (key_claims (below p k) (inner ++ (last ∷ [])) v inside)
+    → key_claims p (k ∷ (inner ++ (last ∷ []))) v inside ≡ claimed (dotted (with_key p k) k v) (key_claims (with_key p k) (inner ++ (last ∷ [])) v inside)
 unfolding key_claims
 key_claims-more p k [] last v inside = refl
 key_claims-more p k (l ∷ more) last v inside = refl
@@ -105,7 +105,7 @@ end_claims-under : (h : Head) (s : Step) (p : Path) (k : Part) (n : ℕ) → end
 unfolding end_claims under
 end_claims-under h s p k n =
     elim (cases_Bool h.array) [
-      | inl arr ↦ rw arr (array_claims-under h s p k n (claimed (header_claim h Entry (at p n) k) no_claims))
+      | inl arr ↦ rw arr (array_claims-under h s p k n (claimed (header_claim h Entry (with_position p n) k) no_claims))
       | inr tab ↦ rw tab
     ]
 
@@ -113,29 +113,29 @@ pub header_claims-under : (e : Path → ℕ) (h : Head) (s : Step) (p : Path) (p
     → header_claims e h (s ∷ p) parts ≡ under s (header_claims (λ q. e (s ∷ q)) h p parts)
 unfolding header_claims under
 header_claims-under e h s p [] = refl
-header_claims-under e h s p (k ∷ []) = end_claims-under h s (below p k) k (e (s ∷ below p k))
+header_claims-under e h s p (k ∷ []) = end_claims-under h s (with_key p k) k (e (s ∷ with_key p k))
 header_claims-under e h s p (k ∷ l ∷ more) =
-    let n = e (s ∷ below p k) in
-    ap (λ q. claimed (header_claim h Passed q k) (header_claims e h q (l ∷ more))) (enter-under s n (below p k))
-    ∙ ap (claimed (header_claim h Passed (s ∷ enter n (below p k)) k)) (header_claims-under e h s (enter n (below p k)) (l ∷ more))
+    let n = e (s ∷ with_key p k) in
+    ap (λ q. claimed (header_claim h Passed q k) (header_claims e h q (l ∷ more))) (enter-under s n (with_key p k))
+    ∙ ap (claimed (header_claim h Passed (s ∷ enter n (with_key p k)) k)) (header_claims-under e h s (enter n (with_key p k)) (l ∷ more))
 
 pub target-under : (e : Path → ℕ) (s : Step) (p : Path) (parts : List Part) → target e (s ∷ p) parts ≡ s ∷ target (λ q. e (s ∷ q)) p parts
 unfolding target
 target-under e s p [] = refl
 target-under e s p (k ∷ []) = refl
 target-under e s p (k ∷ l ∷ more) =
-    let n = e (s ∷ below p k) in
-    ap (λ q. target e q (l ∷ more)) (enter-under s n (below p k)) ∙ target-under e s (enter n (below p k)) (l ∷ more)
+    let n = e (s ∷ with_key p k) in
+    ap (λ q. target e q (l ∷ more)) (enter-under s n (with_key p k)) ∙ target-under e s (enter n (with_key p k)) (l ∷ more)
 
 -- the path below which a section assigns, from the path p on
 abbrev path_from : (Path → ℕ) → Head → Path → List Part → Path
-path_from e h p parts = if h.array then at (target e p parts) (e (target e p parts)) else target e p parts
+path_from e h p parts = if h.array then with_position (target e p parts) (e (target e p parts)) else target e p parts
 
 path_from-under : (e : Path → ℕ) (h : Head) (s : Step) (p : Path) (parts : List Part)
     → path_from e h (s ∷ p) parts ≡ s ∷ path_from (λ q. e (s ∷ q)) h p parts
 path_from-under e h s p parts =
     elim (cases_Bool h.array) [
-      | inl arr ↦ rw arr (ap (λ q. at q (e q)) (target-under e s p parts))
+      | inl arr ↦ rw arr (ap (λ q. with_position q (e q)) (target-under e s p parts))
       | inr tab ↦ rw tab (target-under e s p parts)
     ]
 

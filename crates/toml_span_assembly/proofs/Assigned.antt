@@ -22,13 +22,13 @@ use Rattle.toml_span_claims.specs.declared.claims.Mark.{Mark}
 use Rattle.toml_span_claims.specs.declared.claims.Meeting.{Meeting}
 use Rattle.toml_span_claims.specs.declared.claims.Sort.{Sort}
 use Rattle.toml_span_claims.specs.declared.claims.Sort.TheVariants.{Passed, Section, ArrayOfTables, Entry, Dotted, Assigned}
-use Rattle.toml_span_claims.specs.declared.node.Node.{Node}
-use Rattle.toml_span_claims.specs.declared.node.Node.TheViews.{out-Node, roll-Node}
-use Rattle.toml_span_claims.specs.declared.node.Node.TheOpen.{Node-F}
-use Rattle.toml_span_claims.specs.Paths.{same_path, below, at}
+use Rattle.toml_span_claims.specs.declared.branch.Branch.{Branch}
+use Rattle.toml_span_claims.specs.declared.branch.Branch.TheViews.{out-Branch, roll-Branch}
+use Rattle.toml_span_claims.specs.declared.branch.Branch.TheOpen.{Branch-F}
+use Rattle.toml_span_claims.specs.Paths.{same_path, with_key, with_position}
 use Rattle.toml_span_claims.specs.Claims.{Claims, no_claims, claimed, scope, followed, assigned, pair_mark, key_claims, value_claims, inner_claims, item_claims, pair_claims}
-use Rattle.toml_span_claims.specs.Clashes.{Told, blame, meeting, named, or_else, partner}
-use Rattle.toml_span_claims.specs.code.Machine.{Cell, State, nothing, change, with_claim, with_inner, Gives, met, told, show_all, put_all, graft}
+use Rattle.toml_span_claims.specs.Clashes.{NamedClash, blame, meeting, named, or_else, partner}
+use Rattle.toml_span_claims.specs.code.Machine.{Cell, State, nothing, change, with_claim, with_inner, Gives, met, first_clash, show_all, put_all, graft}
 use Rattle.toml_span_claims.specs.Ordered.{IsOrdered}
 use Rattle.toml_span_claims.specs.code.Placing.{Places, IsFinished, ValueGives}
 use Rattle.toml_span_claims.specs.code.Relative.{pair_at}
@@ -54,50 +54,50 @@ clashes-sort Dotted f e = (_, refl)
 clashes-sort Assigned f e = (_, refl)
 
 -- with whatever else is claimed on a name
-clashes-named : (ms : List Mark) (later : Mark) (name : List ℕ) → later.sort ≡ Assigned → IsNamed ms → (t : Told) × (met ms later name ≡ Some t)
+clashes-named : (ms : List Mark) (later : Mark) (name : List ℕ) → later.sort ≡ Assigned → IsNamed ms → (t : NamedClash) × (met ms later name ≡ Some t)
 clashes-named [] later name is h = absurd h
 clashes-named (m ∷ ms) later name is h =
     let e = clashes-sort m.sort (meeting m later) h.0 in
     (named name e.0, ap (λ o. option_map (named name) (or_else o (partner ms later))) (ap (λ s. option_map (meeting m later) (blame m.sort s)) is ∙ e.1))
 
 -- one clash and none other
-gives-clash : {A : Type 0} (r : Result A Halt) (o p : Option Told) (t : Told) (P Q : A → Type 0) → o ≡ Some t → p ≡ Some t → Gives r o P → Gives r p Q
+gives-clash : {A : Type 0} (r : Result A Halt) (o p : Option NamedClash) (t : NamedClash) (P Q : A → Type 0) → o ≡ Some t → p ≡ Some t → Gives r o P → Gives r p Q
 gives-clash (Ok x) o p t P Q first all h = absurd (none-some t (sym h.0 ∙ first))
 gives-clash (Err (Clash c)) o p t P Q first all h = all ∙ sym first ∙ h
 gives-clash (Err (Memory e)) o p t P Q first all h = tt
 
 -- what is told of the value's own claim comes first
-told-own : (n : Node) (k : Key) (v : Read) (ms : List Mark) → (cells n (key (part k).name ∷ [])).marks ≡ ms
-    → told (cells n) (pair_at [] (part k) v)
-    ≡ or_else (met ms (value_mark k v) (part k).name) (told (change (λ q. cells n (key (part k).name ∷ q)) [] (with_claim (assigned [] (part k) v))) (value_claims v []))
-unfolding told pair_at
+told-own : (n : Branch) (k : Key) (v : Read) (ms : List Mark) → (cells n (key (part k).name ∷ [])).marks ≡ ms
+    → first_clash (cells n) (pair_at [] (part k) v)
+    ≡ or_else (met ms (value_mark k v) (part k).name) (first_clash (change (λ q. cells n (key (part k).name ∷ q)) [] (with_claim (assigned [] (part k) v))) (value_claims v []))
+unfolding first_clash pair_at
 told-own n k v ms is =
     told-under (key (part k).name) (cells n) (claimed (assigned [] (part k) v) (value_claims v []))
-    ∙ ap (λ ms. or_else (met ms (value_mark k v) (part k).name) (told (change (λ q. cells n (key (part k).name ∷ q)) [] (with_claim (assigned [] (part k) v))) (value_claims v []))) is
+    ∙ ap (λ ms. or_else (met ms (value_mark k v) (part k).name) (first_clash (change (λ q. cells n (key (part k).name ∷ q)) [] (with_claim (assigned [] (part k) v))) (value_claims v []))) is
 
 -- the value's own claim clashes
-pub refused : (n new : Node) (k : Key) (v : Read) (r : Result (Unit {0}) Halt) (ms : List Mark) (m : Mark) (P : Unit {0} → Type 0) (d : Path → ℕ)
+pub refused : (n new : Branch) (k : Key) (v : Read) (r : Result (Unit {0}) Halt) (ms : List Mark) (m : Mark) (P : Unit {0} → Type 0) (d : Path → ℕ)
     → (IsScope n → (cells n (key (part k).name ∷ [])).marks ≡ ms) → (IsScope n → IsNamed ms) → m ≡ value_mark k v
     → Gives r (met ms m (part k).name) P → Places n new r (pair_at [] (part k) v) d
 refused n new k v r ms m P d is held same h before =
     let clash = clashes-named ms (value_mark k v) (part k).name refl (held before) in
     let first = ap (λ m. met ms m (part k).name) same ∙ clash.1 in
-    let all = told-own n k v ms (is before) ∙ ap (λ o. or_else o (told (change (λ q. cells n (key (part k).name ∷ q)) [] (with_claim (assigned [] (part k) v))) (value_claims v []))) clash.1 in
-    gives-clash r (met ms m (part k).name) (told (cells n) (pair_at [] (part k) v)) clash.0 _ _ first all h
+    let all = told-own n k v ms (is before) ∙ ap (λ o. or_else o (first_clash (change (λ q. cells n (key (part k).name ∷ q)) [] (with_claim (assigned [] (part k) v))) (value_claims v []))) clash.1 in
+    gives-clash r (met ms m (part k).name) (first_clash (cells n) (pair_at [] (part k) v)) clash.0 _ _ first all h
 
 -- the value's own claim clashes with what stands at its name
-pub refused-child : (n new : Node) (k : Key) (v : Read) (q : Result (Unit {0}) Halt) (e : Halt) (m : Mark) (P : Unit {0} → Type 0) (d : Path → ℕ)
+pub refused-child : (n new : Branch) (k : Key) (v : Read) (q : Result (Unit {0}) Halt) (e : Halt) (m : Mark) (P : Unit {0} → Type 0) (d : Path → ℕ)
     → m ≡ value_mark k v → q ≡ Err e → Gives (Err e) (met (held_marks (child (part k).name n)) m (part k).name) P → Places n new q (pair_at [] (part k) v) d
 refused-child n new k v q e m P d same is h before = go (child (part k).name n) refl
   where
-    later : Option Told
-    later = told (change (λ q. cells n (key (part k).name ∷ q)) [] (with_claim (assigned [] (part k) v))) (value_claims v [])
+    later : Option NamedClash
+    later = first_clash (change (λ q. cells n (key (part k).name ∷ q)) [] (with_claim (assigned [] (part k) v))) (value_claims v [])
 
-    met-is : (o : Option Node) → child (part k).name n ≡ o → met (held_marks (child (part k).name n)) m (part k).name ≡ met (held_marks o) (value_mark k v) (part k).name
+    met-is : (o : Option Branch) → child (part k).name n ≡ o → met (held_marks (child (part k).name n)) m (part k).name ≡ met (held_marks o) (value_mark k v) (part k).name
     met-is o c = ap (λ x. met (held_marks x) m (part k).name) c ∙ ap (λ x. met (held_marks o) x (part k).name) same
 
-    go : (o : Option Node) → child (part k).name n ≡ o
-        → Gives q (told (cells n) (pair_at [] (part k) v)) (λ _. (cells new ≡ put_all (cells n) (pair_at [] (part k) v)) × (counts new ≡ d) × (IsScope new × (marks new ≡ marks n)))
+    go : (o : Option Branch) → child (part k).name n ≡ o
+        → Gives q (first_clash (cells n) (pair_at [] (part k) v)) (λ _. (cells new ≡ put_all (cells n) (pair_at [] (part k) v)) × (counts new ≡ d) × (IsScope new × (marks new ≡ marks n)))
     go None c = gives-err q e (met (held_marks (child (part k).name n)) m (part k).name) _ _ _ is (λ t clash. absurd (none-some t (sym (met-is None c) ∙ clash))) h
     go (Some x) c =
         gives-err q e (met (held_marks (child (part k).name n)) m (part k).name) _ _ _ is
@@ -106,17 +106,17 @@ refused-child n new k v q e m P d same is h before = go (child (part k).name n) 
         h
 
 -- where it does not, no node stands there
-pub missing-free : (n : Node) (k : List ℕ) (m : Mark) (name : List ℕ) → IsScope n → m.sort ≡ Assigned → met (held_marks (child k n)) m name ≡ None → child k n ≡ None
+pub missing-free : (n : Branch) (k : List ℕ) (m : Mark) (name : List ℕ) → IsScope n → m.sort ≡ Assigned → met (held_marks (child k n)) m name ≡ None → child k n ≡ None
 missing-free n k m name before is h = go (child k n) refl
   where
-    go : (o : Option Node) → child k n ≡ o → o ≡ None
+    go : (o : Option Branch) → child k n ≡ o → o ≡ None
     go None c = refl
     go (Some x) c =
         let clash = clashes-named (marks x) m name is (held-child n x k c before).1.1 in
         absurd (none-some clash.0 (sym h ∙ ap (λ o. met (held_marks o) m name) c ∙ clash.1))
 
 -- with a value of the same name
-pub refused-value : (n new : Node) (k earlier : Key) (x : Value) (v : Read) (r : Result (Unit {0}) Halt) (ms : List Mark) (m : Mark) (name : List ℕ) (P : Unit {0} → Type 0) (d : Path → ℕ)
+pub refused-value : (n new : Branch) (k earlier : Key) (x : Value) (v : Read) (r : Result (Unit {0}) Halt) (ms : List Mark) (m : Mark) (name : List ℕ) (P : Unit {0} → Type 0) (d : Path → ℕ)
     → (IsScope n → child (part k).name n ≡ None) → closed (part k).name n ≡ Some (earlier, x) → ms ≡ pair_mark Assigned earlier.span x.span ∷ [] → name ≡ (part k).name
     → m ≡ value_mark k v → Gives r (met ms m name) P → Places n new r (pair_at [] (part k) v) d
 refused-value n new k earlier x v r ms m name P d missing found is same mark h =
@@ -126,8 +126,8 @@ refused-value n new k earlier x v r ms m name P d missing found is same mark h =
 
 -- ---- what a value claims in a scope that has none of its name
 
-told-value : (st : State) (v : Read) (p : Path) → told st (value_claims v p) ≡ told nothing (value_claims v p)
-unfolding told value_claims inner_claims
+told-value : (st : State) (v : Read) (p : Path) → first_clash st (value_claims v p) ≡ first_clash nothing (value_claims v p)
+unfolding first_clash value_claims inner_claims
 told-value st (node (scalar s) span) p = refl
 told-value st (node (array vs) span) p = refl
 told-value st (node (inline ps) span) p = refl
@@ -158,8 +158,8 @@ below-step (t ∷ p) s = refl
 below-key : (p : Path) (parts : List Part) (v : Read) (inside : Path → Claims) → ((q : Path) → AreBelow (inside q)) → AreBelow (key_claims p parts v inside)
 unfolding key_claims
 below-key p [] v inside h = tt
-below-key p (k ∷ []) v inside h = (below-step p (key k.name), h (below p k))
-below-key p (k ∷ l ∷ more) v inside h = (below-step p (key k.name), below-key (below p k) (l ∷ more) v inside h)
+below-key p (k ∷ []) v inside h = (below-step p (key k.name), h (with_key p k))
+below-key p (k ∷ l ∷ more) v inside h = (below-step p (key k.name), below-key (with_key p k) (l ∷ more) v inside h)
 
 mutual
   unfolding value_claims inner_claims item_claims pair_claims
@@ -175,7 +175,7 @@ mutual
   below-items : (vs : Items) (i : ℕ) (p : Path) → AreBelow (item_claims vs i p)
   below-items no_items i p = tt
   below-items (one_item v vs) i p =
-      (below-step p (position i), below-followed (value_claims v (at p i)) (item_claims vs (suc i) p) (below-value v (at p i)) (below-items vs (suc i) p))
+      (below-step p (position i), below-followed (value_claims v (with_position p i)) (item_claims vs (suc i) p) (below-value v (with_position p i)) (below-items vs (suc i) p))
 
   below-pairs : (ps : Pairs) (p : Path) → AreBelow (pair_claims ps p)
   below-pairs no_pairs p = tt
@@ -219,16 +219,16 @@ value-cells k x v h = fun_ext at ∙ sym (put-value (change nothing [] (with_cla
 -- ---- the node with one more value
 
 -- the same node, with the value x under the key k
-pub record SetsValue (k : Key) (x : Value) (n new : Node) : Type 0 where
+pub record SetsValue (k : Key) (x : Value) (n new : Branch) : Type 0 where
   pub claims : marks new ≡ marks n
   pub added : entries new ≡ entries n
-  pub tables : (out-Node new).tables ≡ (out-Node n).tables
+  pub tables : (out-Branch new).tables ≡ (out-Branch n).tables
   pub closed_is : (name : List ℕ) → closed name new ≡ cond (bytes_eq (part k).name name) (Some (k, x)) (closed name n)
 
-child-stays : (n new : Node) (k : Key) (x : Value) (name : List ℕ) → SetsValue k x n new → child name new ≡ child name n
+child-stays : (n new : Branch) (k : Key) (x : Value) (name : List ℕ) → SetsValue k x n new → child name new ≡ child name n
 child-stays n new k x name sets = ap (child_in name) sets.tables
 
-cells-value : (n new : Node) (k : Key) (x : Value) → SetsValue k x n new → child (part k).name n ≡ None → cells new ≡ graft (key (part k).name) (cells n) (value_cell k.span (view x))
+cells-value : (n new : Branch) (k : Key) (x : Value) → SetsValue k x n new → child (part k).name n ≡ None → cells new ≡ graft (key (part k).name) (cells n) (value_cell k.span (view x))
 unfolding cell_at graft
 cells-value n new k x sets missing = fun_ext at
   where
@@ -245,7 +245,7 @@ cells-value n new k x sets missing = fun_ext at
         ∙ below (bytes_eq (part k).name name) name p refl
     at (position i ∷ p) = ap (λ xs. or_nothing (option_map (cell_at p) (item i xs))) sets.added
 
-counts-value : (n new : Node) (k : Key) (x : Value) → SetsValue k x n new → counts new ≡ counts n
+counts-value : (n new : Branch) (k : Key) (x : Value) → SetsValue k x n new → counts new ≡ counts n
 unfolding count_at
 counts-value n new k x sets = fun_ext at
   where
@@ -254,7 +254,7 @@ counts-value n new k x sets = fun_ext at
     at (key name ∷ p) = ap (λ o. or_zero (option_map (count_at p) o)) (child-stays n new k x name sets)
     at (position i ∷ p) = ap (λ xs. or_zero (option_map (count_at p) (item i xs))) sets.added
 
-scope-value : (n new : Node) (k : Key) (x : Value) → SetsValue k x n new → child (part k).name n ≡ None → IsOrdered (view x) → IsScope n → IsScope new × (marks new ≡ marks n)
+scope-value : (n new : Branch) (k : Key) (x : Value) → SetsValue k x n new → child (part k).name n ≡ None → IsOrdered (view x) → IsScope n → IsScope new × (marks new ≡ marks n)
 scope-value n new k x sets missing good (sound m table names items ordered below inside, none) =
     ((sound new of_table of_names (λ i c h. absurd (no_item i c h)) of_values of_below (λ i c h. absurd (no_item i c h)), added), sets.claims)
   where
@@ -264,13 +264,13 @@ scope-value n new k x sets missing good (sound m table names items ordered below
     of_table : IsTableOrArray new (entries new)
     of_table = rw added (subst NoArray (sym sets.claims) (subst (IsTableOrArray n) none table))
 
-    no_item : (i : ℕ) (c : Node) → item i (entries new) ≡ Some c → ⊥
+    no_item : (i : ℕ) (c : Branch) → item i (entries new) ≡ Some c → ⊥
     no_item i c h = none-some c (sym (ap (item i) added) ∙ h)
 
-    same : (name : List ℕ) (c : Node) → child name new ≡ Some c → child name n ≡ Some c
+    same : (name : List ℕ) (c : Branch) → child name new ≡ Some c → child name n ≡ Some c
     same name c h = sym (child-stays n new k x name sets) ∙ h
 
-    free : (b : Bool) (name : List ℕ) (c : Node) → bytes_eq (part k).name name ≡ b → child name n ≡ Some c → cond b (Some (k, x)) (closed name n) ≡ None
+    free : (b : Bool) (name : List ℕ) (c : Branch) → bytes_eq (part k).name name ≡ b → child name n ≡ Some c → cond b (Some (k, x)) (closed name n) ≡ None
     free true name c is h = absurd (none-some c (sym missing ∙ ap (λ l. child l n) ((bytes_eq-Decides (part k).name name).0 is) ∙ h))
     free false name c is h = (names name c h).0
 
@@ -284,25 +284,25 @@ scope-value n new k x sets missing good (sound m table names items ordered below
     of_values : HoldsOrderedValues new
     of_values name e h = either (bytes_eq (part k).name name) name e (sym (sets.closed_is name) ∙ h)
 
-    of_below : (name : List ℕ) (c : Node) → child name new ≡ Some c → Sound c
+    of_below : (name : List ℕ) (c : Branch) → child name new ≡ Some c → Sound c
     of_below name c h = below name c (same name c h)
 
 -- ---- a value of a new name
 
 -- what is told is what is told inside the value
-told-free : (n : Node) (k : Key) (v : Read) → child (part k).name n ≡ None → closed (part k).name n ≡ None → told (cells n) (pair_at [] (part k) v) ≡ told nothing (value_claims v [])
+told-free : (n : Branch) (k : Key) (v : Read) → child (part k).name n ≡ None → closed (part k).name n ≡ None → first_clash (cells n) (pair_at [] (part k) v) ≡ first_clash nothing (value_claims v [])
 told-free n k v missing free =
     told-own n k v [] (ap (λ f. (f []).marks) (cells-closed n (part k).name missing) ∙ ap closed_marks free)
     ∙ told-value (change (λ q. cells n (key (part k).name ∷ q)) [] (with_claim (assigned [] (part k) v))) v []
 
-pub assigned-err : (n new : Node) (k : Key) (v : Read) (value : Result Value Halt) (q : Result (Unit {0}) Halt) (e : Halt) (m : Mark) (d : Path → ℕ)
+pub assigned-err : (n new : Branch) (k : Key) (v : Read) (value : Result Value Halt) (q : Result (Unit {0}) Halt) (e : Halt) (m : Mark) (d : Path → ℕ)
     → m.sort ≡ Assigned → met (held_marks (child (part k).name n)) m (part k).name ≡ None → closed (part k).name n ≡ None → value ≡ Err e → q ≡ Err e
     → ValueGives value v → Places n new q (pair_at [] (part k) v) d
 assigned-err n new k v value q e m d sort admitted free was is h before =
-    gives-err q e (told nothing (value_claims v [])) (told (cells n) (pair_at [] (part k) v)) (IsFinished v) _ is
+    gives-err q e (first_clash nothing (value_claims v [])) (first_clash (cells n) (pair_at [] (part k) v)) (IsFinished v) _ is
     (λ t clash. told-free n k v (missing-free n (part k).name m (part k).name before sort admitted) free ∙ clash) (rw was at h)
 
-pub assigned-ok : (n new : Node) (k : Key) (x : Value) (v : Read) (value : Result Value Halt) (m : Mark)
+pub assigned-ok : (n new : Branch) (k : Key) (x : Value) (v : Read) (value : Result Value Halt) (m : Mark)
     → m.sort ≡ Assigned → met (held_marks (child (part k).name n)) m (part k).name ≡ None → closed (part k).name n ≡ None → value ≡ Ok x
     → ValueGives value v → SetsValue k x n new → Places n new (Ok tt) (pair_at [] (part k) v) (counts n)
 unfolding pair_at put_all
@@ -321,14 +321,14 @@ assigned-ok n new k x v value m sort admitted free was h sets before =
     )
 
 -- the map of the values after `insert`
-pub sets-value : (n : Node) (b : Node-F Node) (k : Key) (x : Value) → closed (part k).name n ≡ None → b.marks.items ≡ marks n → b.entries.items ≡ entries n
-    → b.tables ≡ (out-Node n).tables → b.values.entries ≡ insert_entry key_cmp (out-Node n).values.entries k x → SetsValue k x n (roll-Node b)
+pub sets-value : (n : Branch) (b : Branch-F Branch) (k : Key) (x : Value) → closed (part k).name n ≡ None → b.marks.items ≡ marks n → b.entries.items ≡ entries n
+    → b.tables ≡ (out-Branch n).tables → b.values.entries ≡ insert_entry key_cmp (out-Branch n).values.entries k x → SetsValue k x n (roll-Branch b)
 sets-value n b k x free marks entries tables written = record {
   claims = ap (λ m. m.marks.items) (out-roll b) ∙ marks;
   added = ap (λ m. m.entries.items) (out-roll b) ∙ entries;
   tables = ap (λ m. m.tables) (out-roll b) ∙ tables;
   closed_is = λ name.
       ap (λ m. lookup_entry (is_named name) m.values.entries) (out-roll b) ∙ ap (lookup_entry (is_named name)) written
-      ∙ holds-insert k x (out-Node n).values.entries free name
+      ∙ holds-insert k x (out-Branch n).values.entries free name
       ∙ ap (λ c. cond c (Some (k, x)) (closed name n)) (is_eq-slice_cmp (part k).name name);
 }

@@ -13,11 +13,11 @@ use Rattle.toml_span_read.specs.declared.value.Val.{Val}
 use Rattle.toml_span_read.proofs.Views.{event_is, view_is}
 use Rattle.toml_span_claims.specs.declared.claims.Halt.{Halt}
 use Rattle.toml_span_claims.specs.declared.claims.Halt.TheVariants.{Memory, Clash}
-use Rattle.toml_span_claims.specs.declared.node.Node.{Node}
-use Rattle.toml_span_claims.specs.declared.node.Node.TheViews.{out-Node}
+use Rattle.toml_span_claims.specs.declared.branch.Branch.{Branch}
+use Rattle.toml_span_claims.specs.declared.branch.Branch.TheViews.{out-Branch}
 use Rattle.toml_span_claims.specs.Claims.{Claims, followed, assignment_claims, event_claims}
 use Rattle.toml_span_claims.specs.Clashes.{or_else}
-use Rattle.toml_span_claims.specs.code.Machine.{State, nothing, show_all, put_all, told}
+use Rattle.toml_span_claims.specs.code.Machine.{State, nothing, show_all, put_all, first_clash}
 use Rattle.toml_span_claims.specs.code.Placing.{Places, ScopeGives, ShowsBelow, ShowsPlain, Finishes, place_shown}
 use Rattle.toml_span_claims.specs.code.Relative.{pair_at}
 use Rattle.toml_span_claims.specs.code.Tree.{marks, cells, counts, plain, IsScope, IsFresh}
@@ -41,7 +41,7 @@ pair-claims : (a : Assignment) → pair_at (map part a.parts.inner.items) (part 
 pair-claims a = pair_at-is (map part a.parts.inner.items) (part a.parts.last) (view a.value) ∙ ap (λ e. assignment_claims e []) (sym (event_is a))
 
 -- an assignment is the pair of its last part and the value
-pub places-one : (a : Assignment) (inner : List Key) (old new : Node) (r : Result (Unit {0}) Halt) → inner ≡ a.parts.inner.items
+pub places-one : (a : Assignment) (inner : List Key) (old new : Branch) (r : Result (Unit {0}) Halt) → inner ≡ a.parts.inner.items
     → Places old new r (pair_at (map part inner) (part a.parts.last) (view a.value)) (counts old) → Places old new r (assignment_claims (event a) []) (counts old)
 places-one a inner old new r is h =
     subst (λ cs. Places old new r cs (counts old)) (ap (λ keys. pair_at (map part keys) (part a.parts.last) (view a.value)) is ∙ pair-claims a) h
@@ -49,20 +49,20 @@ places-one a inner old new r is h =
 -- ---- one after another
 
 -- From n on the rest tells and gives what all of it does from the first node on.
-pub record Remains (n : Node) (rest : Claims) (first : Node) (all : Claims) : Type 0 where
-  pub tells : told (cells n) rest ≡ told (cells first) all
+pub record Remains (n : Branch) (rest : Claims) (first : Branch) (all : Claims) : Type 0 where
+  pub tells : first_clash (cells n) rest ≡ first_clash (cells first) all
   pub gives : put_all (cells n) rest ≡ put_all (cells first) all
   pub counted : counts n ≡ counts first
   pub scope : IsScope n
   pub kept : marks n ≡ marks first
 
-abbrev pub Placing : Node → List Assignment → Node → List Assignment → Type 0
+abbrev pub Placing : Branch → List Assignment → Branch → List Assignment → Type 0
 Placing n rest first all = IsScope first → Remains n (event_claims (map event rest) []) first (event_claims (map event all) [])
 
-pub remains-first : (n : Node) (rest all : List Assignment) → rest ≡ all → Placing n rest n all
+pub remains-first : (n : Branch) (rest all : List Assignment) → rest ≡ all → Placing n rest n all
 remains-first n rest all same =
     λ scope. record {
-      tells = ap (λ es. told (cells n) (event_claims (map event es) [])) same;
+      tells = ap (λ es. first_clash (cells n) (event_claims (map event es) [])) same;
       gives = ap (λ es. put_all (cells n) (event_claims (map event es) [])) same;
       counted = refl;
       scope = scope;
@@ -74,50 +74,50 @@ events-more : (old new : List Assignment) (a : Assignment) → old ≡ a ∷ new
 unfolding event_claims
 events-more old new a is = ap (λ es. event_claims (map event es) []) is
 
-remains-more : (n w first : Node) (rest ps more all : Claims) → rest ≡ followed ps more → Remains n rest first all → Places n w (Ok tt) ps (counts n) → Remains w more first all
+remains-more : (n w first : Branch) (rest ps more all : Claims) → rest ≡ followed ps more → Remains n rest first all → Places n w (Ok tt) ps (counts n) → Remains w more first all
 remains-more n w first rest ps more all split inv placed =
     let h = placed inv.scope in
     record {
       tells =
-          sym (told-followed (cells n) ps more ∙ ap (λ o. or_else o (told (put_all (cells n) ps) more)) h.0 ∙ ap (λ f. told f more) (sym h.1.0))
-          ∙ ap (told (cells n)) (sym split) ∙ inv.tells;
+          sym (told-followed (cells n) ps more ∙ ap (λ o. or_else o (first_clash (put_all (cells n) ps) more)) h.0 ∙ ap (λ f. first_clash f more) (sym h.1.0))
+          ∙ ap (first_clash (cells n)) (sym split) ∙ inv.tells;
       gives = ap (λ f. put_all f more) h.1.0 ∙ sym (put_all-followed (cells n) ps more) ∙ ap (put_all (cells n)) (sym split) ∙ inv.gives;
       counted = h.1.1 ∙ inv.counted;
       scope = h.1.2.0;
       kept = h.1.2.1 ∙ inv.kept;
     }
 
-pub placing-more : (n w first : Node) (old new all : List Assignment) (a : Assignment) → old ≡ a ∷ new → Placing n old first all
+pub placing-more : (n w first : Branch) (old new all : List Assignment) (a : Assignment) → old ≡ a ∷ new → Placing n old first all
     → Places n w (Ok tt) (assignment_claims (event a) []) (counts n) → Placing w new first all
 placing-more n w first old new all a is inv placed =
     λ scope. remains-more n w first (event_claims (map event old) []) (assignment_claims (event a) []) (event_claims (map event new) []) (event_claims (map event all) [])
     (events-more old new a is) (inv scope) placed
 
-remains-err : (n w new first : Node) (rest ps more all : Claims) (q : Result (Unit {0}) Halt) (e : Halt) → rest ≡ followed ps more → Remains n rest first all → q ≡ Err e
+remains-err : (n w new first : Branch) (rest ps more all : Claims) (q : Result (Unit {0}) Halt) (e : Halt) → rest ≡ followed ps more → Remains n rest first all → q ≡ Err e
     → Places n w (Err e) ps (counts n) → Places first new q all (counts first)
 remains-err n w new first rest ps more all q (Clash c) split inv same placed =
     rw same
-    (λ scope. sym inv.tells ∙ ap (told (cells n)) split ∙ told-followed (cells n) ps more ∙ ap (λ o. or_else o (told (put_all (cells n) ps) more)) (placed inv.scope))
+    (λ scope. sym inv.tells ∙ ap (first_clash (cells n)) split ∙ told-followed (cells n) ps more ∙ ap (λ o. or_else o (first_clash (put_all (cells n) ps) more)) (placed inv.scope))
 remains-err n w new first rest ps more all q (Memory e) split inv same placed = rw same (λ scope. tt)
 
-pub placing-err : (n w first new : Node) (old later all : List Assignment) (a : Assignment) (q : Result (Unit {0}) Halt) (e : Halt) → old ≡ a ∷ later → Placing n old first all → q ≡ Err e
+pub placing-err : (n w first new : Branch) (old later all : List Assignment) (a : Assignment) (q : Result (Unit {0}) Halt) (e : Halt) → old ≡ a ∷ later → Placing n old first all → q ≡ Err e
     → Places n w (Err e) (assignment_claims (event a) []) (counts n) → Places first new q (event_claims (map event all) []) (counts first)
 placing-err n w first new old later all a q e is inv same placed =
     λ scope. remains-err n w new first (event_claims (map event old) []) (assignment_claims (event a) []) (event_claims (map event later) []) (event_claims (map event all) []) q e
     (events-more old later a is) (inv scope) same placed scope
 
-pub placing-none : (n first : Node) (rest all : List Assignment) → rest ≡ [] → Placing n rest first all → Places first n (Ok tt) (event_claims (map event all) []) (counts first)
-unfolding told put_all event_claims
+pub placing-none : (n first : Branch) (rest all : List Assignment) → rest ≡ [] → Placing n rest first all → Places first n (Ok tt) (event_claims (map event all) []) (counts first)
+unfolding first_clash put_all event_claims
 placing-none n first rest all none inv =
     λ scope.
     let h = inv scope in
-    let told_none = ap (λ es. told (cells n) (event_claims (map event es) [])) none in
+    let told_none = ap (λ es. first_clash (cells n) (event_claims (map event es) [])) none in
     let put_none = ap (λ es. put_all (cells n) (event_claims (map event es) [])) none in
     (sym h.tells ∙ told_none, (sym put_none ∙ h.gives, h.counted, (h.scope, h.kept)))
 
 -- ---- inline tables
 
-pub fresh-scope : (n : Node) → IsFresh n → IsScope n
+pub fresh-scope : (n : Branch) → IsFresh n → IsScope n
 fresh-scope n h = (sound-fresh n h, h.no_entries)
 
 map-plain : {A : Type 0} (f : A → Place) (o : Option A) → option_map (λ m. plain (f m)) o ≡ option_map plain (option_map f o)
@@ -131,17 +131,17 @@ shows-plain i es st is h s p =
     ∙ ap (option_map plain) (h s p ∙ ap (λ f. place_shown (f (s ∷ p))) is ∙ ap (option_map (λ d. d.place)) (put_all-shown (event_claims es []) (s ∷ p)))
     ∙ sym (shown-plain (event_claims es []) (s ∷ p) (events-no_header es []))
 
-pub table-gives : (old new : Node) (es : List Event) (table : BTreeMap Key Value) → IsFresh old → Places old new (Ok tt) (event_claims es []) (counts old)
-    → Finishes (out-Node new).tables (out-Node new).values (Ok table) → ScopeGives (Ok table) (λ t. inner_view (Table t)) (event_claims es [])
+pub table-gives : (old new : Branch) (es : List Event) (table : BTreeMap Key Value) → IsFresh old → Places old new (Ok tt) (event_claims es []) (counts old)
+    → Finishes (out-Branch new).tables (out-Branch new).values (Ok table) → ScopeGives (Ok table) (λ t. inner_view (Table t)) (event_claims es [])
 table-gives old new es table fresh placed finished =
     let h = placed (fresh-scope old fresh) in
     let whole = finished new refl refl h.1.2.0 in (
-      ap (λ f. told f (event_claims es [])) (sym (cells-fresh old fresh)) ∙ h.0,
+      ap (λ f. first_clash f (event_claims es [])) (sym (cells-fresh old fresh)) ∙ h.0,
       (shows-plain (inner_view (Table table)) es (cells new) (h.1.0 ∙ ap (λ f. put_all f (event_claims es [])) (cells-fresh old fresh)) whole.0, whole.1),
     )
 
-pub table-err : {A : Type 0} (old new : Node) (es : List Event) (seen : A → tree.Inner) (q : Result A Halt) (e : Halt) → IsFresh old → q ≡ Err e
+pub table-err : {A : Type 0} (old new : Branch) (es : List Event) (seen : A → tree.Inner) (q : Result A Halt) (e : Halt) → IsFresh old → q ≡ Err e
     → Places old new (Err e) (event_claims es []) (counts old) → ScopeGives q seen (event_claims es [])
 table-err old new es seen q (Clash c) fresh same placed =
-    rw same (ap (λ f. told f (event_claims es [])) (sym (cells-fresh old fresh)) ∙ placed (fresh-scope old fresh))
+    rw same (ap (λ f. first_clash f (event_claims es [])) (sym (cells-fresh old fresh)) ∙ placed (fresh-scope old fresh))
 table-err old new es seen q (Memory e) fresh same placed = rw same tt

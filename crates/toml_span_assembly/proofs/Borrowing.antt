@@ -28,9 +28,9 @@ use Rattle.toml_span_read.proofs.EarlierTree.{key_cmp}
 use Rattle.toml_span_claims.specs.declared.claims.Halt.{Halt}
 use Rattle.toml_span_claims.specs.declared.claims.Mark.{Mark}
 use Rattle.toml_span_claims.specs.declared.claims.Sort.TheVariants.{Assigned}
-use Rattle.toml_span_claims.specs.declared.node.Node.{Node}
-use Rattle.toml_span_claims.specs.declared.node.Node.TheOpen.{Node-F}
-use Rattle.toml_span_claims.specs.declared.node.Node.TheViews.{roll-Node, out-Node}
+use Rattle.toml_span_claims.specs.declared.branch.Branch.{Branch}
+use Rattle.toml_span_claims.specs.declared.branch.Branch.TheOpen.{Branch-F}
+use Rattle.toml_span_claims.specs.declared.branch.Branch.TheViews.{roll-Branch, out-Branch}
 use Rattle.toml_span_claims.specs.Borrowed.{string as string_standing, Held, held, key_standing, value_standing, IsKeyOf, IsNamedBy, IsRight, AreRight, keys_of}
 use Rattle.toml_span_claims.specs.code.Borrowed.{inner_held, standing, entries_of, array_standing, table_standing, IsFrom, AreFrom, Keeps}
 use Rattle.toml_span_read.specs.Grammar.{SpellsDocument}
@@ -121,77 +121,77 @@ module _ (text : List ℕ) (ps : List Part) where
 
   -- ---- nodes
 
-  pub remarked : (n : Node) (b : Node-F Node) → b.values ≡ (out-Node n).values → b.tables ≡ (out-Node n).tables → b.entries.items ≡ entries n → AreRight text ps (standing n) → AreRight text ps (standing (roll-Node b))
+  pub remarked : (n : Branch) (b : Branch-F Branch) → b.values ≡ (out-Branch n).values → b.tables ≡ (out-Branch n).tables → b.entries.items ≡ entries n → AreRight text ps (standing n) → AreRight text ps (standing (roll-Branch b))
   remarked n b values tables items h =
       let inside = of_node text ps n h in
       node_of text ps b (rw values inside.0) (rw tables inside.1) (rw items inside.2)
 
-  pub keeps_marked : (n : Node) (b : Node-F Node) (new : Node) (r : Result (Unit {0}) Halt) → b.values ≡ (out-Node n).values → b.tables ≡ (out-Node n).tables → b.entries.items ≡ entries n
-      → Keeps text ps (roll-Node b) new r → Keeps text ps n new r
+  pub keeps_marked : (n : Branch) (b : Branch-F Branch) (new : Branch) (r : Result (Unit {0}) Halt) → b.values ≡ (out-Branch n).values → b.tables ≡ (out-Branch n).tables → b.entries.items ≡ entries n
+      → Keeps text ps (roll-Branch b) new r → Keeps text ps n new r
   keeps_marked n b new r values tables items keep h = keep (remarked n b values tables items h)
 
-  pub keeps_same : (a n new : Node) (r : Result (Unit {0}) Halt) → a ≡ n → Keeps text ps a new r → Keeps text ps n new r
+  pub keeps_same : (a n new : Branch) (r : Result (Unit {0}) Halt) → a ≡ n → Keeps text ps a new r → Keeps text ps n new r
   keeps_same a n new r is keep = subst (λ x. Keeps text ps x new r) is keep
 
-  pub keeps_found : (n : Node) (b : Node-F Node) (k : List ℕ) (x w : Box Node) (r : Result (Unit {0}) Halt) → lookup (is_named k) (out-Node n).tables.entries ≡ Some x
-      → b.entries.items ≡ entries n → b.values ≡ (out-Node n).values → b.tables.entries ≡ set_value (is_named k) (out-Node n).tables.entries w
-      → Keeps text ps (box_value x) (box_value w) r → Keeps text ps n (roll-Node b) r
+  pub keeps_found : (n : Branch) (b : Branch-F Branch) (k : List ℕ) (x w : Box Branch) (r : Result (Unit {0}) Halt) → lookup (is_named k) (out-Branch n).tables.entries ≡ Some x
+      → b.entries.items ≡ entries n → b.values ≡ (out-Branch n).values → b.tables.entries ≡ set_value (is_named k) (out-Branch n).tables.entries w
+      → Keeps text ps (box_value x) (box_value w) r → Keeps text ps n (roll-Branch b) r
   keeps_found n b k x w r found items values written keep h =
       let inside = of_node text ps n h in
-      ok_map r (AreRight text ps (standing (box_value w))) (AreRight text ps (standing (roll-Node b)))
-      (λ made. node_of text ps b (rw values inside.0) (rw written (box_set text ps (is_named k) w (out-Node n).tables.entries made inside.1)) (rw items inside.2))
-      (keep (box_found text ps (is_named k) x (out-Node n).tables.entries found inside.1))
+      ok_map r (AreRight text ps (standing (box_value w))) (AreRight text ps (standing (roll-Branch b)))
+      (λ made. node_of text ps b (rw values inside.0) (rw written (box_set text ps (is_named k) w (out-Branch n).tables.entries made inside.1)) (rw items inside.2))
+      (keep (box_found text ps (is_named k) x (out-Branch n).tables.entries found inside.1))
 
-  pub keeps_new : (n : Node) (b : Node-F Node) (k c : Key) (x w : Node) (box : Box Node) → standing x ≡ []
+  pub keeps_new : (n : Branch) (b : Branch-F Branch) (k c : Key) (x w : Branch) (box : Box Branch) → standing x ≡ []
       → cow_str_bytes c.name ≡ cow_str_bytes k.name → (IsBorrowedStr k.name → IsBorrowedStr c.name) → (IsBorrowedStr c.name → IsBorrowedStr k.name) → box_value box ≡ w
-      → b.entries.items ≡ entries n → b.values ≡ (out-Node n).values → b.tables.entries ≡ insert_entry key_cmp (out-Node n).tables.entries c box
-      → IsFrom text ps (key_written k) → Keeps text ps x w (Ok tt) → AreRight text ps (standing n) → AreRight text ps (standing (roll-Node b))
+      → b.entries.items ≡ entries n → b.values ≡ (out-Branch n).values → b.tables.entries ≡ insert_entry key_cmp (out-Branch n).tables.entries c box
+      → IsFrom text ps (key_written k) → Keeps text ps x w (Ok tt) → AreRight text ps (standing n) → AreRight text ps (standing (roll-Branch b))
   keeps_new n b k c x w box bare same forth back holds items values inserted key keep h =
       let inside = of_node text ps n h in
       let made : AreRight text ps (standing w) = keep (rw bare tt) in
       node_of text ps b (rw values inside.0)
-      (rw inserted (box_insert text ps c box (out-Node n).tables.entries (clone_named k c same forth back key) (rw holds made) inside.1)) (rw items inside.2)
+      (rw inserted (box_insert text ps c box (out-Branch n).tables.entries (clone_named k c same forth back key) (rw holds made) inside.1)) (rw items inside.2)
 
-  pub keeps_value : (n : Node) (b : Node-F Node) (k : Key) (v : Value) → lookup_entry (is_named (cow_str_bytes k.name)) (out-Node n).values.entries ≡ None
-      → b.tables ≡ (out-Node n).tables → b.entries.items ≡ entries n → b.values.entries ≡ insert_entry key_cmp (out-Node n).values.entries k v
-      → IsFrom text ps (key_written k) → AreRight text ps (value_standing v) → AreRight text ps (standing n) → AreRight text ps (standing (roll-Node b))
+  pub keeps_value : (n : Branch) (b : Branch-F Branch) (k : Key) (v : Value) → lookup_entry (is_named (cow_str_bytes k.name)) (out-Branch n).values.entries ≡ None
+      → b.tables ≡ (out-Branch n).tables → b.entries.items ≡ entries n → b.values.entries ≡ insert_entry key_cmp (out-Branch n).values.entries k v
+      → IsFrom text ps (key_written k) → AreRight text ps (value_standing v) → AreRight text ps (standing n) → AreRight text ps (standing (roll-Branch b))
   keeps_value n b k v free tables items inserted key right h =
       let inside = of_node text ps n h in
-      node_of text ps b (rw inserted (insert_new text ps k v (out-Node n).values.entries free (from_key k key) right inside.0)) (rw tables inside.1) (rw items inside.2)
+      node_of text ps b (rw inserted (insert_new text ps k v (out-Branch n).values.entries free (from_key k key) right inside.0)) (rw tables inside.1) (rw items inside.2)
 
   -- ---- entries
 
-  abbrev Right : List Node → Type 0
+  abbrev Right : List Branch → Type 0
   Right ns = AreRight text ps (entries_of ns)
 
-  entry_at : (m : ℕ) (ns : List Node) (x : Node) → m < length ns → x ≡ get_or ns m x → Right ns → AreRight text ps (standing x)
+  entry_at : (m : ℕ) (ns : List Branch) (x : Branch) → m < length ns → x ≡ get_or ns m x → Right ns → AreRight text ps (standing x)
   entry_at m [] x within is h = absurd (omega arith)
   entry_at zero (n ∷ ns) x within is h = subst (λ y. AreRight text ps (standing y)) (sym is) (all_front (IsRight text ps) (standing n) (entries_of ns) h)
   entry_at (suc m) (n ∷ ns) x within is h = entry_at m ns x (omega arith) is (all_behind (IsRight text ps) (standing n) (entries_of ns) h)
 
-  entries_set : (m : ℕ) (ns : List Node) (w : Node) → AreRight text ps (standing w) → Right ns → Right (set ns m w)
+  entries_set : (m : ℕ) (ns : List Branch) (w : Branch) → AreRight text ps (standing w) → Right ns → Right (set ns m w)
   entries_set m [] w right h = h
   entries_set zero (n ∷ ns) w right h = all_append (IsRight text ps) (standing w) (entries_of ns) right (all_behind (IsRight text ps) (standing n) (entries_of ns) h)
   entries_set (suc m) (n ∷ ns) w right h =
       all_append (IsRight text ps) (standing n) (entries_of (set ns m w)) (all_front (IsRight text ps) (standing n) (entries_of ns) h)
       (entries_set m ns w right (all_behind (IsRight text ps) (standing n) (entries_of ns) h))
 
-  entries_push : (ns : List Node) (w : Node) → AreRight text ps (standing w) → Right ns → Right (ns ++ (w ∷ []))
+  entries_push : (ns : List Branch) (w : Branch) → AreRight text ps (standing w) → Right ns → Right (ns ++ (w ∷ []))
   entries_push [] w right h = all_append (IsRight text ps) (standing w) [] right tt
   entries_push (n ∷ ns) w right h =
       all_append (IsRight text ps) (standing n) (entries_of (ns ++ (w ∷ []))) (all_front (IsRight text ps) (standing n) (entries_of ns) h)
       (entries_push ns w right (all_behind (IsRight text ps) (standing n) (entries_of ns) h))
 
-  pub keeps_entry : (n : Node) (b : Node-F Node) (m : ℕ) (x w : Node) (r : Result (Unit {0}) Halt) → b.values ≡ (out-Node n).values → b.tables ≡ (out-Node n).tables
-      → b.entries.items ≡ set (entries n) m w → m < length (entries n) → x ≡ get_or (entries n) m x → Keeps text ps x w r → Keeps text ps n (roll-Node b) r
+  pub keeps_entry : (n : Branch) (b : Branch-F Branch) (m : ℕ) (x w : Branch) (r : Result (Unit {0}) Halt) → b.values ≡ (out-Branch n).values → b.tables ≡ (out-Branch n).tables
+      → b.entries.items ≡ set (entries n) m w → m < length (entries n) → x ≡ get_or (entries n) m x → Keeps text ps x w r → Keeps text ps n (roll-Branch b) r
   keeps_entry n b m x w r values tables items within is keep h =
       let inside = of_node text ps n h in
-      ok_map r (AreRight text ps (standing w)) (AreRight text ps (standing (roll-Node b)))
+      ok_map r (AreRight text ps (standing w)) (AreRight text ps (standing (roll-Branch b)))
       (λ made. node_of text ps b (rw values inside.0) (rw tables inside.1) (rw items (entries_set m (entries n) w made inside.2)))
       (keep (entry_at m (entries n) x within is inside.2))
 
-  pub keeps_pushed : (n : Node) (b : Node-F Node) (x w : Node) → standing x ≡ [] → b.values ≡ (out-Node n).values → b.tables ≡ (out-Node n).tables → b.entries.items ≡ entries n ++ (w ∷ [])
-      → Keeps text ps x w (Ok tt) → AreRight text ps (standing n) → AreRight text ps (standing (roll-Node b))
+  pub keeps_pushed : (n : Branch) (b : Branch-F Branch) (x w : Branch) → standing x ≡ [] → b.values ≡ (out-Branch n).values → b.tables ≡ (out-Branch n).tables → b.entries.items ≡ entries n ++ (w ∷ [])
+      → Keeps text ps x w (Ok tt) → AreRight text ps (standing n) → AreRight text ps (standing (roll-Branch b))
   keeps_pushed n b x w bare values tables items keep h =
       let inside = of_node text ps n h in
       let made : AreRight text ps (standing w) = keep (rw bare tt) in

@@ -29,10 +29,10 @@ use Rattle.toml_span_claims.specs.Borrowed.{AreRight}
 use Rattle.toml_span_claims.specs.declared.claims.Clash.{Clash}
 use Rattle.toml_span_claims.specs.declared.claims.Halt.{Halt}
 use Rattle.toml_span_claims.specs.declared.claims.Halt.TheVariants as halts
-use Rattle.toml_span_claims.specs.declared.node.Node.{Node}
+use Rattle.toml_span_claims.specs.declared.branch.Branch.{Branch}
 use Rattle.toml_span_claims.specs.Claims.{claims}
 use Rattle.toml_span_claims.specs.Clashes.{TellsFirst}
-use Rattle.toml_span_claims.specs.code.Machine.{told_by}
+use Rattle.toml_span_claims.specs.code.Machine.{clash_told}
 use Rattle.toml_span_claims.specs.code.Marks.{IsHaltInside}
 use Rattle.toml_span_claims.specs.Ordered.{HoldsOrdered}
 use Rattle.toml_span_claims.specs.code.Placing.{AreSections, Assembles, ShowsBelow}
@@ -42,23 +42,23 @@ use Rattle.toml_span_assembly.specs.code.Growing.{GrownGives, GrownRight, Grows,
 use Rattle.toml_span_assembly.proofs.Refusals.{first-headed, some_part}
 use Rattle.toml_span_assembly.proofs.Assembly.{remaining-first, remaining-next, assembles-err, assembles-ok}
 
-pub grows-none : (root : Node) → IsFresh root → GrowsTo [] root None
+pub grows-none : (root : Branch) → IsFresh root → GrowsTo [] root None
 grows-none root fresh rest headed = remaining-first rest rest root refl headed fresh
 
-pub grows-more : (bs : List Block) (b : Block) (root new : Node) (o : Option Clash) → is_some o ≡ false → AreSections (b ∷ []) → GrowsTo bs root o → Placed b root new (Ok tt) → GrowsTo (bs ++ (b ∷ [])) new o
+pub grows-more : (bs : List Block) (b : Block) (root new : Branch) (o : Option Clash) → is_some o ≡ false → AreSections (b ∷ []) → GrowsTo bs root o → Placed b root new (Ok tt) → GrowsTo (bs ++ (b ∷ [])) new o
 grows-more bs b root new (Some c) none headed grows placed = absurd (false≢true (sym none))
 grows-more bs b root new None none headed grows placed = λ rest are.
     subst (λ all. Remaining all rest new) (sym (append_assoc bs (b ∷ []) rest))
     (remaining-next (bs ++ (b ∷ rest)) (b ∷ rest) rest b root new refl (grows (b ∷ rest) (headed.0, are)) placed)
 
-pub grows-clash : (bs : List Block) (b : Block) (root new : Node) (o : Option Clash) (halt : Halt) (c : Clash) → is_some o ≡ false → halt ≡ halts.Clash c → AreSections (b ∷ []) → GrowsTo bs root o
+pub grows-clash : (bs : List Block) (b : Block) (root new : Branch) (o : Option Clash) (halt : Halt) (c : Clash) → is_some o ≡ false → halt ≡ halts.Clash c → AreSections (b ∷ []) → GrowsTo bs root o
     → Placed b root new (Err halt) → GrowsTo (bs ++ (b ∷ [])) new (Some c)
 grows-clash bs b root new (Some d) halt c none is headed grows placed = absurd (false≢true (sym none))
 grows-clash bs b root new None halt c none is headed grows placed = λ rest are.
-    subst (λ all. TellsFirst [] (claims all) (told_by c)) (sym (append_assoc bs (b ∷ []) rest))
+    subst (λ all. TellsFirst [] (claims all) (clash_told c)) (sym (append_assoc bs (b ∷ []) rest))
     (assembles-err (bs ++ (b ∷ rest)) (b ∷ rest) rest 0 b root new (Err (halts.Clash c)) (halts.Clash c) refl (grows (b ∷ rest) (headed.0, are)) refl (rw is at placed))
 
-pub right-more : (text : List ℕ) (ps : List Part) (root new : Node) (o : Option Clash) → is_some o ≡ false → IfNone o (AreRight text ps (standing root)) → (AreRight text ps (standing root) → AreRight text ps (standing new))
+pub right-more : (text : List ℕ) (ps : List Part) (root new : Branch) (o : Option Clash) → is_some o ≡ false → IfNone o (AreRight text ps (standing root)) → (AreRight text ps (standing root) → AreRight text ps (standing new))
     → IfNone o (AreRight text ps (standing new))
 right-more text ps root new None none right keeps = keeps right
 right-more text ps root new (Some c) none right keeps = tt
@@ -66,14 +66,14 @@ right-more text ps root new (Some c) none right keeps = tt
 pub halt-inside : (n : ℕ) (halt : Halt) (c : Clash) → halt ≡ halts.Clash c → IsHaltInside n halt → IsInside n c.meeting.place
 halt-inside n halt c is inside = rw is at inside
 
-pub finish-tree : (bs : List Block) (length : ℕ) (t : BTreeMap Key Value) (root : Node) (v : Value) → GrowsTo bs root None
+pub finish-tree : (bs : List Block) (length : ℕ) (t : BTreeMap Key Value) (root : Branch) (v : Value) → GrowsTo bs root None
     → (IsScope root → ShowsBelow (inner_view (table_inner t)) (cells root) × HoldsOrdered (inner_view (table_inner t))) → view v ≡ node (inner_view (table_inner t)) (record { start = 0; end = length })
     → Assembles bs length (Ok v)
 finish-tree bs length t root v grows finished shows =
     assembles-ok bs [] length t root v refl (subst (λ all. Remaining all [] root) (append-nil bs) (grows [] tt)) finished shows
 
-pub finish-clash : (bs : List Block) (length : ℕ) (root : Node) (c : Clash) → GrowsTo bs root (Some c) → Assembles bs length (Err (halts.Clash c))
-finish-clash bs length root c grows = subst (λ all. TellsFirst [] (claims all) (told_by c)) (append-nil bs) (grows [] tt)
+pub finish-clash : (bs : List Block) (length : ℕ) (root : Branch) (c : Clash) → GrowsTo bs root (Some c) → Assembles bs length (Err (halts.Clash c))
+finish-clash bs length root c grows = subst (λ all. TellsFirst [] (claims all) (clash_told c)) (append-nil bs) (grows [] tt)
 
 -- ---- while a text is read
 

@@ -15,12 +15,12 @@ use Rattle.toml_span_claims.specs.declared.claims.Meeting.{Meeting}
 use Rattle.toml_span_claims.specs.declared.claims.Mark.{Mark}
 use Rattle.toml_span_claims.specs.declared.claims.Sort.{Sort}
 use Rattle.toml_span_claims.specs.declared.claims.Sort.TheVariants.{ArrayOfTables, Assigned, Dotted, Entry, Passed, Section}
-use Rattle.toml_span_claims.specs.declared.node.Node.{Node}
-use Rattle.toml_span_claims.specs.declared.node.Node.TheViews.{out-Node, roll-Node}
-use Rattle.toml_span_claims.specs.declared.node.Node.TheOpen.{Node-F}
+use Rattle.toml_span_claims.specs.declared.branch.Branch.{Branch}
+use Rattle.toml_span_claims.specs.declared.branch.Branch.TheViews.{out-Branch, roll-Branch}
+use Rattle.toml_span_claims.specs.declared.branch.Branch.TheOpen.{Branch-F}
 use Rattle.toml_span_claims.specs.declared.claims.Head.{Head}
 use Rattle.toml_span_claims.specs.Claims.{Claims, array_claims, claimed, header_mark, table_claim}
-use Rattle.toml_span_claims.specs.Clashes.{Told, blame, meeting, named, or_else, partner}
+use Rattle.toml_span_claims.specs.Clashes.{NamedClash, blame, meeting, named, or_else, partner}
 use Rattle.toml_span_claims.specs.code.Machine.{Gives, met}
 use Rattle.toml_span_claims.specs.code.Marks.{remember}
 use Rattle.toml_span_claims.specs.code.Placing.{Opening, Opens, Passes, Places, Reaches}
@@ -39,7 +39,7 @@ length-none (x ∷ xs) h = absurd (omega (arith, h))
 
 -- ---- what clashes
 
-free-first : (o : Option Blame) (f : Blame → Meeting) (g : Meeting → Told) (p : Option Meeting) → option_map g (or_else (option_map f o) p) ≡ None → o ≡ None
+free-first : (o : Option Blame) (f : Blame → Meeting) (g : Meeting → NamedClash) (p : Option Meeting) → option_map g (or_else (option_map f o) p) ≡ None → o ≡ None
 free-first None f g p h = refl
 free-first (Some b) f g p h = absurd (none-some (g (f b)) (sym h))
 
@@ -48,27 +48,27 @@ met-first : (x m : Mark) (ms : List Mark) (name : List ℕ) → met (x ∷ ms) m
 met-first x m ms name h = free-first (blame x.sort m.sort) (meeting x m) (named name) (partner ms m) h
 
 -- a section claims no array
-section-table : (n : Node) (m : Mark) (name : List ℕ) → m.sort ≡ Section → Sound n → met (marks n) m name ≡ None → entries n ≡ []
+section-table : (n : Branch) (m : Mark) (name : List ℕ) → m.sort ≡ Section → Sound n → met (marks n) m name ≡ None → entries n ≡ []
 section-table n m name is h free = go (entries n) (sound-shape n h)
   where
-    go : (xs : List Node) → IsTableOrArray n xs → xs ≡ []
+    go : (xs : List Branch) → IsTableOrArray n xs → xs ≡ []
     go [] shape = refl
     go (x ∷ xs) array =
         let known : met (array.claim ∷ []) m name ≡ None = ap (λ l. met l m name) (sym array.only) ∙ free in
         let clash : blame ArrayOfTables Section ≡ None = ap (λ s. blame s Section) (sym array.array) ∙ ap (blame array.claim.sort) (sym is) ∙ met-first array.claim m [] name known in
-        absurd (none-some blames.Table (sym clash))
+        absurd (none-some blames.DuplicateTable (sym clash))
 
 -- every claim on a table at a name clashes with that of an array
 table-clashes : (s : Sort) → is_array_sort s ≡ false → is_entry_sort s ≡ false → blame s ArrayOfTables ≡ None → ⊥
-table-clashes Passed array entry h = none-some blames.Array (sym h)
-table-clashes Section array entry h = none-some blames.Table (sym h)
+table-clashes Passed array entry h = none-some blames.RedefineAsArray (sym h)
+table-clashes Section array entry h = none-some blames.DuplicateTable (sym h)
 table-clashes ArrayOfTables array entry h = true≢false array
 table-clashes Entry array entry h = true≢false entry
-table-clashes Dotted array entry h = none-some blames.Key (sym h)
-table-clashes Assigned array entry h = none-some blames.Key (sym h)
+table-clashes Dotted array entry h = none-some blames.DuplicateKey (sym h)
+table-clashes Assigned array entry h = none-some blames.DuplicateKey (sym h)
 
 -- so what is claimed as an array is fresh
-array-fresh : (n : Node) (m : Mark) (name : List ℕ) → m.sort ≡ ArrayOfTables → entries n ≡ [] → IsChild n → met (marks n) m name ≡ None → IsFresh n
+array-fresh : (n : Branch) (m : Mark) (name : List ℕ) → m.sort ≡ ArrayOfTables → entries n ≡ [] → IsChild n → met (marks n) m name ≡ None → IsFresh n
 array-fresh n m name is none h free =
     elim h.1 [
       | inl fresh ↦ fresh
@@ -82,7 +82,7 @@ array-fresh n m name is none h free =
 -- ---- a table is claimed, and assignments are placed below it
 
 -- what is placed behind the claim on a table
-opened : (A : Node → Type 0) (k : Part) (m : Mark) (old mid new : Node) (r : Result (Unit {0}) Halt) (cs : (Path → ℕ) → Claims) (d : (Path → ℕ) → Path → ℕ)
+opened : (A : Branch → Type 0) (k : Part) (m : Mark) (old mid new : Branch) (r : Result (Unit {0}) Halt) (cs : (Path → ℕ) → Claims) (d : (Path → ℕ) → Path → ℕ)
     → met (marks old) m k.name ≡ None → Marked m old mid → (A old → IsScope mid) → Places mid new r (cs (counts mid)) (d (counts mid))
     → Opening A m old new r (claimed (table_claim [] k m) (cs (counts old))) (d (counts old))
 opened A k m old mid new r cs d free h scope placed =
@@ -91,36 +91,36 @@ opened A k m old mid new r cs d free h scope placed =
     (subst (λ f. Reaches (λ n. IsScope n × (marks n ≡ remember (marks old) m)) (λ n. IsScope n × (marks n ≡ remember (marks old) m)) mid new r (cs f) (d f)) (counts-marked m old mid h)
     (λ before. gives-map r _ _ _ _ refl (λ u g. (g.0, g.1, (g.2.0, g.2.1 ∙ h.claims))) (placed before.0)))
 
-opens-scope : (sort : Sort) (n : Node) (m : Mark) (name : List ℕ) → m.sort ≡ sort → Opens sort n → met (marks n) m name ≡ None → IsScope n
+opens-scope : (sort : Sort) (n : Branch) (m : Mark) (name : List ℕ) → m.sort ≡ sort → Opens sort n → met (marks n) m name ≡ None → IsScope n
 opens-scope sort n m name is h free =
     elim h.1 [
       | inl section ↦ (h.0, section-table n m name (is ∙ section) h.0 free)
       | inr entry ↦ (h.0, entry.1)
     ]
 
-opens-table : (sort : Sort) (n : Node) → Opens sort n → is_array_sort sort ≡ false
+opens-table : (sort : Sort) (n : Branch) → Opens sort n → is_array_sort sort ≡ false
 opens-table sort n h = elim h.1 [ inl section ↦ ap is_array_sort section | inr entry ↦ ap is_array_sort entry.0 ]
 
 -- a node that is claimed at a name
-held-claimed : (m : Mark) (n new : Node) → is_entry_sort m.sort ≡ false → IsChild n → marks new ≡ remember (marks n) m → IsNamed (marks new)
+held-claimed : (m : Mark) (n new : Branch) → is_entry_sort m.sort ≡ false → IsChild n → marks new ≡ remember (marks n) m → IsNamed (marks new)
 held-claimed m n new other h claims =
     subst IsNamed (sym claims) (elim h.1 [ inl fresh ↦ named-fresh (marks n) m other fresh.no_marks | inr before ↦ named-remember (marks n) m other before ])
 
 module _ (h : Head) (k : Part) where
-  pub opened-table : (sort : Sort) (tail : Claims) (old mid new : Node) (r : Result (Unit {0}) Halt) → met (marks old) (header_mark h sort k.span) k.name ≡ None → Marked (header_mark h sort k.span) old mid
+  pub opened-table : (sort : Sort) (tail : Claims) (old mid new : Branch) (r : Result (Unit {0}) Halt) → met (marks old) (header_mark h sort k.span) k.name ≡ None → Marked (header_mark h sort k.span) old mid
       → Places mid new r tail (counts mid) → Opening (Opens sort) (header_mark h sort k.span) old new r (opening h sort k tail) (counts old)
   opened-table sort tail old mid new r free claims placed before =
       let scope = scope-marked (header_mark h sort k.span) old mid (opens-table sort old before) claims (opens-scope sort old (header_mark h sort k.span) k.name refl before free) in
       opened (Opens sort) k (header_mark h sort k.span) old mid new r (λ f. tail) (λ f. f) free claims (λ start. scope) placed before
 
-  pub opened-table-err : (sort : Sort) (tail : Claims) (old new : Node) (q : Result (Unit {0}) Halt) (e : Halt) (P : Unit {0} → Type 0) (d : Path → ℕ) → q ≡ Err e
+  pub opened-table-err : (sort : Sort) (tail : Claims) (old new : Branch) (q : Result (Unit {0}) Halt) (e : Halt) (P : Unit {0} → Type 0) (d : Path → ℕ) → q ≡ Err e
       → Gives (Err e) (met (marks old) (header_mark h sort k.span) k.name) P → Opening (Opens sort) (header_mark h sort k.span) old new q (opening h sort k tail) d
   opened-table-err sort tail old new q e P d same clash =
       reaches-claim-err (Opens sort) (λ n. IsScope n × (marks n ≡ remember (marks old) (header_mark h sort k.span))) k (header_mark h sort k.span) old new q e P tail d same clash
 
   -- ---- the end of a header
 
-  first-open : (old mid : Node) → entries old ≡ [] → met (marks old) (header_mark h ArrayOfTables k.span) k.name ≡ None → Marked (header_mark h ArrayOfTables k.span) old mid → IsChild old → IsOpen mid
+  first-open : (old mid : Branch) → entries old ≡ [] → met (marks old) (header_mark h ArrayOfTables k.span) k.name ≡ None → Marked (header_mark h ArrayOfTables k.span) old mid → IsChild old → IsOpen mid
   first-open old mid none free claims before = record {
     array = record {
       claim = header_mark h ArrayOfTables k.span;
@@ -136,11 +136,11 @@ module _ (h : Head) (k : Part) where
       fresh : IsFresh old
       fresh = array-fresh old (header_mark h ArrayOfTables k.span) k.name refl none before free
 
-      no_entry : (i : ℕ) (c : Node) → item i (entries mid) ≡ Some c → ⊥
+      no_entry : (i : ℕ) (c : Branch) → item i (entries mid) ≡ Some c → ⊥
       no_entry i c found = none-some c (sym (ap (item i) (claims.added ∙ none)) ∙ found)
 
   module _ (tail : Claims) where
-    pub end-table : (old new : Node) (r : Result (Unit {0}) Halt) → h.array ≡ false → Opening (Opens Section) (header_mark h Section k.span) old new r (opening h Section k tail) (counts old)
+    pub end-table : (old new : Branch) (r : Result (Unit {0}) Halt) → h.array ≡ false → Opening (Opens Section) (header_mark h Section k.span) old new r (opening h Section k tail) (counts old)
         → Passes old new r (ending h k tail (counts old [])) (grown_here (counts old) h)
     end-table old new r is placed =
         let claims : ending h k tail (counts old []) ≡ opening h Section k tail = rw is refl in
@@ -149,19 +149,19 @@ module _ (h : Head) (k : Part) where
         (subst (λ c. Passes old new r (opening h Section k tail) c) (sym count)
         (λ before. gives-map r _ _ _ _ refl (λ u g. (g.0, g.1, (g.2.0.0, held-claimed (header_mark h Section k.span) old new refl before g.2.1))) (placed (before.0, inl refl))))
 
-    array-ending : (old : Node) → h.array ≡ true → ending h k tail (counts old []) ≡ array_claims h [] k (counts old []) (adding h k tail (counts old []))
+    array-ending : (old : Branch) → h.array ≡ true → ending h k tail (counts old []) ≡ array_claims h [] k (counts old []) (adding h k tail (counts old []))
     array-ending old is = rw is refl
 
-    array-grown : (old : Node) → h.array ≡ true → grown_here (counts old) h ≡ one_more (counts old)
+    array-grown : (old : Branch) → h.array ≡ true → grown_here (counts old) h ≡ one_more (counts old)
     array-grown old is = fun_ext (λ p. rw is refl)
 
-    array-first : (old : Node) → h.array ≡ true → entries old ≡ [] → ending h k tail (counts old []) ≡ claimed (table_claim [] k (header_mark h ArrayOfTables k.span)) (adding h k tail (counts old []))
+    array-first : (old : Branch) → h.array ≡ true → entries old ≡ [] → ending h k tail (counts old []) ≡ claimed (table_claim [] k (header_mark h ArrayOfTables k.span)) (adding h k tail (counts old []))
     array-first old is none =
         let zeros : counts old [] ≡ 0 = counts-here old ∙ ap length none in
         array-ending old is ∙ rw zeros refl
 
     -- with the first entry of an array
-    pub end-first : (old mid new : Node) (r : Result (Unit {0}) Halt) → h.array ≡ true → entries old ≡ [] → met (marks old) (header_mark h ArrayOfTables k.span) k.name ≡ None
+    pub end-first : (old mid new : Branch) (r : Result (Unit {0}) Halt) → h.array ≡ true → entries old ≡ [] → met (marks old) (header_mark h ArrayOfTables k.span) k.name ≡ None
         → Marked (header_mark h ArrayOfTables k.span) old mid → Reaches IsOpen IsHeld mid new r (adding h k tail (counts mid [])) (one_more (counts mid))
         → Passes old new r (ending h k tail (counts old [])) (grown_here (counts old) h)
     end-first old mid new r is none free claims placed =
@@ -171,14 +171,14 @@ module _ (h : Head) (k : Part) where
         (reaches-claimed IsChild IsOpen IsHeld k m old mid new r (adding h k tail (counts old [])) (one_more (counts old)) free claims (first-open old mid none free claims)
         (subst (λ f. Reaches IsOpen IsHeld mid new r (adding h k tail (f [])) (one_more f)) (counts-marked m old mid claims) placed)))
 
-    pub end-first-err : (old new : Node) (q : Result (Unit {0}) Halt) (e : Halt) (P : Unit {0} → Type 0) (d : Path → ℕ) → h.array ≡ true → entries old ≡ [] → q ≡ Err e
+    pub end-first-err : (old new : Branch) (q : Result (Unit {0}) Halt) (e : Halt) (P : Unit {0} → Type 0) (d : Path → ℕ) → h.array ≡ true → entries old ≡ [] → q ≡ Err e
         → Gives (Err e) (met (marks old) (header_mark h ArrayOfTables k.span) k.name) P → Passes old new q (ending h k tail (counts old [])) d
     end-first-err old new q e P d is none same clash =
         subst (λ l. Passes old new q l d) (sym (array-first old is none))
         (reaches-claim-err IsChild IsHeld k (header_mark h ArrayOfTables k.span) old new q e P (adding h k tail (counts old [])) d same clash)
 
     -- with a further one
-    pub end-further : (old new : Node) (r : Result (Unit {0}) Halt) → h.array ≡ true → (entries old ≡ [] → ⊥) → Reaches IsOpen IsHeld old new r (adding h k tail (counts old [])) (one_more (counts old))
+    pub end-further : (old new : Branch) (r : Result (Unit {0}) Halt) → h.array ≡ true → (entries old ≡ [] → ⊥) → Reaches IsOpen IsHeld old new r (adding h k tail (counts old [])) (one_more (counts old))
         → Passes old new r (ending h k tail (counts old [])) (grown_here (counts old) h)
     end-further old new r is some placed =
         subst (λ l. Passes old new r l (grown_here (counts old) h)) (sym (array-ending old is ∙ further (counts old []) (counts-some old some)))
@@ -189,30 +189,30 @@ module _ (h : Head) (k : Part) where
         further zero some = absurd (some refl)
         further (suc n) some = refl
 
-        opens : (xs : List Node) → entries old ≡ xs → Sound old → IsOpen old
+        opens : (xs : List Branch) → entries old ≡ xs → Sound old → IsOpen old
         opens [] is sure = absurd (some is)
         opens (x ∷ xs) is sure = open-array old 0 x (ap (item 0) is) sure
 
-        counts-some : (n : Node) → (entries n ≡ [] → ⊥) → counts n [] ≡ 0 → ⊥
+        counts-some : (n : Branch) → (entries n ≡ [] → ⊥) → counts n [] ≡ 0 → ⊥
         counts-some n some zeros = some (length-none (entries n) (sym (counts-here n) ∙ zeros))
 
     -- ---- the inner parts of a header
 
     module _ (rest : List Part) where
-      pub descended : (old mid new : Node) (r : Result (Unit {0}) Halt) → met (marks old) (header_mark h Passed k.span) k.name ≡ None → Marked (header_mark h Passed k.span) old mid
+      pub descended : (old mid new : Branch) (r : Result (Unit {0}) Halt) → met (marks old) (header_mark h Passed k.span) k.name ≡ None → Marked (header_mark h Passed k.span) old mid
           → Places mid new r (section_at (counts mid) h rest tail) (grown (counts mid) h rest)
           → Opening IsScope (header_mark h Passed k.span) old new r (passing h k rest tail (counts old)) (grown (counts old) h rest)
       descended old mid new r free claims placed =
           opened IsScope k (header_mark h Passed k.span) old mid new r (λ f. section_at f h rest tail) (λ f. grown f h rest) free claims
           (scope-marked (header_mark h Passed k.span) old mid refl claims) placed
 
-      pub descended-err : (old new : Node) (q : Result (Unit {0}) Halt) (e : Halt) (P : Unit {0} → Type 0) (c d : Path → ℕ) → q ≡ Err e
+      pub descended-err : (old new : Branch) (q : Result (Unit {0}) Halt) (e : Halt) (P : Unit {0} → Type 0) (c d : Path → ℕ) → q ≡ Err e
           → Gives (Err e) (met (marks old) (header_mark h Passed k.span) k.name) P → Opening IsScope (header_mark h Passed k.span) old new q (passing h k rest tail c) d
       descended-err old new q e P c d same clash =
           reaches-claim-err IsScope (λ n. IsScope n × (marks n ≡ remember (marks old) (header_mark h Passed k.span))) k (header_mark h Passed k.span) old new q e P (section_at c h rest tail) d same clash
 
     -- into the latest entry
-    pub pass-latest : (rest : List Part) (m : ℕ) (n new x w : Node) (r : Result (Unit {0}) Halt) → (rest ≡ [] → ⊥) → length (entries n) ≡ suc m
+    pub pass-latest : (rest : List Part) (m : ℕ) (n new x w : Branch) (r : Result (Unit {0}) Halt) → (rest ≡ [] → ⊥) → length (entries n) ≡ suc m
         → item m (entries n) ≡ Some x → PutsEntry m w n new → length (entries new) ≡ length (entries n)
         → Opening IsScope (header_mark h Passed k.span) x w r (passing h k rest tail (counts x)) (grown (counts x) h rest)
         → Passes n new r (through (counts n) h k rest tail) (grown_through (counts n) h rest)
@@ -223,7 +223,7 @@ module _ (h : Head) (k : Part) where
         (reaches-entry (header_mark h Passed k.span) m n new x w r (passing h k (l ∷ more) tail) (λ f. grown f h (l ∷ more)) found puts lengths placed)
 
     -- or on from the node itself
-    pub pass-here : (rest : List Part) (n new : Node) (r : Result (Unit {0}) Halt) → (rest ≡ [] → ⊥) → entries n ≡ []
+    pub pass-here : (rest : List Part) (n new : Branch) (r : Result (Unit {0}) Halt) → (rest ≡ [] → ⊥) → entries n ≡ []
         → Opening IsScope (header_mark h Passed k.span) n new r (passing h k rest tail (counts n)) (grown (counts n) h rest)
         → Passes n new r (through (counts n) h k rest tail) (grown_through (counts n) h rest)
     pass-here [] n new r some none placed = absurd (some refl)
@@ -248,7 +248,7 @@ module _ (h : Head) (k : Part) where
     through-first (l ∷ more) e none = rw none refl
 
     -- what clashes with a value of the name
-    pub section-beside : (rest : List Part) (n new : Node) (q : Result (Unit {0}) Halt) (e : Halt) (P : Unit {0} → Type 0) (d : Path → ℕ)
+    pub section-beside : (rest : List Part) (n new : Branch) (q : Result (Unit {0}) Halt) (e : Halt) (P : Unit {0} → Type 0) (d : Path → ℕ)
         → child k.name n ≡ None → q ≡ Err e → Gives (Err e) (met (closed_marks (closed k.name n)) (header_mark h (part_sort h rest) k.span) k.name) P
         → Places n new q (section_at (counts n) h (k ∷ rest) tail) d
     section-beside rest n new q e P d missing same clash =
@@ -256,7 +256,7 @@ module _ (h : Head) (k : Part) where
         (places-beside n new k.name q e (table_claim [] k (header_mark h (part_sort h rest) k.span)) (behind_first (λ p. counts n (key k.name ∷ p)) rest) P d missing refl same clash)
 
     -- where nothing clashes no value stands there
-    pub section-free : (rest : List Part) (n : Node) → met (closed_marks (closed k.name n)) (header_mark h (part_sort h rest) k.span) k.name ≡ None → closed k.name n ≡ None
+    pub section-free : (rest : List Part) (n : Branch) → met (closed_marks (closed k.name n)) (header_mark h (part_sort h rest) k.span) k.name ≡ None → closed k.name n ≡ None
     section-free rest n free = unclosed (closed k.name n) (header_mark h (part_sort h rest) k.span) k.name free (named rest, tt)
       where
         ends : (b : Bool) → is_entry_sort (if b then ArrayOfTables else Section) ≡ false
@@ -267,20 +267,20 @@ module _ (h : Head) (k : Part) where
         named [] = ends h.array
         named (l ∷ more) = refl
 
-    pub section-found : (rest : List Part) (n new x w : Node) (r : Result (Unit {0}) Halt) → child k.name n ≡ Some x → SetsChild k.name w n new
+    pub section-found : (rest : List Part) (n new x w : Branch) (r : Result (Unit {0}) Halt) → child k.name n ≡ Some x → SetsChild k.name w n new
         → Passes x w r (through (counts x) h k rest tail) (grown_through (counts x) h rest)
         → Places n new r (section_at (counts n) h (k ∷ rest) tail) (grown (counts n) h (k ∷ rest))
     section-found rest n new x w r found sets placed =
         rw (section_at-through, grown-through) (places-found n new x w k.name r (λ f. through f h k rest tail) (λ f. grown_through f h rest) found sets placed)
 
-    pub section-new : (rest : List Part) (n new x w v : Node) → child k.name n ≡ None → closed k.name n ≡ None → IsFresh x → v ≡ w → SetsChild k.name v n new
+    pub section-new : (rest : List Part) (n new x w v : Branch) → child k.name n ≡ None → closed k.name n ≡ None → IsFresh x → v ≡ w → SetsChild k.name v n new
         → Passes x w (Ok tt) (through (counts x) h k rest tail) (grown_through (counts x) h rest)
         → Places n new (Ok tt) (section_at (counts n) h (k ∷ rest) tail) (grown (counts n) h (k ∷ rest))
     section-new rest n new x w v missing free fresh same sets placed =
         rw (section_at-through, grown-through)
         (places-new n new x w k.name (λ f. through f h k rest tail) (λ f. grown_through f h rest) missing free fresh (subst (λ a. SetsChild k.name a n new) same sets) placed)
 
-    pub section-new-err : (rest : List Part) (n new x w : Node) (r q : Result (Unit {0}) Halt) (e : Halt) (d : Path → ℕ) → child k.name n ≡ None → closed k.name n ≡ None → IsFresh x
+    pub section-new-err : (rest : List Part) (n new x w : Branch) (r q : Result (Unit {0}) Halt) (e : Halt) (d : Path → ℕ) → child k.name n ≡ None → closed k.name n ≡ None → IsFresh x
         → r ≡ Err e → q ≡ Err e → Passes x w r (through (counts x) h k rest tail) (grown_through (counts x) h rest)
         → Places n new q (section_at (counts n) h (k ∷ rest) tail) d
     section-new-err rest n new x w r q e d missing free fresh is same placed =
@@ -288,14 +288,14 @@ module _ (h : Head) (k : Part) where
 
 -- ---- lists of the code
 
-pub no-entries : (n : Node) → (vec_len (out-Node n).entries == 0) ≡ true → entries n ≡ []
-no-entries n h = length-none (entries n) (omega (arith, eqb-true (vec_len (out-Node n).entries) 0 h, (out-Node n).entries.ok.0))
+pub no-entries : (n : Branch) → (vec_len (out-Branch n).entries == 0) ≡ true → entries n ≡ []
+no-entries n h = length-none (entries n) (omega (arith, eqb-true (vec_len (out-Branch n).entries) 0 h, (out-Branch n).entries.ok.0))
 
-pub some-entries : (n : Node) → (vec_len (out-Node n).entries == 0) ≡ false → entries n ≡ [] → ⊥
-some-entries n h none = eqb-false (vec_len (out-Node n).entries) 0 h (omega (arith, ap length none, (out-Node n).entries.ok.0))
+pub some-entries : (n : Branch) → (vec_len (out-Branch n).entries == 0) ≡ false → entries n ≡ [] → ⊥
+some-entries n h none = eqb-false (vec_len (out-Branch n).entries) 0 h (omega (arith, ap length none, (out-Branch n).entries.ok.0))
 
-pub no-latest : (n : Node) → (0 < vec_len (out-Node n).entries → ⊥) → entries n ≡ []
-no-latest n none = length-none (entries n) (grind (arith, (out-Node n).entries.ok.0, none))
+pub no-latest : (n : Branch) → (0 < vec_len (out-Branch n).entries → ⊥) → entries n ≡ []
+no-latest n none = length-none (entries n) (grind (arith, (out-Branch n).entries.ok.0, none))
 
 pub parts-none : (xs : List Key) → (length xs == 0) ≡ true → map part xs ≡ []
 parts-none [] h = refl
@@ -322,41 +322,41 @@ parts-below (x ∷ xs) h = absurd (omega arith)
 -- ---- the code's nodes
 
 -- at the end of the header
-pub section-end : (h : Head) (tail : Claims) (parts : List Part) (n new : Node) (r : Result (Unit {0}) Halt) → parts ≡ [] → Places n new r tail (counts n)
+pub section-end : (h : Head) (tail : Claims) (parts : List Part) (n new : Branch) (r : Result (Unit {0}) Halt) → parts ≡ [] → Places n new r tail (counts n)
     → Places n new r (section_at (counts n) h parts tail) (grown (counts n) h parts)
 unfolding section_at grown
 section-end h tail parts n new r none placed = subst (λ ps. Places n new r (section_at (counts n) h ps tail) (grown (counts n) h ps)) (sym none) placed
 
-pub pass-end : (h : Head) (k : Part) (tail : Claims) (rest : List Part) (n new : Node) (r : Result (Unit {0}) Halt) → rest ≡ []
+pub pass-end : (h : Head) (k : Part) (tail : Claims) (rest : List Part) (n new : Branch) (r : Result (Unit {0}) Halt) → rest ≡ []
     → Passes n new r (ending h k tail (counts n [])) (grown_here (counts n) h) → Passes n new r (through (counts n) h k rest tail) (grown_through (counts n) h rest)
 pass-end h k tail rest n new r none placed = subst (λ ps. Passes n new r (through (counts n) h k ps tail) (grown_through (counts n) h ps)) (sym none) placed
 
 -- a node with another list of entries
-abbrev pub with_entries : Node → Vec Node Global → Node
-with_entries n xs = roll-Node (record { marks = (out-Node n).marks; values = (out-Node n).values; tables = (out-Node n).tables; entries = xs })
+abbrev pub with_entries : Branch → Vec Branch Global → Branch
+with_entries n xs = roll-Branch (record { marks = (out-Branch n).marks; values = (out-Branch n).values; tables = (out-Branch n).tables; entries = xs })
 
-pub pass-vec : (h : Head) (k : Part) (tail : Claims) (rest : List Part) (n x w : Node) (r : Result (Unit {0}) Halt) → (rest ≡ [] → ⊥)
-    → 0 < vec_len (out-Node n).entries → x ≡ get_or (entries n) (vec_len (out-Node n).entries - 1) x
+pub pass-vec : (h : Head) (k : Part) (tail : Claims) (rest : List Part) (n x w : Branch) (r : Result (Unit {0}) Halt) → (rest ≡ [] → ⊥)
+    → 0 < vec_len (out-Branch n).entries → x ≡ get_or (entries n) (vec_len (out-Branch n).entries - 1) x
     → Opening IsScope (header_mark h Passed k.span) x w r (passing h k rest tail (counts x)) (grown (counts x) h rest)
-    → Passes n (with_entries n (with_item (out-Node n).entries (vec_len (out-Node n).entries - 1) w)) r (through (counts n) h k rest tail) (grown_through (counts n) h rest)
+    → Passes n (with_entries n (with_item (out-Branch n).entries (vec_len (out-Branch n).entries - 1) w)) r (through (counts n) h k rest tail) (grown_through (counts n) h rest)
 pass-vec h k tail rest n x w r some many is placed =
-    let m = vec_len (out-Node n).entries - 1 in
-    let within : m < length (entries n) = omega (arith, (out-Node n).entries.ok.0) in
-    pass-latest h k tail rest m n _ x w r some (omega (arith, (out-Node n).entries.ok.0))
+    let m = vec_len (out-Branch n).entries - 1 in
+    let within : m < length (entries n) = omega (arith, (out-Branch n).entries.ok.0) in
+    pass-latest h k tail rest m n _ x w r some (omega (arith, (out-Branch n).entries.ok.0))
     (item-at (entries n) m x within ∙ ap Some (sym is))
     (puts-set m w n _ refl refl refl within refl)
-    (ap (λ (b : Node-F Node). length b.entries.items) (out-roll _) ∙ length-set (entries n) m w)
+    (ap (λ (b : Branch-F Branch). length b.entries.items) (out-roll _) ∙ length-set (entries n) m w)
     placed
 
-pub pass-again : (h : Head) (k : Part) (tail : Claims) (rest : List Part) (n new : Node) (r : Result (Unit {0}) Halt) → (rest ≡ [] → ⊥) → entries n ≡ []
-    → Opening IsScope (header_mark h Passed k.span) (with_entries n (out-Node n).entries) new r
-    (passing h k rest tail (counts (with_entries n (out-Node n).entries))) (grown (counts (with_entries n (out-Node n).entries)) h rest)
+pub pass-again : (h : Head) (k : Part) (tail : Claims) (rest : List Part) (n new : Branch) (r : Result (Unit {0}) Halt) → (rest ≡ [] → ⊥) → entries n ≡ []
+    → Opening IsScope (header_mark h Passed k.span) (with_entries n (out-Branch n).entries) new r
+    (passing h k rest tail (counts (with_entries n (out-Branch n).entries))) (grown (counts (with_entries n (out-Branch n).entries)) h rest)
     → Passes n new r (through (counts n) h k rest tail) (grown_through (counts n) h rest)
 pass-again h k tail rest n new r some none placed =
     pass-here h k tail rest n new r some none
     (subst (λ a. Opening IsScope (header_mark h Passed k.span) a new r (passing h k rest tail (counts a)) (grown (counts a) h rest)) (roll-out n) placed)
 
 -- the node behind a loan
-pub pass-lent : (h : Head) (k : Part) (tail : Claims) (rest : List Part) (lent n new : Node) (r : Result (Unit {0}) Halt) → lent ≡ n
+pub pass-lent : (h : Head) (k : Part) (tail : Claims) (rest : List Part) (lent n new : Branch) (r : Result (Unit {0}) Halt) → lent ≡ n
     → Passes lent new r (through (counts lent) h k rest tail) (grown_through (counts lent) h rest) → Passes n new r (through (counts n) h k rest tail) (grown_through (counts n) h rest)
 pass-lent h k tail rest lent n new r same placed = subst (λ a. Passes a new r (through (counts a) h k rest tail) (grown_through (counts a) h rest)) same placed

@@ -11,9 +11,9 @@ use Rattle.toml_span_claims.specs.declared.claims.Mark.{Mark}
 use Rattle.toml_span_claims.specs.declared.claims.Meeting.{Meeting}
 use Rattle.toml_span_claims.specs.Paths.{same_path}
 use Rattle.toml_span_claims.specs.Claims.{Claim, Claims, no_claims, claimed, scope}
-use Rattle.toml_span_claims.specs.Clashes.{Told, named, blame, meeting, meets, or_else, partner, clash, IsFree, Resolves, TellsFirst, told_here, told_behind, told_inside, told_after}
+use Rattle.toml_span_claims.specs.Clashes.{NamedClash, named, blame, meeting, meets, or_else, partner, clash, IsFree, Resolves, TellsFirst, told_here, told_behind, told_inside, told_after}
 use Rattle.toml_span_claims.specs.code.Marks.{sort_number, same_sort, remember}
-use Rattle.toml_span_claims.specs.code.Machine.{State, nothing, change, with_claim, show_all, met, told}
+use Rattle.toml_span_claims.specs.code.Machine.{State, nothing, change, with_claim, show_all, met, first_clash}
 use Rattle.toml_span_assembly.proofs.Shown.{show_all-marks}
 
 -- ---- a later claim meets the first one of each sort, and no other
@@ -70,7 +70,7 @@ partner-remember l a b =
 -- ---- what the state keeps of the earlier claims of the scope
 
 -- the clash with the earliest partner
-first_partner : List Claim → Claim → Option Told
+first_partner : List Claim → Claim → Option NamedClash
 first_partner [] later = None
 first_partner (c ∷ earlier) later = or_else (clash c later) (first_partner earlier later)
 
@@ -80,7 +80,7 @@ first_partner-push [] c later = or_none (clash c later)
 first_partner-push (x ∷ earlier) c later =
     ap (or_else (clash x later)) (first_partner-push earlier c later) ∙ sym (assoc (clash x later) (first_partner earlier later) (clash c later))
 
-abbrev met_in : State → Claim → Option Told
+abbrev met_in : State → Claim → Option NamedClash
 met_in st c = met (st c.path).marks c.mark c.name
 
 -- the state knows what the earlier claims say to each later one
@@ -132,16 +132,16 @@ none-free (c ∷ earlier) later none =
       | inr clashes ↦ absurd (none-some clashes.0 (sym (rw clashes.1 at none)))
     ]
 
-partner-found : (before after : List Claim) (c later : Claim) (t : Told) → IsFree before later → clash c later ≡ Some t → first_partner (before ++ (c ∷ after)) later ≡ Some t
+partner-found : (before after : List Claim) (c later : Claim) (t : NamedClash) → IsFree before later → clash c later ≡ Some t → first_partner (before ++ (c ∷ after)) later ≡ Some t
 unfolding first_partner
 partner-found [] after c later t free clashes = rw clashes
 partner-found (x ∷ before) after c later t free clashes = rw (free.0) (partner-found before after c later t free.1 clashes)
 
 -- the earliest partner of a claim
-abbrev IsPartner : List Claim → Claim → Told → Type 0
+abbrev IsPartner : List Claim → Claim → NamedClash → Type 0
 IsPartner earlier later t = (before after : List Claim) × (c : Claim) × (earlier ≡ before ++ (c ∷ after)) × IsFree before later × (clash c later ≡ Some t)
 
-partner-splits : (earlier : List Claim) (later : Claim) (t : Told) → first_partner earlier later ≡ Some t → IsPartner earlier later t
+partner-splits : (earlier : List Claim) (later : Claim) (t : NamedClash) → first_partner earlier later ≡ Some t → IsPartner earlier later t
 unfolding first_partner
 partner-splits [] later t e = absurd (none-some t e)
 partner-splits (c ∷ earlier) later t e =
@@ -152,7 +152,7 @@ partner-splits (c ∷ earlier) later t e =
       | inr clashes ↦ ([], earlier, c, refl, tt, clashes.1 ∙ (rw clashes.1 at e))
     ]
 
-tells-partner : (earlier : List Claim) (later : Claim) (cs : Claims) (t : Told) → first_partner earlier later ≡ Some t → TellsFirst earlier (claimed later cs) t
+tells-partner : (earlier : List Claim) (later : Claim) (cs : Claims) (t : NamedClash) → first_partner earlier later ≡ Some t → TellsFirst earlier (claimed later cs) t
 tells-partner earlier later cs t e =
     let (before, after, c, split, front, clashes) = partner-splits earlier later t e in
     rw split (told_here before after c later cs t front clashes)
@@ -160,53 +160,53 @@ tells-partner earlier later cs t e =
 -- ---- what is told
 
 -- no clash is told where there is none
-abbrev Judges : List Claim → Claims → Option Told → Type 0
+abbrev Judges : List Claim → Claims → Option NamedClash → Type 0
 Judges earlier cs None = Resolves earlier cs
 Judges earlier cs (Some t) = TellsFirst earlier cs t
 
-judges-behind : (earlier : List Claim) (c : Claim) (cs : Claims) (o : Option Told) → IsFree earlier c → Judges (earlier ++ (c ∷ [])) cs o → Judges earlier (claimed c cs) o
+judges-behind : (earlier : List Claim) (c : Claim) (cs : Claims) (o : Option NamedClash) → IsFree earlier c → Judges (earlier ++ (c ∷ [])) cs o → Judges earlier (claimed c cs) o
 judges-behind earlier c cs None free rest = (free, rest)
 judges-behind earlier c cs (Some t) free rest = told_behind earlier c cs t free rest
 
-judges-scope : (earlier : List Claim) (inner cs : Claims) (o p : Option Told) → Judges [] inner o → Judges earlier cs p → Judges earlier (scope inner cs) (or_else o p)
+judges-scope : (earlier : List Claim) (inner cs : Claims) (o p : Option NamedClash) → Judges [] inner o → Judges earlier cs p → Judges earlier (scope inner cs) (or_else o p)
 judges-scope earlier inner cs (Some t) p inside rest = told_inside earlier inner cs t inside
 judges-scope earlier inner cs None None inside rest = (inside, rest)
 judges-scope earlier inner cs None (Some t) inside rest = told_after earlier inner cs t inside rest
 
-told-judges : (st : State) (earlier : List Claim) (cs : Claims) → Keeps st earlier → Judges earlier cs (told st cs)
-unfolding told
+told-judges : (st : State) (earlier : List Claim) (cs : Claims) → Keeps st earlier → Judges earlier cs (first_clash st cs)
+unfolding first_clash
 told-judges st earlier no_claims keeps = tt
 told-judges st earlier (claimed c cs) keeps =
     elim (cases_option (first_partner earlier c)) [
       | inl free ↦
           rw (keeps c, free)
-          (judges-behind earlier c cs (told (change st c.path (with_claim c)) cs) (none-free earlier c free)
+          (judges-behind earlier c cs (first_clash (change st c.path (with_claim c)) cs) (none-free earlier c free)
           (told-judges (change st c.path (with_claim c)) (earlier ++ (c ∷ [])) cs (keeps-claim st earlier c keeps)))
       | inr found ↦ rw (keeps c, found.1) (tells-partner earlier c cs found.0 found.1)
     ]
 told-judges st earlier (scope inner cs) keeps =
-    judges-scope earlier inner cs (told nothing inner) (told (show_all st inner) cs)
+    judges-scope earlier inner cs (first_clash nothing inner) (first_clash (show_all st inner) cs)
     (told-judges nothing [] inner keeps-nothing)
     (told-judges (show_all st inner) earlier cs (keeps-inner st earlier inner keeps))
 
-pub told-none : (cs : Claims) → told nothing cs ≡ None → Resolves [] cs
+pub told-none : (cs : Claims) → first_clash nothing cs ≡ None → Resolves [] cs
 told-none cs h = rw h at (told-judges nothing [] cs keeps-nothing)
 
-pub told-some : (cs : Claims) (t : Told) → told nothing cs ≡ Some t → TellsFirst [] cs t
+pub told-some : (cs : Claims) (t : NamedClash) → first_clash nothing cs ≡ Some t → TellsFirst [] cs t
 told-some cs t h = rw h at (told-judges nothing [] cs keeps-nothing)
 
 -- ---- and nothing else
 
-resolved : (st : State) (earlier : List Claim) (cs : Claims) → Keeps st earlier → Resolves earlier cs → told st cs ≡ None
-unfolding told
+resolved : (st : State) (earlier : List Claim) (cs : Claims) → Keeps st earlier → Resolves earlier cs → first_clash st cs ≡ None
+unfolding first_clash
 resolved st earlier no_claims keeps ok = refl
 resolved st earlier (claimed c cs) keeps ok =
     rw (keeps c, free-none earlier c ok.0) (resolved (change st c.path (with_claim c)) (earlier ++ (c ∷ [])) cs (keeps-claim st earlier c keeps) ok.1)
 resolved st earlier (scope inner cs) keeps ok =
     rw (resolved nothing [] inner keeps-nothing ok.0) (resolved (show_all st inner) earlier cs (keeps-inner st earlier inner keeps) ok.1)
 
-tells : (st : State) (earlier : List Claim) (cs : Claims) (t : Told) → TellsFirst earlier cs t → Keeps st earlier → told st cs ≡ Some t
-unfolding told
+tells : (st : State) (earlier : List Claim) (cs : Claims) (t : NamedClash) → TellsFirst earlier cs t → Keeps st earlier → first_clash st cs ≡ Some t
+unfolding first_clash
 tells st _ _ _ (told_here before after c later cs t free clashes) keeps =
     rw (keeps later, partner-found before after c later t free clashes)
 tells st _ _ _ (told_behind earlier c cs t free rest) keeps =
@@ -215,8 +215,8 @@ tells st _ _ _ (told_inside earlier inner cs t inside) keeps = rw (tells nothing
 tells st _ _ _ (told_after earlier inner cs t ok rest) keeps =
     rw (resolved nothing [] inner keeps-nothing ok) (tells (show_all st inner) earlier cs t rest (keeps-inner st earlier inner keeps))
 
-pub resolves-told : (cs : Claims) → Resolves [] cs → told nothing cs ≡ None
+pub resolves-told : (cs : Claims) → Resolves [] cs → first_clash nothing cs ≡ None
 resolves-told cs ok = resolved nothing [] cs keeps-nothing ok
 
-pub first-told : (cs : Claims) (t : Told) → TellsFirst [] cs t → told nothing cs ≡ Some t
+pub first-told : (cs : Claims) (t : NamedClash) → TellsFirst [] cs t → first_clash nothing cs ≡ Some t
 first-told cs t first = tells nothing [] cs t first keeps-nothing

@@ -5,7 +5,7 @@ use Rattle.std.proofs.lemmas.Bool.{cases_Bool}
 use Rattle.toml_span_tree.specs.Path.{Path, Step, Place}
 use Rattle.toml_span_read.specs.Data.{Node as Read, node, Inner, scalar, array, inline, Items, no_items, item, Pairs, no_pairs, pair, Event}
 use Rattle.toml_span_read.specs.Keys.{Part}
-use Rattle.toml_span_claims.specs.Paths.{same_path, below, at}
+use Rattle.toml_span_claims.specs.Paths.{same_path, with_key, with_position}
 use Rattle.toml_span_claims.specs.Claims.{Claim, Claims, no_claims, claimed, scope, followed, key_claims, value_claims, inner_claims, item_claims, pair_claims, event_claims}
 use Rattle.toml_span_claims.specs.Clashes.{or_else}
 use Rattle.toml_span_claims.specs.Flat.{all_claims, claims_at, first_by_header, decides, flat, by_header}
@@ -103,8 +103,8 @@ no_header-followed (scope inner xs) ys h k = (h.0, no_header-followed xs ys h.1 
 no_header-keys : (p : Path) (parts : List Part) (v : Read) (inside : Path → Claims) → ((q : Path) → NoHeader (inside q)) → NoHeader (key_claims p parts v inside)
 unfolding key_claims
 no_header-keys p [] v inside h = tt
-no_header-keys p (k ∷ []) v inside h = (refl, h (below p k))
-no_header-keys p (k ∷ l ∷ more) v inside h = (refl, no_header-keys (below p k) (l ∷ more) v inside h)
+no_header-keys p (k ∷ []) v inside h = (refl, h (with_key p k))
+no_header-keys p (k ∷ l ∷ more) v inside h = (refl, no_header-keys (with_key p k) (l ∷ more) v inside h)
 
 mutual
   unfolding value_claims inner_claims item_claims pair_claims
@@ -119,7 +119,7 @@ mutual
 
   pub items-no_header : (vs : Items) (i : ℕ) (p : Path) → NoHeader (item_claims vs i p)
   items-no_header no_items i p = tt
-  items-no_header (item v vs) i p = (refl, no_header-followed (value_claims v (at p i)) _ (value-no_header v (at p i)) (items-no_header vs (suc i) p))
+  items-no_header (item v vs) i p = (refl, no_header-followed (value_claims v (with_position p i)) _ (value-no_header v (with_position p i)) (items-no_header vs (suc i) p))
 
   pub pairs-no_header : (ps : Pairs) (p : Path) → NoHeader (pair_claims ps p)
   pairs-no_header no_pairs p = tt

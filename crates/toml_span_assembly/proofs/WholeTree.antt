@@ -6,7 +6,7 @@ use Rattle.toml_span_read.specs.Data.{Node as Read, node, Inner, scalar, array, 
 use Rattle.toml_span_read.specs.Keys.{Part}
 use Rattle.toml_span_claims.specs.declared.claims.Sort.TheVariants.{Entry}
 use Rattle.toml_span_claims.specs.declared.claims.Head.{Head}
-use Rattle.toml_span_claims.specs.Paths.{entries_at, opened_by, section_path, enter, below, at}
+use Rattle.toml_span_claims.specs.Paths.{entries_at, opened_by, section_path, enter, with_key, with_position}
 use Rattle.toml_span_claims.specs.Claims.{Claim, Claims, value_shape, inner_of, key_claims, value_claims, inner_claims, item_claims, pair_claims, event_claims, array_claims, end_claims, header_claims, section_claims, claims_behind, claims, head_of, header_claim, no_claims, claimed}
 use Rattle.toml_span_assembly.proofs.EachClaim.{Each, each-followed}
 
@@ -28,8 +28,8 @@ value-held (inline ps) = refl
 key-held : (p : Path) (parts : List Part) (v : Read) (inside : Path → Claims) → ((q : Path) → Each IsHeldAt (inside q)) → Each IsHeldAt (key_claims p parts v inside)
 unfolding key_claims
 key-held p [] v inside h = tt
-key-held p (k ∷ []) v inside h = (value-held (inner_of v), h (below p k))
-key-held p (k ∷ l ∷ more) v inside h = (refl, key-held (below p k) (l ∷ more) v inside h)
+key-held p (k ∷ []) v inside h = (value-held (inner_of v), h (with_key p k))
+key-held p (k ∷ l ∷ more) v inside h = (refl, key-held (with_key p k) (l ∷ more) v inside h)
 
 mutual
   unfolding value_claims inner_claims item_claims pair_claims
@@ -45,7 +45,7 @@ mutual
   item-claims-held : (vs : Items) (i : ℕ) (p : Path) → Each IsHeldAt (item_claims vs i p)
   item-claims-held no_items i p = tt
   item-claims-held (item v vs) i p =
-      (value-held (inner_of v), each-followed IsHeldAt (value_claims v (at p i)) (item_claims vs (suc i) p) (value-claims-held v (at p i)) (item-claims-held vs (suc i) p))
+      (value-held (inner_of v), each-followed IsHeldAt (value_claims v (with_position p i)) (item_claims vs (suc i) p) (value-claims-held v (with_position p i)) (item-claims-held vs (suc i) p))
 
   pair-claims-held : (ps : Pairs) (p : Path) → Each IsHeldAt (pair_claims ps p)
   pair-claims-held no_pairs p = tt
@@ -66,15 +66,15 @@ end-held h p k n = elim (cases_Bool h.array) [
   | inr tab ↦ rw tab (refl, tt)
 ]
   where
-    added : (n : ℕ) → Each IsHeldAt (array_claims h p k n (claimed (header_claim h Entry (at p n) k) no_claims))
+    added : (n : ℕ) → Each IsHeldAt (array_claims h p k n (claimed (header_claim h Entry (with_position p n) k) no_claims))
     added zero = (refl, (refl, tt))
     added (suc n) = (refl, tt)
 
 header-held : (e : Path → ℕ) (h : Head) (p : Path) (parts : List Part) → Each IsHeldAt (header_claims e h p parts)
 unfolding header_claims
 header-held e h p [] = tt
-header-held e h p (k ∷ []) = end-held h (below p k) k (e (below p k))
-header-held e h p (k ∷ l ∷ more) = (refl, header-held e h (enter (e (below p k)) (below p k)) (l ∷ more))
+header-held e h p (k ∷ []) = end-held h (with_key p k) k (e (with_key p k))
+header-held e h p (k ∷ l ∷ more) = (refl, header-held e h (enter (e (with_key p k)) (with_key p k)) (l ∷ more))
 
 behind-held : (earlier bs : List Block) → Each IsHeldAt (claims_behind earlier bs)
 unfolding claims_behind section_claims

@@ -16,7 +16,7 @@ use Rattle.toml_span_read.specs.Places.{IsPlaced, IsLineInfo}
 use Rattle.toml_span_read.specs.Faults.{Tells}
 use Rattle.toml_span_read.specs.Stuck.{StuckDocument}
 use Rattle.toml_span_claims.specs.Claims.{claims}
-use Rattle.toml_span_claims.specs.Clashes.{Resolves, Told, TellsFirst, fault_told}
+use Rattle.toml_span_claims.specs.Clashes.{Resolves, NamedClash, TellsFirst, fault_of_clash}
 use Rattle.toml_span_claims.specs.Flat.{flat, Shows}
 use Rattle.toml_span_claims.specs.Borrowed.{AreRight, keys_of, value_standing}
 
@@ -52,11 +52,11 @@ IsFault text limit error =
 
 -- The error tells the first clash of the sections' claims, at a place in the text, with its line and its column.
 pub record IsClashOf (blocks : List Block) (text : List ℕ) (error : Error) : Type 0 where
-  pub clash : Told
+  pub clash : NamedClash
   pub line : ℕ
   pub column : ℕ
   pub first : TellsFirst [] (claims blocks) clash
-  pub tells : fault_of error ≡ fault_told clash.meeting clash.name (line, column)
+  pub tells : fault_of error ≡ fault_of_clash clash.meeting clash.name (line, column)
   pub within : clash.meeting.place.start ≤ length text
   pub forward : clash.meeting.place.start ≤ clash.meeting.place.end
   pub place : IsLineInfo text clash.meeting.place.start line column

@@ -22,8 +22,8 @@ ghost use Rattle.toml_span_claims.specs.code.Tree.{child_in, closed_in, closed_m
 
 use std::alloc::Global;
 use std::collections::btree_map::Entry;
+use toml_span_claims::branch::{Branch, Branches, into_table};
 use toml_span_claims::claims::{Halt, Mark, Sort, admit, claim};
-use toml_span_claims::node::{Node, Nodes, into_table};
 use toml_span_claims::rest::Rest;
 use toml_span_lex::key::Key;
 use toml_span_lex::span::Span;
@@ -71,7 +71,7 @@ pub(crate) fn admit_beside_value<'de>(
 /// Halts where a claim on a name clashes with what headers and dotted keys made there.
 fn admit_beside_table<'de>(
     alloc: Global,
-    tables: &Nodes<'de>,
+    tables: &Branches<'de>,
     mark: Mark,
     key: &Key<'de>,
 ) -> Result<(), Halt>
@@ -88,7 +88,7 @@ fn admit_beside_table<'de>(
 /// Assigns a value to a name of a node.
 fn assign<'de>(
     alloc: Global,
-    node: &mut Node<'de>,
+    node: &mut Branch<'de>,
     key: Key<'de>,
     value: Result<Value<'de>, Halt>,
     span: Span,
@@ -123,7 +123,7 @@ fn assign<'de>(
 #[cycle(place_pair)]
 fn place_pair<'de>(
     alloc: Global,
-    node: &mut Node<'de>,
+    node: &mut Branch<'de>,
     inner: &[Key<'de>],
     last: Key<'de>,
     value: Result<Value<'de>, Halt>,
@@ -149,7 +149,7 @@ fn place_pair<'de>(
                 pair_mark(Sort::Dotted, part, span),
                 part,
             )?;
-            let mut child = Node::new(alloc);
+            let mut child = Branch::new(alloc);
             pass_pair(alloc, &mut child, part, rest, last, value, span)?;
             node.tables
                 .insert(part.clone(alloc)?, Box::new(alloc, child)?)?;
@@ -162,7 +162,7 @@ fn place_pair<'de>(
 #[cycle(place_pair)]
 fn pass_child<'de>(
     alloc: Global,
-    child: &mut Box<Node<'de>>,
+    child: &mut Box<Branch<'de>>,
     part: &Key<'de>,
     rest: &[Key<'de>],
     last: Key<'de>,
@@ -185,7 +185,7 @@ fn pass_child<'de>(
 #[cycle(place_pair)]
 fn pass_pair<'de>(
     alloc: Global,
-    node: &mut Node<'de>,
+    node: &mut Branch<'de>,
     part: &Key<'de>,
     rest: &[Key<'de>],
     last: Key<'de>,
@@ -212,7 +212,7 @@ fn pass_pair<'de>(
 
 /// Places an assignment below a node.
 #[cycle(value_of)]
-fn place_one<'de>(alloc: Global, pair: Assignment<'de>, node: &mut Node<'de>) -> Result<(), Halt>
+fn place_one<'de>(alloc: Global, pair: Assignment<'de>, node: &mut Branch<'de>) -> Result<(), Halt>
     ensures gives { Places node.old node.new result (assignment_claims (event pair.entry) []) (counts node.old) }
     ensures placed { (n : ℕ) → EventInside n (event pair.entry) → IfErr result (IsHaltInside n) }
     ensures borrows { (text : List ℕ) → (ps : List Part) → AreFrom text ps (assignment_written pair.entry)
@@ -236,7 +236,7 @@ fn place_one<'de>(alloc: Global, pair: Assignment<'de>, node: &mut Node<'de>) ->
 fn place_pairs<'de>(
     alloc: Global,
     pairs: Vec<Assignment<'de>>,
-    node: &mut Node<'de>,
+    node: &mut Branch<'de>,
 ) -> Result<(), Halt>
     ensures gives { Places node.old node.new result (event_claims (map event pairs.entry.items) []) (counts node.old) }
     ensures placed { (n : ℕ) → EventsInside n (map event pairs.entry.items) → IfErr result (IsHaltInside n) }
@@ -253,7 +253,7 @@ fn place_pairs<'de>(
 pub(crate) fn place_all<'de>(
     alloc: Global,
     pairs: Vec<Assignment<'de>>,
-    node: &mut Node<'de>,
+    node: &mut Branch<'de>,
 ) -> Result<(), Halt>
     ensures gives { Places node.old node.new result (event_claims (map event pairs.entry.items) []) (counts node.old) }
     ensures placed { (n : ℕ) → EventsInside n (map event pairs.entry.items) → IfErr result (IsHaltInside n) }
@@ -278,7 +278,7 @@ fn table_of<'de>(alloc: Global, pairs: Vec<Assignment<'de>>) -> Result<Table<'de
     ensures borrows { (text : List ℕ) → (ps : List Part) → AreFrom text ps (assignments_written pairs.entry.items)
         → IfOk result (λ table. AreRight text ps (table_standing table.entries)) }
 {
-    let mut scope = Node::new(alloc);
+    let mut scope = Branch::new(alloc);
     place_pairs(alloc, pairs, &mut scope)?;
     Ok(into_table(scope.tables, scope.values)?)
 }

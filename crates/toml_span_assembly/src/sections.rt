@@ -19,8 +19,8 @@ ghost use Rattle.toml_span_assembly.specs.Parsing.{IsRoot};
 
 use crate::scopes::{admit_beside_value, place_all};
 use std::alloc::{AllocError, Global};
+use toml_span_claims::branch::{Branch, into_table};
 use toml_span_claims::claims::{Clash, Halt, Head, Mark, Sort, claim};
-use toml_span_claims::node::{Node, into_table};
 use toml_span_lex::key::Key;
 use toml_span_lex::span::Span;
 use toml_span_read::{Assignment, Section};
@@ -55,7 +55,7 @@ fn sort_of(head: Head, rest: &[Key<'_>]) -> Sort
 #[cycle(place_section)]
 fn place_section<'de>(
     alloc: Global,
-    node: &mut Node<'de>,
+    node: &mut Branch<'de>,
     parts: &[Key<'de>],
     head: Head,
     pairs: Vec<Assignment<'de>>,
@@ -76,7 +76,7 @@ fn place_section<'de>(
         None => {
             let mark = header_mark(head, sort_of(head, rest), part);
             admit_beside_value(alloc, &node.values, mark, part)?;
-            let mut child = Node::new(alloc);
+            let mut child = Branch::new(alloc);
             pass_header(alloc, &mut child, part, rest, head, pairs)?;
             node.tables
                 .insert(part.clone(alloc)?, Box::new(alloc, child)?)?;
@@ -89,7 +89,7 @@ fn place_section<'de>(
 #[cycle(place_section)]
 fn pass_child<'de>(
     alloc: Global,
-    child: &mut Box<Node<'de>>,
+    child: &mut Box<Branch<'de>>,
     part: &Key<'de>,
     rest: &[Key<'de>],
     head: Head,
@@ -112,7 +112,7 @@ fn pass_child<'de>(
 #[cycle(place_section)]
 fn pass_header<'de>(
     alloc: Global,
-    node: &mut Node<'de>,
+    node: &mut Branch<'de>,
     part: &Key<'de>,
     rest: &[Key<'de>],
     head: Head,
@@ -140,7 +140,7 @@ fn pass_header<'de>(
 #[cycle(place_section)]
 fn descend<'de>(
     alloc: Global,
-    node: &mut Node<'de>,
+    node: &mut Branch<'de>,
     part: &Key<'de>,
     rest: &[Key<'de>],
     head: Head,
@@ -167,7 +167,7 @@ fn descend<'de>(
 /// Claims a node for a section or an entry, and places the assignments below it.
 fn open_table<'de>(
     alloc: Global,
-    node: &mut Node<'de>,
+    node: &mut Branch<'de>,
     sort: Sort,
     part: &Key<'de>,
     head: Head,
@@ -187,7 +187,7 @@ fn open_table<'de>(
 /// Adds an entry to an array of tables.
 fn add_entry<'de>(
     alloc: Global,
-    node: &mut Node<'de>,
+    node: &mut Branch<'de>,
     part: &Key<'de>,
     head: Head,
     pairs: Vec<Assignment<'de>>,
@@ -200,7 +200,7 @@ fn add_entry<'de>(
     ensures borrows { (text : List ℕ) → (ps : List Part) → AreFrom text ps (assignments_written pairs.entry.items)
         → Keeps text ps node.old node.new result }
 {
-    let mut entry = Node::new(alloc);
+    let mut entry = Branch::new(alloc);
     open_table(alloc, &mut entry, Sort::Entry, part, head, pairs)?;
     node.entries.push(entry)?;
     Ok(())
@@ -209,7 +209,7 @@ fn add_entry<'de>(
 /// Claims the node at the end of a header, and places the assignments there.
 fn end_header<'de>(
     alloc: Global,
-    node: &mut Node<'de>,
+    node: &mut Branch<'de>,
     part: &Key<'de>,
     head: Head,
     pairs: Vec<Assignment<'de>>,
@@ -232,7 +232,7 @@ fn end_header<'de>(
 }
 
 /// Places a section below the root of a tree.
-fn place<'de>(alloc: Global, root: &mut Node<'de>, section: Section<'de>) -> Result<(), Halt>
+fn place<'de>(alloc: Global, root: &mut Branch<'de>, section: Section<'de>) -> Result<(), Halt>
     ensures gives { Placed (block section.entry) root.old root.new result }
     ensures placed { (n : ℕ) → SectionInside n section.entry → IfErr result (IsHaltInside n) }
     ensures borrows { (text : List ℕ) → (ps : List Part) → AreFrom text ps (section_written section.entry)
@@ -257,7 +257,7 @@ fn place<'de>(alloc: Global, root: &mut Node<'de>, section: Section<'de>) -> Res
 #[derive(Drop)]
 pub(crate) struct Grown<'de> {
     /// Their tree, as long as no two clash.
-    root: Node<'de>,
+    root: Branch<'de>,
     /// Their first clash.
     clash: Option<Clash>,
 }
@@ -271,7 +271,7 @@ impl<'de> Grown<'de> {
         ensures bare { IsBare result }
     {
         Self {
-            root: Node::new(alloc),
+            root: Branch::new(alloc),
             clash: None,
         }
     }

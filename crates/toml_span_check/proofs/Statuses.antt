@@ -5,7 +5,7 @@ use Rattle.std.proofs.lemmas.Str.{IsUtf8-from_is_utf8, is_utf8-from_IsUtf8}
 use Rattle.std.specs.Str.{IsUtf8, is_utf8}
 use Rattle.toml_span_tree.specs.Node.{Node}
 use Rattle.toml_span_check.specs.Answer.{bound, found, given, IsAnswer, IsRead}
-use Rattle.toml_span_check.specs.Run.{Reading, Told, nothing, answered, unread}
+use Rattle.toml_span_check.specs.Run.{Reading, Gathered, nothing, answered, unread}
 use Rattle.toml_span_check.specs.declared.answer.Form.{Form}
 use Rattle.toml_span_check.specs.declared.answer.Task.{Task}
 use Rattle.toml_span_check.specs.declared.answer.Task.TheVariants.{Check, Show}
@@ -37,7 +37,7 @@ answer-small format task pointer name bytes answer a = elim (cases_lt bound (len
   | inr short ↦ short-small format task pointer name bytes answer (is_utf8 bytes) refl short a
 ]
 
-pub told-small : (format : Format) (task : Task) (pointer : List ℕ) (rs : List Reading) (out errors : List ℕ) (status : ℕ) → Told format task pointer rs out errors status → status ≤ 2
+pub told-small : (format : Format) (task : Task) (pointer : List ℕ) (rs : List Reading) (out errors : List ℕ) (status : ℕ) → Gathered format task pointer rs out errors status → status ≤ 2
 told-small format task pointer rs out errors status nothing = omega arith
 told-small format task pointer rs out errors status (answered before said warned earlier name bytes answer told is) =
     let old = told-small format task pointer before said warned earlier told in

@@ -35,14 +35,14 @@ complaint name unread = codes "toml_span_check: " ++ name ++ codes ": " ++ why u
 
 -- What is told of files, one after another: what their bytes give, what is told of those that can't be read, and the
 -- greatest of their statuses, which is 2 for one that can't be read.
-pub data Told (format : Format) (task : Task) (pointer : List ℕ) : List Reading → List ℕ → List ℕ → ℕ → Type 0 where
-  nothing : Told format task pointer [] [] [] 0
+pub data Gathered (format : Format) (task : Task) (pointer : List ℕ) : List Reading → List ℕ → List ℕ → ℕ → Type 0 where
+  nothing : Gathered format task pointer [] [] [] 0
   answered : (rs : List Reading) (out errors : List ℕ) (status : ℕ) (name bytes : List ℕ) (answer : ℕ × List ℕ)
-      → Told format task pointer rs out errors status → IsAnswer format task pointer name bytes answer
-      → Told format task pointer (rs ++ (name, Ok bytes) ∷ []) (out ++ answer.1) errors (max status answer.0)
+      → Gathered format task pointer rs out errors status → IsAnswer format task pointer name bytes answer
+      → Gathered format task pointer (rs ++ (name, Ok bytes) ∷ []) (out ++ answer.1) errors (max status answer.0)
   unread : (rs : List Reading) (out errors : List ℕ) (status : ℕ) (name : List ℕ) (reason : Unread)
-      → Told format task pointer rs out errors status
-      → Told format task pointer (rs ++ (name, Err reason) ∷ []) out (errors ++ complaint name reason) 2
+      → Gathered format task pointer rs out errors status
+      → Gathered format task pointer (rs ++ (name, Err reason) ∷ []) out (errors ++ complaint name reason) 2
 
 -- the files of these names were read in their order, and this is told of them
 pub record Tells (format : Format) (task : Task) (pointer : List ℕ) (names : List (List ℕ))
@@ -50,7 +50,7 @@ pub record Tells (format : Format) (task : Task) (pointer : List ℕ) (names : L
   pub readings : List Reading
   pub asked : map (λ r. r.0) readings ≡ names
   pub logged : Logs old new readings
-  pub told : Told format task pointer readings out errors status
+  pub told : Gathered format task pointer readings out errors status
 
 -- A run: standard output before and after and whether writing it failed, the same of standard error, and the status.
 pub record Runs (format : Format) (task : Task) (pointer : List ℕ) (names : List (List ℕ))

@@ -15,10 +15,10 @@ use Rattle.toml_span_tree.specs.declared.value.ValueInner.TheVariants as inners
 use Rattle.toml_span_read.specs.Keys.{Part}
 use Rattle.toml_span_read.proofs.EarlierTree.{key_cmp}
 use Rattle.toml_span_read.proofs.BorrowLemmas.{all_append, all_front, all_behind}
-use Rattle.toml_span_claims.specs.declared.node.Node.{Node}
-use Rattle.toml_span_claims.specs.declared.node.Node.TheOpen.{Node-F}
-use Rattle.toml_span_claims.specs.declared.node.Node.TheViews.{roll-Node, out-Node}
-use Rattle.toml_span_claims.specs.declared.node.Node.TheFolds.{fold-roll-Node}
+use Rattle.toml_span_claims.specs.declared.branch.Branch.{Branch}
+use Rattle.toml_span_claims.specs.declared.branch.Branch.TheOpen.{Branch-F}
+use Rattle.toml_span_claims.specs.declared.branch.Branch.TheViews.{roll-Branch, out-Branch}
+use Rattle.toml_span_claims.specs.declared.branch.Branch.TheFolds.{fold-roll-Branch}
 use Rattle.toml_span_claims.specs.Borrowed.{Standing, title, Held, key_standing, held_or_none, held, value_standing, IsNamedBy, IsRight, AreRight}
 use Rattle.toml_span_claims.specs.code.Borrowed.{node_step, nodes_standing, inner_held, array_standing, table_standing, standing, boxes_standing, entries_of}
 use Rattle.toml_span_claims.specs.code.Tree.{is_named}
@@ -36,18 +36,18 @@ held-Table t span = search (rules, the_lemmas)
 pub held-Array : (a : Vec Value Global) (span : Span) → inner_held (inners.Array a) span ≡ (false, array_standing a.items)
 held-Array a span = search (rules, the_lemmas)
 
-boxes_map : (f : Key × Box Node → Key × Box (List Standing)) → ((e : Key × Box Node) → title (f e).0.name ≡ title e.0.name) → ((e : Key × Box Node) → box_value (f e).1 ≡ standing (box_value e.1)) → (es : List (Key × Box Node))
+boxes_map : (f : Key × Box Branch → Key × Box (List Standing)) → ((e : Key × Box Branch) → title (f e).0.name ≡ title e.0.name) → ((e : Key × Box Branch) → box_value (f e).1 ≡ standing (box_value e.1)) → (es : List (Key × Box Branch))
     → nodes_standing (map f es) ≡ boxes_standing es
 boxes_map f names boxes [] = refl
 boxes_map f names boxes (e ∷ es) = rw (names e, boxes e, boxes_map f names boxes es) refl
 
-pub standing-roll : (b : Node-F Node) → standing (roll-Node b) ≡ table_standing b.values.entries ++ (boxes_standing b.tables.entries ++ entries_of b.entries.items)
+pub standing-roll : (b : Branch-F Branch) → standing (roll-Branch b) ≡ table_standing b.values.entries ++ (boxes_standing b.tables.entries ++ entries_of b.entries.items)
 standing-roll b =
-    fold-roll-Node (List Standing) node_step b
+    fold-roll-Branch (List Standing) node_step b
     ∙ ap (λ z. table_standing b.values.entries ++ (z ++ entries_of b.entries.items)) (boxes_map _ (λ e. refl) (λ e. refl) b.tables.entries)
 
-pub standing_is : (n : Node) → standing n ≡ table_standing (out-Node n).values.entries ++ (boxes_standing (out-Node n).tables.entries ++ entries_of (out-Node n).entries.items)
-standing_is n = ap standing (sym (roll-out n)) ∙ standing-roll (out-Node n)
+pub standing_is : (n : Branch) → standing n ≡ table_standing (out-Branch n).values.entries ++ (boxes_standing (out-Branch n).tables.entries ++ entries_of (out-Branch n).entries.items)
+standing_is n = ap standing (sym (roll-out n)) ∙ standing-roll (out-Branch n)
 
 -- ---- parts and wholes
 
@@ -55,24 +55,24 @@ module _ (text : List ℕ) (ps : List Part) where
   abbrev Right : Standing → Type 0
   Right = IsRight text ps
 
-  pub whole : (values : List (Key × Value)) (tables : List (Key × Box Node)) (entries : List Node)
+  pub whole : (values : List (Key × Value)) (tables : List (Key × Box Branch)) (entries : List Branch)
       → AreRight text ps (table_standing values) → AreRight text ps (boxes_standing tables) → AreRight text ps (entries_of entries)
       → AreRight text ps (table_standing values ++ (boxes_standing tables ++ entries_of entries))
   whole values tables entries a b c =
       all_append Right (table_standing values) (boxes_standing tables ++ entries_of entries) a (all_append Right (boxes_standing tables) (entries_of entries) b c)
 
-  pub of_node : (n : Node) → AreRight text ps (standing n)
-      → AreRight text ps (table_standing (out-Node n).values.entries) × AreRight text ps (boxes_standing (out-Node n).tables.entries) × AreRight text ps (entries_of (out-Node n).entries.items)
+  pub of_node : (n : Branch) → AreRight text ps (standing n)
+      → AreRight text ps (table_standing (out-Branch n).values.entries) × AreRight text ps (boxes_standing (out-Branch n).tables.entries) × AreRight text ps (entries_of (out-Branch n).entries.items)
   of_node n h =
       let all = rw (standing_is n) at h in
-      let behind = all_behind Right (table_standing (out-Node n).values.entries) (boxes_standing (out-Node n).tables.entries ++ entries_of (out-Node n).entries.items) all in (
-        all_front Right (table_standing (out-Node n).values.entries) (boxes_standing (out-Node n).tables.entries ++ entries_of (out-Node n).entries.items) all,
-        all_front Right (boxes_standing (out-Node n).tables.entries) (entries_of (out-Node n).entries.items) behind,
-        all_behind Right (boxes_standing (out-Node n).tables.entries) (entries_of (out-Node n).entries.items) behind,
+      let behind = all_behind Right (table_standing (out-Branch n).values.entries) (boxes_standing (out-Branch n).tables.entries ++ entries_of (out-Branch n).entries.items) all in (
+        all_front Right (table_standing (out-Branch n).values.entries) (boxes_standing (out-Branch n).tables.entries ++ entries_of (out-Branch n).entries.items) all,
+        all_front Right (boxes_standing (out-Branch n).tables.entries) (entries_of (out-Branch n).entries.items) behind,
+        all_behind Right (boxes_standing (out-Branch n).tables.entries) (entries_of (out-Branch n).entries.items) behind,
       )
 
-  pub node_of : (b : Node-F Node) → AreRight text ps (table_standing b.values.entries) → AreRight text ps (boxes_standing b.tables.entries) → AreRight text ps (entries_of b.entries.items)
-      → AreRight text ps (standing (roll-Node b))
+  pub node_of : (b : Branch-F Branch) → AreRight text ps (table_standing b.values.entries) → AreRight text ps (boxes_standing b.tables.entries) → AreRight text ps (entries_of b.entries.items)
+      → AreRight text ps (standing (roll-Branch b))
   node_of b values tables entries = rw (standing-roll b) (whole b.values.entries b.tables.entries b.entries.items values tables entries)
 
   -- ---- tables
@@ -126,16 +126,16 @@ module _ (text : List ℕ) (ps : List Part) where
 
   -- ---- nodes by name
 
-  pub box_found : (test : Key → Bool) (x : Box Node) (es : List (Key × Box Node)) → lookup test es ≡ Some x → AreRight text ps (boxes_standing es) → AreRight text ps (standing (box_value x))
+  pub box_found : (test : Key → Bool) (x : Box Branch) (es : List (Key × Box Branch)) → lookup test es ≡ Some x → AreRight text ps (boxes_standing es) → AreRight text ps (standing (box_value x))
   box_found test x [] found h = absurd (none-some x found)
   box_found test x (e ∷ es) found h = elim (cases_Bool (test e.0)) [
     | inl here ↦
         let same : Some e.1 ≡ Some x = rw here at found in
-        subst (λ (y : Box Node). AreRight text ps (standing (box_value y))) (same_Some e.1 x same) (all_front Right (standing (box_value e.1)) (boxes_standing es) h.1)
+        subst (λ (y : Box Branch). AreRight text ps (standing (box_value y))) (same_Some e.1 x same) (all_front Right (standing (box_value e.1)) (boxes_standing es) h.1)
     | inr off ↦ box_found test x es (rw off at found) (all_behind Right (standing (box_value e.1)) (boxes_standing es) h.1)
   ]
 
-  pub box_set : (test : Key → Bool) (w : Box Node) (es : List (Key × Box Node)) → AreRight text ps (standing (box_value w)) → AreRight text ps (boxes_standing es) → AreRight text ps (boxes_standing (set_value test es w))
+  pub box_set : (test : Key → Bool) (w : Box Branch) (es : List (Key × Box Branch)) → AreRight text ps (standing (box_value w)) → AreRight text ps (boxes_standing es) → AreRight text ps (boxes_standing (set_value test es w))
   box_set test w [] inside h = tt
   box_set test w (e ∷ es) inside h = elim (cases_Bool (test e.0)) [
     | inl here ↦ rw here (h.0, all_append Right (standing (box_value w)) (boxes_standing es) inside (all_behind Right (standing (box_value e.1)) (boxes_standing es) h.1))
@@ -146,7 +146,7 @@ module _ (text : List ℕ) (ps : List Part) where
     )
   ]
 
-  pub box_insert : (k : Key) (w : Box Node) (es : List (Key × Box Node)) → IsNamedBy text ps k.name → AreRight text ps (standing (box_value w)) → AreRight text ps (boxes_standing es)
+  pub box_insert : (k : Key) (w : Box Branch) (es : List (Key × Box Branch)) → IsNamedBy text ps k.name → AreRight text ps (standing (box_value w)) → AreRight text ps (boxes_standing es)
       → AreRight text ps (boxes_standing (insert_entry key_cmp es k w))
   box_insert k w [] named inside h = (named, all_append Right (standing (box_value w)) [] inside tt)
   box_insert k w (e ∷ es) named inside h = elim (cases_ordering (key_cmp k e.0)) [
@@ -162,7 +162,7 @@ module _ (text : List ℕ) (ps : List Part) where
   ]
 
   -- the first of them, and those behind it
-  pub box_first : (k : Key) (b : Box Node) (left all : List (Key × Box Node)) → all ≡ (k, b) ∷ left → AreRight text ps (boxes_standing all)
+  pub box_first : (k : Key) (b : Box Branch) (left all : List (Key × Box Branch)) → all ≡ (k, b) ∷ left → AreRight text ps (boxes_standing all)
       → IsNamedBy text ps k.name × AreRight text ps (standing (box_value b)) × AreRight text ps (boxes_standing left)
   box_first k b left all is h =
       let g : AreRight text ps (boxes_standing ((k, b) ∷ left)) = rw is at h in
@@ -170,7 +170,7 @@ module _ (text : List ℕ) (ps : List Part) where
 
   -- ---- elements
 
-  pub entry_first : (n : Node) (left all : List Node) → all ≡ n ∷ left → AreRight text ps (entries_of all) → AreRight text ps (standing n) × AreRight text ps (entries_of left)
+  pub entry_first : (n : Branch) (left all : List Branch) → all ≡ n ∷ left → AreRight text ps (entries_of all) → AreRight text ps (standing n) × AreRight text ps (entries_of left)
   entry_first n left all is h =
       let g : AreRight text ps (entries_of (n ∷ left)) = rw is at h in
       (all_front Right (standing n) (entries_of left) g, all_behind Right (standing n) (entries_of left) g)
@@ -198,5 +198,5 @@ module _ (text : List ℕ) (ps : List Part) where
       (ap (λ x. x.0) e, subst (λ (x : Held). AreRight text ps x.1) (sym e) h)
 
 -- a fresh node
-pub fresh_standing : (n : Node) → (out-Node n).values.entries ≡ [] → (out-Node n).tables.entries ≡ [] → (out-Node n).entries.items ≡ [] → standing n ≡ []
+pub fresh_standing : (n : Branch) → (out-Branch n).values.entries ≡ [] → (out-Branch n).tables.entries ≡ [] → (out-Branch n).entries.items ≡ [] → standing n ≡ []
 fresh_standing n values tables entries = standing_is n ∙ rw (values, tables, entries) refl

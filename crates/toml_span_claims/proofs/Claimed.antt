@@ -15,15 +15,15 @@ use Rattle.toml_span_claims.specs.declared.claims.Sort.TheVariants.{Passed, Sect
 use Rattle.toml_span_claims.specs.declared.claims.Mark.{Mark}
 use Rattle.toml_span_claims.specs.declared.claims.Halt.{Halt}
 use Rattle.toml_span_claims.specs.declared.claims.Halt.TheVariants.{Memory, Clash}
-use Rattle.toml_span_claims.specs.declared.node.Node.{Node}
-use Rattle.toml_span_claims.specs.declared.node.Node.TheViews.{out-Node, roll-Node}
-use Rattle.toml_span_claims.specs.declared.node.Node.TheOpen.{Node-F}
+use Rattle.toml_span_claims.specs.declared.branch.Branch.{Branch}
+use Rattle.toml_span_claims.specs.declared.branch.Branch.TheViews.{out-Branch, roll-Branch}
+use Rattle.toml_span_claims.specs.declared.branch.Branch.TheOpen.{Branch-F}
 use Rattle.toml_span_claims.specs.Paths.{same_path}
 use Rattle.toml_span_claims.specs.Claims.{Claims, no_claims, claimed, followed, table_claim}
 use Rattle.toml_span_claims.specs.Clashes.{or_else}
 use Rattle.toml_span_claims.specs.Flat.{by_header}
 use Rattle.toml_span_claims.specs.code.Marks.{deciding, first, first_by_header, remember, same_sort, sort_number}
-use Rattle.toml_span_claims.specs.code.Machine.{Gives, change, decide, met, put_all, told, with_claim}
+use Rattle.toml_span_claims.specs.code.Machine.{Gives, change, decide, met, put_all, first_clash, with_claim}
 use Rattle.toml_span_claims.specs.code.Placing.{Reaches}
 use Rattle.toml_span_claims.specs.code.Tree.{marks, entries, child, closed, closed_in, closed_cell, is_named, item, or_closed, or_nothing, or_zero, own_cell, cells, cell_at, counts, count_at, by_mark, is_array_sort, is_entry_sort, NoArray, NoEntry, IsNamed, IsEntry, IsTableOrArray, IsScope, AreNamed, AreEntries, HoldsOrderedValues, Sound, sound}
 use Rattle.toml_span_claims.proofs.Grafts.{fun_ext}
@@ -187,47 +187,47 @@ deciding-remember ms m =
 -- ---- the node
 
 -- the same node, with one more claim
-pub record Marked (m : Mark) (old new : Node) : Type 0 where
+pub record Marked (m : Mark) (old new : Branch) : Type 0 where
   pub claims : marks new ≡ remember (marks old) m
-  pub values : (out-Node new).values ≡ (out-Node old).values
-  pub tables : (out-Node new).tables ≡ (out-Node old).tables
+  pub values : (out-Branch new).values ≡ (out-Branch old).values
+  pub tables : (out-Branch new).tables ≡ (out-Branch old).tables
   pub added : entries new ≡ entries old
 
-pub marked-roll : (m : Mark) (old : Node) (b : Node-F Node) → b.marks.items ≡ remember (marks old) m → b.values ≡ (out-Node old).values → b.tables ≡ (out-Node old).tables
-    → b.entries.items ≡ entries old → Marked m old (roll-Node b)
+pub marked-roll : (m : Mark) (old : Branch) (b : Branch-F Branch) → b.marks.items ≡ remember (marks old) m → b.values ≡ (out-Branch old).values → b.tables ≡ (out-Branch old).tables
+    → b.entries.items ≡ entries old → Marked m old (roll-Branch b)
 marked-roll m old b claims values tables added = record {
-  claims = ap (λ (n : Node-F Node). n.marks.items) (out-roll b) ∙ claims;
-  values = ap (λ (n : Node-F Node). n.values) (out-roll b) ∙ values;
-  tables = ap (λ (n : Node-F Node). n.tables) (out-roll b) ∙ tables;
-  added = ap (λ (n : Node-F Node). n.entries.items) (out-roll b) ∙ added;
+  claims = ap (λ (n : Branch-F Branch). n.marks.items) (out-roll b) ∙ claims;
+  values = ap (λ (n : Branch-F Branch). n.values) (out-roll b) ∙ values;
+  tables = ap (λ (n : Branch-F Branch). n.tables) (out-roll b) ∙ tables;
+  added = ap (λ (n : Branch-F Branch). n.entries.items) (out-roll b) ∙ added;
 }
 
 -- what is the same below two nodes
-pub child-same : (old new : Node) (k : List ℕ) → (out-Node new).tables ≡ (out-Node old).tables → child k new ≡ child k old
-child-same old new k h = ap (λ (t : BTreeMap Key (Box Node)). option_map box_value (lookup (is_named k) t.entries)) h
+pub child-same : (old new : Branch) (k : List ℕ) → (out-Branch new).tables ≡ (out-Branch old).tables → child k new ≡ child k old
+child-same old new k h = ap (λ (t : BTreeMap Key (Box Branch)). option_map box_value (lookup (is_named k) t.entries)) h
 
-pub closed-same : (old new : Node) (k : List ℕ) → (out-Node new).values ≡ (out-Node old).values → closed k new ≡ closed k old
+pub closed-same : (old new : Branch) (k : List ℕ) → (out-Branch new).values ≡ (out-Branch old).values → closed k new ≡ closed k old
 closed-same old new k h = ap (closed_in k) h
 
-pub cells-key : (old new : Node) (k : List ℕ) (p : Path) → child k new ≡ child k old → closed k new ≡ closed k old → cells new (key k ∷ p) ≡ cells old (key k ∷ p)
+pub cells-key : (old new : Branch) (k : List ℕ) (p : Path) → child k new ≡ child k old → closed k new ≡ closed k old → cells new (key k ∷ p) ≡ cells old (key k ∷ p)
 unfolding cell_at
 cells-key old new k p tables values =
     ap (λ o. or_closed (option_map (cell_at p) o) (closed_cell (closed k new) p)) tables
     ∙ ap (λ o. or_closed (option_map (cell_at p) (child k old)) (closed_cell o p)) values
 
-pub counts-key : (old new : Node) (k : List ℕ) (p : Path) → child k new ≡ child k old → counts new (key k ∷ p) ≡ counts old (key k ∷ p)
+pub counts-key : (old new : Branch) (k : List ℕ) (p : Path) → child k new ≡ child k old → counts new (key k ∷ p) ≡ counts old (key k ∷ p)
 unfolding count_at
 counts-key old new k p tables = ap (λ o. or_zero (option_map (count_at p) o)) tables
 
-pub cells-position : (old new : Node) (i : ℕ) (p : Path) → item i (entries new) ≡ item i (entries old) → cells new (position i ∷ p) ≡ cells old (position i ∷ p)
+pub cells-position : (old new : Branch) (i : ℕ) (p : Path) → item i (entries new) ≡ item i (entries old) → cells new (position i ∷ p) ≡ cells old (position i ∷ p)
 unfolding cell_at
 cells-position old new i p same = ap (λ o. or_nothing (option_map (cell_at p) o)) same
 
-pub counts-position : (old new : Node) (i : ℕ) (p : Path) → item i (entries new) ≡ item i (entries old) → counts new (position i ∷ p) ≡ counts old (position i ∷ p)
+pub counts-position : (old new : Branch) (i : ℕ) (p : Path) → item i (entries new) ≡ item i (entries old) → counts new (position i ∷ p) ≡ counts old (position i ∷ p)
 unfolding count_at
 counts-position old new i p same = ap (λ o. or_zero (option_map (count_at p) o)) same
 
-pub cells-marked : (k : Part) (m : Mark) (old new : Node) → Marked m old new → cells new ≡ change (cells old) [] (with_claim (table_claim [] k m))
+pub cells-marked : (k : Part) (m : Mark) (old new : Branch) → Marked m old new → cells new ≡ change (cells old) [] (with_claim (table_claim [] k m))
 unfolding cell_at change same_path
 cells-marked k m old new h = fun_ext at
   where
@@ -236,7 +236,7 @@ cells-marked k m old new h = fun_ext at
     at (key l ∷ p) = cells-key old new l p (child-same old new l h.tables) (closed-same old new l h.values)
     at (position i ∷ p) = cells-position old new i p (ap (item i) h.added)
 
-pub counts-marked : (m : Mark) (old new : Node) → Marked m old new → counts new ≡ counts old
+pub counts-marked : (m : Mark) (old new : Branch) → Marked m old new → counts new ≡ counts old
 unfolding count_at
 counts-marked m old new h = fun_ext at
   where
@@ -247,40 +247,40 @@ counts-marked m old new h = fun_ext at
 
 -- ---- what always holds of it
 
-pub sound-shape : (n : Node) → Sound n → IsTableOrArray n (entries n)
+pub sound-shape : (n : Branch) → Sound n → IsTableOrArray n (entries n)
 sound-shape n (sound m shape named added ordered below inside) = shape
 
-pub sound-named : (n : Node) → Sound n → AreNamed n
+pub sound-named : (n : Branch) → Sound n → AreNamed n
 sound-named n (sound m shape named added ordered below inside) = named
 
-pub sound-entries : (n : Node) → Sound n → AreEntries (entries n)
+pub sound-entries : (n : Branch) → Sound n → AreEntries (entries n)
 sound-entries n (sound m shape named added ordered below inside) = added
 
-pub sound-ordered : (n : Node) → Sound n → HoldsOrderedValues n
+pub sound-ordered : (n : Branch) → Sound n → HoldsOrderedValues n
 sound-ordered n (sound m shape named added ordered below inside) = ordered
 
-pub sound-below : (n : Node) → Sound n → (name : List ℕ) (c : Node) → child name n ≡ Some c → Sound c
+pub sound-below : (n : Branch) → Sound n → (name : List ℕ) (c : Branch) → child name n ≡ Some c → Sound c
 sound-below n (sound m shape named added ordered below inside) = below
 
-pub sound-inside : (n : Node) → Sound n → (i : ℕ) (c : Node) → item i (entries n) ≡ Some c → Sound c
+pub sound-inside : (n : Branch) → Sound n → (i : ℕ) (c : Branch) → item i (entries n) ≡ Some c → Sound c
 sound-inside n (sound m shape named added ordered below inside) = inside
 
 -- a table has no claim of an array
-pub scope-marks : (n : Node) → IsScope n → NoArray (marks n)
+pub scope-marks : (n : Branch) → IsScope n → NoArray (marks n)
 scope-marks n h = subst (IsTableOrArray n) h.1 (sound-shape n h.0)
 
 -- the same below, and other claims, none of them of an array
-pub scope-same : (old new : Node) → (out-Node new).tables ≡ (out-Node old).tables → (out-Node new).values ≡ (out-Node old).values → entries new ≡ entries old → NoArray (marks new)
+pub scope-same : (old new : Branch) → (out-Branch new).tables ≡ (out-Branch old).tables → (out-Branch new).values ≡ (out-Branch old).values → entries new ≡ entries old → NoArray (marks new)
     → IsScope old → IsScope new
 scope-same old new tables values added claims h = (whole, none)
   where
     none : entries new ≡ []
     none = added ∙ h.1
 
-    at : (k : List ℕ) (c : Node) → child k new ≡ Some c → child k old ≡ Some c
+    at : (k : List ℕ) (c : Branch) → child k new ≡ Some c → child k old ≡ Some c
     at k c found = sym (child-same old new k tables) ∙ found
 
-    no_entry : (i : ℕ) (c : Node) → item i (entries new) ≡ Some c → ⊥
+    no_entry : (i : ℕ) (c : Branch) → item i (entries new) ≡ Some c → ⊥
     no_entry i c found = none-some c (sym (ap (item i) none) ∙ found)
 
     whole : Sound new
@@ -293,31 +293,31 @@ scope-same old new tables values added claims h = (whole, none)
         (λ i c found. absurd (no_entry i c found))
 
 -- a table that is claimed, but not as an array, is one
-pub scope-marked : (m : Mark) (old new : Node) → is_array_sort m.sort ≡ false → Marked m old new → IsScope old → IsScope new
+pub scope-marked : (m : Mark) (old new : Branch) → is_array_sort m.sort ≡ false → Marked m old new → IsScope old → IsScope new
 scope-marked m old new other h before =
     scope-same old new h.tables h.values h.added (subst NoArray (sym h.claims) (no_array-remember (marks old) m other (scope-marks old before))) before
 
 -- ---- the claim is placed
 
-pub reaches-claim : (A B : Node → Type 0) (k : Part) (m : Mark) (old new : Node) → met (marks old) m k.name ≡ None → Marked m old new → (A old → B new)
+pub reaches-claim : (A B : Branch → Type 0) (k : Part) (m : Mark) (old new : Branch) → met (marks old) m k.name ≡ None → Marked m old new → (A old → B new)
     → Reaches A B old new (Ok tt) (claimed (table_claim [] k m) no_claims) (counts old)
-unfolding told put_all cell_at
+unfolding first_clash put_all cell_at
 reaches-claim A B k m old new free h after = λ before.
     (ap (λ o. or_else o None) free, (cells-marked k m old new h, counts-marked m old new h, after before))
 
 -- before further claims
-pub reaches-claimed : (A B C : Node → Type 0) (k : Part) (m : Mark) (old mid new : Node) (r : Result (Unit {0}) Halt) (cs : Claims) (d : Path → ℕ)
+pub reaches-claimed : (A B C : Branch → Type 0) (k : Part) (m : Mark) (old mid new : Branch) (r : Result (Unit {0}) Halt) (cs : Claims) (d : Path → ℕ)
     → met (marks old) m k.name ≡ None → Marked m old mid → (A old → B mid) → Reaches B C mid new r cs d → Reaches A C old new r (claimed (table_claim [] k m) cs) d
 unfolding followed
 reaches-claimed A B C k m old mid new r cs d free h after more =
     reaches-then A B C old mid new r (claimed (table_claim [] k m) no_claims) cs (counts old) d (reaches-claim A B k m old mid free h after) more
 
 -- the claim clashes
-pub reaches-claim-err : (A C : Node → Type 0) (k : Part) (m : Mark) (old new : Node) (q : Result (Unit {0}) Halt) (e : Halt) (P : Unit {0} → Type 0) (cs : Claims) (d : Path → ℕ)
+pub reaches-claim-err : (A C : Branch → Type 0) (k : Part) (m : Mark) (old new : Branch) (q : Result (Unit {0}) Halt) (e : Halt) (P : Unit {0} → Type 0) (cs : Claims) (d : Path → ℕ)
     → q ≡ Err e → Gives (Err e) (met (marks old) m k.name) P → Reaches A C old new q (claimed (table_claim [] k m) cs) d
-unfolding told cell_at
+unfolding first_clash cell_at
 reaches-claim-err A C k m old new q e P cs d same h = subst (λ r. Reaches A C old new r (claimed (table_claim [] k m) cs) d) (sym same) (go e h)
   where
     go : (e : Halt) → Gives (Err e) (met (marks old) m k.name) P → Reaches A C old new (Err e) (claimed (table_claim [] k m) cs) d
-    go (Clash c) h = λ before. ap (λ o. or_else o (told (change (cells old) [] (with_claim (table_claim [] k m))) cs)) h
+    go (Clash c) h = λ before. ap (λ o. or_else o (first_clash (change (cells old) [] (with_claim (table_claim [] k m))) cs)) h
     go (Memory e) h = λ before. tt

@@ -7,16 +7,16 @@ use Rattle.toml_span_read.specs.Data.{Node, node, scalar, array, inline, no_item
 use Rattle.toml_span_read.specs.Keys.{Part}
 use Rattle.toml_span_read.specs.Grammar.{first_block, last_end}
 use Rattle.toml_span_claims.specs.declared.claims.Blame.{Blame}
-use Rattle.toml_span_claims.specs.declared.claims.Blame.TheVariants.{Table, Key, Array}
+use Rattle.toml_span_claims.specs.declared.claims.Blame.TheVariants.{DuplicateTable, DuplicateKey, RedefineAsArray}
 use Rattle.toml_span_claims.specs.Paths.{same_path, enter, target, opened_by}
 use Rattle.toml_span_claims.specs.Claims.{followed, key_claims, value_claims, inner_claims, item_claims, pair_claims, event_claims, end_claims, header_claims, section_claims, claims_behind, claims}
-use Rattle.toml_span_claims.specs.Clashes.{Told}
+use Rattle.toml_span_claims.specs.Clashes.{NamedClash}
 use Rattle.toml_span_claims.specs.Flat.{all_claims, claims_at, first_by_header, flat}
-use Rattle.toml_span_claims.specs.code.Machine.{nothing, change, show_all, told}
+use Rattle.toml_span_claims.specs.code.Machine.{nothing, change, show_all, first_clash}
 
 -- what the examples evaluate
 computed : ⊤
-unfolding same_path enter target opened_by followed key_claims value_claims inner_claims item_claims pair_claims event_claims end_claims header_claims section_claims claims_behind change show_all told all_claims claims_at first_by_header flat
+unfolding same_path enter target opened_by followed key_claims value_claims inner_claims item_claims pair_claims event_claims end_claims header_claims section_claims claims_behind change show_all first_clash all_claims claims_at first_by_header flat
 computed = tt
 
 -- ---- how documents are written
@@ -52,7 +52,7 @@ entry = header true
 
 -- ---- how answers are written
 
-abbrev tells : Blame → List ℕ → Span → Span → Option Told
+abbrev tells : Blame → List ℕ → Span → Span → Option NamedClash
 tells blame name first place = Some (record { meeting = record { blame = blame; first = first; place = place }; name = name })
 
 -- what stands at a key
@@ -113,7 +113,7 @@ zz = codes "zz"
 abbrev inline_table : List Block
 inline_table = first_block (event 0 27 (part t 0 ∷ []) (node (inline (pair (part a 5 ∷ []) (digit 1 9) (at 5 10) (pair (part b 13 ∷ part c 15 ∷ []) (digit 2 19) (at 13 20) no_pairs))) (at 4 27)) ∷ [])
 
-inline_table-told : told nothing (claims inline_table) ≡ None
+inline_table-told : first_clash nothing (claims inline_table) ≡ None
 unfolding computed
 inline_table-told = refl
 
@@ -150,7 +150,7 @@ two_entries =
     ∷ headed 24 30 (part a 25 ∷ part b 27 ∷ []) (event 30 35 (part x 30 ∷ []) (digit 2 34) ∷ [])
     ∷ []
 
-two_entries-told : told nothing (claims two_entries) ≡ None
+two_entries-told : first_clash nothing (claims two_entries) ≡ None
 unfolding computed
 two_entries-told = refl
 
@@ -197,7 +197,7 @@ passed_then_section =
     ∷ headed 8 12 (part a 9 ∷ []) (event 12 19 (part b 12 ∷ part d 14 ∷ []) (digit 1 18) ∷ [])
     ∷ []
 
-passed_then_section-told : told nothing (claims passed_then_section) ≡ None
+passed_then_section-told : first_clash nothing (claims passed_then_section) ≡ None
 unfolding computed
 passed_then_section-told = refl
 
@@ -225,7 +225,7 @@ dotted_then_section =
     ∷ headed 16 20 (part a 17 ∷ []) (event 20 27 (part b 20 ∷ part y 22 ∷ []) (digit 2 26) ∷ [])
     ∷ []
 
-dotted_then_section-told : told nothing (claims dotted_then_section) ≡ tells Key a (at 0 1) (at 17 18)
+dotted_then_section-told : first_clash nothing (claims dotted_then_section) ≡ tells DuplicateKey a (at 0 1) (at 17 18)
 unfolding computed
 dotted_then_section-told = refl
 
@@ -233,7 +233,7 @@ dotted_then_section-told = refl
 abbrev dotted_then_assigned : List Block
 dotted_then_assigned = first_block (event 0 7 (part a 0 ∷ part b 2 ∷ []) (digit 1 6) ∷ event 8 13 (part a 8 ∷ []) (digit 2 12) ∷ [])
 
-dotted_then_assigned-told : told nothing (claims dotted_then_assigned) ≡ tells Key a (at 0 1) (at 8 9)
+dotted_then_assigned-told : first_clash nothing (claims dotted_then_assigned) ≡ tells DuplicateKey a (at 0 1) (at 8 9)
 unfolding computed
 dotted_then_assigned-told = refl
 
@@ -241,7 +241,7 @@ dotted_then_assigned-told = refl
 abbrev passed_then_array : List Block
 passed_then_array = headed 0 6 (part a 1 ∷ part b 3 ∷ []) [] ∷ entry 6 12 (part a 8 ∷ []) [] ∷ []
 
-passed_then_array-told : told nothing (claims passed_then_array) ≡ tells Array a (at 0 6) (at 6 12)
+passed_then_array-told : first_clash nothing (claims passed_then_array) ≡ tells RedefineAsArray a (at 0 6) (at 6 12)
 unfolding computed
 passed_then_array-told = refl
 
@@ -249,7 +249,7 @@ passed_then_array-told = refl
 abbrev array_then_section : List Block
 array_then_section = entry 0 6 (part a 2 ∷ []) [] ∷ entry 6 12 (part a 8 ∷ []) [] ∷ headed 12 16 (part a 13 ∷ []) [] ∷ []
 
-array_then_section-told : told nothing (claims array_then_section) ≡ tells Table a (at 0 6) (at 12 16)
+array_then_section-told : first_clash nothing (claims array_then_section) ≡ tells DuplicateTable a (at 0 6) (at 12 16)
 unfolding computed
 array_then_section-told = refl
 
@@ -257,7 +257,7 @@ array_then_section-told = refl
 abbrev assigned_then_passed : List Block
 assigned_then_passed = first_block (event 0 5 (part a 0 ∷ []) (digit 1 4) ∷ []) ++ headed 6 12 (part a 7 ∷ part b 9 ∷ []) [] ∷ []
 
-assigned_then_passed-told : told nothing (claims assigned_then_passed) ≡ tells Key a (at 0 1) (at 7 8)
+assigned_then_passed-told : first_clash nothing (claims assigned_then_passed) ≡ tells DuplicateKey a (at 0 1) (at 7 8)
 unfolding computed
 assigned_then_passed-told = refl
 
@@ -265,7 +265,7 @@ assigned_then_passed-told = refl
 abbrev section_then_assigned : List Block
 section_then_assigned = headed 0 6 (part a 1 ∷ part b 3 ∷ []) [] ∷ headed 6 10 (part a 7 ∷ []) (event 10 15 (part b 10 ∷ []) (digit 1 14) ∷ []) ∷ []
 
-section_then_assigned-told : told nothing (claims section_then_assigned) ≡ tells Key b (at 3 4) (at 10 11)
+section_then_assigned-told : first_clash nothing (claims section_then_assigned) ≡ tells DuplicateKey b (at 3 4) (at 10 11)
 unfolding computed
 section_then_assigned-told = refl
 
@@ -276,7 +276,7 @@ dotted_beside_array =
     ∷ headed 10 14 (part x 11 ∷ []) (event 14 21 (part a 14 ∷ part b 16 ∷ []) (digit 1 20) ∷ [])
     ∷ []
 
-dotted_beside_array-told : told nothing (claims dotted_beside_array) ≡ None
+dotted_beside_array-told : first_clash nothing (claims dotted_beside_array) ≡ None
 unfolding computed
 dotted_beside_array-told = refl
 
@@ -308,7 +308,7 @@ apple_and next = first_block (event 0 19 (part apple 0 ∷ part color 6 ∷ []) 
 abbrev apple_section : List Block
 apple_section = apple_and (headed 20 28 (part apple 21 ∷ []) [])
 
-apple_section-told : told nothing (claims apple_section) ≡ tells Key apple (at 0 5) (at 21 26)
+apple_section-told : first_clash nothing (claims apple_section) ≡ tells DuplicateKey apple (at 0 5) (at 21 26)
 unfolding computed
 apple_section-told = refl
 
@@ -316,7 +316,7 @@ apple_section-told = refl
 abbrev apple_passed : List Block
 apple_passed = apple_and (headed 20 36 (part apple 21 ∷ part texture 27 ∷ []) [])
 
-apple_passed-told : told nothing (claims apple_passed) ≡ None
+apple_passed-told : first_clash nothing (claims apple_passed) ≡ None
 unfolding computed
 apple_passed-told = refl
 
@@ -336,7 +336,7 @@ apple_passed-at-apple-texture = refl
 abbrev twice_inline : List Block
 twice_inline = first_block (event 0 18 (part a 0 ∷ []) (node (inline (pair (part b 5 ∷ []) (digit 1 9) (at 5 10) (pair (part b 12 ∷ []) (digit 2 16) (at 12 17) no_pairs))) (at 4 18)) ∷ [])
 
-twice_inline-told : told nothing (claims twice_inline) ≡ tells Key b (at 5 6) (at 12 13)
+twice_inline-told : first_clash nothing (claims twice_inline) ≡ tells DuplicateKey b (at 5 6) (at 12 13)
 unfolding computed
 twice_inline-told = refl
 
@@ -344,7 +344,7 @@ twice_inline-told = refl
 abbrev array_of_texts : List Block
 array_of_texts = headed 0 4 (part x 1 ∷ []) (event 4 19 (part y 4 ∷ []) (node (array (item (quoted z 10) (item (quoted zz 15) no_items))) (at 8 19)) ∷ []) ∷ []
 
-array_of_texts-told : told nothing (claims array_of_texts) ≡ None
+array_of_texts-told : first_clash nothing (claims array_of_texts) ≡ None
 unfolding computed
 array_of_texts-told = refl
 

@@ -26,8 +26,8 @@ use Rattle.toml_span_read.proofs.EarlierTree.{key_cmp, same_name}
 use Rattle.toml_span_claims.specs.declared.claims.Mark.{Mark}
 use Rattle.toml_span_claims.specs.declared.claims.Sort.{Sort}
 use Rattle.toml_span_claims.specs.declared.claims.Sort.TheVariants.{Passed, Section, ArrayOfTables, Entry, Dotted, Assigned}
-use Rattle.toml_span_claims.specs.declared.node.Node.{Node}
-use Rattle.toml_span_claims.specs.declared.node.Node.TheViews.{out-Node}
+use Rattle.toml_span_claims.specs.declared.branch.Branch.{Branch}
+use Rattle.toml_span_claims.specs.declared.branch.Branch.TheViews.{out-Branch}
 use Rattle.toml_span_claims.specs.Claims.{shape_of, key_span_of}
 use Rattle.toml_span_claims.specs.Clashes.{or_else}
 use Rattle.toml_span_claims.specs.Flat.{by_header}
@@ -42,23 +42,23 @@ use Rattle.toml_span_claims.proofs.Ordered.{members-ordered}
 -- ---- values and nodes by name
 
 -- what stands at a name: the original value, or what the node of the name has become
-abbrev pub Stands : Option (Box Node) → Option (Key × Value) → Option (Key × Value) → Type 0
+abbrev pub Stands : Option (Box Branch) → Option (Key × Value) → Option (Key × Value) → Type 0
 Stands None old new = new ≡ old
 Stands (Some b) old new = old ≡ None → (e : Key × Value) × (new ≡ Some e) × Becomes (box_value b) (Ok (e.0.span, e.1))
 
 -- the same, where the node of the name may be left to be finished
-abbrev pub StandsSoFar : Option (Box Node) → Option (Box Node) → Option (Key × Value) → Option (Key × Value) → Type 0
+abbrev pub StandsSoFar : Option (Box Branch) → Option (Box Branch) → Option (Key × Value) → Option (Key × Value) → Type 0
 StandsSoFar node None old new = Stands node old new
 StandsSoFar node (Some b) old new = (node ≡ Some b) × (new ≡ old)
 
 -- the values, where all nodes but those that are left are finished
-pub record Filled (tables left : List (Key × Box Node)) (old new : List (Key × Value)) : Type 0 where
+pub record Filled (tables left : List (Key × Box Branch)) (old new : List (Key × Value)) : Type 0 where
   pub sorted : IsStrictlySortedBy key_cmp (keys_of left)
   pub stands : (name : List ℕ) → StandsSoFar (lookup (is_named name) tables) (lookup (is_named name) left) (lookup_entry (is_named name) old) (lookup_entry (is_named name) new)
 
 -- the elements, where all entries but those that are left are finished
-pub record EntriesFilled (all left : List Node) (made : List Value) : Type 0 where
-  pub done : List Node
+pub record EntriesFilled (all left : List Branch) (made : List Value) : Type 0 where
+  pub done : List Branch
   pub split : all ≡ done ++ left
   pub become : AllZip BecomesEntry done made
 
@@ -104,7 +104,7 @@ none-behind k [] h = refl
 none-behind k (e ∷ es) h = rw (h.0) (none-behind k es h.1)
 
 -- at a name, once the next node is finished
-finished-one : (name : List ℕ) (tables : Option (Box Node)) (k made : Key) (b : Box Node) (left : List (Key × Box Node)) (old : Option (Key × Value)) (new : List (Key × Value)) (v : Value)
+finished-one : (name : List ℕ) (tables : Option (Box Branch)) (k made : Key) (b : Box Branch) (left : List (Key × Box Branch)) (old : Option (Key × Value)) (new : List (Key × Value)) (v : Value)
     → cow_str_bytes made.name ≡ cow_str_bytes k.name → Becomes (box_value b) (Ok (made.span, v)) → AllByRecursion (λ q. key_cmp k q ≡ Less) (keys_of left)
     → StandsSoFar tables (lookup (is_named name) ((k, b) ∷ left)) old (lookup_entry (is_named name) new)
     → StandsSoFar tables (lookup (is_named name) left) old (lookup_entry (is_named name) (insert_entry key_cmp new made v))
@@ -119,7 +119,7 @@ finished-one name tables k made b left old new v named become behind h =
     ]
 
 -- one node more is finished
-pub filled-more : (tables : List (Key × Box Node)) (k made : Key) (b : Box Node) (left : List (Key × Box Node)) (old new : List (Key × Value)) (v : Value)
+pub filled-more : (tables : List (Key × Box Branch)) (k made : Key) (b : Box Branch) (left : List (Key × Box Branch)) (old new : List (Key × Value)) (v : Value)
     → made.name ≡ k.name → Becomes (box_value b) (Ok (made.span, v)) → Filled tables ((k, b) ∷ left) old new → Filled tables left old (insert_entry key_cmp new made v)
 filled-more tables k made b left old new v named become h = record {
   sorted = sorted_tail key_cmp k (keys_of left) h.sorted;
@@ -129,14 +129,14 @@ filled-more tables k made b left old new v named become h = record {
 }
 
 -- one entry more is finished
-pub entries-more : (all left : List Node) (made : List Value) (n : Node) (v : Value) → EntriesFilled all (n ∷ left) made → BecomesEntry n v → EntriesFilled all left (made ++ (v ∷ []))
+pub entries-more : (all left : List Branch) (made : List Value) (n : Branch) (v : Value) → EntriesFilled all (n ∷ left) made → BecomesEntry n v → EntriesFilled all left (made ++ (v ∷ []))
 entries-more all left made n v h become = record {
   done = h.done ++ (n ∷ []);
   split = h.split ∙ sym (append_assoc h.done (n ∷ []) left);
   become = push h.done made h.become;
 }
   where
-    push : (ns : List Node) (vs : List Value) → AllZip BecomesEntry ns vs → AllZip BecomesEntry (ns ++ (n ∷ [])) (vs ++ (v ∷ []))
+    push : (ns : List Branch) (vs : List Value) → AllZip BecomesEntry ns vs → AllZip BecomesEntry (ns ++ (n ∷ [])) (vs ++ (v ∷ []))
     push [] [] h = (become, tt)
     push [] (w ∷ vs) h = absurd h
     push (m ∷ ns) [] h = absurd h
@@ -222,7 +222,7 @@ array-decides x m array is =
 -- ---- what is shown
 
 -- what a node has become shows what the node keeps, at the key's span that the deciding mark gives
-became-shows : (c : Node) (at : Span) (v : Value) (o : Option Span) → Becomes c (Ok (at, v)) → Sound c
+became-shows : (c : Branch) (at : Span) (v : Value) (o : Option Span) → Becomes c (Ok (at, v)) → Sound c
     → (m : Mark) × (deciding (marks c) ≡ Some m) × (key_span_of m.sort m.key ≡ o) → (p : Path)
     → option_map tree_place (reached p (o, view v)) ≡ place_shown (cell_at p c)
 unfolding cell_at
@@ -232,7 +232,7 @@ became-shows c at v o become good d [] =
 became-shows c at v o become good d (s ∷ p) = (become good).1 s p
 
 -- a node at a name
-named-shows : (c : Node) (at : Span) (v : Value) → Becomes c (Ok (at, v)) → Sound c → IsNamed (marks c) → (p : Path)
+named-shows : (c : Branch) (at : Span) (v : Value) → Becomes c (Ok (at, v)) → Sound c → IsNamed (marks c) → (p : Path)
     → option_map tree_place (reached p (Some at, view v)) ≡ place_shown (cell_at p c)
 named-shows c at v become good named p =
     let d = named-decides (marks c) named in
@@ -251,8 +251,8 @@ closed-shows (Some e) [] = refl
 closed-shows (Some e) (s ∷ p) = plain_place (reached (s ∷ p) (Some e.0.span, view e.1))
 
 -- what stands at a name
-name-shows : (b : Option (Box Node)) (old new : Option (Key × Value)) (p : Path) → Stands b old new
-    → ((c : Node) → option_map box_value b ≡ Some c → (old ≡ None) × IsNamed (marks c) × Sound c)
+name-shows : (b : Option (Box Branch)) (old new : Option (Key × Value)) (p : Path) → Stands b old new
+    → ((c : Branch) → option_map box_value b ≡ Some c → (old ≡ None) × IsNamed (marks c) × Sound c)
     → option_map tree_place (option_and_then (reached p) (option_map (λ e. (Some e.0.span, view e.1)) new))
     ≡ place_shown (or_closed (option_map (cell_at p) (option_map box_value b)) (closed_cell old p))
 name-shows None old new p h apart = rw h (closed-shows old p)
@@ -262,16 +262,16 @@ name-shows (Some b) old new p h apart =
     rw (made.1) (named-shows (box_value b) made.0.0.span made.0.1 made.2 a.2 a.1 p)
 
 -- where none is left
-finished : (tables left : List (Key × Box Node)) (old new : List (Key × Value)) (name : List ℕ) → left ≡ [] → Filled tables left old new
+finished : (tables left : List (Key × Box Branch)) (old new : List (Key × Value)) (name : List ℕ) → left ≡ [] → Filled tables left old new
     → Stands (lookup (is_named name) tables) (lookup_entry (is_named name) old) (lookup_entry (is_named name) new)
 finished tables left old new name none h = rw none at (h.stands name)
 
 -- a node at a name, and its name among the values
-node-named : (n : Node) → Sound n → (name : List ℕ) (c : Node) → child name n ≡ Some c → (closed name n ≡ None) × IsNamed (marks c) × Sound c
+node-named : (n : Branch) → Sound n → (name : List ℕ) (c : Branch) → child name n ≡ Some c → (closed name n ≡ None) × IsNamed (marks c) × Sound c
 node-named n good name c is = let named = sound-named n good name c is in (named.0, named.1, sound-below n good name c is)
 
 -- a finished table shows below it what the node's cells show
-finished-shows : (t : Table) (left : List (Key × Box Node)) (n : Node) → left ≡ [] → Filled (out-Node n).tables.entries left (out-Node n).values.entries t.entries → Sound n → entries n ≡ []
+finished-shows : (t : Table) (left : List (Key × Box Branch)) (n : Branch) → left ≡ [] → Filled (out-Branch n).tables.entries left (out-Branch n).values.entries t.entries → Sound n → entries n ≡ []
     → ShowsBelow (inner_view (table_inner t)) (cells n)
 unfolding cell_at
 finished-shows t left n none h good table (key name) p =
@@ -280,8 +280,8 @@ finished-shows t left n none h good table (key name) p =
 finished-shows t left n none h good table (position i) p = rw (inner_view-Table t, table)
 
 -- what stands at a name is ordered
-name-ordered : (b : Option (Box Node)) (old new : Option (Key × Value)) (e : Key × Value) → Stands b old new
-    → ((c : Node) → option_map box_value b ≡ Some c → (old ≡ None) × IsNamed (marks c) × Sound c) → ((f : Key × Value) → old ≡ Some f → IsOrdered (view f.1))
+name-ordered : (b : Option (Box Branch)) (old new : Option (Key × Value)) (e : Key × Value) → Stands b old new
+    → ((c : Branch) → option_map box_value b ≡ Some c → (old ≡ None) × IsNamed (marks c) × Sound c) → ((f : Key × Value) → old ≡ Some f → IsOrdered (view f.1))
     → new ≡ Some e → IsOrdered (view e.1)
 name-ordered None old new e h apart kept is = kept e (sym h ∙ is)
 name-ordered (Some b) old new e h apart kept is =
@@ -290,23 +290,23 @@ name-ordered (Some b) old new e h apart kept is =
     subst (λ (f : Key × Value). IsOrdered (view f.1)) (same_Some made.0 e (sym made.1 ∙ is)) ((made.2 a.2).2)
 
 -- a finished table is in order
-finished-ordered : (t : Table) (left : List (Key × Box Node)) (n : Node) → left ≡ [] → Filled (out-Node n).tables.entries left (out-Node n).values.entries t.entries → NamesAscend t → Sound n
+finished-ordered : (t : Table) (left : List (Key × Box Branch)) (n : Branch) → left ≡ [] → Filled (out-Branch n).tables.entries left (out-Branch n).values.entries t.entries → NamesAscend t → Sound n
     → HoldsOrdered (inner_view (table_inner t))
 finished-ordered t left n none h ascend good =
     rw (inner_view-Table t) (members-ordered t.entries ascend
     (λ name e is. name-ordered _ _ _ e (finished _ _ _ _ name none h) (node-named n good name) (sound-ordered n good name) is))
 
 -- where all nodes are finished
-pub filled-finishes : (tables : BTreeMap Key (Box Node)) (values t : Table) (left : List (Key × Box Node)) → left ≡ [] → Filled tables.entries left values.entries t.entries → NamesAscend t
+pub filled-finishes : (tables : BTreeMap Key (Box Branch)) (values t : Table) (left : List (Key × Box Branch)) → left ≡ [] → Filled tables.entries left values.entries t.entries → NamesAscend t
     → Finishes tables values (Ok t)
 filled-finishes tables values t left none h ascend n sameTables sameValues scope =
-    let here : Filled (out-Node n).tables.entries left (out-Node n).values.entries t.entries = rw (sameTables, sameValues) h in
+    let here : Filled (out-Branch n).tables.entries left (out-Branch n).values.entries t.entries = rw (sameTables, sameValues) h in
     (finished-shows t left n none here scope.0 scope.1, finished-ordered t left n none here ascend scope.0)
 
 -- ---- tables and arrays of tables
 
 -- what has become of a node, whose shape and whose places below it are told apart
-pub became : (n : Node) (i : ValueInner) (spans : Span × Span) (v : Value) → IfSome (deciding (marks n)) (λ m. spans ≡ (m.key, m.extent)) → view v ≡ tree.node (inner_view i) spans.1
+pub became : (n : Branch) (i : ValueInner) (spans : Span × Span) (v : Value) → IfSome (deciding (marks n)) (λ m. spans ≡ (m.key, m.extent)) → view v ≡ tree.node (inner_view i) spans.1
     → (Sound n → ((m : Mark) → deciding (marks n) ≡ Some m → tree_shape (inner_view i) ≡ shape_of m.sort) × ShowsBelow (inner_view i) (cells n) × HoldsOrdered (inner_view i))
     → Becomes n (Ok (spans.0, v))
 became n i spans v placed seen h good = (place, rw seen ((h good).1), rw seen ((h good).2))
@@ -318,8 +318,8 @@ became n i spans v placed seen h good = (place, rw seen ((h good).1), rw seen ((
         (ap (λ w. w.0) stands, rw (seen, (h good).0 m is, stands))
 
 -- a node without entries becomes a table
-pub became-table : (n : Node) (t : Table) (spans : Span × Span) (v : Value) → IfSome (deciding (marks n)) (λ m. spans ≡ (m.key, m.extent)) → view v ≡ tree.node (inner_view (table_inner t)) spans.1
-    → entries n ≡ [] → Finishes (out-Node n).tables (out-Node n).values (Ok t) → Becomes n (Ok (spans.0, v))
+pub became-table : (n : Branch) (t : Table) (spans : Span × Span) (v : Value) → IfSome (deciding (marks n)) (λ m. spans ≡ (m.key, m.extent)) → view v ≡ tree.node (inner_view (table_inner t)) spans.1
+    → entries n ≡ [] → Finishes (out-Branch n).tables (out-Branch n).values (Ok t) → Becomes n (Ok (spans.0, v))
 became-table n t spans v placed seen none made = became n (table_inner t) spans v placed seen (λ good. let whole = made n refl refl (good, none) in (shape good, whole.0, whole.1))
   where
     shape : Sound n → (m : Mark) → deciding (marks n) ≡ Some m → tree_shape (inner_view (table_inner t)) ≡ shape_of m.sort
@@ -328,7 +328,7 @@ became-table n t spans v placed seen none made = became n (table_inner t) spans 
         rw (inner_view-Table t) (sym (table_shape m.sort (deciding-all (λ m. is_array_sort m.sort ≡ false) (marks n) m (no_array-all (marks n) plain) is)))
 
 -- the entries at their positions
-elements-show : (ns : List Node) (vs : List Value) → AllZip BecomesEntry ns vs → ((i : ℕ) (c : Node) → item i ns ≡ Some c → IsEntry (marks c) × Sound c) → (i : ℕ) (p : Path)
+elements-show : (ns : List Branch) (vs : List Value) → AllZip BecomesEntry ns vs → ((i : ℕ) (c : Branch) → item i ns ≡ Some c → IsEntry (marks c) × Sound c) → (i : ℕ) (p : Path)
     → option_map tree_place (option_and_then (reached p) (tree.element_at i (items_view vs))) ≡ place_shown (or_nothing (option_map (cell_at p) (item i ns)))
 elements-show [] [] made good i p = refl
 elements-show [] (v ∷ vs) made good i p = absurd made
@@ -339,26 +339,26 @@ elements-show (n ∷ ns) (v ∷ vs) made good zero p =
 elements-show (n ∷ ns) (v ∷ vs) made good (suc i) p = elements-show ns vs made.1 (λ j c is. good (suc j) c is) i p
 
 -- the elements are in order
-elements-ordered : (ns : List Node) (vs : List Value) → AllZip BecomesEntry ns vs → ((i : ℕ) (c : Node) → item i ns ≡ Some c → Sound c) → AreOrdered (items_view vs)
+elements-ordered : (ns : List Branch) (vs : List Value) → AllZip BecomesEntry ns vs → ((i : ℕ) (c : Branch) → item i ns ≡ Some c → Sound c) → AreOrdered (items_view vs)
 elements-ordered [] [] made good = tt
 elements-ordered [] (v ∷ vs) made good = absurd made
 elements-ordered (n ∷ ns) [] made good = absurd made
 elements-ordered (n ∷ ns) (v ∷ vs) made good = ((made.0.1 (good 0 n refl)).2, elements-ordered ns vs made.1 (λ i c is. good (suc i) c is))
 
 -- whether there are entries
-pub no_entries : (n : Node) → true ≡ (vec_len (out-Node n).entries == 0) → entries n ≡ []
-no_entries n h = let v = (out-Node n).entries in nil_from_length v.items (omega (arith, v.ok.0, eqb-true (vec_len v) 0 (sym h)))
+pub no_entries : (n : Branch) → true ≡ (vec_len (out-Branch n).entries == 0) → entries n ≡ []
+no_entries n h = let v = (out-Branch n).entries in nil_from_length v.items (omega (arith, v.ok.0, eqb-true (vec_len v) 0 (sym h)))
 
-pub some_entries : (n : Node) → false ≡ (vec_len (out-Node n).entries == 0) → entries n ≡ [] → ⊥
-some_entries n h none = let v = (out-Node n).entries in eqb-false (vec_len v) 0 (sym h) (omega (arith, v.ok.0, ap length none))
+pub some_entries : (n : Branch) → false ≡ (vec_len (out-Branch n).entries == 0) → entries n ≡ [] → ⊥
+some_entries n h none = let v = (out-Branch n).entries in eqb-false (vec_len v) 0 (sym h) (omega (arith, v.ok.0, ap length none))
 
 -- a sound node with entries is an array of tables
-array-of : (n : Node) (ns : List Node) → entries n ≡ ns → (ns ≡ [] → ⊥) → IsTableOrArray n ns → IsArray n
+array-of : (n : Branch) (ns : List Branch) → entries n ≡ ns → (ns ≡ [] → ⊥) → IsTableOrArray n ns → IsArray n
 array-of n [] is some h = absurd (some refl)
 array-of n (x ∷ xs) is some h = h
 
 -- an array of tables shows below it its entries
-array-shows : (n : Node) (a : Array) → EachBecomes (entries n) (Ok a) → Sound n → IsArray n → ShowsBelow (inner_view (array_inner a)) (cells n)
+array-shows : (n : Branch) (a : Array) → EachBecomes (entries n) (Ok a) → Sound n → IsArray n → ShowsBelow (inner_view (array_inner a)) (cells n)
 unfolding cell_at
 array-shows n a made good arr (key name) p = rw (inner_view-Array a, arr.no_tables, arr.no_values)
 array-shows n a made good arr (position i) p =
@@ -366,11 +366,11 @@ array-shows n a made good arr (position i) p =
     rw (inner_view-Array a) shown
 
 -- and so is the array
-array-ordered : (n : Node) (a : Array) → EachBecomes (entries n) (Ok a) → Sound n → HoldsOrdered (inner_view (array_inner a))
+array-ordered : (n : Branch) (a : Array) → EachBecomes (entries n) (Ok a) → Sound n → HoldsOrdered (inner_view (array_inner a))
 array-ordered n a made good = rw (inner_view-Array a) (elements-ordered (entries n) a.items made (sound-inside n good))
 
 -- a node with entries becomes an array
-pub became-array : (n : Node) (a : Array) (spans : Span × Span) (v : Value) → IfSome (deciding (marks n)) (λ m. spans ≡ (m.key, m.extent)) → view v ≡ tree.node (inner_view (array_inner a)) spans.1
+pub became-array : (n : Branch) (a : Array) (spans : Span × Span) (v : Value) → IfSome (deciding (marks n)) (λ m. spans ≡ (m.key, m.extent)) → view v ≡ tree.node (inner_view (array_inner a)) spans.1
     → (entries n ≡ [] → ⊥) → EachBecomes (entries n) (Ok a) → Becomes n (Ok (spans.0, v))
 became-array n a spans v placed seen some made =
     became n (array_inner a) spans v placed seen

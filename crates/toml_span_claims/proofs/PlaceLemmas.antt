@@ -10,7 +10,7 @@ use Rattle.toml_span_claims.specs.declared.claims.Blame.{Blame}
 use Rattle.toml_span_claims.specs.declared.claims.Blame.TheVariants as blames
 use Rattle.toml_span_claims.specs.declared.claims.Mark.{Mark}
 use Rattle.toml_span_claims.specs.declared.claims.Meeting.{Meeting}
-use Rattle.toml_span_claims.specs.declared.claims.Clash.{Clash as Told}
+use Rattle.toml_span_claims.specs.declared.claims.Clash.{Clash as ClashFound}
 use Rattle.toml_span_claims.specs.declared.claims.Halt.{Halt}
 use Rattle.toml_span_claims.specs.declared.claims.Halt.TheVariants.{Memory, Clash}
 use Rattle.toml_span_claims.specs.Clashes.{blame, meeting, meets, or_else, partner}
@@ -19,9 +19,9 @@ use Rattle.toml_span_claims.specs.Flat.{by_header}
 
 -- what is told at a line is told of a header
 abbrev IsTold : Sort → Blame → Type 0
-IsTold sort blames.Table = by_header sort ≡ true
-IsTold sort blames.Key = ⊤
-IsTold sort blames.Array = by_header sort ≡ true
+IsTold sort blames.DuplicateTable = by_header sort ≡ true
+IsTold sort blames.DuplicateKey = ⊤
+IsTold sort blames.RedefineAsArray = by_header sort ≡ true
 
 blame_told : (earlier later : Sort) → IfSome (blame earlier later) (IsTold later)
 blame_told Passed Passed = tt
@@ -63,9 +63,9 @@ blame_told Assigned Assigned = tt
 
 meeting_inside : (n : ℕ) (earlier later : Mark) (o : Option Blame) → IfSome o (IsTold later.sort) → IsMarkInside n later → IfSome (option_map (meeting earlier later) o) (λ m. IsInside n m.place)
 meeting_inside n earlier later None told inside = tt
-meeting_inside n earlier later (Some blames.Table) told inside = inside.1 told
-meeting_inside n earlier later (Some blames.Key) told inside = inside.0
-meeting_inside n earlier later (Some blames.Array) told inside = inside.1 told
+meeting_inside n earlier later (Some blames.DuplicateTable) told inside = inside.1 told
+meeting_inside n earlier later (Some blames.DuplicateKey) told inside = inside.0
+meeting_inside n earlier later (Some blames.RedefineAsArray) told inside = inside.1 told
 
 or_else_if : {A : Type 0} (P : A → Type 0) (o p : Option A) → IfSome o P → IfSome p P → IfSome (or_else o p) P
 or_else_if P (Some x) p h i = h
@@ -99,5 +99,5 @@ header_inside n mark sort key line extent is inside at_line = rw is (inside, λ 
 
 -- ---- halts
 
-pub clash_inside : (n : ℕ) (halt : Halt) (c : Told) → halt ≡ Clash c → IsHaltInside n halt → IsInside n c.meeting.place
+pub clash_inside : (n : ℕ) (halt : Halt) (c : ClashFound) → halt ≡ Clash c → IsHaltInside n halt → IsInside n c.meeting.place
 clash_inside n halt c is h = rw is at h

@@ -9,7 +9,7 @@ use Rattle.toml_span_claims.specs.declared.claims.Mark.{Mark}
 use Rattle.toml_span_claims.specs.declared.claims.Sort.{Sort}
 use Rattle.toml_span_claims.specs.declared.claims.Sort.TheVariants.{ArrayOfTables, Entry, Dotted, Assigned, Section}
 use Rattle.toml_span_claims.specs.declared.claims.Sort.TheVariants.{Passed}
-use Rattle.toml_span_claims.specs.Paths.{below, at, enter, section_path, entries_at, opened_by}
+use Rattle.toml_span_claims.specs.Paths.{with_key, with_position, enter, section_path, entries_at, opened_by}
 use Rattle.toml_span_claims.specs.declared.claims.Head.{Head}
 
 -- A path is claimed by a key of this name. The mark says in which way, and the place is what stands there if this claim
@@ -91,8 +91,10 @@ element p v = record {
 -- the claims of a key below p, which has at least one part, and those inside the value
 unfoldable pub key_claims : Path → List Part → Node → (Path → Claims) → Claims
 key_claims p [] v inside = no_claims
-key_claims p (k ∷ []) v inside = claimed (assigned (below p k) k v) (inside (below p k))
-key_claims p (k ∷ l ∷ more) v inside = claimed (dotted (below p k) k v) (key_claims (below p k) (l ∷ more) v inside)
+key_claims p (k ∷ []) v inside = claimed (assigned (with_key p k) k v) (inside (with_key p k))
+key_claims p (k ∷ l ∷ more) v inside =
+    let q = with_key p k in
+    claimed (dotted q k v) (key_claims q (l ∷ more) v inside)
 
 unfoldable mutual
   -- what a value at p claims below p
@@ -107,7 +109,7 @@ unfoldable mutual
   pub item_claims : Items → ℕ → Path → Claims
   item_claims no_items i p = no_claims
   item_claims (item v vs) i p =
-      claimed (element (at p i) v) (followed (value_claims v (at p i)) (item_claims vs (suc i) p))
+      claimed (element (with_position p i) v) (followed (value_claims v (with_position p i)) (item_claims vs (suc i) p))
 
   pub pair_claims : Pairs → Path → Claims
   pair_claims no_pairs p = no_claims
@@ -141,15 +143,15 @@ array_claims h p k (suc n) rest = rest
 unfoldable pub end_claims : Head → Path → Part → ℕ → Claims
 end_claims h p k n =
     if h.array
-    then array_claims h p k n (claimed (header_claim h Entry (at p n) k) no_claims)
+    then array_claims h p k n (claimed (header_claim h Entry (with_position p n) k) no_claims)
     else claimed (header_claim h Section p k) no_claims
 
 -- Each part but the last passes through a table: the latest entry, where an array of tables stands there.
 unfoldable pub header_claims : (Path → ℕ) → Head → Path → List Part → Claims
 header_claims entries h p [] = no_claims
-header_claims entries h p (k ∷ []) = end_claims h (below p k) k (entries (below p k))
+header_claims entries h p (k ∷ []) = end_claims h (with_key p k) k (entries (with_key p k))
 header_claims entries h p (k ∷ l ∷ more) =
-    let q = enter (entries (below p k)) (below p k) in
+    let q = enter (entries (with_key p k)) (with_key p k) in
     claimed (header_claim h Passed q k) (header_claims entries h q (l ∷ more))
 
 -- what a section claims, where `entries` counts the entries of each array before it

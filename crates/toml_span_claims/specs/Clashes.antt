@@ -4,7 +4,7 @@ use Rattle.toml_span_tree.specs.Error.{Kind, duplicate_table, duplicate_key, red
 use Rattle.toml_span_claims.specs.declared.claims.Sort.{Sort}
 use Rattle.toml_span_claims.specs.declared.claims.Sort.TheVariants.{Passed, Section, ArrayOfTables, Dotted, Assigned}
 use Rattle.toml_span_claims.specs.declared.claims.Blame.{Blame}
-use Rattle.toml_span_claims.specs.declared.claims.Blame.TheVariants.{Table, Key, Array}
+use Rattle.toml_span_claims.specs.declared.claims.Blame.TheVariants.{DuplicateTable, DuplicateKey, RedefineAsArray}
 use Rattle.toml_span_claims.specs.declared.claims.Mark.{Mark}
 use Rattle.toml_span_claims.specs.declared.claims.Meeting.{Meeting}
 use Rattle.toml_span_claims.specs.Paths.{same_path}
@@ -15,30 +15,30 @@ use Rattle.toml_span_claims.specs.Claims.{Claim, Claims, no_claims, claimed, sco
 -- entries; an entry is claimed once, and then passed through. A value and then a dotted key of one section or inline
 -- table is a fault of reading; elsewhere another clash comes before it.
 abbrev pub blame : Sort → Sort → Option Blame
-blame Passed ArrayOfTables = Some Array
-blame Passed Assigned = Some Key
-blame Section Section = Some Table
-blame Section ArrayOfTables = Some Table
-blame Section Dotted = Some Key
-blame Section Assigned = Some Key
-blame ArrayOfTables Section = Some Table
-blame ArrayOfTables Dotted = Some Key
-blame ArrayOfTables Assigned = Some Key
-blame Dotted Section = Some Key
-blame Dotted ArrayOfTables = Some Key
-blame Dotted Assigned = Some Key
-blame Assigned Passed = Some Key
-blame Assigned Section = Some Key
-blame Assigned ArrayOfTables = Some Key
-blame Assigned Dotted = Some Key
-blame Assigned Assigned = Some Key
+blame Passed ArrayOfTables = Some RedefineAsArray
+blame Passed Assigned = Some DuplicateKey
+blame Section Section = Some DuplicateTable
+blame Section ArrayOfTables = Some DuplicateTable
+blame Section Dotted = Some DuplicateKey
+blame Section Assigned = Some DuplicateKey
+blame ArrayOfTables Section = Some DuplicateTable
+blame ArrayOfTables Dotted = Some DuplicateKey
+blame ArrayOfTables Assigned = Some DuplicateKey
+blame Dotted Section = Some DuplicateKey
+blame Dotted ArrayOfTables = Some DuplicateKey
+blame Dotted Assigned = Some DuplicateKey
+blame Assigned Passed = Some DuplicateKey
+blame Assigned Section = Some DuplicateKey
+blame Assigned ArrayOfTables = Some DuplicateKey
+blame Assigned Dotted = Some DuplicateKey
+blame Assigned Assigned = Some DuplicateKey
 blame _ _ = None
 
 -- of two tables their headers, of two keys the keys
 abbrev pub meeting : Mark → Mark → Blame → Meeting
-meeting earlier later Table = record { blame = Table; first = earlier.line; place = later.line }
-meeting earlier later Key = record { blame = Key; first = earlier.key; place = later.key }
-meeting earlier later Array = record { blame = Array; first = earlier.line; place = later.line }
+meeting earlier later DuplicateTable = record { blame = DuplicateTable; first = earlier.line; place = later.line }
+meeting earlier later DuplicateKey = record { blame = DuplicateKey; first = earlier.key; place = later.key }
+meeting earlier later RedefineAsArray = record { blame = RedefineAsArray; first = earlier.line; place = later.line }
 
 -- the clash of two claims on one path
 abbrev pub meets : Mark → Mark → Option Meeting
@@ -54,15 +54,15 @@ partner [] later = None
 partner (earlier ∷ marks) later = or_else (meets earlier later) (partner marks later)
 
 -- a clash, and the name of the key that is claimed again
-pub record Told : Type 0 where
+pub record NamedClash : Type 0 where
   pub meeting : Meeting
   pub name : List ℕ
 
-abbrev pub named : List ℕ → Meeting → Told
+abbrev pub named : List ℕ → Meeting → NamedClash
 named name m = record { meeting = m; name = name }
 
 -- the clash of an earlier claim and a later one, if there is one
-unfoldable pub clash : Claim → Claim → Option Told
+unfoldable pub clash : Claim → Claim → Option NamedClash
 clash earlier later =
     if same_path earlier.path later.path then option_map (named later.name) (meets earlier.mark later.mark) else None
 
@@ -79,23 +79,24 @@ Resolves earlier (scope inner cs) = Resolves [] inner × Resolves earlier cs
 
 -- Behind these earlier claims of the scope this is the first clash in the order of the text: that of the first claim
 -- which clashes with an earlier one of its scope, and with the earliest of those.
-pub data TellsFirst : List Claim → Claims → Told → Type 0 where
-  told_here : (before after : List Claim) (earlier later : Claim) (cs : Claims) (t : Told) → IsFree before later
+pub data TellsFirst : List Claim → Claims → NamedClash → Type 0 where
+  told_here : (before after : List Claim) (earlier later : Claim) (cs : Claims) (t : NamedClash) → IsFree before later
       → clash earlier later ≡ Some t
       → TellsFirst (before ++ (earlier ∷ after)) (claimed later cs) t
-  told_behind : (earlier : List Claim) (c : Claim) (cs : Claims) (t : Told) → IsFree earlier c
+  told_behind : (earlier : List Claim) (c : Claim) (cs : Claims) (t : NamedClash) → IsFree earlier c
       → TellsFirst (earlier ++ (c ∷ [])) cs t
       → TellsFirst earlier (claimed c cs) t
-  told_inside : (earlier : List Claim) (inner cs : Claims) (t : Told) → TellsFirst [] inner t
+  told_inside : (earlier : List Claim) (inner cs : Claims) (t : NamedClash) → TellsFirst [] inner t
       → TellsFirst earlier (scope inner cs) t
-  told_after : (earlier : List Claim) (inner cs : Claims) (t : Told) → Resolves [] inner → TellsFirst earlier cs t
+  told_after : (earlier : List Claim) (inner cs : Claims) (t : NamedClash) → Resolves [] inner → TellsFirst earlier cs t
       → TellsFirst earlier (scope inner cs) t
 
 -- the kind of the error that tells of a clash over a name
-abbrev pub kind_told : Blame → List ℕ → Meeting → Kind
-kind_told Table name m = duplicate_table name m.first
-kind_told Key name m = duplicate_key name m.first
-kind_told Array name m = redefine_as_array
+abbrev pub kind_of_clash : Blame → List ℕ → Meeting → Kind
+kind_of_clash DuplicateTable name m = duplicate_table name m.first
+kind_of_clash DuplicateKey name m = duplicate_key name m.first
+kind_of_clash RedefineAsArray name m = redefine_as_array
 
-abbrev pub fault_told : Meeting → List ℕ → ℕ × ℕ → Fault
-fault_told m name line_info = record { kind = kind_told m.blame name m; span = m.place; line_info = Some line_info }
+abbrev pub fault_of_clash : Meeting → List ℕ → ℕ × ℕ → Fault
+fault_of_clash m name line_info =
+    record { kind = kind_of_clash m.blame name m; span = m.place; line_info = Some line_info }

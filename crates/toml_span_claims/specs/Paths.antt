@@ -19,12 +19,12 @@ same_path (s ∷ p) [] = false
 same_path (s ∷ p) (t ∷ q) = same_step s t && same_path p q
 
 -- the path with one more key
-abbrev pub below : Path → Part → Path
-below p k = p ++ (key k.name ∷ [])
+abbrev pub with_key : Path → Part → Path
+with_key p k = p ++ (key k.name ∷ [])
 
 -- the path with one more position
-abbrev pub at : Path → ℕ → Path
-at p i = p ++ (position i ∷ [])
+abbrev pub with_position : Path → ℕ → Path
+with_position p i = p ++ (position i ∷ [])
 
 -- how many of the entries opened so far are of the array at p
 abbrev pub entries_at : List Path → Path → ℕ
@@ -33,14 +33,14 @@ entries_at opened p = length (filter (λ q. same_path q p) opened)
 -- into the latest of so many entries, where there are any
 unfoldable pub enter : ℕ → Path → Path
 enter zero p = p
-enter (suc latest) p = at p latest
+enter (suc latest) p = with_position p latest
 
 -- The path of a header from p on, without the position of its own entry. `entries` counts the entries of each array so
 -- far.
 unfoldable pub target : (Path → ℕ) → Path → List Part → Path
 target entries p [] = p
-target entries p (k ∷ []) = below p k
-target entries p (k ∷ l ∷ more) = target entries (enter (entries (below p k)) (below p k)) (l ∷ more)
+target entries p (k ∷ []) = with_key p k
+target entries p (k ∷ l ∷ more) = target entries (enter (entries (with_key p k)) (with_key p k)) (l ∷ more)
 
 -- the arrays to which these sections, the nearest first, added an entry each
 unfoldable pub opened_by : List Block → List Path
@@ -53,4 +53,4 @@ opened_by (b ∷ earlier) =
 abbrev pub section_path : (Path → ℕ) → Block → Path
 section_path entries b =
     let p = target entries [] b.header in
-    if b.array then at p (entries p) else p
+    if b.array then with_position p (entries p) else p

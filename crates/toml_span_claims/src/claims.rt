@@ -4,7 +4,7 @@ ghost use Rattle.std.specs.List.{list_any};
 ghost use Rattle.std.specs.Cow.{cow_str_bytes};
 ghost use Rattle.toml_span_tree.specs.Error.{fault_of};
 ghost use Rattle.toml_span_claims.specs.Clashes as clashes;
-ghost use Rattle.toml_span_claims.specs.code.Machine.{Gives, met, told_by};
+ghost use Rattle.toml_span_claims.specs.code.Machine.{Gives, met, clash_told};
 ghost use Rattle.toml_span_claims.specs.code.Marks as kept;
 ghost use Rattle.toml_span_claims.specs.code.Marks.{IsMarkInside, IsHaltInside};
 
@@ -58,12 +58,12 @@ pub struct Head {
 /// What is told of two claims that clash.
 #[derive(Clone, Copy)]
 pub enum Blame {
-    /// `DuplicateTable`
-    Table,
-    /// `DuplicateKey`
-    Key,
-    /// `RedefineAsArray`
-    Array,
+    /// A table is defined again.
+    DuplicateTable,
+    /// A key is assigned again, or stands for something else.
+    DuplicateKey,
+    /// A table that a header passed through is made an array of tables.
+    RedefineAsArray,
 }
 
 /// What is told where an earlier claim and a later one on the same path clash.
@@ -71,13 +71,13 @@ fn blame_of(earlier: Sort, later: Sort) -> Option<Blame>
     ensures { result ≡ clashes.blame earlier later }
 {
     match (earlier, later) {
-        (Sort::Passed, Sort::ArrayOfTables) => Some(Blame::Array),
-        (Sort::Section, Sort::Section | Sort::ArrayOfTables) => Some(Blame::Table),
-        (Sort::ArrayOfTables, Sort::Section) => Some(Blame::Table),
-        (Sort::Dotted, Sort::Section | Sort::ArrayOfTables) => Some(Blame::Key),
-        (Sort::Section | Sort::ArrayOfTables, Sort::Dotted) => Some(Blame::Key),
+        (Sort::Passed, Sort::ArrayOfTables) => Some(Blame::RedefineAsArray),
+        (Sort::Section, Sort::Section | Sort::ArrayOfTables) => Some(Blame::DuplicateTable),
+        (Sort::ArrayOfTables, Sort::Section) => Some(Blame::DuplicateTable),
+        (Sort::Dotted, Sort::Section | Sort::ArrayOfTables) => Some(Blame::DuplicateKey),
+        (Sort::Section | Sort::ArrayOfTables, Sort::Dotted) => Some(Blame::DuplicateKey),
         (Sort::Assigned, Sort::Entry) | (Sort::Entry, Sort::Assigned) => None,
-        (Sort::Assigned, _) | (_, Sort::Assigned) => Some(Blame::Key),
+        (Sort::Assigned, _) | (_, Sort::Assigned) => Some(Blame::DuplicateKey),
         _ => None,
     }
 }
@@ -96,12 +96,12 @@ fn meeting_of(earlier: Mark, later: Mark, blame: Blame) -> Meeting
     ensures { result ≡ clashes.meeting earlier later blame }
 {
     match blame {
-        Blame::Key => Meeting {
+        Blame::DuplicateKey => Meeting {
             blame,
             first: earlier.key,
             place: later.key,
         },
-        Blame::Table | Blame::Array => Meeting {
+        Blame::DuplicateTable | Blame::RedefineAsArray => Meeting {
             blame,
             first: earlier.line,
             place: later.line,
@@ -129,19 +129,19 @@ pub struct Clash {
 impl Clash {
     /// The error that tells of the clash, in a text where its place has this line and column.
     pub fn into_error<'s>(self, line_info: (usize, usize)) -> Error<'s>
-        ensures { fault_of result ≡ clashes.fault_told self.meeting (string_bytes self.name) line_info }
+        ensures { fault_of result ≡ clashes.fault_of_clash self.meeting (string_bytes self.name) line_info }
     {
         let Clash { meeting, name } = self;
         let kind = match meeting.blame {
-            Blame::Table => ErrorKind::DuplicateTable {
+            Blame::DuplicateTable => ErrorKind::DuplicateTable {
                 name,
                 first: meeting.first,
             },
-            Blame::Key => ErrorKind::DuplicateKey {
+            Blame::DuplicateKey => ErrorKind::DuplicateKey {
                 key: name,
                 first: meeting.first,
             },
-            Blame::Array => ErrorKind::RedefineAsArray,
+            Blame::RedefineAsArray => ErrorKind::RedefineAsArray,
         };
         Error {
             kind,

@@ -1,6 +1,6 @@
 //! What a document claims, and the tree that grows while its sections are placed.
 #![tactic(auto)]
 
+pub mod branch;
 pub mod claims;
-pub mod node;
 pub mod rest;

@@ -7,4 +7,4 @@ pub mod lines;
 pub mod run;
 pub mod sink;
 pub mod source;
-pub mod told;
+pub mod watched;

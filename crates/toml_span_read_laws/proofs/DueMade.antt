@@ -7,7 +7,7 @@ use Rattle.toml_span_read.specs.declared.fault.Due.TheVariants as dues
 use Rattle.toml_span_read.specs.declared.fault.Fault.{Fault}
 use Rattle.toml_span_read.specs.declared.fault.FaultKind.TheVariants as kinds
 use Rattle.toml_span_read.specs.Data.{Event, Block}
-use Rattle.toml_span_read_laws.specs.Due.{Frame, in_section, in_brackets, in_braces, under_key, depth, What, a_line, a_part, an_equals, a_value, an_element, a_comma, a_verdict, a_header_part, a_closing, a_tail, a_line_end, DueAt, first_line, line_part, line_equals, line_value, line_tail, tail_rest, line_verdict, next_line, part_next, opens_header, header_part_next, header_closes, closes_again, header_tail, next_section, opens_array, item_value, behind_item, behind_comma, opens_table, pair_part, pair_equals, pair_value, pair_verdict, behind_pair, Told, IsDue}
+use Rattle.toml_span_read_laws.specs.Due.{Frame, in_section, in_brackets, in_braces, under_key, depth, What, a_line, a_part, an_equals, a_value, an_element, a_comma, a_verdict, a_header_part, a_closing, a_tail, a_line_end, DueAt, first_line, line_part, line_equals, line_value, line_tail, tail_rest, line_verdict, next_line, part_next, opens_header, header_part_next, header_closes, closes_again, header_tail, next_section, opens_array, item_value, behind_item, behind_comma, opens_table, pair_part, pair_equals, pair_value, pair_verdict, behind_pair, DueFault, IsDue}
 use Rattle.toml_span_read.specs.Earlier.{Clear, Crossing}
 use Rattle.toml_span_read.specs.Faults.{fault_at, NoKey, NoShuts, StuckTail, IsWanted}
 use Rattle.toml_span_read.specs.Gaps.{MaximalGap, Dot}
@@ -154,7 +154,7 @@ leads text limit (behind_pair es fs m n p w clear gap) e r = leads text limit {w
 
 -- ---- what is told
 
-told_from : (what : What) (fs : List Frame) (text : List ℕ) (limit i : ℕ) (e : Fault) → 1 ≤ limit → Told text limit what fs i e → From text limit what fs i e
+told_from : (what : What) (fs : List Frame) (text : List ℕ) (limit i : ℕ) (e : Fault) → 1 ≤ limit → DueFault text limit what fs i e → From text limit what fs i e
 told_from a_line fs text limit i e o h = absurd h
 told_from (a_part zero) fs text limit i e o (inl h) = key_made fs text limit i e (no_first i e h)
 told_from (a_part zero) fs text limit i e o (inr (part, j, key, g, u)) = absurd (omega (arith, o, g))

@@ -79,18 +79,18 @@ crossing_one earlier next f g c d = go (cuts c.outer d.outer (c.more ∷ c.rest)
 -- ---- every key is clear or crosses
 
 -- the values at a path: there is none, or there is an earliest one
-Told : List (List ℕ) → List Event → Type 0
-Told names events = NoneAt names events ⊎ ((first : Span) × EarliestAt names events first)
+EarliestOrNone : List (List ℕ) → List Event → Type 0
+EarliestOrNone names events = NoneAt names events ⊎ ((first : Span) × EarliestAt names events first)
 
-told_first : (names : List (List ℕ)) (e : Event) (es : List Event) (ps : List Part) → e.parts ≡ ps → path e.parts ≡ names → (names ≡ [] → ⊥) → Told names (e ∷ es)
-unfolding Told
+told_first : (names : List (List ℕ)) (e : Event) (es : List Event) (ps : List Part) → e.parts ≡ ps → path e.parts ≡ names → (names ≡ [] → ⊥) → EarliestOrNone names (e ∷ es)
+unfolding EarliestOrNone
 told_first names e es [] is same some = absurd (some (sym same ∙ ap path is))
 told_first names e es (p ∷ ps) is same some =
     let end = front_last p ps in
     inr (end.1.span, record { before = []; found = e; behind = es; inner = end.0; last = end.1; stands = refl; none_before = tt; same = same; key = is ∙ end.2; span = refl })
 
-told_later : (names : List (List ℕ)) (e : Event) (es : List Event) → (path e.parts ≡ names → ⊥) → Told names es → Told names (e ∷ es)
-unfolding Told
+told_later : (names : List (List ℕ)) (e : Event) (es : List Event) → (path e.parts ≡ names → ⊥) → EarliestOrNone names es → EarliestOrNone names (e ∷ es)
+unfolding EarliestOrNone
 told_later names e es apart (inl none) = inl (apart, none)
 told_later names e es apart (inr (first, h)) = inr (
   first,
@@ -108,12 +108,12 @@ told_later names e es apart (inr (first, h)) = inr (
   },
 )
 
-told_of : (names : List (List ℕ)) (e : Event) (es : List Event) → (names ≡ [] → ⊥) → ((path e.parts ≡ names) ⊎ (path e.parts ≡ names → ⊥)) → Told names es → Told names (e ∷ es)
+told_of : (names : List (List ℕ)) (e : Event) (es : List Event) → (names ≡ [] → ⊥) → ((path e.parts ≡ names) ⊎ (path e.parts ≡ names → ⊥)) → EarliestOrNone names es → EarliestOrNone names (e ∷ es)
 told_of names e es some (inl same) more = told_first names e es e.parts refl same some
 told_of names e es some (inr apart) more = told_later names e es apart more
 
-told : (names : List (List ℕ)) (events : List Event) → (names ≡ [] → ⊥) → Told names events
-unfolding Told
+told : (names : List (List ℕ)) (events : List Event) → (names ≡ [] → ⊥) → EarliestOrNone names events
+unfolding EarliestOrNone
 told names [] some = inl tt
 told names (e ∷ es) some = told_of names e es some (same_path (path e.parts) names) (told names es some)
 
@@ -135,8 +135,8 @@ Judged : List Event → Event → Type 0
 Judged earlier next = Clear earlier next ⊎ ((fault : Fault) × Crossing earlier next fault)
 
 judged_at : (earlier : List Event) (next : Event) (outer : List Part) (p : Part) (ps : List Part) (last : Part) → next.parts ≡ (outer ++ (p ∷ ps)) ++ (last ∷ []) → NoneThrough outer earlier
-    → Told (path (outer ++ (p ∷ []))) earlier → (NoneThrough (outer ++ (p ∷ [])) earlier → Judged earlier next) → Judged earlier next
-unfolding Told Judged
+    → EarliestOrNone (path (outer ++ (p ∷ []))) earlier → (NoneThrough (outer ++ (p ∷ [])) earlier → Judged earlier next) → Judged earlier next
+unfolding EarliestOrNone Judged
 judged_at earlier next outer p ps last key none (inl here) more = more (none_push outer p earlier none here)
 judged_at earlier next outer p ps last key none (inr (first, met)) more =
     let behind = behind_part ps last in

@@ -127,23 +127,23 @@ pub data DueAt (text : List ℕ) (limit : ℕ) : What → List Frame → ℕ →
       → DueAt text limit a_comma (in_braces (es ++ (p ∷ [])) ∷ fs) n
 
 -- The table: the faults that are told where this is due.
-abbrev pub Told : List ℕ → ℕ → What → List Frame → ℕ → Fault → Type 0
-Told text limit (a_part n) fs i e = NoPart text limit n i e
-Told text limit (an_equals n) fs i e = NoEquals text i e
-Told text limit a_value fs i e = NoValue text limit (depth fs) i e
-Told text limit a_comma (in_brackets ∷ fs) i e = NoComma right_bracket dues.RightBracket text i e
-Told text limit a_comma (in_braces es ∷ fs) i e = NoComma right_brace dues.Comma text i e
-Told text limit (a_verdict ev) (in_section es ∷ fs) i e = Crossing es ev e
-Told text limit (a_verdict ev) (in_braces es ∷ fs) i e = Crossing es ev e
-Told text limit (a_header_part n) fs i e = NoHeaderPart text limit n i e
-Told text limit (a_closing array) fs i e = NoBracket text i e
-Told text limit a_line_end fs i e = NoNewline text i e
-Told text limit what fs i e = ⊥
+abbrev pub DueFault : List ℕ → ℕ → What → List Frame → ℕ → Fault → Type 0
+DueFault text limit (a_part n) fs i e = NoPart text limit n i e
+DueFault text limit (an_equals n) fs i e = NoEquals text i e
+DueFault text limit a_value fs i e = NoValue text limit (depth fs) i e
+DueFault text limit a_comma (in_brackets ∷ fs) i e = NoComma right_bracket dues.RightBracket text i e
+DueFault text limit a_comma (in_braces es ∷ fs) i e = NoComma right_brace dues.Comma text i e
+DueFault text limit (a_verdict ev) (in_section es ∷ fs) i e = Crossing es ev e
+DueFault text limit (a_verdict ev) (in_braces es ∷ fs) i e = Crossing es ev e
+DueFault text limit (a_header_part n) fs i e = NoHeaderPart text limit n i e
+DueFault text limit (a_closing array) fs i e = NoBracket text i e
+DueFault text limit a_line_end fs i e = NoNewline text i e
+DueFault text limit what fs i e = ⊥
 
 -- the fault is one of the table, at a place where something is due
 abbrev pub IsDue : List ℕ → ℕ → Fault → Type 0
 IsDue text limit e =
-    (what : What) × (fs : List Frame) × (i : ℕ) × DueAt text limit what fs i × Told text limit what fs i e
+    (what : What) × (fs : List Frame) × (i : ℕ) × DueAt text limit what fs i × DueFault text limit what fs i e
 
 -- what a text is refused for is told where something is due
 abbrev pub RefusedWhereDue : List ℕ → ℕ → Result (Vec Section Global) (Stop Error) → Type 0

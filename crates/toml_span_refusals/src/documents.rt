@@ -8,13 +8,13 @@ use toml_span::{Error, ErrorKind, Span, Stop, parse};
 type Node = (&'static str, &'static str, &'static str, usize, usize);
 
 /// A fault: its kind's name, the earlier place that it names, its own place, and its line and column.
-type Told = (&'static str, (usize, usize), (usize, usize), (usize, usize));
+type ExpectedFault = (&'static str, (usize, usize), (usize, usize), (usize, usize));
 
 /// What a document has to be read as: the nodes of its tree, each before what it holds, or a fault.
 #[derive(Clone, Copy)]
 enum Wanted {
     Tree(&'static [Node]),
-    Fault(Told),
+    Fault(ExpectedFault),
 }
 
 /// A string over several lines, whose line ends are folded.
@@ -137,7 +137,7 @@ fn is_kind(kind: &ErrorKind, name: &str, first: Span) -> bool {
 }
 
 /// Whether an error is the one that is wanted.
-fn is_fault(error: &Error, told: Told) -> bool {
+fn is_fault(error: &Error, told: ExpectedFault) -> bool {
     let (name, first, place, line) = told;
     is_kind(&error.kind, name, Span::new(first.0, first.1))
         && error.span == Span::new(place.0, place.1)

@@ -4,7 +4,7 @@ use toml_span_tree::{Error, ErrorKind};
 use toml_span_typed::DeserError;
 
 /// A fault: its kind's name, and its place.
-pub type Told<'t> = (&'t str, usize, usize);
+pub type ExpectedFault<'t> = (&'t str, usize, usize);
 
 /// The name of an error's kind.
 fn name_of(kind: &ErrorKind) -> &'static str {
@@ -18,13 +18,13 @@ fn name_of(kind: &ErrorKind) -> &'static str {
 }
 
 /// Whether an error is the one that is wanted.
-pub fn is_fault(error: &Error, told: Told<'_>) -> bool {
+pub fn is_fault(error: &Error, told: ExpectedFault<'_>) -> bool {
     let (name, start, end) = told;
     name_of(&error.kind) == name && error.span == Span::new(start, end) && error.line_info.is_none()
 }
 
 /// Whether these are the errors that are wanted, in order.
-pub fn are_faults(faults: &DeserError, wanted: &[Told<'_>]) -> bool {
+pub fn are_faults(faults: &DeserError, wanted: &[ExpectedFault<'_>]) -> bool {
     if faults.len() != wanted.len() {
         return false;
     }

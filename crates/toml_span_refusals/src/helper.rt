@@ -2,7 +2,7 @@
 ghost use Rattle.std.specs.Prelude.{IfOk};
 ghost use Rattle.toml_span_typed.specs.TableHelper.{AllWhole, state_of};
 
-use crate::faults::{Told, are_faults, is_fault};
+use crate::faults::{ExpectedFault, are_faults, is_fault};
 use crate::outcome::{Outcome, Step, went};
 use std::alloc::{AllocError, Global};
 use toml_span_lex::key::Key;
@@ -96,7 +96,7 @@ pub(crate) fn given<'de, T: Drop>(
 }
 
 /// Whether a read told a fault.
-fn tells<T: Drop>(read: &Result<T, Stop<Error>>, told: Told<'_>) -> bool {
+fn tells<T: Drop>(read: &Result<T, Stop<Error>>, told: ExpectedFault<'_>) -> bool {
     match read {
         Err(Stop::Fault(error)) => is_fault(error, told),
         _ => false,
@@ -108,8 +108,8 @@ fn tells<T: Drop>(read: &Result<T, Stop<Error>>, told: Told<'_>) -> bool {
 pub(crate) fn failed<'de, T: Deserialize<'de>>(
     helper: &mut TableHelper<'de>,
     name: &'de str,
-    told: Told<'_>,
-    missing: Told<'_>,
+    told: ExpectedFault<'_>,
+    missing: ExpectedFault<'_>,
 ) -> Step
     requires { AllWhole (state_of helper.old) }
     ensures { AllWhole (state_of helper.new) }
@@ -189,7 +189,7 @@ pub(crate) fn taken<'de>(
 }
 
 /// Ends the reads, with these errors or with none. A refusal hands the helper back as it was.
-pub(crate) fn finalized<'de>(helper: TableHelper<'de>, wanted: &[Told<'_>]) -> Step {
+pub(crate) fn finalized<'de>(helper: TableHelper<'de>, wanted: &[ExpectedFault<'_>]) -> Step {
     let errors = helper.errors.len();
     let entries = helper.table.len();
     match helper.finalize(None) {

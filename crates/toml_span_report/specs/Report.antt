@@ -6,7 +6,7 @@ use Rattle.std.specs.List.{fold}
 use Rattle.toml_span_tree.specs.Diagnostic.{LabelContent}
 use Rattle.toml_span_report.specs.Characters.{shown, columns}
 use Rattle.toml_span_report.specs.Colours.{painted}
-use Rattle.toml_span_report.specs.Strips.{Part, all_parts}
+use Rattle.toml_span_report.specs.Strips.{MarkedLine, all_marked_lines}
 use Rattle.toml_span_report.specs.declared.colours.Ink.{Ink}
 use Rattle.toml_span_report.specs.declared.colours.Ink.TheVariants.{Red, Blue, Bold}
 use Rattle.toml_span_report.specs.declared.colours.Style.{Style}
@@ -23,31 +23,31 @@ headline style code message =
     ++ painted style Bold (behind (codes ": ") (shown message)) ++ codes "\n"
 
 -- the part at which the error stands: the first of a primary label, or else the first
-abbrev pub first_primary : List Part → Option Part
+abbrev pub first_primary : List MarkedLine → Option MarkedLine
 first_primary [] = None
 first_primary (p ∷ ps) = if p.is_primary then Some p else first_primary ps
 
-abbrev pub first_of : List Part → Option Part
+abbrev pub first_of : List MarkedLine → Option MarkedLine
 first_of [] = None
 first_of (p ∷ ps) = Some p
 
-abbrev pub or_else : Option Part → Option Part → Option Part
+abbrev pub or_else : Option MarkedLine → Option MarkedLine → Option MarkedLine
 or_else (Some p) other = Some p
 or_else None other = other
 
-abbrev pub main_part : List Part → Option Part
+abbrev pub main_part : List MarkedLine → Option MarkedLine
 main_part parts = or_else (first_primary parts) (first_of parts)
 
 -- `:line:column`, both counted from 1
-abbrev pub shown_place : Option Part → List ℕ
+abbrev pub shown_place : Option MarkedLine → List ℕ
 shown_place None = []
 shown_place (Some p) = codes ":" ++ decimal p.number ++ codes ":" ++ decimal p.column
 
 -- the columns that the greatest of the line numbers takes
-abbrev pub greatest : List Part → ℕ
+abbrev pub greatest : List MarkedLine → ℕ
 greatest parts = fold (λ n p. max p.number n) 0 parts
 
-abbrev pub width_of : List Part → ℕ
+abbrev pub width_of : List MarkedLine → ℕ
 width_of parts = length (decimal (greatest parts))
 
 -- what stands to the left of a line, and a bar
@@ -60,10 +60,10 @@ dots true = codes "..."
 dots false = []
 
 -- what is shown of the line
-abbrev pub source : Part → List ℕ
+abbrev pub source : MarkedLine → List ℕ
 source p = dots p.is_cut_before ++ shown p.before ++ shown p.marked ++ shown p.behind ++ dots p.is_cut_behind
 
-abbrev pub source_line : Style → ℕ → Part → List ℕ
+abbrev pub source_line : Style → ℕ → MarkedLine → List ℕ
 source_line style width p = gutter style width (decimal p.number) ++ behind (codes " ") (source p) ++ codes "\n"
 
 -- the marks under it, as many as the marked text takes columns, and one at least; and the message
@@ -71,7 +71,7 @@ abbrev pub sign : Bool → ℕ
 sign true = 94
 sign false = 45
 
-abbrev pub marks : Part → List ℕ
+abbrev pub marks : MarkedLine → List ℕ
 marks p = replicate (columns (dots p.is_cut_before ++ shown p.before)) 32
     ++ replicate (max (columns (shown p.marked)) 1) (sign p.is_primary)
 
@@ -79,38 +79,38 @@ abbrev pub ink : Bool → Ink
 ink true = Red
 ink false = Blue
 
-abbrev pub marks_line : Style → ℕ → Part → List ℕ
+abbrev pub marks_line : Style → ℕ → MarkedLine → List ℕ
 marks_line style width p =
     gutter style width [] ++ codes " "
     ++ painted style (ink p.is_primary) (marks p ++ behind (codes " ") (shown p.message)) ++ codes "\n"
 
 -- The first line has a bar above it. A line that was shown last is not shown again, and dots stand for lines between.
-abbrev pub opening : Style → ℕ → Option ℕ → Part → List ℕ
+abbrev pub opening : Style → ℕ → Option ℕ → MarkedLine → List ℕ
 opening style width None p = gutter style width [] ++ codes "\n" ++ source_line style width p
 opening style width (Some above) p =
     if above == p.number then []
     else if p.number - above == 1 then source_line style width p
     else codes "...\n" ++ source_line style width p
 
-abbrev pub drawn : Style → ℕ → Option ℕ → List Part → List ℕ
+abbrev pub drawn : Style → ℕ → Option ℕ → List MarkedLine → List ℕ
 drawn style width above [] = []
 drawn style width above (p ∷ ps) =
     opening style width above p ++ marks_line style width p ++ drawn style width (Some p.number) ps
 
 -- The whole text: the headline, the place of the error, and the lines of the labels with what they say.
-abbrev pub report_of : Style → List ℕ → List ℕ → List ℕ → List Part → List ℕ
+abbrev pub report_of : Style → List ℕ → List ℕ → List ℕ → List MarkedLine → List ℕ
 report_of style code message name parts =
     headline style code message
     ++ painted style Blue (replicate (width_of parts) 32 ++ codes "--> ") ++ shown name
     ++ shown_place (main_part parts) ++ codes "\n" ++ drawn style (width_of parts) None parts
 
 abbrev pub report : {F : Type 0} → Style → List ℕ → List ℕ → List (LabelContent F) → List ℕ → List ℕ → List ℕ
-report style code message marks name text = report_of style code message name (all_parts text marks)
+report style code message marks name text = report_of style code message name (all_marked_lines text marks)
 
 -- one line: `name:line:column: code: message`
-abbrev pub brief_of : List ℕ → List ℕ → List ℕ → List Part → List ℕ
+abbrev pub brief_of : List ℕ → List ℕ → List ℕ → List MarkedLine → List ℕ
 brief_of code message name parts =
     shown name ++ shown_place (main_part parts) ++ codes ": " ++ shown code ++ codes ": " ++ shown message ++ codes "\n"
 
 abbrev pub brief : {F : Type 0} → List ℕ → List ℕ → List (LabelContent F) → List ℕ → List ℕ → List ℕ
-brief code message marks name text = brief_of code message name (all_parts text marks)
+brief code message marks name text = brief_of code message name (all_marked_lines text marks)

@@ -7,7 +7,7 @@ use Rattle.toml_span_report.specs.Places.{line_start, line_end, line_number, col
 use Rattle.toml_span_report.specs.Places.{window_end}
 
 -- A part of a line that is marked, with what is shown of the line before and behind it.
-pub record Part : Type 0 where
+pub record MarkedLine : Type 0 where
   pub at : ℕ
   pub number : ℕ
   pub column : ℕ
@@ -20,8 +20,8 @@ pub record Part : Type 0 where
   pub message : List ℕ
 
 -- a strip by content
-abbrev pub part_of : Strip → Part
-part_of s = record {
+abbrev pub marked_line_of : Strip → MarkedLine
+marked_line_of s = record {
   at = s.at;
   number = s.number;
   column = s.column;
@@ -35,8 +35,8 @@ part_of s = record {
 }
 
 -- what is marked from one place up to another, as far as the line of the first is shown
-abbrev pub part_in : List ℕ → ℕ → ℕ → ℕ → ℕ → Bool → List ℕ → Part
-part_in text left from to right is_primary message = record {
+abbrev pub marked_line_in : List ℕ → ℕ → ℕ → ℕ → ℕ → Bool → List ℕ → MarkedLine
+marked_line_in text left from to right is_primary message = record {
   at = from;
   number = line_number text from;
   column = column text from;
@@ -49,30 +49,30 @@ part_in text left from to right is_primary message = record {
   message = message;
 }
 
-unfoldable pub part : List ℕ → ℕ → ℕ → Bool → List ℕ → Part
-part text from to is_primary message =
+unfoldable pub marked_line : List ℕ → ℕ → ℕ → Bool → List ℕ → MarkedLine
+marked_line text from to is_primary message =
     let right = window_end text from (line_end text from) in
-    part_in text (window_start text (line_start text from) from) from (min to right) right is_primary message
+    marked_line_in text (window_start text (line_start text from) from) from (min to right) right is_primary message
 
 -- what a span marks: on its line, or on the lines on which it begins and ends, where the message stands at the second
-abbrev pub parts_between : List ℕ → ℕ → ℕ → ℕ → Bool → List ℕ → List Part
-parts_between text from again to is_primary message =
-    if nat_le again from then part text from to is_primary message ∷ []
-    else part text from to is_primary [] ∷ part text again to is_primary message ∷ []
+abbrev pub marked_lines_between : List ℕ → ℕ → ℕ → ℕ → Bool → List ℕ → List MarkedLine
+marked_lines_between text from again to is_primary message =
+    if nat_le again from then marked_line text from to is_primary message ∷ []
+    else marked_line text from to is_primary [] ∷ marked_line text again to is_primary message ∷ []
 
-unfoldable pub parts_of : {F : Type 0} → List ℕ → LabelContent F → List Part
-parts_of text mark =
+unfoldable pub marked_lines_of : {F : Type 0} → List ℕ → LabelContent F → List MarkedLine
+marked_lines_of text mark =
     let to = span_end text mark.span in
-    parts_between text (span_start text mark.span) (line_start text to) to mark.primary mark.message
+    marked_lines_between text (span_start text mark.span) (line_start text to) to mark.primary mark.message
 
 -- how many parts stand before the first that begins later
-abbrev pub earlier : List Part → ℕ → ℕ
+abbrev pub earlier : List MarkedLine → ℕ → ℕ
 earlier parts at = position_or_len (λ p. nat_lt at p.at) parts
 
 -- with a part put before the first that begins later
-abbrev pub placed : List Part → Part → List Part
+abbrev pub placed : List MarkedLine → MarkedLine → List MarkedLine
 placed parts p = insert parts (earlier parts p.at) p
 
 -- the parts of all labels, in the order of the text
-unfoldable pub all_parts : {F : Type 0} → List ℕ → List (LabelContent F) → List Part
-all_parts text marks = fold (λ parts mark. fold placed parts (parts_of text mark)) [] marks
+unfoldable pub all_marked_lines : {F : Type 0} → List ℕ → List (LabelContent F) → List MarkedLine
+all_marked_lines text marks = fold (λ parts mark. fold placed parts (marked_lines_of text mark)) [] marks

@@ -4,7 +4,7 @@ ghost use Rattle.toml_span_tree.specs.Diagnostic.{labels_of, label_content};
 ghost use Rattle.toml_span_tree.specs.Error.{fault_of, kind_of};
 ghost use Rattle.toml_span_tree.specs.Message.{code_of, display_text};
 ghost use Rattle.toml_span_report.specs.Report as spec;
-ghost use Rattle.toml_span_report.specs.Strips.{part_of};
+ghost use Rattle.toml_span_report.specs.Strips.{marked_line_of};
 
 use crate::characters::{columns, push_shown, push_times, shown};
 use crate::colours::{Ink, Style, push_painted};
@@ -47,7 +47,7 @@ fn push_headline(
 
 /// The first strip of a primary label, or else the first of all.
 fn main_strip<'a>(strips: &[Strip<'a>]) -> Option<Strip<'a>>
-    ensures { option_map part_of result ≡ spec.main_part (map part_of strips.now) }
+    ensures { option_map marked_line_of result ≡ spec.main_part (map marked_line_of strips.now) }
 {
     for strip in strips {
         if strip.is_primary {
@@ -60,7 +60,7 @@ fn main_strip<'a>(strips: &[Strip<'a>]) -> Option<Strip<'a>>
 /// Adds the line and the column of a strip.
 fn push_place(out: &mut String, strip: Option<Strip<'_>>) -> Result<(), AllocError>
     ensures { OnOk result (string_bytes out.new ≡ string_bytes out.old
-        ++ spec.shown_place (option_map part_of strip.entry)) }
+        ++ spec.shown_place (option_map marked_line_of strip.entry)) }
 {
     let Some(strip) = strip else {
         return Ok(());
@@ -71,7 +71,7 @@ fn push_place(out: &mut String, strip: Option<Strip<'_>>) -> Result<(), AllocErr
 
 /// The columns that the greatest of the line numbers takes.
 fn width_of(alloc: Global, strips: &[Strip<'_>]) -> Result<usize, AllocError>
-    ensures { IfOk result (λ width. width ≡ spec.width_of (map part_of strips.now)) }
+    ensures { IfOk result (λ width. width ≡ spec.width_of (map marked_line_of strips.now)) }
 {
     let mut greatest = 0;
     for strip in strips {
@@ -114,7 +114,7 @@ fn push_dots(out: &mut String, is_cut: bool) -> Result<(), AllocError>
 /// Adds the line of a strip.
 fn push_source_line(frame: Frame, out: &mut String, strip: &Strip<'_>) -> Result<(), AllocError>
     ensures { OnOk result (string_bytes out.new ≡ string_bytes out.old
-        ++ spec.source_line frame.style frame.width (part_of strip.now)) }
+        ++ spec.source_line frame.style frame.width (marked_line_of strip.now)) }
 {
     let number = strip.number.to_string(frame.alloc)?;
     push_gutter(frame, out, number.as_str())?;
@@ -130,7 +130,7 @@ fn push_source_line(frame: Frame, out: &mut String, strip: &Strip<'_>) -> Result
 
 /// Adds the marks of a strip.
 fn push_marks(alloc: Global, out: &mut String, strip: &Strip<'_>) -> Result<(), AllocError>
-    ensures { OnOk result (string_bytes out.new ≡ string_bytes out.old ++ spec.marks (part_of strip.now)) }
+    ensures { OnOk result (string_bytes out.new ≡ string_bytes out.old ++ spec.marks (marked_line_of strip.now)) }
 {
     let mut before = String::new(alloc);
     push_dots(&mut before, strip.is_cut_before)?;
@@ -151,7 +151,7 @@ fn ink(is_primary: bool) -> Ink
 /// Adds the line of marks, and what is to be said.
 fn push_marks_line(frame: Frame, out: &mut String, strip: &Strip<'_>) -> Result<(), AllocError>
     ensures { OnOk result (string_bytes out.new ≡ string_bytes out.old
-        ++ spec.marks_line frame.style frame.width (part_of strip.now)) }
+        ++ spec.marks_line frame.style frame.width (marked_line_of strip.now)) }
 {
     push_gutter(frame, out, "")?;
     out.push_str(" ")?;
@@ -171,7 +171,7 @@ fn push_opening(
     strip: &Strip<'_>,
 ) -> Result<(), AllocError>
     ensures { OnOk result (string_bytes out.new ≡ string_bytes out.old
-        ++ spec.opening frame.style frame.width above (part_of strip.now)) }
+        ++ spec.opening frame.style frame.width above (marked_line_of strip.now)) }
 {
     match above {
         None => {
@@ -193,7 +193,7 @@ fn push_opening(
 /// Adds the lines of all strips, with their marks.
 fn push_strips(frame: Frame, out: &mut String, strips: &[Strip<'_>]) -> Result<(), AllocError>
     ensures { OnOk result (string_bytes out.new ≡ string_bytes out.old
-        ++ spec.drawn frame.style frame.width None (map part_of strips.now)) }
+        ++ spec.drawn frame.style frame.width None (map marked_line_of strips.now)) }
 {
     let mut above = None;
     for strip in strips {
@@ -214,7 +214,7 @@ fn report(
     strips: &[Strip<'_>],
 ) -> Result<String, AllocError>
     ensures { IfOk result (λ out. string_bytes out
-        ≡ spec.report_of style code.now message.now name.now (map part_of strips.now)) }
+        ≡ spec.report_of style code.now message.now name.now (map marked_line_of strips.now)) }
 {
     let width = width_of(alloc, strips)?;
     let mut out = String::new(alloc);
@@ -275,7 +275,7 @@ fn brief(
     strips: &[Strip<'_>],
 ) -> Result<String, AllocError>
     ensures { IfOk result (λ out. string_bytes out
-        ≡ spec.brief_of code.now message.now name.now (map part_of strips.now)) }
+        ≡ spec.brief_of code.now message.now name.now (map marked_line_of strips.now)) }
 {
     let mut out = String::new(alloc);
     push_shown(&mut out, name)?;

@@ -4,7 +4,7 @@ ghost use Rattle.std.specs.List.{fold};
 ghost use Rattle.std.specs.Str.{IsCharBoundary};
 ghost use Rattle.toml_span_tree.specs.Diagnostic.{label_content};
 ghost use Rattle.toml_span_report.specs.Strips as spec;
-ghost use Rattle.toml_span_report.specs.Strips.{part_of};
+ghost use Rattle.toml_span_report.specs.Strips.{marked_line_of};
 
 use crate::places::{
     column, line_end, line_number, line_start, span_end, span_start, window_end, window_start,
@@ -42,7 +42,7 @@ fn strip_at<'a>(
     requires from { IsCharBoundary text.now from }
     requires to { IsCharBoundary text.now to }
     requires forward { from ≤ to }
-    ensures { part_of result ≡ spec.part text.now from to is_primary message.now }
+    ensures { marked_line_of result ≡ spec.marked_line text.now from to is_primary message.now }
 {
     let start = line_start(text, from);
     let end = line_end(text, from);
@@ -65,7 +65,7 @@ fn strip_at<'a>(
 
 /// How many strips stand before the first that begins later than an offset.
 fn earlier(strips: &[Strip<'_>], at: usize) -> usize
-    ensures { result ≡ spec.earlier (map part_of strips.now) at }
+    ensures { result ≡ spec.earlier (map marked_line_of strips.now) at }
 {
     for (i, strip) in strips.iter().enumerate() {
         if at < strip.at {
@@ -77,8 +77,8 @@ fn earlier(strips: &[Strip<'_>], at: usize) -> usize
 
 /// Puts a strip before the first that begins later.
 fn place_strip<'a>(strips: &mut Vec<Strip<'a>>, strip: Strip<'a>) -> Result<(), AllocError>
-    ensures { OnOk result (map part_of strips.new.items
-        ≡ spec.placed (map part_of strips.old.items) (part_of strip.entry)) }
+    ensures { OnOk result (map marked_line_of strips.new.items
+        ≡ spec.placed (map marked_line_of strips.old.items) (marked_line_of strip.entry)) }
 {
     let at = earlier(strips.as_slice(), strip.at);
     strips.insert(at, strip)?;
@@ -91,8 +91,9 @@ fn place_label<'a, F>(
     text: &'a str,
     label: &'a Label<F>,
 ) -> Result<(), AllocError>
-    ensures { OnOk result (map part_of strips.new.items
-        ≡ fold spec.placed (map part_of strips.old.items) (spec.parts_of text.now (label_content label.now))) }
+    ensures { OnOk result (map marked_line_of strips.new.items
+        ≡ fold spec.placed (map marked_line_of strips.old.items)
+        (spec.marked_lines_of text.now (label_content label.now))) }
 {
     let from = span_start(text, label.span);
     let to = span_end(text, label.span);
@@ -113,14 +114,14 @@ fn place_label<'a, F>(
 }
 
 /// The strips of all labels, in the order of the text.
-#[tactic(auto, unfolding(crate::specs::Strips::all_parts))]
+#[tactic(auto, unfolding(crate::specs::Strips::all_marked_lines))]
 pub(crate) fn all_strips<'a, F>(
     alloc: Global,
     text: &'a str,
     labels: &'a [Label<F>],
 ) -> Result<Vec<Strip<'a>>, AllocError>
-    ensures { IfOk result (λ strips. map part_of strips.items
-        ≡ spec.all_parts text.now (map label_content labels.now)) }
+    ensures { IfOk result (λ strips. map marked_line_of strips.items
+        ≡ spec.all_marked_lines text.now (map label_content labels.now)) }
 {
     let mut strips = Vec::with_capacity(alloc, labels.len())?;
     for label in labels {

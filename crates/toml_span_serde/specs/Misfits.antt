@@ -61,19 +61,19 @@ reason_text is.Invalid = codes "invalid value"
 reason_text (is.Custom message) = string_bytes message
 
 -- the kind of error that tells a reason
-abbrev pub kind_told : Reason → Kind
-kind_told (is.Wanted e f) = wanted (words_of e) (name_of f)
-kind_told (is.MissingField name) = missing_field (string_bytes name)
-kind_told reason = custom (reason_text reason)
+abbrev pub kind_of_reason : Reason → Kind
+kind_of_reason (is.Wanted e f) = wanted (words_of e) (name_of f)
+kind_of_reason (is.MissingField name) = missing_field (string_bytes name)
+kind_of_reason reason = custom (reason_text reason)
 
 -- the error that tells a misfit
-abbrev pub fault_told : Misfit → Fault
-fault_told m = record { kind = kind_told m.reason; span = m.span; line_info = m.line_info }
+abbrev pub fault_of_misfit : Misfit → Fault
+fault_of_misfit m = record { kind = kind_of_reason m.reason; span = m.span; line_info = m.line_info }
 
 -- what an error tells
-abbrev pub told : Error → Fault
-told (error.Refused e) = fault_of e
-told (error.Misfit m) = fault_told m
+abbrev pub fault_of_error : Error → Fault
+fault_of_error (error.Refused e) = fault_of e
+fault_of_error (error.Misfit m) = fault_of_misfit m
 
 abbrev pub step_of : Step → tree.Step
 step_of (step.Key name) = tree.key (string_bytes name)

@@ -7,7 +7,7 @@ use Rattle.toml_span_tree.specs.Error.{Fault}
 use Rattle.toml_span_tree.specs.Message.{code_of, display_text}
 use Rattle.toml_span_report.specs.Report.{report}
 use Rattle.toml_span_report.specs.declared.colours.Style.{Style}
-use Rattle.toml_span_serde.specs.Misfits.{told}
+use Rattle.toml_span_serde.specs.Misfits.{fault_of_error}
 use Rattle.toml_span_serde.specs.declared.misfit.Error.{Error}
 
 -- the text that shows a fault, with the file's name
@@ -17,4 +17,4 @@ shown style f name text =
 
 abbrev pub IsShown : Style → Stop Error → List ℕ → List ℕ → List ℕ → Type 0
 IsShown style (stop.Memory e) name text out = ⊥
-IsShown style (stop.Fault e) name text out = out ≡ shown style (told e) name text
+IsShown style (stop.Fault e) name text out = out ≡ shown style (fault_of_error e) name text

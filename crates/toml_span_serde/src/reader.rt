@@ -24,7 +24,7 @@ pub struct Misread {
 
 /// The reasons that have a text.
 #[derive(Clone, Copy)]
-enum Told {
+enum TextReason {
     MissingField,
     DuplicateField,
     UnknownField,
@@ -32,14 +32,14 @@ enum Told {
     Custom,
 }
 
-impl Told {
+impl TextReason {
     fn of(self, text: String) -> Reason {
         match self {
-            Told::MissingField => Reason::MissingField(text),
-            Told::DuplicateField => Reason::DuplicateField(text),
-            Told::UnknownField => Reason::UnknownField(text),
-            Told::UnknownVariant => Reason::UnknownVariant(text),
-            Told::Custom => Reason::Custom(text),
+            TextReason::MissingField => Reason::MissingField(text),
+            TextReason::DuplicateField => Reason::DuplicateField(text),
+            TextReason::UnknownField => Reason::UnknownField(text),
+            TextReason::UnknownVariant => Reason::UnknownVariant(text),
+            TextReason::Custom => Reason::Custom(text),
         }
     }
 }
@@ -99,9 +99,9 @@ impl<'p, 'v> Reader<'p, 'v> {
     }
 
     /// The misread that tells a text of its own.
-    fn told(&self, told: Told, text: &str) -> Stop<Misread> {
+    fn told(&self, reason: TextReason, text: &str) -> Stop<Misread> {
         match String::from_str(self.alloc, text) {
-            Ok(text) => self.misread(told.of(text)),
+            Ok(text) => self.misread(reason.of(text)),
             Err(e) => Stop::Memory(e),
         }
     }
@@ -368,19 +368,19 @@ impl Format for Reader<'_, '_> {
     }
 
     fn missing(&self, name: &str) -> Stop<Misread> {
-        self.told(Told::MissingField, name)
+        self.told(TextReason::MissingField, name)
     }
 
     fn duplicate(&self, name: &str) -> Stop<Misread> {
-        self.told(Told::DuplicateField, name)
+        self.told(TextReason::DuplicateField, name)
     }
 
     fn unknown_key(&self) -> Stop<Misread> {
-        self.told(Told::UnknownField, self.named())
+        self.told(TextReason::UnknownField, self.named())
     }
 
     fn unknown_variant(&self) -> Stop<Misread> {
-        self.told(Told::UnknownVariant, self.named())
+        self.told(TextReason::UnknownVariant, self.named())
     }
 
     fn wrong_len(&self) -> Stop<Misread> {
@@ -402,6 +402,6 @@ impl Format for Reader<'_, '_> {
     }
 
     fn custom(&self, message: &str) -> Stop<Misread> {
-        self.told(Told::Custom, message)
+        self.told(TextReason::Custom, message)
     }
 }

@@ -18,7 +18,7 @@ use Rattle.toml_span_claims.specs.Claims.{claims}
 use Rattle.toml_span_claims.specs.Flat.{flat}
 use Rattle.toml_span_claims.specs.Ordered.{IsOrdered}
 use Rattle.toml_span_assembly.specs.Parsing.{IsTree, IsRoot}
-use Rattle.toml_span.specs.Document.{IsDocument, IsValueOf, part, without_key}
+use Rattle.toml_span.specs.Document.{IsDocument, IsValueOf, subtree, without_key}
 use Rattle.toml_span.specs.Helpers.{IsOver, ReadsPart, except}
 use Rattle.toml_span.proofs.Fields.{opens-over, required-at, required-over, tried-at, tried-over}
 use Rattle.toml_span_uses.proofs.Conclusions.{number-shape}
@@ -122,7 +122,7 @@ after-read places span asked errors name before after h over is = record {
 -- the read of the value below a key is that of what stands at the key
 part-read : {T U : Type 0} (reads : Node → Result T Faults → Node → Type 0) (f : T → U) (read : Node → Result U Faults) (otherwise : Result U Faults) (hidden places : Path → Option Place) (name : List ℕ) (r : Result T Faults)
     → ((v w : Node) (r : Result T Faults) → reads v r w → result_map f r ≡ read v) → ((n : Node) → read n ≡ read (face (place_of (None, n)))) → hidden (key name ∷ []) ≡ places (key name ∷ [])
-    → ReadsPart reads (part hidden (key name ∷ [])) r → read_or otherwise read (places (key name ∷ [])) ≡ result_map f r
+    → ReadsPart reads (subtree hidden (key name ∷ [])) r → read_or otherwise read (places (key name ∷ [])) ≡ result_map f r
 part-read reads f read otherwise hidden places name r gives faced clear (value, left, is, given) =
     read-place otherwise read (places (key name ∷ [])) value faced (is.1 [] ∙ ap (option_map without_key) clear) ∙ sym (gives value left r given)
 
@@ -130,7 +130,7 @@ fault-step : {T U : Type 0} (reads : Node → Result T Faults → Node → Type 
     (before after : State) (error : Error) (o : Option Place) → ((v w : Node) (r : Result T Faults) → reads v r w → result_map f r ≡ read v) → ((n : Node) → read n ≡ read (face (place_of (None, n))))
     → except before.asked places (key name ∷ []) ≡ places (key name ∷ []) → Over places span asked errors before → IsOver places after → places (key name ∷ []) ≡ o
     → MatchOption o ((fault_of error ≡ missing name before) × (after ≡ keeping (missing name before ∷ []) (noted name before)))
-    (λ place. (faults : Faults) × ReadsPart reads (part (except before.asked places) (key name ∷ [])) (Err faults) × (fault_of error ≡ faults.last) × (after ≡ keeping (all faults) (noted name before)))
+    (λ place. (faults : Faults) × ReadsPart reads (subtree (except before.asked places) (key name ∷ [])) (Err faults) × (fault_of error ≡ faults.last) × (after ≡ keeping (all faults) (noted name before)))
     → Stepped f (required_field read name span places) places span (asked ++ name ∷ []) errors (Err (stops.Fault error)) after
 fault-step reads f read places span asked errors name before after error None gives faced clear h over is (told, kept) =
     let m : Fault = record { kind = missing_field name; span = span; line_info = None } in
@@ -214,7 +214,7 @@ none-step : {T U : Type 0} (reads : Node → Result T Faults → Node → Type 0
     (before after : State) (o : Option Place) → ((v w : Node) (r : Result T Faults) → reads v r w → result_map f r ≡ read v) → ((n : Node) → read n ≡ read (face (place_of (None, n))))
     → except before.asked places (key name ∷ []) ≡ places (key name ∷ []) → Over places span asked errors before → IsOver places after → places (key name ∷ []) ≡ o
     → MatchOption o (after ≡ noted name before)
-    (λ place. (faults : Faults) × ReadsPart reads (part (except before.asked places) (key name ∷ [])) (Err faults) × (after ≡ keeping (all faults) (noted name before)))
+    (λ place. (faults : Faults) × ReadsPart reads (subtree (except before.asked places) (key name ∷ [])) (Err faults) × (after ≡ keeping (all faults) (noted name before)))
     → Tried f (optional_field read name places) places span (asked ++ name ∷ []) errors None after
 none-step reads f read places span asked errors name before after None gives faced clear h over is noted =
     let field : optional_field read name places ≡ Ok None = ap (read_or (Ok None) (λ n. result_map Some (read n))) is in

@@ -18,7 +18,7 @@ use Rattle.toml_span_typed.specs.declared.de_helpers.table_helper.Unfinished.{Un
 use Rattle.toml_span_typed.specs.declared.de_helpers.table_helper.Unfinished.TheVariants as unfinished
 use Rattle.toml_span_claims.specs.Ordered.{IsOrdered}
 use Rattle.toml_span_assembly.specs.Parsing.{IsTree, IsRoot}
-use Rattle.toml_span.specs.Document.{IsDocument, IsValueOf, part, without_key}
+use Rattle.toml_span.specs.Document.{IsDocument, IsValueOf, subtree, without_key}
 use Rattle.toml_span.specs.Helpers.{IsOver, ReadsPart, HasNoKeyBut, except, left_over}
 use Rattle.toml_span.proofs.Fields.{ends-ok, ends-faults, required-at, required-over}
 use Rattle.toml_span_uses.specs.Fields.{IsField, IsStopped, errors_in, number, whole}
@@ -150,7 +150,7 @@ module _ {V : Type 0} (items : V → List Server) (s : List ℕ) (places : Path 
 
   abbrev FaultAt : Option Place → (Path → Option Place) → State → State → Error → Type 0
   FaultAt o hidden before after error = MatchOption o ((fault_of error ≡ missing name before) × (after ≡ keeping (missing name before ∷ []) (noted name before)))
-      (λ place. (faults : Faults) × ReadsPart reads (part hidden (key name ∷ [])) (Err faults) × (fault_of error ≡ faults.last) × (after ≡ keeping (all faults) (noted name before)))
+      (λ place. (faults : Faults) × ReadsPart reads (subtree hidden (key name ∷ [])) (Err faults) × (fault_of error ≡ faults.last) × (after ≡ keeping (all faults) (noted name before)))
 
   listed-fault : (o : Option Place) (before after : State) (error : Error) → places (key name ∷ []) ≡ o → Over places (whole s) [] [] before → IsOver places after
       → FaultAt o places before after error → Listed items s places None after
@@ -172,7 +172,7 @@ module _ {V : Type 0} (items : V → List Server) (s : List ℕ) (places : Path 
 
   listed : (before after : State) (r : Result V (Stop Error)) (list : Option V) → Over places (whole s) [] [] before → IsField r (Ok list) → Requires reads name before r after → Listed items s places list after
   listed before after (Ok x) (Some y) h field asked =
-      let at = subst (λ l. ReadsPart reads (part (except l places) (key name ∷ [])) (Ok x)) h.asked_is (required-at reads places name before after (Ok x) h.over asked).0 in
+      let at = subst (λ l. ReadsPart reads (subtree (except l places) (key name ∷ [])) (Ok x)) h.asked_is (required-at reads places name before after (Ok x) h.over asked).0 in
       let same : x ≡ y = cc in
       record {
         errors = [];

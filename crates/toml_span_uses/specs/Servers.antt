@@ -12,7 +12,7 @@ use Rattle.toml_span_typed.specs.Faults.{Faults, all, one}
 use Rattle.toml_span_typed.specs.Reads.{array_reads, refused}
 use Rattle.toml_span_typed.specs.TableHelper.{without}
 use Rattle.toml_span_assembly.specs.Parsing.{IsRefusal}
-use Rattle.toml_span.specs.Document.{IsDocument, IsValueOf, part}
+use Rattle.toml_span.specs.Document.{IsDocument, IsValueOf, subtree}
 use Rattle.toml_span.specs.Helpers.{HasNoKeyBut, ReadsPart, except, left_over}
 use Rattle.toml_span_uses.specs.Fields.{errors_in, number, whole}
 use Rattle.toml_span_uses.specs.declared.servers.Server.{Server}
@@ -48,7 +48,7 @@ list_reads = array_reads (λ value answer left. ServerReads value answer)
 
 -- this is an answer to the value below the key
 abbrev pub ReadsList : (Path → Option Place) → Result (List Server) Faults → Type 0
-ReadsList places answer = ReadsPart list_reads (part places (key (codes "servers") ∷ [])) answer
+ReadsList places answer = ReadsPart list_reads (subtree places (key (codes "servers") ∷ [])) answer
 
 -- each element of the array below the key is read as one of these servers, in order, and there are no other keys
 abbrev pub AreServers : (Path → Option Place) → List Server → Type 0

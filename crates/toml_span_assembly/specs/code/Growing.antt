@@ -13,40 +13,40 @@ use Rattle.toml_span_read.specs.declared.section.Section.{Section}
 use Rattle.toml_span_read.specs.Stuck.{StuckDocument}
 use Rattle.toml_span_read.specs.declared.fault.Fault.{Fault}
 use Rattle.toml_span_claims.specs.declared.claims.Halt.{Halt}
-use Rattle.toml_span_claims.specs.declared.node.Node.{Node}
+use Rattle.toml_span_claims.specs.declared.branch.Branch.{Branch}
 use Rattle.toml_span_claims.specs.Claims.{event_claims, head_of, claims_behind, claims}
 use Rattle.toml_span_claims.specs.code.Placing.{Places, AreSections}
 use Rattle.toml_span_claims.specs.code.Relative.{section_at, grown}
 use Rattle.toml_span_claims.specs.code.Tree.{counts, cells, IsScope}
-use Rattle.toml_span_claims.specs.code.Machine.{nothing, told, put_all, told_by}
+use Rattle.toml_span_claims.specs.code.Machine.{nothing, first_clash, put_all, clash_told}
 use Rattle.toml_span_claims.specs.Paths.{entries_at, opened_by}
 use Rattle.toml_span_claims.specs.declared.claims.Clash.{Clash}
 use Rattle.toml_span_claims.specs.Clashes.{TellsFirst}
 use Rattle.toml_span_claims.specs.Borrowed.{AreRight}
 use Rattle.toml_span_claims.specs.code.Borrowed.{standing, AreFrom}
-use Rattle.toml_span_claims.specs.declared.node.Node.TheViews.{out-Node}
+use Rattle.toml_span_claims.specs.declared.branch.Branch.TheViews.{out-Branch}
 use Rattle.toml_span_assembly.specs.declared.sections.Grown.{Grown}
 use Rattle.toml_span_assembly.specs.Parsing.{IsClashOf}
 
 -- a section placed from the root on
-abbrev pub Placed : Block → Node → Node → Result (Unit {0}) Halt → Type 0
+abbrev pub Placed : Block → Branch → Branch → Result (Unit {0}) Halt → Type 0
 Placed b root new r =
     Places root new r (section_at (counts root) (head_of b) b.header (event_claims b.events []))
     (grown (counts root) (head_of b) b.header)
 
 -- what is left to place behind some sections, into a tree of what they claim
-pub record Remaining (all rest : List Block) (root : Node) : Type 0 where
+pub record Remaining (all rest : List Block) (root : Branch) : Type 0 where
   pub earlier : List Block
   pub headers : AreSections rest
-  pub telling : told (cells root) (claims_behind earlier rest) ≡ told nothing (claims all)
+  pub telling : first_clash (cells root) (claims_behind earlier rest) ≡ first_clash nothing (claims all)
   pub putting : put_all (cells root) (claims_behind earlier rest) ≡ put_all nothing (claims all)
   pub counting : counts root ≡ entries_at (opened_by earlier)
   pub scope : IsScope root
 
 -- The tree has what these sections claim, and those that follow are left to place. Or this is their first clash.
-abbrev pub GrowsTo : List Block → Node → Option Clash → Type 0
+abbrev pub GrowsTo : List Block → Branch → Option Clash → Type 0
 GrowsTo bs root None = (rest : List Block) → AreSections rest → Remaining (bs ++ rest) rest root
-GrowsTo bs root (Some c) = (rest : List Block) → AreSections rest → TellsFirst [] (claims (bs ++ rest)) (told_by c)
+GrowsTo bs root (Some c) = (rest : List Block) → AreSections rest → TellsFirst [] (claims (bs ++ rest)) (clash_told c)
 
 abbrev pub Grows : List Block → Grown → Type 0
 Grows bs g = GrowsTo bs g.root g.clash
@@ -61,7 +61,7 @@ GrownRight text ps g = IfNone g.clash (AreRight text ps (standing g.root))
 
 -- no two clash, and no table is to be finished
 abbrev pub IsBare : Grown → Type 0
-IsBare g = (g.clash ≡ None) × ((out-Node g.root).tables.entries ≡ [])
+IsBare g = (g.clash ≡ None) × ((out-Branch g.root).tables.entries ≡ [])
 
 -- The text spells these sections, and this is what they make.
 pub record IsGrown (text : List ℕ) (limit : ℕ) (g : Grown) : Type 0 where

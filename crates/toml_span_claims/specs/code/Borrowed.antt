@@ -14,8 +14,8 @@ use Rattle.toml_span_read.specs.Borrowed.{Written, string as string_written, nam
 use Rattle.toml_span_read.specs.Keys.{Part}
 use Rattle.toml_span_claims.specs.Borrowed.{Held, inner_step, value_step, Standing, elements_standing, held}
 use Rattle.toml_span_claims.specs.Borrowed.{entries_standing, title, IsKeyOf, AreRight, value_standing}
-use Rattle.toml_span_claims.specs.declared.node.Node.TheOpen.{Node-F}
-use Rattle.toml_span_claims.specs.declared.node.Node.{Node, fold-Node}
+use Rattle.toml_span_claims.specs.declared.branch.Branch.TheOpen.{Branch-F}
+use Rattle.toml_span_claims.specs.declared.branch.Branch.{Branch, fold-Branch}
 use Rattle.toml_span_claims.specs.declared.claims.Halt.{Halt}
 
 abbrev pub inner_held : ValueInner → Span → Held
@@ -37,17 +37,17 @@ abbrev pub joined : List (List Standing) → List Standing
 joined [] = []
 joined (xs ∷ rest) = xs ++ joined rest
 
-abbrev pub node_step : Node-F (List Standing) → List Standing
+abbrev pub node_step : Branch-F (List Standing) → List Standing
 node_step n = table_standing n.values.entries ++ (nodes_standing n.tables.entries ++ joined n.entries.items)
 
-abbrev pub standing : Node → List Standing
-standing = fold-Node (List Standing) node_step
+abbrev pub standing : Branch → List Standing
+standing = fold-Branch (List Standing) node_step
 
-abbrev pub boxes_standing : List (Key × Box Node) → List Standing
+abbrev pub boxes_standing : List (Key × Box Branch) → List Standing
 boxes_standing [] = []
 boxes_standing (e ∷ es) = title e.0.name ∷ (standing (box_value e.1) ++ boxes_standing es)
 
-abbrev pub entries_of : List Node → List Standing
+abbrev pub entries_of : List Branch → List Standing
 entries_of ns = joined (map standing ns)
 
 -- ---- what was read
@@ -64,7 +64,7 @@ AreFrom text ps ws = AllByRecursion (IsFrom text ps) ws
 -- ---- what the functions keep
 
 -- where nothing goes wrong, what is right of the node stays so
-abbrev pub Keeps : List ℕ → List Part → Node → Node → Result (Unit {0}) Halt → Type 0
+abbrev pub Keeps : List ℕ → List Part → Branch → Branch → Result (Unit {0}) Halt → Type 0
 Keeps text ps old new r = AreRight text ps (standing old) → OnOk r (AreRight text ps (standing new))
 
 -- the value, if there is one, is right

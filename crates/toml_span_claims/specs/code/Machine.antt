@@ -7,7 +7,7 @@ use Rattle.toml_span_claims.specs.Claims.{Claim, Claims, no_claims, claimed, sco
 use Rattle.toml_span_claims.specs.Flat.{by_header}
 use Rattle.toml_span_claims.specs.code.Marks.{remember}
 use Rattle.toml_span_claims.specs.Paths.{same_path, same_step}
-use Rattle.toml_span_claims.specs.Clashes.{partner, Told, named, or_else}
+use Rattle.toml_span_claims.specs.Clashes.{partner, NamedClash, named, or_else}
 use Rattle.toml_span_claims.specs.declared.claims.Clash as code
 use Rattle.toml_span_claims.specs.declared.claims.Halt.{Halt}
 use Rattle.toml_span_claims.specs.declared.claims.Halt.TheVariants.{Memory, Clash}
@@ -62,23 +62,24 @@ put_all st (claimed c cs) = put_all (change st c.path (with_claim c)) cs
 put_all st (scope inner cs) = put_all (show_all st inner) cs
 
 -- the clash of a claim with the earliest of those on its path
-abbrev pub met : List Mark → Mark → List ℕ → Option Told
+abbrev pub met : List Mark → Mark → List ℕ → Option NamedClash
 met marks mark name = option_map (named name) (partner marks mark)
 
 -- the first clash that is met, where a scope inside starts with nothing
-unfoldable pub told : State → Claims → Option Told
-told st no_claims = None
-told st (claimed c cs) = or_else (met (st c.path).marks c.mark c.name) (told (change st c.path (with_claim c)) cs)
-told st (scope inner cs) = or_else (told nothing inner) (told (show_all st inner) cs)
+unfoldable pub first_clash : State → Claims → Option NamedClash
+first_clash st no_claims = None
+first_clash st (claimed c cs) =
+    or_else (met (st c.path).marks c.mark c.name) (first_clash (change st c.path (with_claim c)) cs)
+first_clash st (scope inner cs) = or_else (first_clash nothing inner) (first_clash (show_all st inner) cs)
 
 -- what a halt tells
-abbrev pub told_by : code.Clash → Told
-told_by c = record { meeting = c.meeting; name = string_bytes c.name }
+abbrev pub clash_told : code.Clash → NamedClash
+clash_told c = record { meeting = c.meeting; name = string_bytes c.name }
 
 -- Ok, where P holds, if there is no clash, and else that clash. It may be want of memory.
-abbrev pub Gives : {A : Type 0} → Result A Halt → Option Told → (A → Type 0) → Type 0
+abbrev pub Gives : {A : Type 0} → Result A Halt → Option NamedClash → (A → Type 0) → Type 0
 Gives (Ok x) o P = (o ≡ None) × P x
-Gives (Err (Clash c)) o P = o ≡ Some (told_by c)
+Gives (Err (Clash c)) o P = o ≡ Some (clash_told c)
 Gives (Err (Memory e)) o P = ⊤
 
 -- the state with another one below a step

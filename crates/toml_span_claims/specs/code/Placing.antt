@@ -18,9 +18,9 @@ use Rattle.toml_span_tree.specs.Node as tree
 use Rattle.toml_span_tree.specs.declared.value.ValueInner.TheVariants.{Table as table_inner}
 use Rattle.toml_span_read.specs.Data.{Node as Read, span_of, Block}
 use Rattle.toml_span_claims.specs.declared.claims.Halt.{Halt}
-use Rattle.toml_span_claims.specs.declared.node.Node.{Node}
+use Rattle.toml_span_claims.specs.declared.branch.Branch.{Branch}
 use Rattle.toml_span_claims.specs.Claims.{Claims, value_claims, value_shape, inner_of, shape_of, claims}
-use Rattle.toml_span_claims.specs.code.Machine.{Gives, told, put_all, nothing, show_all, Cell, State, told_by}
+use Rattle.toml_span_claims.specs.code.Machine.{Gives, first_clash, put_all, nothing, show_all, Cell, State, clash_told}
 use Rattle.toml_span_claims.specs.code.Tree.{entries, cells, counts, marks, IsScope, IsChild, IsHeld, Sound}
 use Rattle.toml_span_claims.specs.code.Tree.{value_shows}
 use Rattle.toml_span_claims.specs.declared.claims.Mark.{Mark}
@@ -28,33 +28,34 @@ use Rattle.toml_span_claims.specs.code.Marks.{remember, deciding}
 use Rattle.toml_span_claims.specs.declared.claims.Sort.{Sort}
 use Rattle.toml_span_claims.specs.declared.claims.Sort.TheVariants.{Section, Entry}
 use Rattle.toml_span_claims.specs.Ordered.{IsOrdered, HoldsOrdered}
-use Rattle.toml_span_claims.specs.declared.node.Node.TheViews.{out-Node}
+use Rattle.toml_span_claims.specs.declared.branch.Branch.TheViews.{out-Branch}
 use Rattle.toml_span_claims.specs.declared.claims.Halt.TheVariants.{Memory, Clash}
 use Rattle.toml_span_claims.specs.Clashes.{Resolves, TellsFirst}
 use Rattle.toml_span_claims.specs.Flat.{Shows, flat}
 
 -- The claims are placed from a node on, which then has so many entries, or else the first clash is told.
-abbrev pub Reaches : (Node → Type 0) → (Node → Type 0) → Node → Node → Result (Unit {0}) Halt → Claims → (Path → ℕ)
-    → Type 0
+abbrev pub Reaches : (Branch → Type 0) → (Branch → Type 0) → Branch → Branch → Result (Unit {0}) Halt → Claims
+    → (Path → ℕ) → Type 0
 Reaches Before After old new r cs entries =
     Before old
-    → Gives r (told (cells old) cs) (λ _. (cells new ≡ put_all (cells old) cs) × (counts new ≡ entries) × After new)
+    → Gives r (first_clash (cells old) cs)
+    (λ _. (cells new ≡ put_all (cells old) cs) × (counts new ≡ entries) × After new)
 
 -- below a table, whose own claims stay
-abbrev pub Places : Node → Node → Result (Unit {0}) Halt → Claims → (Path → ℕ) → Type 0
+abbrev pub Places : Branch → Branch → Result (Unit {0}) Halt → Claims → (Path → ℕ) → Type 0
 Places old new r cs entries = Reaches IsScope (λ n. IsScope n × (marks n ≡ marks old)) old new r cs entries
 
 -- from a node on that stands at a name
-abbrev pub Passes : Node → Node → Result (Unit {0}) Halt → Claims → (Path → ℕ) → Type 0
+abbrev pub Passes : Branch → Branch → Result (Unit {0}) Halt → Claims → (Path → ℕ) → Type 0
 Passes old new r cs entries = Reaches IsChild IsHeld old new r cs entries
 
 -- from a table on, which is claimed
-abbrev pub Opening : (Node → Type 0) → Mark → Node → Node → Result (Unit {0}) Halt → Claims → (Path → ℕ) → Type 0
+abbrev pub Opening : (Branch → Type 0) → Mark → Branch → Branch → Result (Unit {0}) Halt → Claims → (Path → ℕ) → Type 0
 Opening Before m old new r cs entries =
     Reaches Before (λ n. IsScope n × (marks n ≡ remember (marks old) m)) old new r cs entries
 
 -- a node that is claimed for a section, or a table that is claimed for an entry
-abbrev pub Opens : Sort → Node → Type 0
+abbrev pub Opens : Sort → Branch → Type 0
 Opens sort n = Sound n × ((sort ≡ Section) ⊎ ((sort ≡ Entry) × (entries n ≡ [])))
 
 -- ---- values
@@ -69,7 +70,7 @@ IsFinished v x =
 
 -- the value, or the first clash in it
 abbrev pub ValueGives : Result Value Halt → Read → Type 0
-ValueGives r v = Gives r (told nothing (value_claims v [])) (IsFinished v)
+ValueGives r v = Gives r (first_clash nothing (value_claims v [])) (IsFinished v)
 
 -- the place, whatever decides it
 abbrev pub place_shown : Cell → Option Place
@@ -90,7 +91,7 @@ ShowsPlain i st =
 -- what a scope of an inline table, or of an array, gives
 abbrev pub ScopeGives : {A : Type 0} → Result A Halt → (A → tree.Inner) → Claims → Type 0
 ScopeGives r seen cs =
-    Gives r (told nothing cs) (λ x. ShowsPlain (seen x) (show_all nothing cs) × HoldsOrdered (seen x))
+    Gives r (first_clash nothing cs) (λ x. ShowsPlain (seen x) (show_all nothing cs) × HoldsOrdered (seen x))
 
 -- ---- finishing
 
@@ -106,14 +107,14 @@ abbrev pub Array : Type 0
 Array = Vec Value
 
 -- the table of a node's values and of what its nodes have become
-abbrev pub Finishes : BTreeMap Key (Box Node) → Table → Result Table AllocError → Type 0
+abbrev pub Finishes : BTreeMap Key (Box Branch) → Table → Result Table AllocError → Type 0
 Finishes tables values (Ok t) =
-    (n : Node) → (out-Node n).tables ≡ tables → (out-Node n).values ≡ values → IsScope n
+    (n : Branch) → (out-Branch n).tables ≡ tables → (out-Branch n).values ≡ values → IsScope n
     → ShowsBelow (inner_view (table_inner t)) (cells n) × HoldsOrdered (inner_view (table_inner t))
 Finishes tables values (Err e) = ⊤
 
 -- the key's span and the value that a node has become
-abbrev pub Becomes : Node → Result (Span × Value) AllocError → Type 0
+abbrev pub Becomes : Branch → Result (Span × Value) AllocError → Type 0
 Becomes n (Ok r) =
     Sound n
     → ((m : Mark) (at : Option Span) → deciding (marks n) ≡ Some m
@@ -122,11 +123,11 @@ Becomes n (Ok r) =
 Becomes n (Err e) = ⊤
 
 -- an entry's value, which stands at no key
-abbrev pub BecomesEntry : Node → Value → Type 0
+abbrev pub BecomesEntry : Branch → Value → Type 0
 BecomesEntry n v = (at : Span) × Becomes n (Ok (at, v))
 
 -- the elements that the entries of an array of tables have become, place by place
-abbrev pub EachBecomes : List Node → Result Array AllocError → Type 0
+abbrev pub EachBecomes : List Branch → Result Array AllocError → Type 0
 EachBecomes ns (Ok a) = AllZip BecomesEntry ns a.items
 EachBecomes ns (Err e) = ⊤
 
@@ -142,5 +143,5 @@ AreSections (b ∷ bs) = (b.header ≡ [] → b.array ≡ false) × AreSections 
 abbrev pub Assembles : List Block → ℕ → Result Value Halt → Type 0
 Assembles bs length (Ok root) =
     Resolves [] (claims bs) × Shows (view root) (flat length (claims bs)) × IsOrdered (view root)
-Assembles bs length (Err (Clash c)) = TellsFirst [] (claims bs) (told_by c)
+Assembles bs length (Err (Clash c)) = TellsFirst [] (claims bs) (clash_told c)
 Assembles bs length (Err (Memory e)) = ⊤

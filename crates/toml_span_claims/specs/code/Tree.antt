@@ -15,8 +15,8 @@ use Rattle.toml_span_tree.specs.Path.{Place, Path, reached, place_of as tree_pla
 use Rattle.toml_span_tree.specs.Node as tree
 use Rattle.toml_span_tree.specs.Value.{span_of, view}
 use Rattle.toml_span_claims.specs.declared.claims.Mark.{Mark}
-use Rattle.toml_span_claims.specs.declared.node.Node.{Node}
-use Rattle.toml_span_claims.specs.declared.node.Node.TheViews.{out-Node}
+use Rattle.toml_span_claims.specs.declared.branch.Branch.{Branch}
+use Rattle.toml_span_claims.specs.declared.branch.Branch.TheViews.{out-Branch}
 use Rattle.toml_span_claims.specs.Claims.{place_of, pair_mark}
 use Rattle.toml_span_claims.specs.Flat.{by_header}
 use Rattle.toml_span_claims.specs.code.Machine.{Decided, State, no_cell, Cell}
@@ -29,21 +29,21 @@ use Rattle.toml_span_claims.specs.Ordered.{IsOrdered}
 abbrev pub is_named : List ℕ → Key → Bool
 is_named name k = is_eq (slice_cmp nat_cmp name (cow_str_bytes k.name))
 
-abbrev pub marks : Node → List Mark
-marks n = (out-Node n).marks.items
+abbrev pub marks : Branch → List Mark
+marks n = (out-Branch n).marks.items
 
-abbrev pub entries : Node → List Node
-entries n = (out-Node n).entries.items
+abbrev pub entries : Branch → List Branch
+entries n = (out-Branch n).entries.items
 
 -- the node of a name, the value of a name with its key, and the entry at a position
-abbrev pub child : List ℕ → Node → Option Node
-child name n = option_map box_value (lookup (is_named name) (out-Node n).tables.entries)
+abbrev pub child : List ℕ → Branch → Option Branch
+child name n = option_map box_value (lookup (is_named name) (out-Branch n).tables.entries)
 
 abbrev pub closed_in : List ℕ → BTreeMap Key Value → Option (Key × Value)
 closed_in name values = lookup_entry (is_named name) values.entries
 
-abbrev pub closed : List ℕ → Node → Option (Key × Value)
-closed name n = closed_in name (out-Node n).values
+abbrev pub closed : List ℕ → Branch → Option (Key × Value)
+closed name n = closed_in name (out-Branch n).values
 
 abbrev pub item : {A : Type 0} → ℕ → List A → Option A
 item i [] = None
@@ -51,10 +51,10 @@ item zero (x ∷ xs) = Some x
 item (suc i) (x ∷ xs) = item i xs
 
 -- the node of a name among such nodes, and the claims on it
-abbrev pub child_in : List ℕ → BTreeMap Key (Box Node) → Option Node
+abbrev pub child_in : List ℕ → BTreeMap Key (Box Branch) → Option Branch
 child_in name tables = option_map box_value (lookup (is_named name) tables.entries)
 
-abbrev pub held_marks : Option Node → List Mark
+abbrev pub held_marks : Option Branch → List Mark
 held_marks None = []
 held_marks (Some n) = marks n
 
@@ -93,12 +93,12 @@ or_nothing None = no_cell
 abbrev pub own_cell : List Mark → Cell
 own_cell ms = record { marks = ms; shown = option_map by_mark (deciding ms) }
 
-unfoldable pub cell_at : Path → Node → Cell
+unfoldable pub cell_at : Path → Branch → Cell
 cell_at [] n = own_cell (marks n)
 cell_at (key name ∷ p) n = or_closed (option_map (cell_at p) (child name n)) (closed_cell (closed name n) p)
 cell_at (position i ∷ p) n = or_nothing (option_map (cell_at p) (item i (entries n)))
 
-abbrev pub cells : Node → State
+abbrev pub cells : Branch → State
 cells n p = cell_at p n
 
 abbrev pub or_zero : Option ℕ → ℕ
@@ -106,12 +106,12 @@ or_zero (Some n) = n
 or_zero None = 0
 
 -- how many entries the array of tables at a path has
-unfoldable pub count_at : Path → Node → ℕ
+unfoldable pub count_at : Path → Branch → ℕ
 count_at [] n = length (entries n)
 count_at (key name ∷ p) n = or_zero (option_map (count_at p) (child name n))
 count_at (position i ∷ p) n = or_zero (option_map (count_at p) (item i (entries n)))
 
-abbrev pub counts : Node → Path → ℕ
+abbrev pub counts : Branch → Path → ℕ
 counts n p = count_at p n
 
 abbrev pub none_open : Path → ℕ
@@ -146,58 +146,58 @@ IsEntry [] = ⊥
 IsEntry (m ∷ ms) = m.sort ≡ Entry
 
 -- nothing is claimed on the node, and nothing stands below it
-pub record IsFresh (n : Node) : Type 0 where
+pub record IsFresh (n : Branch) : Type 0 where
   pub no_marks : marks n ≡ []
-  pub no_values : (out-Node n).values.entries ≡ []
-  pub no_tables : (out-Node n).tables.entries ≡ []
+  pub no_values : (out-Branch n).values.entries ≡ []
+  pub no_tables : (out-Branch n).tables.entries ≡ []
   pub no_entries : entries n ≡ []
 
 -- an array of tables is claimed once, and holds nothing but entries
-pub record IsArray (n : Node) : Type 0 where
+pub record IsArray (n : Branch) : Type 0 where
   pub claim : Mark
   pub only : marks n ≡ claim ∷ []
   pub array : claim.sort ≡ ArrayOfTables
-  pub no_values : (out-Node n).values.entries ≡ []
-  pub no_tables : (out-Node n).tables.entries ≡ []
+  pub no_values : (out-Branch n).values.entries ≡ []
+  pub no_tables : (out-Branch n).tables.entries ≡ []
 
 -- without entries a node is a table, and with entries an array of tables
-abbrev pub IsTableOrArray : Node → List Node → Type 0
+abbrev pub IsTableOrArray : Branch → List Branch → Type 0
 IsTableOrArray n [] = NoArray (marks n)
 IsTableOrArray n (x ∷ xs) = IsArray n
 
 -- what stands at names, and in the entries
-abbrev pub AreNamed : Node → Type 0
-AreNamed n = (name : List ℕ) (c : Node) → child name n ≡ Some c → (closed name n ≡ None) × IsNamed (marks c)
+abbrev pub AreNamed : Branch → Type 0
+AreNamed n = (name : List ℕ) (c : Branch) → child name n ≡ Some c → (closed name n ≡ None) × IsNamed (marks c)
 
-abbrev pub AreEntries : List Node → Type 0
-AreEntries ns = (i : ℕ) (c : Node) → item i ns ≡ Some c → (entries c ≡ []) × IsEntry (marks c)
+abbrev pub AreEntries : List Branch → Type 0
+AreEntries ns = (i : ℕ) (c : Branch) → item i ns ≡ Some c → (entries c ≡ []) × IsEntry (marks c)
 
 -- the tables of the values are in the order of their names
-abbrev pub HoldsOrderedValues : Node → Type 0
+abbrev pub HoldsOrderedValues : Branch → Type 0
 HoldsOrderedValues n = (name : List ℕ) (e : Key × Value) → closed name n ≡ Some e → IsOrdered (view e.1)
 
 -- A node is a table or an array of tables, and so is all below it. No name stands both in `values` and in `tables`.
 -- The values are in order.
-pub data Sound : Node → Type 0 where
-  sound : (n : Node)
+pub data Sound : Branch → Type 0 where
+  sound : (n : Branch)
       → IsTableOrArray n (entries n) → AreNamed n → AreEntries (entries n) → HoldsOrderedValues n
-      → ((name : List ℕ) (c : Node) → child name n ≡ Some c → Sound c)
-      → ((i : ℕ) (c : Node) → item i (entries n) ≡ Some c → Sound c)
+      → ((name : List ℕ) (c : Branch) → child name n ≡ Some c → Sound c)
+      → ((i : ℕ) (c : Branch) → item i (entries n) ≡ Some c → Sound c)
       → Sound n
 
 -- the root, an inline table, or an entry; and any other table
-abbrev pub IsScope : Node → Type 0
+abbrev pub IsScope : Branch → Type 0
 IsScope n = Sound n × (entries n ≡ [])
 
 -- a node that stands at a name, or will stand there once it is claimed
-abbrev pub IsChild : Node → Type 0
+abbrev pub IsChild : Branch → Type 0
 IsChild n = Sound n × (IsFresh n ⊎ IsNamed (marks n))
 
-abbrev pub IsHeld : Node → Type 0
+abbrev pub IsHeld : Branch → Type 0
 IsHeld n = Sound n × IsNamed (marks n)
 
 -- an array of tables to which an entry is added: its first one or a further one
-pub record IsOpen (n : Node) : Type 0 where
+pub record IsOpen (n : Branch) : Type 0 where
   pub array : IsArray n
   pub added : AreEntries (entries n)
-  pub below : (i : ℕ) (c : Node) → item i (entries n) ≡ Some c → Sound c
+  pub below : (i : ℕ) (c : Branch) → item i (entries n) ≡ Some c → Sound c

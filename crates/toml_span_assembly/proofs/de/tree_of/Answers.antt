@@ -1,5 +1,5 @@
 use Rattle.std.proofs.Common.{arith, length}
-use Rattle.toml_span_claims.specs.code.Machine.{told_by}
+use Rattle.toml_span_claims.specs.code.Machine.{clash_told}
 use Rattle.toml_span_claims.proofs.Ordered.{one-each}
 use Rattle.toml_span_claims.proofs.PlaceLemmas.{clash_inside}
 use Rattle.toml_span_assembly.proofs.Refusals.{first-of-halt}
@@ -29,7 +29,7 @@ returns-in-Err-Clash-clause-refused c = λ bs grows.
     let place = c.line_info-place.result in
     let inside = clash_inside n _ _ c.in-Err-Clash.field-0-is (c.in-Err-Clash.ensures.placed n c.requires.inside) in
     record {
-      clash = told_by c.in-Err-Clash.clash;
+      clash = clash_told c.in-Err-Clash.clash;
       line = place.0;
       column = place.1;
       first = first-of-halt _ n _ _ c.in-Err-Clash.field-0-is (c.in-Err-Clash.ensures.gives bs grows);

@@ -4,12 +4,12 @@ use Rattle.std.specs.Box.{box_value}
 use Rattle.std.specs.Global.{Box}
 use Rattle.std.specs.Cow.{cow_str_bytes}
 use Rattle.toml_span_lex.specs.declared.key.Key.{Key}
-use Rattle.toml_span_claims.specs.declared.node.Node.{Node}
+use Rattle.toml_span_claims.specs.declared.branch.Branch.{Branch}
 use Rattle.toml_span_read.specs.Keys.{part}
 use Rattle.toml_span_read.proofs.EarlierTree.{key_cmp, parts-first}
 use Rattle.toml_span_claims.specs.Claims.{pair_mark}
 use Rattle.toml_span_claims.specs.declared.claims.Sort.TheVariants.{Dotted}
-use Rattle.toml_span_claims.specs.declared.node.Node.TheViews.{out-Node}
+use Rattle.toml_span_claims.specs.declared.branch.Branch.TheViews.{out-Branch}
 use Rattle.toml_span_claims.proofs.Claimed.{marked-roll}
 use Rattle.toml_span_assembly.proofs.DottedKeys.{passes-dotted, passes-dotted-err, pair-found, pair-new, pair-new-err, pair-beside}
 use Rattle.toml_span_claims.proofs.Placed.{err-of, out-roll, found-box, missing-box, sets-found, sets-boxed}
@@ -52,7 +52,7 @@ pass_pair-returns-clause-gives t c = λ v value span.
 pub place_pair-returns-in_err-admit_beside_value-in-None-clause-gives : goal.place_pair-returns-in_err-admit_beside_value-in-None-clause-gives
 place_pair-returns-in_err-admit_beside_value-in-None-clause-gives t c = λ v value span.
     let front = parts-first c.args.inner.now c.part-item.result _ c.in-len1-up.len_at_least c.part-item.is in
-    let missing = missing-box (cow_str_bytes c.part-item.result.name) (out-Node c.args.node.now).tables c.get_mut.result c.in-None.is c.get_mut.ensures.value in
+    let missing = missing-box (cow_str_bytes c.part-item.result.name) (out-Branch c.args.node.now).tables c.get_mut.result c.in-None.is c.get_mut.ensures.value in
     rw front
     (pair-beside c.args.node.now _ (part c.part-item.result) _ (part c.args.last) v c.pair_mark.result c.from_residual.result c.in_err-admit_beside_value-in-None.field-0.0 _ _
     (ap (option_map box_value) missing) (c.pair_mark.ensures ∙ ap (pair_mark Dotted c.part-item.result.span) span)
@@ -61,7 +61,7 @@ place_pair-returns-in_err-admit_beside_value-in-None-clause-gives t c = λ v val
 pub place_pair-returns-in_err-pass_pair-in-None-clause-gives : goal.place_pair-returns-in_err-pass_pair-in-None-clause-gives
 place_pair-returns-in_err-pass_pair-in-None-clause-gives t c = λ v value span.
     let front = parts-first c.args.inner.now c.part-item.result _ c.in-len1-up.len_at_least c.part-item.is in
-    let missing = missing-box (cow_str_bytes c.part-item.result.name) (out-Node c.args.node.now).tables c.get_mut.result c.in-None.is c.get_mut.ensures.value in
+    let missing = missing-box (cow_str_bytes c.part-item.result.name) (out-Branch c.args.node.now).tables c.get_mut.result c.in-None.is c.get_mut.ensures.value in
     rw front
     (pair-new-err c.args.node.now _ c.new-child.result _ (part c.part-item.result) _ (part c.args.last) v c.pair_mark.result c.pass_pair.result c.from_residual-in_err-pass_pair-in-None.result c.in_err-pass_pair-in-None.field-0.0 _
     (ap (option_map box_value) missing) (c.pair_mark.ensures ∙ ap (pair_mark Dotted c.part-item.result.span) span) (rw out-roll at c.in_ok-admit_beside_value-in-None.ensures.gives.0)
@@ -71,7 +71,7 @@ place_pair-returns-in_err-pass_pair-in-None-clause-gives t c = λ v value span.
 pub place_pair-returns-in-Some-clause-gives : goal.place_pair-returns-in-Some-clause-gives
 place_pair-returns-in-Some-clause-gives t c = λ v value span.
     let front = parts-first c.args.inner.now c.part-item.result _ c.in-len1-up.len_at_least c.part-item.is in
-    let found = found-box (cow_str_bytes c.part-item.result.name) (out-Node c.args.node.now).tables c.get_mut.result c.in-Some.child c.in-Some.is c.get_mut.ensures.value in
+    let found = found-box (cow_str_bytes c.part-item.result.name) (out-Branch c.args.node.now).tables c.get_mut.result c.in-Some.child c.in-Some.is c.get_mut.ensures.value in
     let box = c.pass_child.new.child in
     rw front
     (pair-found c.args.node.now _ c.in-Some.child.now.value box.value (part c.part-item.result) _ (part c.args.last) v c.pass_child.result
@@ -80,10 +80,10 @@ place_pair-returns-in-Some-clause-gives t c = λ v value span.
 pub place_pair-returns-in_ok-insert-in-None-clause-gives : goal.place_pair-returns-in_ok-insert-in-None-clause-gives
 place_pair-returns-in_ok-insert-in-None-clause-gives t c = λ v value span.
     let front = parts-first c.args.inner.now c.part-item.result _ c.in-len1-up.len_at_least c.part-item.is in
-    let missing = missing-box (cow_str_bytes c.part-item.result.name) (out-Node c.args.node.now).tables c.get_mut.result c.in-None.is c.get_mut.ensures.value in
+    let missing = missing-box (cow_str_bytes c.part-item.result.name) (out-Branch c.args.node.now).tables c.get_mut.result c.in-None.is c.get_mut.ensures.value in
     let box = c.in_ok-new-in-None.field-0 in
     let name = c.in_ok-clone-in-None.field-0 in
-    let inserted = (rw out-roll at c.in_ok-insert-in-None.ensures.entries) ∙ ap (λ (m : BTreeMap Key (Box Node)). insert_entry key_cmp m.entries name box) c.get_mut.follows.holds-at-none in
+    let inserted = (rw out-roll at c.in_ok-insert-in-None.ensures.entries) ∙ ap (λ (m : BTreeMap Key (Box Branch)). insert_entry key_cmp m.entries name box) c.get_mut.follows.holds-at-none in
     rw (front, out-roll)
     (pair-new c.args.node.now _ c.new-child.result c.pass_pair.new.node (part c.part-item.result) _ (part c.args.last) v c.pair_mark.result
     (ap (option_map box_value) missing) (c.pair_mark.ensures ∙ ap (pair_mark Dotted c.part-item.result.span) span) (rw out-roll at c.in_ok-admit_beside_value-in-None.ensures.gives.0)
@@ -104,7 +104,7 @@ place_pair-returns-in_default-clause-borrows t c = λ text ps parts last value. 
 pub place_pair-returns-in-Some-clause-borrows : goal.place_pair-returns-in-Some-clause-borrows
 place_pair-returns-in-Some-clause-borrows t c = λ text ps parts last value.
     let front = front_from text ps c.args.inner.now c.part-item.result _ c.in-len1-up.len_at_least c.part-item.is parts in
-    let found = found-box (cow_str_bytes c.part-item.result.name) (out-Node c.args.node.now).tables c.get_mut.result c.in-Some.child c.in-Some.is c.get_mut.ensures.value in
+    let found = found-box (cow_str_bytes c.part-item.result.name) (out-Branch c.args.node.now).tables c.get_mut.result c.in-Some.child c.in-Some.is c.get_mut.ensures.value in
     let box = c.pass_child.new.child in
     keeps_found text ps c.args.node.now _ (part c.part-item.result).name c.in-Some.child.now box c.pass_child.result found refl refl (c.get_mut.follows.holds box).0
     (c.pass_child.ensures.borrows text ps front.0 front.1 last value)
@@ -115,7 +115,7 @@ place_pair-returns-in_ok-insert-in-None-clause-borrows t c = λ text ps parts la
     let box = c.in_ok-new-in-None.field-0 in
     let name = c.in_ok-clone-in-None.field-0 in
     let clone = c.in_ok-clone-in-None.ensures in
-    let inserted = (rw out-roll at c.in_ok-insert-in-None.ensures.entries) ∙ ap (λ (m : BTreeMap Key (Box Node)). insert_entry key_cmp m.entries name box) c.get_mut.follows.holds-at-none in
+    let inserted = (rw out-roll at c.in_ok-insert-in-None.ensures.entries) ∙ ap (λ (m : BTreeMap Key (Box Branch)). insert_entry key_cmp m.entries name box) c.get_mut.follows.holds-at-none in
     rw out-roll
     (keeps_new text ps c.args.node.now _ c.part-item.result name c.new-child.result c.pass_pair.new.node box c.new-child.ensures.bare clone.name clone.borrowed clone.owned c.in_ok-new-in-None.ensures.ok refl refl inserted front.0
     (c.in_ok-pass_pair-in-None.ensures.borrows text ps front.0 front.1 last value) before)

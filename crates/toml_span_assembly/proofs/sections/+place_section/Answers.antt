@@ -10,8 +10,8 @@ use Rattle.toml_span_read.proofs.EarlierTree.{key_cmp}
 use Rattle.toml_span_read.specs.Data.{event}
 use Rattle.toml_span_read.specs.Keys.{part}
 use Rattle.toml_span_claims.specs.declared.claims.Sort.TheVariants.{Passed}
-use Rattle.toml_span_claims.specs.declared.node.Node.{Node}
-use Rattle.toml_span_claims.specs.declared.node.Node.TheViews.{out-Node}
+use Rattle.toml_span_claims.specs.declared.branch.Branch.{Branch}
+use Rattle.toml_span_claims.specs.declared.branch.Branch.TheViews.{out-Branch}
 use Rattle.toml_span_claims.specs.Claims.{event_claims, header_mark}
 use Rattle.toml_span_claims.specs.code.Tree.{entries}
 use Rattle.toml_span_claims.proofs.Claimed.{marked-roll}
@@ -87,7 +87,7 @@ pub place_section-returns-in_err-admit_beside_value-in-None-clause-gives : goal.
 place_section-returns-in_err-admit_beside_value-in-None-clause-gives t c =
     let k = cow_str_bytes c.part-item.result.name in
     let front = parts-front c.args.parts.now c.part-item.result _ c.in-len1-up.len_at_least c.part-item.is in
-    let missing = missing-box k (out-Node c.args.node.now).tables c.get_mut.result c.in-None.is c.get_mut.ensures.value in
+    let missing = missing-box k (out-Branch c.args.node.now).tables c.get_mut.result c.in-None.is c.get_mut.ensures.value in
     let clash = rw (c.header_mark-mark.ensures, c.sort_of.ensures, out-roll) at c.in_err-admit_beside_value-in-None.ensures.gives in
     rw front
     (section-beside c.args.head (part c.part-item.result) (event_claims (map event c.args.pairs.items) []) _ c.args.node.now _ c.from_residual.result c.in_err-admit_beside_value-in-None.field-0.0 _ _
@@ -97,7 +97,7 @@ pub place_section-returns-in_err-pass_header-in-None-clause-gives : goal.place_s
 place_section-returns-in_err-pass_header-in-None-clause-gives t c =
     let k = cow_str_bytes c.part-item.result.name in
     let front = parts-front c.args.parts.now c.part-item.result _ c.in-len1-up.len_at_least c.part-item.is in
-    let missing = missing-box k (out-Node c.args.node.now).tables c.get_mut.result c.in-None.is c.get_mut.ensures.value in
+    let missing = missing-box k (out-Branch c.args.node.now).tables c.get_mut.result c.in-None.is c.get_mut.ensures.value in
     let free = rw (c.header_mark-mark.ensures, c.sort_of.ensures, out-roll) at c.in_ok-admit_beside_value-in-None.ensures.gives in
     let q = c.from_residual-in_err-pass_header-in-None.result in
     let e = c.in_err-pass_header-in-None.field-0.0 in
@@ -110,7 +110,7 @@ pub place_section-returns-in-Some-clause-gives : goal.place_section-returns-in-S
 place_section-returns-in-Some-clause-gives t c =
     let k = cow_str_bytes c.part-item.result.name in
     let front = parts-front c.args.parts.now c.part-item.result _ c.in-len1-up.len_at_least c.part-item.is in
-    let found = found-box k (out-Node c.args.node.now).tables c.get_mut.result c.in-Some.child c.in-Some.is c.get_mut.ensures.value in
+    let found = found-box k (out-Branch c.args.node.now).tables c.get_mut.result c.in-Some.child c.in-Some.is c.get_mut.ensures.value in
     let n = c.args.node.now in
     rw front
     (section-found c.args.head (part c.part-item.result) (event_claims (map event c.args.pairs.items) []) _ n _ (box_value c.in-Some.child.now) (box_value c.pass_child.new.child) c.pass_child.result
@@ -120,12 +120,12 @@ pub place_section-returns-in_ok-insert-in-None-clause-gives : goal.place_section
 place_section-returns-in_ok-insert-in-None-clause-gives t c =
     let k = cow_str_bytes c.part-item.result.name in
     let front = parts-front c.args.parts.now c.part-item.result _ c.in-len1-up.len_at_least c.part-item.is in
-    let missing = missing-box k (out-Node c.args.node.now).tables c.get_mut.result c.in-None.is c.get_mut.ensures.value in
+    let missing = missing-box k (out-Branch c.args.node.now).tables c.get_mut.result c.in-None.is c.get_mut.ensures.value in
     let free = rw (c.header_mark-mark.ensures, c.sort_of.ensures, out-roll) at c.in_ok-admit_beside_value-in-None.ensures.gives in
     let name = c.in_ok-clone-in-None.field-0 in
     let same : cow_str_bytes name.name ≡ k = grind (arith, common_steps) in
     let w = c.in_ok-new-in-None.field-0 in
-    let written = (rw out-roll at c.in_ok-insert-in-None.ensures.entries) ∙ ap (λ (m : BTreeMap Key (Box Node)). insert_entry key_cmp m.entries name w) c.get_mut.follows.holds-at-none in
+    let written = (rw out-roll at c.in_ok-insert-in-None.ensures.entries) ∙ ap (λ (m : BTreeMap Key (Box Branch)). insert_entry key_cmp m.entries name w) c.get_mut.follows.holds-at-none in
     rw (front, out-roll)
     (section-new c.args.head (part c.part-item.result) (event_claims (map event c.args.pairs.items) []) _ c.args.node.now _ c.new-child.result c.pass_header.new.node (box_value w)
     (ap (option_map box_value) missing) (section-free c.args.head (part c.part-item.result) (event_claims (map event c.args.pairs.items) []) _ c.args.node.now free.0) c.new-child.ensures.fresh
@@ -149,8 +149,8 @@ pub pass_header-returns-in-Some-clause-borrows : goal.pass_header-returns-in-Som
 pass_header-returns-in-Some-clause-borrows t c = λ text ps part rest pairs.
     let n = c.args.node.now in
     let some = c.in-Some.ensures.variant.0 refl in
-    let within : vec_len (out-Node n).entries - 1 < length (entries n) = omega (arith, (out-Node n).entries.ok.0, some) in
-    keeps_entry text ps n _ (vec_len (out-Node n).entries - 1) c.in-Some.latest.now c.descend.new.node c.descend.result refl refl refl within c.in-Some.ensures.value (c.descend.ensures.borrows text ps part rest pairs)
+    let within : vec_len (out-Branch n).entries - 1 < length (entries n) = omega (arith, (out-Branch n).entries.ok.0, some) in
+    keeps_entry text ps n _ (vec_len (out-Branch n).entries - 1) c.in-Some.latest.now c.descend.new.node c.descend.result refl refl refl within c.in-Some.ensures.value (c.descend.ensures.borrows text ps part rest pairs)
 
 pub pass_header-returns-in-None-clause-borrows : goal.pass_header-returns-in-None-clause-borrows
 pass_header-returns-in-None-clause-borrows t c = λ text ps part rest pairs.
@@ -167,7 +167,7 @@ pub place_section-returns-in-Some-clause-borrows : goal.place_section-returns-in
 place_section-returns-in-Some-clause-borrows t c = λ text ps parts pairs.
     let k = cow_str_bytes c.part-item.result.name in
     let front = front_from text ps c.args.parts.now c.part-item.result _ c.in-len1-up.len_at_least c.part-item.is parts in
-    let found = found-box k (out-Node c.args.node.now).tables c.get_mut.result c.in-Some.child c.in-Some.is c.get_mut.ensures.value in
+    let found = found-box k (out-Branch c.args.node.now).tables c.get_mut.result c.in-Some.child c.in-Some.is c.get_mut.ensures.value in
     let box = c.pass_child.new.child in
     keeps_found text ps c.args.node.now _ k c.in-Some.child.now box c.pass_child.result found refl refl (c.get_mut.follows.holds box).0
     (c.pass_child.ensures.borrows text ps front.0 front.1 pairs)
@@ -178,7 +178,7 @@ place_section-returns-in_ok-insert-in-None-clause-borrows t c = λ text ps parts
     let box = c.in_ok-new-in-None.field-0 in
     let name = c.in_ok-clone-in-None.field-0 in
     let clone = c.in_ok-clone-in-None.ensures in
-    let inserted = (rw out-roll at c.in_ok-insert-in-None.ensures.entries) ∙ ap (λ (m : BTreeMap Key (Box Node)). insert_entry key_cmp m.entries name box) c.get_mut.follows.holds-at-none in
+    let inserted = (rw out-roll at c.in_ok-insert-in-None.ensures.entries) ∙ ap (λ (m : BTreeMap Key (Box Branch)). insert_entry key_cmp m.entries name box) c.get_mut.follows.holds-at-none in
     rw out-roll
     (keeps_new text ps c.args.node.now _ c.part-item.result name c.new-child.result c.pass_header.new.node box c.new-child.ensures.bare clone.name clone.borrowed clone.owned c.in_ok-new-in-None.ensures.ok refl refl inserted front.0
     (c.in_ok-pass_header-in-None.ensures.borrows text ps front.0 front.1 pairs) before)

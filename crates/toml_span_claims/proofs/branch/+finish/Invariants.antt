@@ -4,7 +4,7 @@ use Rattle.toml_span_claims.specs.Borrowed.{AreRight}
 use Rattle.toml_span_claims.specs.code.Borrowed.{array_standing, boxes_standing, entries_of, table_standing}
 use Rattle.toml_span_claims.proofs.Finishing.{Filled, EntriesFilled}
 use Rattle.std.specs.Vec.Iter.{into_iter_items}
-use Rattle.toml_span_claims.proofs.node.+finish.Given as goal
+use Rattle.toml_span_claims.proofs.branch.+finish.Given as goal
 
 abbrev pub invariant-into_table-loop-key : goal.invariant-into_table-loop-key
 invariant-into_table-loop-key l = record {

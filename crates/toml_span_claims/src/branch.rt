@@ -17,26 +17,26 @@ use toml_span_lex::key::Key;
 use toml_span_lex::span::Span;
 use toml_span_tree::{Array, Table, Value, ValueInner};
 
-/// Nodes by name. Each is in a block of its own, since a leaf of the map has room for fifteen entries.
-pub type Nodes<'de> = BTreeMap<Key<'de>, Box<Node<'de>>>;
+/// Branches by name. Each is in a block of its own, since a leaf of the map has room for fifteen entries.
+pub type Branches<'de> = BTreeMap<Key<'de>, Box<Branch<'de>>>;
 
 /// A table or an array of tables, while the sections are placed.
 ///
 /// An assigned value is closed: it stands in `values` as it will in the tree, and its key's span is all
 /// that is kept of its claim. No name stands both in `values` and in `tables`.
 #[derive(Drop)]
-pub struct Node<'de> {
+pub struct Branch<'de> {
     /// The claims on the node.
     pub marks: Marks,
     /// The assigned values.
     pub values: Table<'de>,
     /// What headers and dotted keys made: tables, and arrays of tables.
-    pub tables: Nodes<'de>,
+    pub tables: Branches<'de>,
     /// The entries, if this is an array of tables. An array has one at least.
-    pub entries: Vec<Node<'de>>,
+    pub entries: Vec<Branch<'de>>,
 }
 
-impl<'de> Node<'de> {
+impl<'de> Branch<'de> {
     /// A table on which nothing is claimed, and in which nothing stands.
     pub fn new(alloc: Global) -> Self
         ensures fresh { IsFresh result }
@@ -90,7 +90,10 @@ fn in_order(table: &Table<'_>)
 
 /// The table of what these nodes have become, and of these values.
 #[cycle(finish)]
-pub fn into_table<'de>(tables: Nodes<'de>, mut values: Table<'de>) -> Result<Table<'de>, AllocError>
+pub fn into_table<'de>(
+    tables: Branches<'de>,
+    mut values: Table<'de>,
+) -> Result<Table<'de>, AllocError>
     ensures finishes { Finishes tables.entry values.entry result }
     ensures borrows { (text : List ℕ) → (ps : List Part) → AreRight text ps (boxes_standing tables.entry.entries)
         → AreRight text ps (table_standing values.entry.entries)
@@ -112,12 +115,12 @@ pub fn into_table<'de>(tables: Nodes<'de>, mut values: Table<'de>) -> Result<Tab
 
 /// The value that a node has become, and the span of its key.
 #[cycle(finish)]
-fn into_value<'de>(node: Node<'de>) -> Result<(Span, Value<'de>), AllocError>
+fn into_value<'de>(node: Branch<'de>) -> Result<(Span, Value<'de>), AllocError>
     ensures becomes { Becomes node.entry result }
     ensures borrows { (text : List ℕ) → (ps : List Part) → AreRight text ps (standing node.entry)
         → IfOk result (λ found. ((held found.1).0 ≡ false) × AreRight text ps (value_standing found.1)) }
 {
-    let Node {
+    let Branch {
         marks,
         values,
         tables,
@@ -137,7 +140,7 @@ fn into_value<'de>(node: Node<'de>) -> Result<(Span, Value<'de>), AllocError>
 
 /// The elements that the entries of an array of tables have become.
 #[cycle(finish)]
-fn into_array<'de>(entries: Vec<Node<'de>>) -> Result<Array<'de>, AllocError>
+fn into_array<'de>(entries: Vec<Branch<'de>>) -> Result<Array<'de>, AllocError>
     ensures becomes { EachBecomes entries.entry.items result }
     ensures borrows { (text : List ℕ) → (ps : List Part) → AreRight text ps (entries_of entries.entry.items)
         → IfOk result (λ array. AreRight text ps (array_standing array.items)) }

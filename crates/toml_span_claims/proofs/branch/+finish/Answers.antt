@@ -1,7 +1,7 @@
 use Rattle.std.proofs.Common.{refl}
 use Rattle.toml_span_claims.proofs.BorrowLemmas.{box_first, entry_first, element_push, insert_title, of_node, made_table, made_array}
 use Rattle.toml_span_claims.proofs.Finishing.{no_entries, some_entries, never-empty, entries-more, filled-more, filled-finishes, became-table, became-array}
-use Rattle.toml_span_claims.proofs.node.+finish.Goals as goal
+use Rattle.toml_span_claims.proofs.branch.+finish.Goals as goal
 
 pub into_array-loop-entry-preserved : goal.into_array-loop-entry-preserved
 into_array-loop-entry-preserved t c = record {

@@ -8,18 +8,18 @@ use std::io::{Read, Write};
 
 /// A reader or a writer of std that tells whether it has failed.
 #[derive(Drop)]
-pub struct Told<T> {
+pub struct Watched<T> {
     inner: T,
     failed: bool,
 }
 
-impl<T> Told<T> {
+impl<T> Watched<T> {
     /// One that has not failed.
     pub fn new(inner: T) -> Self
         ensures inner { result.inner ≡ inner }
         ensures failed { result.failed ≡ false }
     {
-        Told {
+        Watched {
             inner,
             failed: false,
         }
@@ -29,12 +29,12 @@ impl<T> Told<T> {
     pub fn into_inner(self) -> T
         ensures { result ≡ self.inner }
     {
-        let Told { inner, failed: _ } = self;
+        let Watched { inner, failed: _ } = self;
         inner
     }
 }
 
-impl<T: Read> Source for Told<T> {
+impl<T: Read> Source for Watched<T> {
     ghost remaining = { λ t. T.remaining t.inner };
 
     ghost failed = { λ t. t.failed };
@@ -52,7 +52,7 @@ impl<T: Read> Source for Told<T> {
     }
 }
 
-impl<T: Write> Sink for Told<T> {
+impl<T: Write> Sink for Watched<T> {
     ghost contents = { λ t. T.contents t.inner };
 
     ghost failed = { λ t. t.failed };
