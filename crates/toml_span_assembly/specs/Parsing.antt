@@ -45,7 +45,7 @@ IsBorrowedTree text limit root =
 
 -- ---- refusals
 
--- the text is stuck where the error says, and that is a place of the text
+-- the text is stuck at a fault, which has a place in the text, and the error tells that fault
 abbrev pub IsFault : List ℕ → ℕ → Error → Type 0
 IsFault text limit error =
     (fault : Fault) × StuckDocument text limit fault × IsPlaced text fault × Tells text fault (fault_of error)

@@ -150,7 +150,7 @@ SpellsLines = LinesWith IsScalar
 
 -- ---- headers
 
--- one bracket, or two of them
+-- one bracket and no second one, or two; the white space behind them is that of `HeaderFront`
 --
 -- `std-table-open = %x5B ws`, `array-table-open = %x5B.5B ws`
 abbrev pub Opens : Bool → List ℕ → ℕ → ℕ → Type 0
@@ -158,7 +158,7 @@ Opens false text i j =
     (slice_index text i ≡ left_bracket) × ((slice_index text (i + 1) == left_bracket) ≡ false) × (j ≡ i + 1)
 Opens true text i j = (slice_index text i ≡ left_bracket) × (slice_index text (i + 1) ≡ left_bracket) × (j ≡ i + 2)
 
--- one bracket, or two of them
+-- one bracket, or two of them, without the white space before them
 --
 -- `std-table-close = ws %x5D`, `array-table-close = ws %x5D.5D`
 abbrev pub Shuts : Bool → List ℕ → ℕ → ℕ → Type 0
@@ -203,7 +203,8 @@ pub record SectionWith (S : Scalars) (b : Block) (text : List ℕ) (limit i j : 
   pub lines : LinesWith S b.events text limit end j
   pub extent : b.extent ≡ record { start = i; end = last_end end b.events }
 
--- the assignments before the first header, if there are any, are a section of their own
+-- The assignments before the first header, if there are any, are a section of their own: its header is empty and stands
+-- at 0..0, and its extent goes from the first assignment to the end of the last.
 abbrev pub first_block : List Event → List Block
 first_block [] = []
 first_block (ev ∷ evs) =

@@ -22,7 +22,7 @@ headline style code message =
     painted style Red (codes "error[" ++ shown code ++ codes "]")
     ++ painted style Bold (behind (codes ": ") (shown message)) ++ codes "\n"
 
--- the part at which the error stands: the first of a primary label, or else the first
+-- the first line that a primary label marks
 abbrev pub first_primary : List MarkedLine → Option MarkedLine
 first_primary [] = None
 first_primary (p ∷ ps) = if p.is_primary then Some p else first_primary ps
