@@ -373,8 +373,11 @@ pub fn assigned<'de>(
     end: usize,
 ) -> Assignment<'de>
     ensures event { event result
-        ≡ record { parts = spec.parts parts.entry; value = view value.entry;
-            extent = record { start = start; end = end } } }
+        ≡ record {
+          parts = spec.parts parts.entry;
+          value = view value.entry;
+          extent = record { start = start; end = end };
+        } }
     ensures written { assignment_written result ≡ dotted_written parts.entry ++ written value.entry }
 {
     let extent = Span { start, end };
