@@ -161,3 +161,16 @@ pub fn text_of(alloc: Global, source: &str) -> Result<String, Unread> {
     }
     Ok(reading.text)
 }
+
+/// The words that a space parts, without escapes. `""` is the empty word.
+pub fn words_of(alloc: Global, words: &str) -> Result<Vec<String>, Unread> {
+    let mut found = Vec::new(alloc);
+    if words.is_empty() {
+        return Ok(found);
+    }
+    for word in words.split(' ') {
+        let word = if word == "\"\"" { "" } else { word };
+        found.push(text_of(alloc, word)?).map_err(AllocError::from)?;
+    }
+    Ok(found)
+}

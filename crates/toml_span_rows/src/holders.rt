@@ -1,10 +1,10 @@
-//! `holders`: a table whose fields are an `Option`, what `FromStr` makes of a string, and an array of two.
-use std::alloc::{AllocError, Global};
-use toml_span::{DeserError, Deserialize, Stop, Value, from_str};
+//! A table whose fields are an `Option`, what `FromStr` makes of a string, and an array of two.
+use std::alloc::Global;
+use toml_span::{DeserError, Deserialize, Stop, Value};
 use toml_span_typed::{Parsed, read_table};
 
 #[derive(Debug, Drop)]
-struct Holders {
+pub struct Holders {
     some: Option<u8>,
     each: Vec<Option<u8>>,
     parsed: Parsed<char>,
@@ -20,26 +20,4 @@ impl<'de> Deserialize<'de> for Holders {
             pair: (u8, String);
         })
     }
-}
-
-/// Writes the answer of a row, or says that there is no such call.
-pub fn answer(alloc: Global, call: &str, text: &str, out: &mut String) -> Result<bool, AllocError> {
-    if call != "holders" {
-        return Ok(false);
-    }
-    match from_str::<Holders>(alloc, text) {
-        Ok(holders) => writeln!(out, "{holders:?}")?,
-        Err(Stop::Fault(errors)) => push_errors(errors, out)?,
-        Err(Stop::Memory(error)) => return Err(error),
-    }
-    Ok(true)
-}
-
-/// Adds each error.
-fn push_errors(errors: DeserError<'_>, out: &mut String) -> Result<(), AllocError> {
-    for error in errors.iter() {
-        let (start, end) = (error.span.start, error.span.end);
-        writeln!(out, "{start}..{end} {error}")?;
-    }
-    Ok(())
 }

@@ -6,18 +6,18 @@
 #![tactic(auto)]
 
 mod callers;
-mod diagnostics;
 mod escapes;
+mod faults;
 mod holders;
-mod looks;
-mod scalars;
+mod places;
 mod sections;
-mod spans;
+mod texts;
 mod tokens;
+mod told;
 mod trees;
 mod typed;
 
-use escapes::{Unread, text_of};
+use escapes::{Unread, text_of, words_of};
 use std::alloc::{AllocError, Global};
 use std::io;
 use std::process::ExitCode;
@@ -25,94 +25,95 @@ use std::process::ExitCode;
 /// The answer to a row that can't be read.
 const NO_SUCH_ROW: &str = "no such row";
 
-/// A row: a call's name, its words, and its text with the escapes still in it.
+/// A row: a call's name, its words, and its text.
 #[derive(Clone, Copy)]
-struct Row<'l> {
-    call: &'l str,
-    words: &'l str,
-    text: &'l str,
+pub(crate) struct Row<'r> {
+    pub(crate) call: &'r str,
+    pub(crate) words: &'r [String],
+    pub(crate) text: &'r str,
 }
 
-/// The row of a line. The text is empty where nothing stands behind the colon.
-fn row_of(line: &str) -> Option<Row<'_>> {
+impl<'r> Row<'r> {
+    /// A word by its place, or none, which is empty.
+    pub(crate) fn word(self, index: usize) -> &'r str {
+        match self.words.get(index) {
+            Some(word) => word.as_str(),
+            None => "",
+        }
+    }
+}
+
+/// The call, the words and the text of a line, with the escapes still in them. The text is empty where
+/// nothing stands behind the colon.
+fn parts_of(line: &str) -> Option<(&str, &str, &str)> {
     let (front, text) = match line.split_once(": ") {
         Some(parts) => parts,
         None => (line.strip_suffix(":")?, ""),
     };
     let (call, words) = front.split_once(' ').unwrap_or((front, ""));
-    Some(Row { call, words, text })
+    Some((call, words, text))
 }
 
-/// Writes the answer of the family that has the row's call. Whether one has it.
-fn answer_of(
-    alloc: Global,
-    row: Row<'_>,
-    text: &str,
-    out: &mut String,
-) -> Result<bool, AllocError> {
-    let Row { call, words, .. } = row;
-    let known = tokens::answer(alloc, call, words, text, out)?
-        || sections::answer(alloc, call, words, text, out)?
-        || spans::answer(alloc, call, words, text, out)?
-        || scalars::answer(alloc, call, words, text, out)?
-        || trees::answer(alloc, call, words, text, out)?
-        || diagnostics::answer(alloc, call, words, text, out)?
-        || callers::answer(alloc, call, words, text, out)?
-        || typed::answer(alloc, call, words, text, out)?
-        || looks::answer(alloc, call, words, text, out)?
-        || holders::answer(alloc, call, text, out)?;
-    Ok(known)
+/// Adds the answer of the family that has the row's call. Whether one has it.
+fn push_answer(alloc: Global, row: Row<'_>, out: &mut String) -> Result<bool, AllocError> {
+    Ok(
+        tokens::answer(alloc, row, out)?
+            || places::answer(alloc, row, out)?
+            || faults::answer(alloc, row, out)?
+            || sections::answer(alloc, row, out)?
+            || texts::answer(alloc, row, out)?
+            || callers::answer(alloc, row, out)?
+            || trees::answer(alloc, row, out)?,
+    )
 }
 
-/// The answer to a row, or `None` where it can't be read.
-fn answered(alloc: Global, line: &str) -> Result<Option<String>, AllocError> {
-    let Some(row) = row_of(line) else {
-        return Ok(None);
+/// Adds the answer to a row.
+fn push_answered(alloc: Global, line: &str, out: &mut String) -> Result<(), Unread> {
+    let Some((call, words, text)) = parts_of(line) else {
+        return Err(Unread::Escape);
     };
-    let text = match text_of(alloc, row.text) {
-        Ok(text) => text,
-        Err(Unread::Escape) => return Ok(None),
-        Err(Unread::Memory(refused)) => return Err(refused),
-    };
-    let mut out = String::new(alloc);
-    let known = answer_of(alloc, row, text.as_str(), &mut out)?;
-    Ok(if known { Some(out) } else { None })
+    let words = words_of(alloc, words)?;
+    let text = text_of(alloc, text)?;
+    let (words, text) = (words.as_slice(), text.as_str());
+    match push_answer(alloc, Row { call, words, text }, out) {
+        Ok(true) => Ok(()),
+        Ok(false) => Err(Unread::Escape),
+        Err(refused) => Err(Unread::Memory(refused)),
+    }
 }
 
 /// Adds each line of a text, behind four spaces.
 fn push_indented(out: &mut String, text: &str) -> Result<(), AllocError> {
     for line in text.lines() {
-        out.push_str("    ")?;
-        out.push_str(line)?;
-        out.push('\n')?;
+        writeln!(out, "    {line}")?;
     }
     Ok(())
 }
 
-/// Adds a line and what is said to it. Whether it is a title, or a row that can be read.
-fn push_line(alloc: Global, line: &str, out: &mut String) -> Result<bool, AllocError> {
-    out.push_str(line)?;
-    out.push('\n')?;
-    if line.is_empty() || line.starts_with('#') {
-        return Ok(true);
-    }
-    match answered(alloc, line)? {
-        Some(answer) => {
+/// Adds what is said to a row. Whether it can be read.
+fn push_row(alloc: Global, line: &str, out: &mut String) -> Result<bool, AllocError> {
+    let mut answer = String::new(alloc);
+    match push_answered(alloc, line, &mut answer) {
+        Ok(()) => {
             push_indented(out, answer.as_str())?;
             Ok(true)
         }
-        None => {
+        Err(Unread::Escape) => {
             push_indented(out, NO_SUCH_ROW)?;
             Ok(false)
         }
+        Err(Unread::Memory(refused)) => Err(refused),
     }
 }
 
-/// Adds all lines with what is said to them. Whether each of them can be read.
+/// Adds all lines with what is said to them. Whether each row of them can be read.
 fn push_lines(alloc: Global, input: &str, out: &mut String) -> Result<bool, AllocError> {
     let mut readable = true;
     for line in input.lines() {
-        readable = push_line(alloc, line, out)? && readable;
+        writeln!(out, "{line}")?;
+        if !line.is_empty() && !line.starts_with('#') {
+            readable = push_row(alloc, line, out)? && readable;
+        }
     }
     Ok(readable)
 }

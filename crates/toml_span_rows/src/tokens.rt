@@ -4,10 +4,10 @@
 //! An operation is the name of a call, for some with `=` and the token that is expected: `Equals`, or
 //! with its content, `Keylike(a)`. In an operation escapes may stand. `describe` is the words for the next
 //! token, `clone` keeps a copy of the tokenizer, and `swap` goes on with the copy.
-use crate::escapes::{Unread, text_of};
+use crate::Row;
+use crate::told::push_told;
 use std::alloc::{AllocError, Global};
 use std::borrow::CowStr;
-use std::fmt::Write;
 use std::mem;
 use toml_span_lex::key::Key;
 use toml_span_lex::span::Span;
@@ -110,31 +110,6 @@ fn push_words(out: &mut String, answer: Stepped<'_>) -> Result<(), AllocError> {
     }
 }
 
-fn push_truth(out: &mut String, answer: Result<bool, Stop<Error>>) -> Result<(), AllocError> {
-    match answer {
-        Ok(truth) => write!(out, "{truth}"),
-        Err(stop) => push_stop(out, stop),
-    }
-}
-
-fn push_done(out: &mut String, answer: Result<(), Stop<Error>>) -> Result<(), AllocError> {
-    match answer {
-        Ok(()) => out.push_str("done"),
-        Err(stop) => push_stop(out, stop),
-    }
-}
-
-fn push_found(
-    out: &mut String,
-    answer: Result<Option<Span>, Stop<Error>>,
-) -> Result<(), AllocError> {
-    match answer {
-        Ok(Some(span)) => push_span(out, span),
-        Ok(None) => out.push_str("none"),
-        Err(stop) => push_stop(out, stop),
-    }
-}
-
 fn push_key(out: &mut String, answer: Result<Key<'_>, Stop<Error>>) -> Result<(), AllocError> {
     match answer {
         Ok(key) => {
@@ -142,27 +117,6 @@ fn push_key(out: &mut String, answer: Result<Key<'_>, Stop<Error>>) -> Result<()
             write!(out, " {key}")?;
             push_holder(out, &key.name)
         }
-        Err(stop) => push_stop(out, stop),
-    }
-}
-
-fn push_character(out: &mut String, answer: Option<(usize, char)>) -> Result<(), AllocError> {
-    match answer {
-        Some((at, c)) => write!(out, "{at} {c:?}"),
-        None => out.push_str("none"),
-    }
-}
-
-fn push_comment(out: &mut String, answer: Result<bool, Error>) -> Result<(), AllocError> {
-    match answer {
-        Ok(truth) => write!(out, "{truth}"),
-        Err(error) => write!(out, "error {error:?}"),
-    }
-}
-
-fn push_expected(out: &mut String, answer: Result<Span, Stop<Error>>) -> Result<(), AllocError> {
-    match answer {
-        Ok(span) => push_span(out, span),
         Err(stop) => push_stop(out, stop),
     }
 }
@@ -176,10 +130,10 @@ fn push_expecting<'t>(
     out: &mut String,
 ) -> Result<bool, AllocError> {
     match name {
-        "eat" => push_truth(out, tokenizer.eat(alloc, token)),
-        "eat_spanned" => push_found(out, tokenizer.eat_spanned(alloc, token)),
-        "expect" => push_done(out, tokenizer.expect(alloc, token)),
-        "expect_spanned" => push_expected(out, tokenizer.expect_spanned(alloc, token)),
+        "eat" => push_told(&tokenizer.eat(alloc, token), out),
+        "eat_spanned" => push_told(&tokenizer.eat_spanned(alloc, token), out),
+        "expect" => push_told(&tokenizer.expect(alloc, token), out),
+        "expect_spanned" => push_told(&tokenizer.expect_spanned(alloc, token), out),
         _ => return Ok(false),
     }?;
     Ok(true)
@@ -205,10 +159,10 @@ fn push_call<'t>(
         "peek" => push_step(out, tokenizer.peek(alloc)),
         "describe" => push_words(out, tokenizer.step(alloc)),
         "table_key" => push_key(out, tokenizer.table_key(alloc)),
-        "eat_newline_or_eof" => push_done(out, tokenizer.eat_newline_or_eof(alloc)),
-        "eat_comment" => push_comment(out, tokenizer.eat_comment()),
-        "one" => push_character(out, tokenizer.one()),
-        "current" => write!(out, "{}", tokenizer.current()),
+        "eat_newline_or_eof" => push_told(&tokenizer.eat_newline_or_eof(alloc), out),
+        "eat_comment" => push_told(&tokenizer.eat_comment(), out),
+        "one" => push_told(&tokenizer.one(), out),
+        "current" => push_told(&tokenizer.current(), out),
         _ => return push_quiet_call(tokenizers, name, out),
     }?;
     Ok(true)
@@ -269,15 +223,6 @@ fn push_calls(
     Ok(true)
 }
 
-/// The words of a row, without escapes.
-fn words_of(alloc: Global, words: &str) -> Result<Vec<String>, Unread> {
-    let mut found = Vec::new(alloc);
-    for word in words.split(' ') {
-        found.push(text_of(alloc, word)?).map_err(AllocError::from)?;
-    }
-    Ok(found)
-}
-
 /// Adds the tokens of a text, one a line, up to its end or its first fault.
 fn push_tokens(alloc: Global, text: &str, out: &mut String) -> Result<(), AllocError> {
     let mut tokenizer = Tokenizer::new(text);
@@ -299,23 +244,13 @@ fn push_tokens(alloc: Global, text: &str, out: &mut String) -> Result<(), AllocE
 }
 
 /// Writes the answer of a row, one line each, or says that there is no such call.
-pub fn answer(
-    alloc: Global,
-    call: &str,
-    words: &str,
-    text: &str,
-    out: &mut String,
-) -> Result<bool, AllocError> {
-    match call {
-        "tokens" if words.is_empty() => {
-            push_tokens(alloc, text, out)?;
+pub fn answer(alloc: Global, row: Row<'_>, out: &mut String) -> Result<bool, AllocError> {
+    match row.call {
+        "tokens" => {
+            push_tokens(alloc, row.text, out)?;
             Ok(true)
         }
-        "tokenizer" => match words_of(alloc, words) {
-            Ok(operations) => push_calls(alloc, &operations, text, out),
-            Err(Unread::Escape) => Ok(false),
-            Err(Unread::Memory(refused)) => Err(refused),
-        },
+        "tokenizer" => push_calls(alloc, row.words, row.text, out),
         _ => Ok(false),
     }
 }

@@ -1,20 +1,10 @@
-//! `kinds`: which calls give something at each value, and which at what it holds.
+//! `kinds`: the line of each value, which calls give something at it, and which at what it holds: `as_str`,
+//! `as_integer`, `as_float`, `as_bool`, `as_datetime`, `as_array` and `as_table`, in this order.
+use crate::told::push_told_line;
 use crate::trees::places::{Place, below};
-use crate::trees::push_stop;
+use crate::trees::shown::push_line;
 use std::alloc::{AllocError, Global};
-use toml_span::parse;
 use toml_span::value::{Value, ValueInner};
-
-/// The calls, in the order of the lists below.
-const CALLS: [&str; 7] = [
-    "as_str",
-    "as_integer",
-    "as_float",
-    "as_bool",
-    "as_datetime",
-    "as_array",
-    "as_table",
-];
 
 /// Which calls give something at a value.
 pub fn value_kinds(value: &Value<'_>) -> [bool; 7] {
@@ -42,59 +32,18 @@ fn inner_kinds(inner: &ValueInner<'_>) -> [bool; 7] {
     ]
 }
 
-/// Adds the names of the calls that give something.
-pub fn push_names(given: &[bool; 7], out: &mut String) -> Result<(), AllocError> {
-    for (given, call) in given.iter().zip(CALLS) {
-        if *given {
-            write!(out, " {call}")?;
-        }
-    }
-    Ok(())
-}
-
-/// Adds what the calls give at a scalar.
-fn push_given(value: &Value<'_>, out: &mut String) -> Result<(), AllocError> {
-    if let Some(text) = value.as_str() {
-        return write!(out, " {text:?}");
-    }
-    if let Some(number) = value.as_integer() {
-        return write!(out, " {number}");
-    }
-    if let Some(float) = value.as_float() {
-        let text = float.text();
-        return write!(out, " {text}");
-    }
-    if let Some(truth) = value.as_bool() {
-        return write!(out, " {truth}");
-    }
-    if let Some(date) = value.as_datetime() {
-        let text = date.text();
-        return write!(out, " {text}");
-    }
-    Ok(())
-}
-
 fn push_place(place: &Place<'_, '_>, out: &mut String) -> Result<(), AllocError> {
-    if place.path.is_empty() {
-        out.push_str("root")?;
+    push_line(place, 0, out)?;
+    push_told_line(&value_kinds(place.value), out)?;
+    if place.value.is_taken() {
+        return Ok(());
     }
-    out.push_str(place.path.as_str())?;
-    push_names(&value_kinds(place.value), out)?;
-    push_given(place.value, out)?;
-    if !place.value.is_taken() {
-        out.push_str(", holds")?;
-        push_names(&inner_kinds(place.value.as_ref()), out)?;
-    }
-    out.push('\n')
+    push_told_line(&inner_kinds(place.value.as_ref()), out)
 }
 
-/// Adds the calls for each value of a document.
-pub fn push_kinds(alloc: Global, text: &str, out: &mut String) -> Result<(), AllocError> {
-    let root = match parse(alloc, text) {
-        Ok(root) => root,
-        Err(stop) => return push_stop(stop, out),
-    };
-    for place in &below(alloc, &root)? {
+/// Adds the calls for each value of a tree.
+pub fn push_kinds(alloc: Global, root: &Value<'_>, out: &mut String) -> Result<(), AllocError> {
+    for place in &below(alloc, root)? {
         push_place(place, out)?;
     }
     Ok(())

@@ -1,7 +1,6 @@
-//! `again` and `pieces`: numbers, truth values, dates, arrays and inline tables, cut out of a document and
+//! `again`: numbers, truth values, dates, arrays and inline tables, cut out of a document and
 //! read again.
 use crate::trees::places::below;
-use crate::trees::push_stop;
 use crate::trees::shown::push_lines;
 use std::alloc::{AllocError, Global};
 use toml_span::value::{Table, Value, ValueInner};
@@ -83,30 +82,16 @@ fn push_piece(
 }
 
 /// Adds each piece of a document, and whether it is read as the same value.
-pub fn push_again(alloc: Global, text: &str, out: &mut String) -> Result<(), AllocError> {
-    let root = match parse(alloc, text) {
-        Ok(root) => root,
-        Err(stop) => return push_stop(stop, out),
-    };
-    for place in &below(alloc, &root)? {
+pub fn push_again(
+    alloc: Global,
+    text: &str,
+    root: &Value<'_>,
+    out: &mut String,
+) -> Result<(), AllocError> {
+    for place in &below(alloc, root)? {
         if is_piece(text, place.value) {
             push_piece(alloc, text, place.value, out)?;
         }
     }
     Ok(())
-}
-
-/// Adds how many pieces a document has, and how many are read as the same value.
-pub fn push_pieces(alloc: Global, text: &str, out: &mut String) -> Result<(), AllocError> {
-    let mut lines = String::new(alloc);
-    push_again(alloc, text, &mut lines)?;
-    let mut all: usize = 0;
-    let mut same: usize = 0;
-    for line in lines.lines() {
-        all = all.saturating_add(1);
-        if line.ends_with(" the same") {
-            same = same.saturating_add(1);
-        }
-    }
-    writeln!(out, "{all} pieces, {same} the same")
 }

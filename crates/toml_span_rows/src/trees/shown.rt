@@ -1,6 +1,7 @@
 //! The lines of trees and of faults.
 use crate::tokens::push_span;
-use crate::trees::kinds::{push_names, value_kinds};
+use crate::told::push_told;
+use crate::trees::kinds::value_kinds;
 use crate::trees::places::{Place, below};
 use std::alloc::{AllocError, Global};
 use std::borrow::CowStr;
@@ -23,15 +24,10 @@ fn kind_of(value: &Value<'_>) -> &'static str {
     value.as_ref().type_str()
 }
 
-/// Whether two values have the same kind and span.
-pub fn are_alike(one: &Value<'_>, other: &Value<'_>) -> bool {
-    one.span == other.span && kind_of(one) == kind_of(other)
-}
-
 /// Adds a value's kind and span.
 pub fn push_kind(value: &Value<'_>, from: usize, out: &mut String) -> Result<(), AllocError> {
     let kind = kind_of(value);
-    write!(out, " {kind}")?;
+    out.push_str(kind)?;
     push_moved(value.span, from, out)
 }
 
@@ -45,6 +41,15 @@ fn push_key(key: &Key<'_>, from: usize, out: &mut String) -> Result<(), AllocErr
     }
 }
 
+/// Adds which calls give something at a value that is taken, if one does.
+fn push_left(value: &Value<'_>, out: &mut String) -> Result<(), AllocError> {
+    let kinds = value_kinds(value);
+    if kinds.contains(&true) {
+        return push_told(&kinds, out);
+    }
+    Ok(())
+}
+
 /// Adds a string, and whether it has a text of its own.
 pub fn push_string(text: &CowStr<'_>, out: &mut String) -> Result<(), AllocError> {
     match text {
@@ -53,10 +58,10 @@ pub fn push_string(text: &CowStr<'_>, out: &mut String) -> Result<(), AllocError
     }
 }
 
-/// Adds what a scalar is. Of a value that is taken, what its calls still give.
+/// Adds what a scalar is. Of a value that is taken, which of its calls still give something, if one does.
 pub fn push_scalar(value: &Value<'_>, out: &mut String) -> Result<(), AllocError> {
     if value.is_taken() {
-        return push_names(&value_kinds(value), out);
+        return push_left(value, out);
     }
     match value.as_ref() {
         ValueInner::String(text) => push_string(text, out),
@@ -76,17 +81,30 @@ pub fn push_scalar(value: &Value<'_>, out: &mut String) -> Result<(), AllocError
 
 /// Adds the line of a value.
 pub fn push_line(place: &Place<'_, '_>, from: usize, out: &mut String) -> Result<(), AllocError> {
-    if place.path.is_empty() {
-        out.push_str("root")?;
-    } else {
-        out.push_str(place.path.as_str())?;
-    }
+    let path = place.path.as_str();
+    out.push_str(if path.is_empty() { "root" } else { path })?;
+    out.push(' ')?;
     push_kind(place.value, from, out)?;
     if let Some(key) = place.key {
         push_key(key, from, out)?;
     }
     push_scalar(place.value, out)?;
     out.push('\n')
+}
+
+/// Adds a word on a value, and its kind, its span and what it is.
+pub fn push_back(said: &str, value: &Value<'_>, out: &mut String) -> Result<(), AllocError> {
+    out.push_str(said)?;
+    push_kind(value, 0, out)?;
+    push_scalar(value, out)
+}
+
+/// Adds what a pointer names.
+pub fn push_named(value: Option<&Value<'_>>, out: &mut String) -> Result<(), AllocError> {
+    let Some(value) = value else {
+        return out.push_str(" none");
+    };
+    push_back("", value, out)
 }
 
 /// Adds the lines of a value and of all that it holds, with offsets counted from a start.

@@ -4,6 +4,8 @@
 //! | Operation | What it calls |
 //! |---|---|
 //! | `find=POINTER` | `pointer` |
+//! | `look=POINTER` | `look_up` |
+//! | `at=POINTER` | `at` of the `Pointer` that is made of the text |
 //! | `set=POINTER=INTEGER` | `set` at what `pointer_mut` lends |
 //! | `take=POINTER` | `take` there |
 //! | `take_string=POINTER`, `take_string=POINTER=MESSAGE` | `take_string` there |
@@ -11,108 +13,58 @@
 //! | `taken=POINTER` | `is_taken` at what `pointer` names |
 //! | `debug=POINTER` | what `{:?}` writes of it |
 //! | `has_key=NAME`, `has_keys`, `whole` | `has_key`, `has_keys` and `is_whole` of the root |
-//!
-//! A pointer, a name and a message are written with escapes; `""` is the empty pointer and the empty name.
-use crate::escapes::{Unread, text_of};
-use crate::trees::pointers::{pointer_of, push_found};
-use crate::trees::push_stop;
-use crate::trees::shown::{push_fault, push_kind, push_lines, push_scalar, push_string};
+use crate::told::push_told;
+use crate::trees::shown::{push_back, push_lines, push_named, push_string};
 use std::alloc::{AllocError, Global};
-use toml_span::parse;
-use toml_span::value::{Value, ValueInner};
+use toml_span::value::{Pointer, Value, ValueInner};
 
 /// A call on a tree, as its word says it.
-#[derive(Drop)]
+#[derive(Clone, Copy)]
 struct Operation<'w> {
-    word: &'w str,
     name: &'w str,
     /// The pointer or the name.
-    place: String,
+    place: &'w str,
     /// The number or the message.
-    rest: Option<String>,
+    rest: Option<&'w str>,
 }
 
 /// The operation of a word.
-fn operation_of<'w>(alloc: Global, word: &'w str) -> Result<Operation<'w>, Unread> {
+fn operation_of(word: &str) -> Operation<'_> {
     let (name, behind) = word.split_once('=').unwrap_or((word, ""));
-    let Some((place, rest)) = behind.split_once('=') else {
-        let place = pointer_of(alloc, behind)?;
-        let rest = None;
-        return Ok(Operation {
-            word,
+    match behind.split_once('=') {
+        Some((place, rest)) => Operation {
             name,
             place,
-            rest,
-        });
-    };
-    let place = pointer_of(alloc, place)?;
-    let rest = Some(text_of(alloc, rest)?);
-    Ok(Operation {
-        word,
-        name,
-        place,
-        rest,
-    })
-}
-
-/// The operations of words that a space parts.
-fn operations_of<'w>(alloc: Global, words: &'w str) -> Result<Vec<Operation<'w>>, Unread> {
-    let mut operations = Vec::new(alloc);
-    for word in words.split(' ') {
-        let operation = operation_of(alloc, word)?;
-        operations.push(operation).map_err(AllocError::from)?;
-    }
-    Ok(operations)
-}
-
-fn push_set<'t>(
-    root: &mut Value<'t>,
-    pointer: &'t str,
-    number: i64,
-    out: &mut String,
-) -> Result<(), AllocError> {
-    match root.pointer_mut(pointer) {
-        Some(value) => {
-            value.set(ValueInner::Integer(number));
-            out.push_str(" done")
-        }
-        None => out.push_str(" none"),
+            rest: Some(rest),
+        },
+        None => Operation {
+            name,
+            place: behind,
+            rest: None,
+        },
     }
 }
 
-fn push_take<'t>(
-    root: &mut Value<'t>,
-    pointer: &'t str,
-    out: &mut String,
-) -> Result<(), AllocError> {
-    let Some(value) = root.pointer_mut(pointer) else {
-        return out.push_str(" none");
-    };
+/// Takes what a value has, which is not taken.
+fn push_take(value: &mut Value<'_>, out: &mut String) -> Result<(), AllocError> {
     if value.is_taken() {
-        return out.push_str(" taken");
+        return out.push_str("taken");
     }
-    let inner = value.take();
-    write!(out, " {inner:?}")
+    push_told(&value.take(), out)
 }
 
-fn push_take_string<'t>(
-    root: &mut Value<'t>,
-    pointer: &'t str,
+/// Takes a value's string, which is not taken.
+fn push_take_string(
+    value: &mut Value<'_>,
     message: Option<&str>,
     out: &mut String,
 ) -> Result<(), AllocError> {
-    let Some(value) = root.pointer_mut(pointer) else {
-        return out.push_str(" none");
-    };
     if value.is_taken() {
-        return out.push_str(" taken");
+        return out.push_str("taken");
     }
     match value.take_string(message) {
         Ok(text) => push_string(&text, out),
-        Err(fault) => {
-            write!(out, " {fault}: ")?;
-            push_fault(&fault, out)
-        }
+        Err(fault) => push_told(&fault, out),
     }
 }
 
@@ -122,116 +74,98 @@ fn push_replace<'t>(
     number: i64,
     out: &mut String,
 ) -> Result<(), AllocError> {
-    let new = Value::new(ValueInner::Integer(number));
-    let (outcome, value) = match root.replace(pointer, new) {
-        Ok(old) => (" gives", old),
-        Err(back) => (" gives back", back),
-    };
-    out.push_str(outcome)?;
-    push_kind(&value, 0, out)?;
-    push_scalar(&value, out)
+    match root.replace(pointer, Value::new(ValueInner::Integer(number))) {
+        Ok(old) => push_back("gives ", &old, out),
+        Err(back) => push_back("gives back ", &back, out),
+    }
 }
 
-/// Adds whether something holds.
-fn push_truth(truth: bool, out: &mut String) -> Result<(), AllocError> {
-    write!(out, " {truth}")
-}
-
-fn push_is_taken<'t>(
-    root: &Value<'t>,
-    pointer: &'t str,
+/// Makes a call on what `pointer_mut` lends, and adds what it answers. Whether there is such a call.
+fn push_lent<'t>(
+    root: &mut Value<'t>,
+    operation: Operation<'t>,
+    number: i64,
     out: &mut String,
-) -> Result<(), AllocError> {
-    match root.pointer(pointer) {
-        Some(value) => push_truth(value.is_taken(), out),
-        None => out.push_str(" none"),
+) -> Result<bool, AllocError> {
+    let Some(value) = root.pointer_mut(operation.place) else {
+        out.push_str("none")?;
+        return Ok(true);
+    };
+    match operation.name {
+        "set" => {
+            value.set(ValueInner::Integer(number));
+            out.push_str("done")?;
+        }
+        "take" => push_take(value, out)?,
+        "take_string" => push_take_string(value, operation.rest, out)?,
+        _ => return Ok(false),
     }
-}
-
-fn push_debug<'t>(root: &Value<'t>, pointer: &'t str, out: &mut String) -> Result<(), AllocError> {
-    match root.pointer(pointer) {
-        Some(value) => write!(out, " {value:?}"),
-        None => out.push_str(" none"),
-    }
+    Ok(true)
 }
 
 /// Adds what a call answers that changes the tree. Whether there is such a call.
 fn push_write<'t>(
     root: &mut Value<'t>,
-    operation: &'t Operation<'_>,
+    operation: Operation<'t>,
     out: &mut String,
 ) -> Result<bool, AllocError> {
-    let place = operation.place.as_str();
-    let rest = match &operation.rest {
-        Some(rest) => Some(rest.as_str()),
-        None => None,
-    };
-    match operation.name {
-        "take" => push_take(root, place, out),
-        "take_string" => push_take_string(root, place, rest, out),
-        name => {
-            let Ok(number) = rest.unwrap_or("").parse::<i64>() else {
-                return Ok(false);
-            };
-            match name {
-                "set" => push_set(root, place, number, out),
-                "replace" => push_replace(root, place, number, out),
-                _ => return Ok(false),
-            }
-        }
-    }?;
+    let number = operation.rest.unwrap_or("").parse::<i64>().unwrap_or(0);
+    if operation.name != "replace" {
+        return push_lent(root, operation, number, out);
+    }
+    push_replace(root, operation.place, number, out)?;
     Ok(true)
 }
 
+/// Adds what the `Pointer` of a text names, if there is one.
+fn push_at(
+    alloc: Global,
+    root: &Value<'_>,
+    text: &str,
+    out: &mut String,
+) -> Result<(), AllocError> {
+    match Pointer::new(alloc, text)? {
+        Some(pointer) => push_named(root.at(&pointer), out),
+        None => out.push_str("no pointer"),
+    }
+}
+
 /// Adds what a call answers. Whether there is such a call.
-fn push_answer<'t>(
+fn push_operation<'t>(
+    alloc: Global,
     root: &mut Value<'t>,
-    operation: &'t Operation<'_>,
+    operation: Operation<'t>,
     out: &mut String,
 ) -> Result<bool, AllocError> {
-    let place = operation.place.as_str();
+    let place = operation.place;
     match operation.name {
-        "find" => push_found(root, place, out),
-        "taken" => push_is_taken(root, place, out),
-        "debug" => push_debug(root, place, out),
-        "has_key" => push_truth(root.has_key(place), out),
-        "has_keys" => push_truth(root.has_keys(), out),
-        "whole" => push_truth(root.is_whole(), out),
+        "find" => push_named(root.pointer(place), out),
+        "look" => push_named(root.look_up(place), out),
+        "at" => push_at(alloc, root, place, out),
+        "taken" => push_told(&root.pointer(place).map(Value::is_taken), out),
+        "debug" => push_told(&root.pointer(place), out),
+        "has_key" => push_told(&root.has_key(place), out),
+        "has_keys" => push_told(&root.has_keys(), out),
+        "whole" => push_told(&root.is_whole(), out),
         _ => return push_write(root, operation, out),
     }?;
     Ok(true)
 }
 
-/// Adds what each call answers, and then the lines of the tree. Whether there are such calls.
-fn push_each(
+/// Adds what the calls of words answer, and then the lines of the tree. Whether there are such calls.
+pub fn push_writes<'t>(
     alloc: Global,
-    operations: &[Operation<'_>],
-    text: &str,
+    words: &'t [String],
+    root: &mut Value<'t>,
     out: &mut String,
 ) -> Result<bool, AllocError> {
-    let mut root = match parse(alloc, text) {
-        Ok(root) => root,
-        Err(stop) => {
-            push_stop(stop, out)?;
-            return Ok(true);
-        }
-    };
-    for operation in operations {
-        out.push_str(operation.word)?;
-        if !push_answer(&mut root, operation, out)? {
+    for word in words {
+        write!(out, "{word} ")?;
+        if !push_operation(alloc, root, operation_of(word.as_str()), out)? {
             return Ok(false);
         }
         out.push('\n')?;
     }
-    push_lines(alloc, &root, 0, out)?;
+    push_lines(alloc, root, 0, out)?;
     Ok(true)
-}
-
-/// Adds what the calls of words answer, and then the lines of the tree.
-pub fn push_writes(alloc: Global, words: &str, text: &str, out: &mut String) -> Result<(), Unread> {
-    let operations = operations_of(alloc, words)?;
-    match push_each(alloc, operations.as_slice(), text, out)? {
-        true => Ok(()),
-        false => Err(Unread::Escape),
-    }
 }

@@ -14,7 +14,7 @@ fn custom<'de>(message: &'de str, span: Span) -> DeserError<'de> {
 }
 
 /// What takes its value and fails with two errors.
-#[derive(Drop)]
+#[derive(Debug, Drop)]
 pub struct Odd;
 
 impl<'de> Deserialize<'de> for Odd {
@@ -33,7 +33,7 @@ impl<'de> Deserialize<'de> for Odd {
 }
 
 /// What succeeds and leaves its value untouched.
-#[derive(Drop)]
+#[derive(Debug, Drop)]
 pub struct Untouched;
 
 impl<'de> Deserialize<'de> for Untouched {
@@ -50,7 +50,7 @@ impl<'de> Deserialize<'de> for Untouched {
 }
 
 /// What reads one entry of a table, puts the others back and fails.
-#[derive(Drop)]
+#[derive(Debug, Drop)]
 pub struct Half;
 
 impl<'de> Deserialize<'de> for Half {

@@ -5,7 +5,7 @@ use toml_span::{DeserError, Deserialize, Spanned, Stop, Value};
 use toml_span_typed::read_table;
 
 /// A server. Its table may have no other keys.
-#[derive(Drop)]
+#[derive(Debug, Drop)]
 pub struct Server<'de> {
     pub host: CowStr<'de>,
     pub port: Spanned<u16>,
@@ -13,7 +13,7 @@ pub struct Server<'de> {
 }
 
 /// A configuration. The keys that it does not know are handed back.
-#[derive(Drop)]
+#[derive(Debug, Drop)]
 pub struct Config<'de> {
     pub name: CowStr<'de>,
     pub server: Server<'de>,

@@ -1,6 +1,17 @@
 //! `cuts`: a text cut at each boundary of characters gives a tree, or a fault within it.
+use crate::Row;
+use crate::told::push_told;
 use std::alloc::{AllocError, Global};
 use toml_span::{Error, Stop, parse};
+
+/// Writes the answer of a row, or says that there is no such call.
+pub fn answer(alloc: Global, row: Row<'_>, out: &mut String) -> Result<bool, AllocError> {
+    if row.call != "cuts" {
+        return Ok(false);
+    }
+    push_cuts(alloc, row.text, out)?;
+    Ok(true)
+}
 
 /// Whether a fault's bounds are right: its span starts in the text and does not end before it starts,
 /// and the line and the column are those of the start.
@@ -31,16 +42,16 @@ fn is_right(alloc: Global, text: &str) -> Result<bool, AllocError> {
 }
 
 /// Adds how many cuts there are, all of them right, or the first that is not.
-pub fn push_cuts(alloc: Global, text: &str, out: &mut String) -> Result<(), AllocError> {
+fn push_cuts(alloc: Global, text: &str, out: &mut String) -> Result<(), AllocError> {
     let mut count: usize = 0;
     for end in 0..text.len() {
         let Some(front) = text.get(..end) else {
             continue;
         };
         if !is_right(alloc, front)? {
-            return writeln!(out, "wrong: {front:?}");
+            return push_told(&front, out);
         }
         count = count.saturating_add(1);
     }
-    writeln!(out, "{count} right")
+    write!(out, "{count} right")
 }

@@ -1,0 +1,51 @@
+//! What errors print: `diagnostics` of a text's fault, and `diagnostic KIND` of an error of a kind that only typed
+//! reads make, at 4..6 in line 2, whose names the text gives.
+use crate::Row;
+use crate::told::push_told;
+use crate::trees::shown::push_stand;
+use std::alloc::{AllocError, Global};
+use toml_span::{Error, Span};
+
+mod made;
+
+/// The number by which a diagnostic names its file.
+const FILE: u8 = 7;
+
+/// Adds an error's code, place and text, and its diagnostic.
+fn push_error(alloc: Global, error: &Error<'_>, out: &mut String) -> Result<(), AllocError> {
+    push_stand(error, out)?;
+    writeln!(out, " {error}")?;
+    push_told(&error.to_diagnostic(alloc, FILE), out)
+}
+
+/// Adds a further line if what an error's clone prints is not what was printed last.
+fn push_clone(alloc: Global, copy: &Error<'_>, out: &mut String) -> Result<(), AllocError> {
+    let mut again = String::new(alloc);
+    push_error(alloc, copy, &mut again)?;
+    if out.ends_with(again.as_str()) {
+        return Ok(());
+    }
+    out.push_str("\nthe clone is another")
+}
+
+/// Adds what an error prints, and its clone.
+pub fn push_twice(alloc: Global, error: &Error<'_>, out: &mut String) -> Result<(), AllocError> {
+    push_error(alloc, error, out)?;
+    let copy = error.clone(alloc)?;
+    push_clone(alloc, &copy, out)
+}
+
+/// Writes the answer of a row, or says that there is no such call.
+pub fn answer(alloc: Global, row: Row<'_>, out: &mut String) -> Result<bool, AllocError> {
+    if row.call != "diagnostic" {
+        return Ok(false);
+    }
+    let names = made::names_of(alloc, row.text)?;
+    let Some(kind) = made::kind_of(alloc, row.word(0), row.text, names.as_slice())? else {
+        return Ok(false);
+    };
+    let mut error = Error::from((kind, Span::new(4, 6)));
+    error.line_info = Some((2, 3));
+    push_twice(alloc, &error, out)?;
+    Ok(true)
+}

@@ -1,0 +1,129 @@
+//! Spans, spanned values, keys, dates and floats that are made of words and texts.
+//!
+//! - `span START END: TEXT` tells whether a span is empty and what it becomes, and where it starts in a text that
+//!   has it.
+//! - `spanned START END NUMBER OTHER` tells the place of a number at a span, whether it has another's value and
+//!   equals it, and how it compares with it; and then itself, and the place and the value of a default one.
+//! - `key START END OTHER: NAME` tells a key with an owned name, the place of its clone and whether that equals it,
+//!   and how it compares with a borrowed one of another name; and then the place and the name of a default one.
+//! - `date: TEXT` tells the text of the date, or that it is none.
+//! - `float OTHER: TEXT` tells the text of a float, and whether the other is equal to it. `inf`, `-inf`, `nan` and
+//!   `-nan` are themselves, every other text is finite.
+use crate::Row;
+use crate::told::{push_told, push_told_line};
+use std::alloc::{AllocError, Global};
+use std::borrow::CowStr;
+use std::ops::Range;
+use toml_span::tokens::Tokenizer;
+use toml_span::value::{DateText, FloatText, Key};
+use toml_span::{Span, Spanned};
+
+/// Writes the answer of a row, or says that there is no such call.
+pub fn answer(alloc: Global, row: Row<'_>, out: &mut String) -> Result<bool, AllocError> {
+    match row.call {
+        "date" => push_date(row.text, out),
+        "float" => push_float(alloc, row, out),
+        "span" | "spanned" | "key" => return push_placed(alloc, row, out),
+        _ => return Ok(false),
+    }?;
+    Ok(true)
+}
+
+/// Writes the answer to a call with a span. Whether there is one.
+fn push_placed(alloc: Global, row: Row<'_>, out: &mut String) -> Result<bool, AllocError> {
+    let Some(span) = span_of(row) else {
+        return Ok(false);
+    };
+    match row.call {
+        "span" => push_span_told(span, row.text, out),
+        "spanned" => return push_spanned(alloc, span, row, out),
+        _ => push_key(alloc, span, row, out),
+    }?;
+    Ok(true)
+}
+
+/// The span of the first two words.
+fn span_of(row: Row<'_>) -> Option<Span> {
+    let start = row.word(0).parse::<usize>().ok()?;
+    let end = row.word(1).parse::<usize>().ok()?;
+    Some(Span::from(start..end))
+}
+
+fn push_span_told(span: Span, text: &str, out: &mut String) -> Result<(), AllocError> {
+    let pair: (usize, usize) = span.into();
+    let range: Range<usize> = span.into();
+    push_told(&(span.is_empty(), pair, range.start, range.end), out)?;
+    if span.start <= span.end && span.end <= text.len() {
+        let offset = Tokenizer::new(text).substr_offset(span);
+        write!(out, " at {offset}")?;
+    }
+    Ok(())
+}
+
+fn push_spanned(
+    alloc: Global,
+    span: Span,
+    row: Row<'_>,
+    out: &mut String,
+) -> Result<bool, AllocError> {
+    let (Ok(number), Ok(other)) = (row.word(2).parse::<u8>(), row.word(3).parse::<u8>()) else {
+        return Ok(false);
+    };
+    let wide: Spanned<u32> = Spanned::with_span(number, span).map();
+    let copy = wide.clone(alloc)?;
+    let other = Spanned::new(u32::from(other));
+    let same = (wide.eq_value(&other.value), copy == other);
+    push_told_line(&(copy.span, same, copy.cmp(&other)), out)?;
+    let default = Spanned::<u8>::default();
+    push_told(&(copy, default.span, default.take()), out)?;
+    Ok(true)
+}
+
+fn push_key(alloc: Global, span: Span, row: Row<'_>, out: &mut String) -> Result<(), AllocError> {
+    let name = CowStr::Owned(String::from_str(alloc, row.text)?);
+    let key = Key { name, span };
+    let twin = key.clone(alloc)?;
+    push_keys(&key, &twin, row.word(2), out)?;
+    let default = Key::default();
+    push_told(&(default.span, default.name.as_ref()), out)
+}
+
+/// Adds a key, the place of its clone, and how it compares with that and with one of another name.
+fn push_keys(
+    key: &Key<'_>,
+    twin: &Key<'_>,
+    name: &str,
+    out: &mut String,
+) -> Result<(), AllocError> {
+    let other = Key {
+        name: CowStr::Borrowed(name),
+        span: Span::new(1, 2),
+    };
+    let same = (twin.span, key == twin, key.cmp(&other));
+    writeln!(out, "{key} {key:?} {same:?}")
+}
+
+fn push_date(text: &str, out: &mut String) -> Result<(), AllocError> {
+    match DateText::new(text) {
+        Some(date) => out.push_str(date.text()),
+        None => out.push_str("no date"),
+    }
+}
+
+fn push_float(alloc: Global, row: Row<'_>, out: &mut String) -> Result<(), AllocError> {
+    let float = float_of(alloc, row.text)?;
+    let other = float_of(alloc, row.word(0))?;
+    let equal = float == other;
+    out.push_str(float.text())?;
+    out.push_str(if equal { " equal" } else { " not equal" })
+}
+
+fn float_of(alloc: Global, text: &str) -> Result<FloatText, AllocError> {
+    Ok(match text {
+        "inf" => FloatText::Infinite { negative: false },
+        "-inf" => FloatText::Infinite { negative: true },
+        "nan" => FloatText::NotANumber { negative: false },
+        "-nan" => FloatText::NotANumber { negative: true },
+        _ => FloatText::Finite(String::from_str(alloc, text)?),
+    })
+}

@@ -1,0 +1,13 @@
+//! Answers as they are printed for programmers.
+use std::alloc::AllocError;
+use std::fmt::Debug;
+
+/// Adds an answer.
+pub fn push_told<T: Debug>(told: &T, out: &mut String) -> Result<(), AllocError> {
+    write!(out, "{told:?}")
+}
+
+/// Adds an answer and a line end.
+pub fn push_told_line<T: Debug>(told: &T, out: &mut String) -> Result<(), AllocError> {
+    writeln!(out, "{told:?}")
+}

@@ -1,0 +1,37 @@
+//! `text_order`: the keys of the root in the order of the text; and `nodes`: the steps to each value, and its kind.
+use crate::told::push_told_line;
+use crate::trees::shown::push_kind;
+use std::alloc::{AllocError, Global};
+use toml_span::value::{Value, in_text_order};
+use toml_span_walk::{Step, nodes};
+
+/// Adds the keys of the root.
+pub fn push_order(alloc: Global, root: &Value<'_>, out: &mut String) -> Result<(), AllocError> {
+    let Some(table) = root.as_table() else {
+        return Ok(());
+    };
+    for (key, _) in in_text_order(alloc, table)?.iter() {
+        push_told_line(&(key.name.as_str(), key.span), out)?;
+    }
+    Ok(())
+}
+
+/// Adds a step to a value.
+fn push_step(step: &Step<'_>, out: &mut String) -> Result<(), AllocError> {
+    match step {
+        Step::Key(name) => write!(out, "{name:?} "),
+        Step::Position(position) => write!(out, "{position} "),
+    }
+}
+
+/// Adds the steps to each value, and its kind.
+pub fn push_nodes(alloc: Global, root: &Value<'_>, out: &mut String) -> Result<(), AllocError> {
+    for visited in nodes(alloc, root)?.iter() {
+        for step in visited.path.iter() {
+            push_step(step, out)?;
+        }
+        push_kind(visited.value, 0, out)?;
+        out.push('\n')?;
+    }
+    Ok(())
+}
