@@ -4,7 +4,8 @@
 # A run is a file crates/toml_span_check/runs/NAME.args, a word a line, for the program in the folder data/. Beside it
 # stand NAME.stdout, what it has to write, and where they are wanted NAME.input, its standard input, NAME.stderr, what
 # it has to complain of, and NAME.status, how it has to end where that is not 0. A document runs/tagged/NAME.toml has
-# to be shown with types as NAME.json has it. PROGRAM is the proved build unless another is named.
+# to be shown with types as NAME.json has it, and a document runs/refused/NAME.toml as NAME.items and NAME.tagged
+# have it, also with each request for memory refused in turn. PROGRAM is the proved build unless another is named.
 set -uo pipefail
 if [ $# -gt 0 ]; then named=$(realpath "$1"); fi
 cd "$(dirname "$0")/../crates/toml_span_check"
@@ -137,6 +138,18 @@ refuse --format json settings.toml nothing.toml
 refuse --tagged tree.toml
 refuse --items tree.toml
 refuse --get /list/3 tree.toml
+
+# the same of documents that are read and that clash, whose whole answers are stored
+for document in runs/refused/*.toml; do
+    name=${document%.toml}
+    wanted=0
+    if [ -f "$name.status" ]; then wanted=$(<"$name.status"); fi
+    for form in items tagged; do
+        ask 0 --format json "--$form" "../$document"
+        told "$document as $form" "$name.$form" "$wanted"
+        refuse --format json "--$form" "../$document"
+    done
+done
 
 echo "check runs: $((count - wrong)) of $count right"
 [ "$wrong" -eq 0 ]

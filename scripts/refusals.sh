@@ -8,6 +8,8 @@
 # are those of the test, which prints what the call gave: there the first requests have to be told of. Calls
 # that promise to take no memory have to make no request, so they give their answers whatever is refused.
 #
+# `parse` is refused each of its requests in the stored runs of the checker (scripts/check_runs.sh).
+#
 # Then the whole program, toml_span_show, is run with its third request refused, over documents of which that
 # one falls into the reading, into the parsing and into the lines: each time it has to end with status 4, and
 # to write nothing.
@@ -26,9 +28,6 @@ done
 calls+=("Value::to_json")
 for call in String "Vec<String>" parse required "required missing" optional take finalize merge; do
     calls+=("$call")
-done
-for document in folded arrayed clashing quoted crossing nested inline; do
-    calls+=("document $document")
 done
 for reads in "all errors" "rest back" absent "asked twice" entries elements; do
     calls+=("fields $reads")

@@ -1,4 +1,4 @@
-//! The typed reads of documents.
+//! Typed reads of several fields.
 ghost use Rattle.std.specs.Prelude.{IfOk};
 ghost use Rattle.toml_span_typed.specs.TableHelper.{AllWhole, state_of};
 
@@ -6,31 +6,31 @@ use crate::faults::are_faults;
 use crate::helper::{
     failed, finalized, given, nothing, nothing_s, opened, required, required_s, taken,
 };
+use crate::made::{Entry, Scalar, array_of, table_of};
 use crate::outcome::{Outcome, Step, outcome_of, went};
 use std::alloc::Global;
-use toml_span::de_helpers::{TableHelper, Unfinished};
-use toml_span::value::Value;
-use toml_span::{Deserialize, Span, Stop, parse};
+use toml_span_lex::span::Span;
+use toml_span_lex::stop::Stop;
+use toml_span_tree::Value;
+use toml_span_typed::Deserialize;
+use toml_span_typed::de_helpers::{TableHelper, Unfinished};
 
-/// The tree of a document.
-fn root_of(alloc: Global, text: &'static str) -> Result<Value<'static>, Outcome> {
-    match parse(alloc, text) {
-        Ok(root) => Ok(root),
-        Err(_) => Err(Outcome::Refused),
-    }
-}
-
-/// A helper over the tree of a document.
-fn helper_of(alloc: Global, text: &'static str) -> Result<TableHelper<'static>, Outcome>
+/// A helper over a table with these entries, which stands at `0..end`.
+fn helper_of(alloc: Global, entries: &[Entry], end: usize) -> Result<TableHelper<'static>, Outcome>
     ensures { IfOk result (λ helper. AllWhole (state_of helper)) }
 {
-    let mut root = root_of(alloc, text)?;
+    let mut root = table_of(alloc, entries, Span::new(0, end))?;
     opened(alloc, &mut root)
 }
 
 /// A number that is too large and a string as a truth value, with a key that remains.
 fn all_errors(alloc: Global) -> Step {
-    let mut helper = helper_of(alloc, "n = 300\nm = \"q\"\nz = true\n")?;
+    let entries = [
+        ("n", 0, Scalar::Integer(300), 4, 7),
+        ("m", 8, Scalar::String("q"), 13, 14),
+        ("z", 16, Scalar::True, 20, 24),
+    ];
+    let mut helper = helper_of(alloc, entries.as_slice(), 25)?;
     let number = ("range", 4, 7);
     let truth = ("wanted", 13, 14);
     let missing = ("missing", 0, 25);
@@ -41,7 +41,8 @@ fn all_errors(alloc: Global) -> Step {
 
 /// A missing field, behind which the rest is put back.
 fn rest_back(alloc: Global) -> Step {
-    let mut root = root_of(alloc, "n = 1")?;
+    let entries = [("n", 0, Scalar::Integer(1), 4, 5)];
+    let mut root = table_of(alloc, entries.as_slice(), Span::new(0, 5))?;
     let mut helper = opened(alloc, &mut root)?;
     let missing = ("missing", 0, 5);
     failed::<u8>(&mut helper, "q", missing, missing)?;
@@ -55,7 +56,11 @@ fn rest_back(alloc: Global) -> Step {
 
 /// Optional reads of a number that is too small and of an absent one.
 fn absent(alloc: Global) -> Step {
-    let mut helper = helper_of(alloc, "a = 1\nb = -1\n")?;
+    let entries = [
+        ("a", 0, Scalar::Integer(1), 4, 5),
+        ("b", 6, Scalar::Integer(-1), 10, 12),
+    ];
+    let mut helper = helper_of(alloc, entries.as_slice(), 13)?;
     nothing::<u8>(&mut helper, "b", 1)?;
     nothing::<u8>(&mut helper, "c", 0)?;
     let one = required::<i64>(&mut helper, "a");
@@ -65,7 +70,8 @@ fn absent(alloc: Global) -> Step {
 
 /// Two reads of one missing field, with a key that remains.
 fn asked_twice(alloc: Global) -> Step {
-    let mut helper = helper_of(alloc, "z = 1")?;
+    let entries = [("z", 0, Scalar::Integer(1), 4, 5)];
+    let mut helper = helper_of(alloc, entries.as_slice(), 5)?;
     let missing = ("missing", 0, 5);
     failed::<u8>(&mut helper, "q", missing, missing)?;
     failed::<u8>(&mut helper, "q", missing, missing)?;
@@ -84,9 +90,13 @@ fn read_entries(helper: &mut TableHelper<'static>) -> Step
     went(key.span == Span::new(6, 7) && value.as_str() == Some("q"))
 }
 
-/// These reads of a document that has nothing else.
+/// These reads of a table that has nothing else.
 fn entries(alloc: Global) -> Step {
-    let mut helper = helper_of(alloc, "n = 7\nm = \"q\"\n")?;
+    let entries = [
+        ("n", 0, Scalar::Integer(7), 4, 5),
+        ("m", 6, Scalar::String("q"), 11, 12),
+    ];
+    let mut helper = helper_of(alloc, entries.as_slice(), 14)?;
     read_entries(&mut helper)?;
     finalized(helper, [].as_slice())
 }
@@ -106,14 +116,19 @@ fn read_elements(alloc: Global, value: &mut Value<'static>) -> Step {
     }
 }
 
-/// This read of an entry of a document.
+/// This read.
 fn elements(alloc: Global) -> Step {
-    let mut helper = helper_of(alloc, "a = [1, 300, \"x\", 2]")?;
-    let (_key, mut value) = taken(&mut helper, "a")?;
+    let elements = [
+        (Scalar::Integer(1), 5, 6),
+        (Scalar::Integer(300), 8, 11),
+        (Scalar::String("x"), 14, 15),
+        (Scalar::Integer(2), 18, 19),
+    ];
+    let mut value = array_of(alloc, elements.as_slice(), Span::new(4, 20))?;
     read_elements(alloc, &mut value)
 }
 
-/// How the case of a name went: reads of a document. `None` if there is no such case.
+/// How the case of a name went: reads of fields. `None` if there is no such case.
 pub fn case(alloc: Global, name: &str) -> Option<Outcome> {
     let last = match name {
         "fields all errors" => all_errors(alloc),

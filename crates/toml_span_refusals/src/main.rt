@@ -9,12 +9,12 @@
 //! `no such case`. Its status is 3 where a refusal was met, else 0.
 #![tactic(auto)]
 
-mod documents;
 mod faults;
 mod fields;
 mod free;
 mod helper;
 mod lexer;
+mod made;
 mod outcome;
 mod tree;
 mod typed;
@@ -27,9 +27,6 @@ use std::process::ExitCode;
 
 /// How the case of a name went, or `None` if there is no such case.
 fn case(alloc: Global, name: &str) -> Option<Outcome> {
-    if let Some(outcome) = documents::case(alloc, name) {
-        return Some(outcome);
-    }
     if let Some(outcome) = fields::case(alloc, name) {
         return Some(outcome);
     }

@@ -3,14 +3,13 @@ ghost use Rattle.std.specs.Prelude.{IfOk};
 ghost use Rattle.toml_span_typed.specs.TableHelper.{AllWhole, state_of};
 
 use crate::helper::{failed, finalized, given, nothing, opened, required, taken};
+use crate::made::{Scalar, array_of, table_of};
 use crate::outcome::{Outcome, Step, outcome_of, went};
-use std::alloc::{AllocError, Global};
+use std::alloc::Global;
 use std::borrow::CowStr;
-use std::collections::BTreeMap;
-use toml_span_lex::key::Key;
 use toml_span_lex::span::Span;
 use toml_span_lex::stop::Stop;
-use toml_span_tree::{Error, ErrorKind, Table, Value, ValueInner};
+use toml_span_tree::{Error, ErrorKind, Value, ValueInner};
 use toml_span_typed::de_helpers::{TableHelper, parse};
 use toml_span_typed::{DeserError, Deserialize, Unmerged};
 
@@ -19,29 +18,13 @@ fn string<'de>(text: &'de str) -> Value<'de> {
     Value::with_span(ValueInner::String(CowStr::Borrowed(text)), Span::new(5, 8))
 }
 
-/// A table with one entry, a string under a name.
-fn table<'de>(alloc: Global, name: &'de str, text: &'de str) -> Result<Value<'de>, AllocError> {
-    let key = Key {
-        name: CowStr::Borrowed(name),
-        span: Span::new(0, 1),
-    };
-    let mut table: Table<'de> = BTreeMap::new(alloc);
-    table.insert(key, string(text))?;
-    Ok(Value::with_span(ValueInner::Table(table), Span::new(0, 9)))
-}
-
-/// A helper over such a table.
-fn helper(
-    alloc: Global,
-    name: &'static str,
-    text: &'static str,
-) -> Result<TableHelper<'static>, Outcome>
+/// A helper over a table with one entry, the string `abc` under a name.
+fn helper(alloc: Global, name: &'static str) -> Result<TableHelper<'static>, Outcome>
     ensures { IfOk result (λ helper. AllWhole (state_of helper)) }
 {
-    match table(alloc, name, text) {
-        Ok(mut value) => opened(alloc, &mut value),
-        Err(_) => Err(Outcome::Refused),
-    }
+    let entries = [(name, 0, Scalar::String("abc"), 5, 8)];
+    let mut value = table_of(alloc, entries.as_slice(), Span::new(0, 9))?;
+    opened(alloc, &mut value)
 }
 
 /// Reads a string, which is unchanged by a refusal.
@@ -70,14 +53,6 @@ fn is_read(alloc: Global, value: &mut Value<'_>) -> bool {
     }
 }
 
-/// The strings `a` and `b` as an array.
-fn strings(alloc: Global) -> Result<Value<'static>, AllocError> {
-    let mut items = Vec::new(alloc);
-    items.push(string("a"))?;
-    items.push(string("b"))?;
-    Ok(Value::new(ValueInner::Array(items)))
-}
-
 /// Reads an array, which a refusal leaves taken.
 fn array_read(alloc: Global, value: &mut Value<'_>) -> Outcome {
     if !value.is_whole() {
@@ -92,9 +67,10 @@ fn array_read(alloc: Global, value: &mut Value<'_>) -> Outcome {
 
 /// How the read of an array of strings went.
 fn strings_read(alloc: Global) -> Outcome {
-    match strings(alloc) {
+    let elements = [(Scalar::String("a"), 1, 2), (Scalar::String("b"), 4, 5)];
+    match array_of(alloc, elements.as_slice(), Span::new(0, 6)) {
         Ok(mut value) => array_read(alloc, &mut value),
-        Err(_) => Outcome::Refused,
+        Err(outcome) => outcome,
     }
 }
 
@@ -112,14 +88,14 @@ fn parsed(alloc: Global, value: &mut Value<'_>) -> Outcome {
 
 /// A required read of a string.
 fn text_read(alloc: Global) -> Step {
-    let mut helper = helper(alloc, "n", "abc")?;
+    let mut helper = helper(alloc, "n")?;
     let text = required::<String>(&mut helper, "n");
     went(given(&helper, 0, text)?.as_str() == "abc" && helper.errors.is_empty())
 }
 
 /// A required read of a missing field.
 fn missing(alloc: Global) -> Step {
-    let mut helper = helper(alloc, "n", "abc")?;
+    let mut helper = helper(alloc, "n")?;
     let told = ("missing", 0, 9);
     failed::<u8>(&mut helper, "q", told, told)?;
     went(helper.errors.len() == 1 && helper.contains("n"))
@@ -127,20 +103,20 @@ fn missing(alloc: Global) -> Step {
 
 /// An optional read that fails.
 fn unread(alloc: Global) -> Step {
-    let mut helper = helper(alloc, "n", "abc")?;
+    let mut helper = helper(alloc, "n")?;
     nothing::<u8>(&mut helper, "n", 1)
 }
 
 /// A call that moves an entry out.
 fn entry(alloc: Global) -> Step {
-    let mut helper = helper(alloc, "n", "abc")?;
+    let mut helper = helper(alloc, "n")?;
     let (_key, _value) = taken(&mut helper, "n")?;
     went(!helper.contains("n"))
 }
 
 /// The end of the reads where a key remains.
 fn remaining(alloc: Global) -> Step {
-    let helper = helper(alloc, "z", "abc")?;
+    let helper = helper(alloc, "z")?;
     finalized(helper, [("unexpected", 0, 9)].as_slice())
 }
 
