@@ -22,7 +22,7 @@ What is looked at is marked:
                        name), as that field. Of a fault one cell has the code and the span. A column without a
                        heading has remarks.
     <!-- definitions -->   before a table: the first cell of each line names definitions, and the file that another
-                       cell names has them
+                       cell names has them; a column whose heading ends with `edit` names must-fail edits
     <!-- reading order: FILE FUNCTION..; .. -->    before a table: its lines name the files of specs/ in which
                        something stands that the clauses of these functions need, each behind those that it uses. The
                        second cell says which of their definitions are needed: `A`, `B`, or all, or all but `A`, `B`
@@ -395,7 +395,7 @@ class Page:
         for k in range(at + 2, end):
             cells = self.cells(self.lines[k])
             if mark == "definitions":
-                self.definitions(k, cells)
+                self.definitions(k, heads, cells)
             else:
                 self.example(k, mark[len("rows: ") :], heads, cells)
 
@@ -457,9 +457,13 @@ class Page:
         for path in sorted(needed.found.keys() - read):
             self.fault(at, f"no line says that of {path} is needed: {needed.said(path)}")
 
-    def definitions(self, at, cells):
-        """The names of the first cell are defined in the file that another cell names."""
+    def definitions(self, at, heads, cells):
+        """The names of the first cell are defined in the file that another cell names, and there are these edits."""
         self.count("definitions named")
+        for head, cell in zip(heads, cells):
+            for name in re.findall(r"`([^`]+)`", cell) if head.endswith("edit") else []:
+                if not glob.glob(f"{TOP}/crates/*/must-fail/{name}.edit"):
+                    self.fault(at, f"there is no edit {name}: name one that is there now")
         files = re.findall(r"`([\w/]+\.(?:antt|rt))`", " ".join(cells[1:]))
         if len(files) != 1:
             return self.fault(at, "name one file in code in this line, as `toml_span_claims/specs/Flat.antt`")
