@@ -23,6 +23,9 @@ What is looked at is marked:
                        heading has remarks.
     <!-- definitions -->   before a table: the first cell of each line names definitions, and the file that another
                        cell names has them; a column whose heading ends with `edit` names must-fail edits
+    <!-- cases: FILE FUNCTION -->    before a table: the cell in the line of `A` and the column of `B` has in code what
+                       `FUNCTION A B` gives, as `duplicate-key` of a line `FUNCTION A B = Some DuplicateKey`, and no
+                       code where no such line is there
     <!-- reading order: FILE FUNCTION..; .. -->    before a table: its lines name the files of specs/ in which
                        something stands that the clauses of these functions need, each behind those that it uses. The
                        second cell says which of their definitions are needed: `A`, `B`, or all, or all but `A`, `B`
@@ -245,7 +248,7 @@ class Page:
                     return self.fault(at, "this block does not end: write ``` behind it")
                 self.block(at + 1, fence[1].split(), self.lines[at + 1 : end])
                 at = end
-            elif comment := re.match(r"<!-- (rows: [^>]*|definitions|reading order: [^>]*) -->$", line):
+            elif comment := re.match(r"<!-- (rows: [^>]*|definitions|cases: [^>]*|reading order: [^>]*) -->$", line):
                 mark = comment[1]
                 if not any(it.startswith("|") for it in self.lines[at + 1 : at + 3]):
                     self.fault(at, "no table stands behind this mark: write it right behind, or take the mark away")
@@ -390,6 +393,8 @@ class Page:
 
     def table(self, at, mark, end):
         heads = self.cells(self.lines[at])
+        if mark.startswith("cases: "):
+            return self.cases(at, mark.split()[1:], heads, end)
         if mark.startswith("reading order: "):
             return self.reading_order(at, Needed(mark[len("reading order: ") :]), end)
         for k in range(at + 2, end):
@@ -439,9 +444,25 @@ class Page:
     def more(answer):
         return "" if len(answer) == 1 else f" and {len(answer) - 1} more"
 
+    def cases(self, at, named, heads, end):
+        """Each cell has what the definition by cases gives, and each case has a cell."""
+        self.count("tables of cases")
+        path, function = named
+        found = re.findall(rf"(?m)^{function} (\w+) (\w+) = Some (\w+)$", text_of(f"crates/{path}"))
+        left = {(one, two): re.sub(r"(?<!^)(?=[A-Z])", "-", it).lower() for one, two, it in found}
+        for k in range(at + 2, end):
+            cells = self.cells(self.lines[k])
+            for head, cell in zip(heads[1:], cells[1:]):
+                one, two = re.findall(r"`(\w+)`", cells[0] + head)
+                said, wanted = "".join(re.findall(r"`([^`]+)`", cell)), left.pop((one, two), "")
+                if said != wanted:
+                    self.fault(k, f"`{function} {one} {two}` is `{wanted}` in {path}: write that in its cell")
+        for one, two in left:
+            self.fault(at, f"no cell has `{function} {one} {two}` of {path}: add it")
+
     def reading_order(self, at, needed, end):
         """Each file with something needed stands behind those that it uses, and the line says what is needed of it."""
-        self.count("files in reading order")
+        self.count("reading orders")
         read = set()
         for k in range(at + 2, end):
             cells = self.cells(self.lines[k])
