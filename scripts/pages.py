@@ -22,7 +22,13 @@ What is looked at is marked:
                        name), as that field. Of a fault one cell has the code and the span. A column without a
                        heading has remarks.
     <!-- definitions -->   before a table: the first cell of each line names definitions, and the file that another
-                       cell names has them
+                       cell names has them; a column whose heading ends with `edit` names must-fail edits
+    <!-- cases: FILE FUNCTION -->    before a table: the cell in the line of `A` and the column of `B` has in code what
+                       `FUNCTION A B` gives, as `duplicate-key` of a line `FUNCTION A B = Some DuplicateKey`, and no
+                       code where no such line is there
+    <!-- reading order: FILE FUNCTION..; .. -->    before a table: its lines name the files of specs/ in which
+                       something stands that the clauses of these functions need, each behind those that it uses. The
+                       second cell says which of their definitions are needed: `A`, `B`, or all, or all but `A`, `B`
 
 Besides, each path that stands in code and begins with `crates/`, `docs/` or `scripts/`, and each link to a file, leads
 somewhere, and each fault that a row of `parse` tells has an example in docs/LANGUAGE.md. Other blocks (`text`,
@@ -124,6 +130,97 @@ def position_of(lines, part, start=0):
     return None
 
 
+def bare(text):
+    """A file of definitions without its comments."""
+    return re.sub(r"(?m)(^|(?<=\s))--(\s.*|-.*)?$", "", text)
+
+
+def imports(text):
+    """The names that a file takes from elsewhere, and the modules that it names as a whole."""
+    names, modules = {}, {}
+    for path, group, module in re.findall(r"(?m)^(?:ghost )?use Rattle\.([\w.]+?)(?:\.\{(.*)\}| as (\w+));?$", text):
+        for name, new in re.findall(r"([^\s,]+)(?: as ([^\s,]+))?", group):
+            names[new or name] = (path, name)
+        if module:
+            modules[module] = path
+    return names, modules
+
+
+class Module:
+    """A file of specs/: its definitions, which of them has each constructor, and what it takes from elsewhere."""
+
+    def __init__(self, file):
+        self.file, self.bodies, self.owners = file, {}, {}
+        self.names, self.modules = imports(text_of(file))
+        name, kind, depth, is_mutual = None, "", 0, False
+        for line in bare(text_of(file)).split("\n"):
+            if line[:1].strip():
+                is_mutual = line.endswith("mutual")
+            named = re.match(r"(?:(?:abbrev|unfoldable) )?( *)pub (data |record )?([^\s:(]+)", line)
+            case = re.match(r"( *)(\S+) :", line)
+            if named and (is_mutual or not named[1]):
+                name, kind, depth = named[3], named[2], len(named[1])
+            elif case and kind == "data " and len(case[1]) == depth + 2:
+                self.owners[case[2]] = name
+            if name:
+                self.bodies[name] = f"{self.bodies.get(name, '')}{line}\n"
+
+    def needs(self, path, body):
+        """The module and the name of each word of a definition."""
+        for word in re.findall(r"[^\s(){}\[\],;]+", body):
+            first, _, rest = word.partition(".")
+            name = self.owners.get(first, first)
+            if name in self.bodies:
+                yield path, name
+            elif first in self.names:
+                yield self.names[first]
+            elif first in self.modules and rest:
+                yield self.modules[first], rest.split(".")[0]
+
+
+class Needed:
+    """The definitions that the clauses of functions are made of, by module, and the definitions below those."""
+
+    def __init__(self, roots):
+        self.known, self.found = {}, {}
+        todo = []
+        for root in roots.split("; "):
+            file, *functions = root.split()
+            names, _ = imports(text_of(f"crates/{file}"))
+            for function in functions:
+                head = re.search(rf"(?ms)^pub fn {function}\b.*?^\{{", text_of(f"crates/{file}"))
+                words = re.findall(r"[^\s(){}\[\],;]+", head[0])
+                todo += [names[word] for word in words if word in names]
+        while todo:
+            path, name = todo.pop()
+            module = self.module(path)
+            name = module.owners.get(name, name) if module else None
+            if module and name in module.bodies and name not in self.found.setdefault(path, set()):
+                self.found[path].add(name)
+                todo += module.needs(path, module.bodies[name])
+
+    def module(self, path):
+        """The file of specs/ of a module, if it is one of the repository's and not a type of Rust's."""
+        if path not in self.known:
+            crate, _, inner = path.partition(".specs.")
+            file = f"crates/{crate}/specs/{inner.replace('.', '/')}.antt"
+            self.known[path] = Module(file) if os.path.isfile(f"{TOP}/{file}") else None
+        return self.known[path]
+
+    def below(self, path):
+        """The modules that one uses."""
+        module = self.module(path)
+        return {it for it, _ in module.names.values()} | {*module.modules.values()}
+
+    def said(self, path):
+        """What the page has to say of a module: which definitions are needed."""
+        bodies = self.module(path).bodies
+        has = [name for name in bodies if name in self.found[path]]
+        left = [name for name in bodies if name not in self.found[path]]
+        few = ", ".join(f"`{name}`" for name in (has if len(has) <= len(left) else left))
+        return few if len(has) <= len(left) else f"all but {few}" if left else "all"
+
+
 class Page:
     """A page, the sources that it quotes, and what is wrong with it."""
 
@@ -151,7 +248,7 @@ class Page:
                     return self.fault(at, "this block does not end: write ``` behind it")
                 self.block(at + 1, fence[1].split(), self.lines[at + 1 : end])
                 at = end
-            elif comment := re.match(r"<!-- (rows: [^>]*|definitions) -->$", line):
+            elif comment := re.match(r"<!-- (rows: [^>]*|definitions|cases: [^>]*|reading order: [^>]*) -->$", line):
                 mark = comment[1]
                 if not any(it.startswith("|") for it in self.lines[at + 1 : at + 3]):
                     self.fault(at, "no table stands behind this mark: write it right behind, or take the mark away")
@@ -296,10 +393,14 @@ class Page:
 
     def table(self, at, mark, end):
         heads = self.cells(self.lines[at])
+        if mark.startswith("cases: "):
+            return self.cases(at, mark.split()[1:], heads, end)
+        if mark.startswith("reading order: "):
+            return self.reading_order(at, Needed(mark[len("reading order: ") :]), end)
         for k in range(at + 2, end):
             cells = self.cells(self.lines[k])
             if mark == "definitions":
-                self.definitions(k, cells)
+                self.definitions(k, heads, cells)
             else:
                 self.example(k, mark[len("rows: ") :], heads, cells)
 
@@ -343,9 +444,47 @@ class Page:
     def more(answer):
         return "" if len(answer) == 1 else f" and {len(answer) - 1} more"
 
-    def definitions(self, at, cells):
-        """The names of the first cell are defined in the file that another cell names."""
+    def cases(self, at, named, heads, end):
+        """Each cell has what the definition by cases gives, and each case has a cell."""
+        self.count("tables of cases")
+        path, function = named
+        found = re.findall(rf"(?m)^{function} (\w+) (\w+) = Some (\w+)$", text_of(f"crates/{path}"))
+        left = {(one, two): re.sub(r"(?<!^)(?=[A-Z])", "-", it).lower() for one, two, it in found}
+        for k in range(at + 2, end):
+            cells = self.cells(self.lines[k])
+            for head, cell in zip(heads[1:], cells[1:]):
+                one, two = re.findall(r"`(\w+)`", cells[0] + head)
+                said, wanted = "".join(re.findall(r"`([^`]+)`", cell)), left.pop((one, two), "")
+                if said != wanted:
+                    self.fault(k, f"`{function} {one} {two}` is `{wanted}` in {path}: write that in its cell")
+        for one, two in left:
+            self.fault(at, f"no cell has `{function} {one} {two}` of {path}: add it")
+
+    def reading_order(self, at, needed, end):
+        """Each file with something needed stands behind those that it uses, and the line says what is needed of it."""
+        self.count("reading orders")
+        read = set()
+        for k in range(at + 2, end):
+            cells = self.cells(self.lines[k])
+            path = cells[0].strip("`").removesuffix(".antt").replace("/", ".")
+            if path not in needed.found or path in read:
+                self.fault(k, f"nothing of {cells[0]} is needed that no line above says: take this line away")
+                continue
+            read.add(path)
+            for other in sorted(needed.below(path) & needed.found.keys() - read):
+                self.fault(k, f"{cells[0]} uses {other}: write it behind the line of that file")
+            if cells[1] != needed.said(path):
+                self.fault(k, f"of {cells[0]} is needed: {needed.said(path)}")
+        for path in sorted(needed.found.keys() - read):
+            self.fault(at, f"no line says that of {path} is needed: {needed.said(path)}")
+
+    def definitions(self, at, heads, cells):
+        """The names of the first cell are defined in the file that another cell names, and there are these edits."""
         self.count("definitions named")
+        for head, cell in zip(heads, cells):
+            for name in re.findall(r"`([^`]+)`", cell) if head.endswith("edit") else []:
+                if not glob.glob(f"{TOP}/crates/*/must-fail/{name}.edit"):
+                    self.fault(at, f"there is no edit {name}: name one that is there now")
         files = re.findall(r"`([\w/]+\.(?:antt|rt))`", " ".join(cells[1:]))
         if len(files) != 1:
             return self.fault(at, "name one file in code in this line, as `toml_span_claims/specs/Flat.antt`")

@@ -35,9 +35,9 @@ IsTree text limit root = (blocks : List Block) × SpellsDocument blocks text lim
 abbrev pub IsRoot : ℕ → Value → Type 0
 IsRoot length root = (members : Members) × (view root ≡ node (table members) (record { start = 0; end = length }))
 
--- Each string value is borrowed exactly where it equals the text at its span, and so is the key of each scalar. The
--- name of a table or of an array is borrowed exactly where it equals the text at some key of that name. An empty string
--- on one line is borrowed.
+-- Each string value is borrowed exactly where it equals the text at its span, and so is the key of each scalar. For the
+-- name of a table or of an array there is some key of that name, such that the name is borrowed exactly where it equals
+-- the text at that key; which one is not said. An empty string on one line is borrowed.
 abbrev pub IsBorrowedTree : List ℕ → ℕ → Value → Type 0
 IsBorrowedTree text limit root =
     (sections : List Section) × SpellsDocument (map block sections) text limit

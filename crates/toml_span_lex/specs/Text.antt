@@ -1,4 +1,5 @@
--- Characters and line ends at a place of a text, and the folded text.
+-- Characters and line ends at a place of a text, and the folded text. Behind the end of a text stand zeros:
+-- `slice_index` gives 0 there. So a byte that is asked for and is not 0, as that of a line end, is within the text.
 use Rattle.std.specs.Prelude.{◌≡◌, ℕ, ◌+◌, ◌⊎◌, Bool, true, false, ◌&&◌, ◌==◌, List, [], ◌∷◌, ◌++◌, if◌then◌else◌, drop}
 use Rattle.std.specs.Prelude.{slice_index, encode_utf8}
 use Rattle.std.specs.Char.{len_utf8}
