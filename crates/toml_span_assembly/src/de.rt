@@ -2,7 +2,7 @@
 ghost use Rattle.std.specs.Prelude.{◌≡◌, ◌≤◌, ℕ, List, true, IfOk, IfErr, IsOk, length};
 ghost use Rattle.toml_span_lex.specs.Tokenizer.{FirstPlace};
 ghost use Rattle.toml_span_read.specs.code.Faults.{IsPlacedStop};
-ghost use Rattle.toml_span_read.specs.Keys.{Part};
+ghost use Rattle.toml_span_read.specs.Keys.{SimpleKey};
 ghost use Rattle.toml_span_read.specs.Data.{Block};
 ghost use Rattle.toml_span_read.specs.Stuck.{KeepsForm};
 ghost use Rattle.toml_span_tree.specs.Value.{is_whole, view};
@@ -54,7 +54,7 @@ fn tree_of<'de>(grown: Grown<'de>, text: &'de str) -> Result<Value<'de>, Stop<Er
     ensures root { IfOk result (IsRoot (length text.now)) }
     ensures ordered { (bs : List Block) → Grows bs grown.entry → IfOk result (λ root. IsOrdered (view root)) }
     ensures whole { (bs : List Block) → Grows bs grown.entry → IfOk result (λ root. is_whole (view root) ≡ true) }
-    ensures borrows { (ps : List Part) → GrownRight text.now ps grown.entry
+    ensures borrows { (ps : List SimpleKey) → GrownRight text.now ps grown.entry
         → IfOk result (λ root. AreRight text.now ps (value_standing root)) }
     ensures refused { (bs : List Block) → Grows bs grown.entry → IfErr result (IsClashStop bs text.now) }
     ensures bare { IsBare grown.entry → IsOk result }

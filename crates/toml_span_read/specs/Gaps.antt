@@ -74,7 +74,7 @@ pub record NoDot (text : List ℕ) (i : ℕ) : Type 0 where
   pub here : (slice_index text at == period) ≡ false
 
 -- a sign, with gaps round it: `array-sep = %x2C`, `inline-table-sep = %x2C`, and the `%x3D` of a pair
-pub record Sign (c : ℕ) (text : List ℕ) (i j : ℕ) : Type 0 where
+pub record Separator (c : ℕ) (text : List ℕ) (i j : ℕ) : Type 0 where
   pub at : ℕ
   pub before : MaximalGap text i at
   pub here : slice_index text at ≡ c

@@ -12,12 +12,12 @@ use Rattle.toml_span_read.specs.declared.fault.Fault.{Fault}
 use Rattle.toml_span_read.specs.declared.fault.FaultKind.TheVariants as kinds
 use Rattle.toml_span_read.specs.declared.gaps.Behind.{Behind}
 use Rattle.toml_span_read.specs.declared.gaps.Behind.TheVariants as behind
-use Rattle.toml_span_read.specs.Data.{Node, node, scalar, array, inline, Items, no_items, item, Pairs, no_pairs, pair, Event}
+use Rattle.toml_span_read.specs.Data.{ParsedValue, parsed, scalar, array, inline, ParsedItems, no_items, item, ParsedPairs, no_pairs, pair, KeyValue}
 use Rattle.toml_span_read.specs.Dates.{begins_date}
 use Rattle.toml_span_read.specs.code.Dates.{DateGives}
 use Rattle.toml_span_read.specs.Faults.{fault_at, begins_bare, opens_nested, begins_number, NoBare}
-use Rattle.toml_span_read.specs.code.Gaps.{Further, BehindGives, SignGives}
-use Rattle.toml_span_read.specs.Gaps.{MaximalGap, Sign, Closes, Neither}
+use Rattle.toml_span_read.specs.code.Gaps.{Further, BehindGives, SeparatorGives}
+use Rattle.toml_span_read.specs.Gaps.{MaximalGap, Separator, Closes, Neither}
 use Rattle.toml_span_read.specs.Grammar.{from_to, IsScalar, Spells, SpellsItems, SpellsPairs, SpellsPair}
 use Rattle.toml_span_read_laws.specs.code.Judged.{Judged, NumberStands, EndsFurther}
 use Rattle.toml_span_read.specs.Keys.{opens_string}
@@ -31,13 +31,13 @@ use Rattle.toml_span_read_laws.proofs.TotalKeys.{AllJudged, further_on, wanted_s
 -- ---- what is behind a form
 
 element_sum : (c : ℕ) (text : List ℕ) (i : ℕ) → (found : Behind) × BehindGives c text i found
-    → ((j : ℕ) × Sign 44 text i j × Further text i j) ⊎ (((j : ℕ) × Closes c text i j × Further text i j) ⊎ ((j : ℕ) × Neither c text i j × IsCharBoundary text j))
+    → ((j : ℕ) × Separator 44 text i j × Further text i j) ⊎ (((j : ℕ) × Closes c text i j × Further text i j) ⊎ ((j : ℕ) × Neither c text i j × IsCharBoundary text j))
 element_sum c text i (behind.Comma j, h) = inl (j, h.0, h.1)
 element_sum c text i (behind.Closed j, h) = inr (inl (j, h.0, h.1))
 element_sum c text i (behind.Neither j, h) = inr (inr (j, h.0, h.1))
 
-sign_sum : (c : ℕ) (text : List ℕ) (i : ℕ) → (found : Result ℕ ℕ) × SignGives c text i found
-    → ((j : ℕ) × Sign c text i j × Further text i j) ⊎ ((j : ℕ) × MaximalGap text i j × ((get_or text j 0 == c) ≡ false) × IsCharBoundary text j)
+sign_sum : (c : ℕ) (text : List ℕ) (i : ℕ) → (found : Result ℕ ℕ) × SeparatorGives c text i found
+    → ((j : ℕ) × Separator c text i j × Further text i j) ⊎ ((j : ℕ) × MaximalGap text i j × ((get_or text j 0 == c) ≡ false) × IsCharBoundary text j)
 sign_sum c text i (Ok j, h) = inl (j, h.0, h.1)
 sign_sum c text i (Err j, h) = inr (j, h.0, h.1, h.2)
 
@@ -129,16 +129,16 @@ bare_stands text i g bare =
 
 -- a value within the limit, with its end further on, or where one is stuck
 abbrev pub ValueAt : List ℕ → ℕ → ℕ → ℕ → Type 0
-ValueAt text limit d i = ((j : ℕ) × (v : Node) × Spells v text limit d i j × Further text i j) ⊎ ((fault : Fault) × StuckValue text limit d i fault)
+ValueAt text limit d i = ((j : ℕ) × (v : ParsedValue) × Spells v text limit d i j × Further text i j) ⊎ ((fault : Fault) × StuckValue text limit d i fault)
 
 abbrev ItemsAt : List ℕ → ℕ → ℕ → ℕ → Type 0
-ItemsAt text limit d i = ((j : ℕ) × (vs : Items) × SpellsItems vs text limit d i j × Further text i j) ⊎ ((fault : Fault) × StuckItems text limit d i fault)
+ItemsAt text limit d i = ((j : ℕ) × (vs : ParsedItems) × SpellsItems vs text limit d i j × Further text i j) ⊎ ((fault : Fault) × StuckItems text limit d i fault)
 
-abbrev PairsAt : List ℕ → ℕ → List Event → ℕ → ℕ → Type 0
-PairsAt text limit es d i = ((j : ℕ) × (ps : Pairs) × SpellsPairs ps es text limit d i j × Further text i j) ⊎ ((fault : Fault) × StuckPairs text limit es d i fault)
+abbrev PairsAt : List ℕ → ℕ → List KeyValue → ℕ → ℕ → Type 0
+PairsAt text limit es d i = ((j : ℕ) × (ps : ParsedPairs) × SpellsPairs ps es text limit d i j × Further text i j) ⊎ ((fault : Fault) × StuckPairs text limit es d i fault)
 
 abbrev PairAt : List ℕ → ℕ → ℕ → ℕ → Type 0
-PairAt text limit d i = ((j : ℕ) × (p : Event) × SpellsPair p text limit d i j × Further text i j) ⊎ ((fault : Fault) × StuckPair text limit d i fault)
+PairAt text limit d i = ((j : ℕ) × (p : KeyValue) × SpellsPair p text limit d i j × Further text i j) ⊎ ((fault : Fault) × StuckPair text limit d i fault)
 
 string_value : (text : List ℕ) (limit d i : ℕ) → IsUtf8 text → Judged text i → opens_string (get_or text i 0) ≡ true → ValueAt text limit d i
 string_value text limit d i u g o =
@@ -147,14 +147,14 @@ string_value text limit d i u g o =
       | inl s ↦
           elim (cases_lt limit d) [
             | inl deep ↦ inr (fault_at kinds.ExceededDepthLimit i, too_deep d i (fault_at kinds.ExceededDepthLimit i) deep (inr (s.end, s.span, s.source, s.value, s.multi, s.here)) refl)
-            | inr few ↦ inl (s.end, node (scalar (text_scalar s.value)) s.span, (few, (s.source, s.multi, s.here)), s.further)
+            | inr few ↦ inl (s.end, parsed (scalar (text_scalar s.value)) s.span, (few, (s.source, s.multi, s.here)), s.further)
           ]
     ]
 
 bare_value : (text : List ℕ) (limit d i : ℕ) → Judged text i → d ≤ limit → begins_bare (get_or text i 0) ≡ true → ValueAt text limit d i
 bare_value text limit d i g few bare =
     elim (bare_stands text i g bare) [
-      | inl s ↦ inl (s.1, node (scalar s.0) (from_to i s.1), (few, s.2), s.3)
+      | inl s ↦ inl (s.1, parsed (scalar s.0) (from_to i s.1), (few, s.2), s.3)
       | inr x ↦ inr (x.0, no_bare d i x.0 few x.1)
     ]
 
@@ -173,11 +173,11 @@ deep_value : (text : List ℕ) (limit d i : ℕ) → limit < d → (opens_nested
 deep_value text limit d i deep begins = inr (fault_at kinds.ExceededDepthLimit i, too_deep d i (fault_at kinds.ExceededDepthLimit i) deep (inl begins) refl)
 
 array_of : (text : List ℕ) (limit d i k : ℕ) → d ≤ limit → get_or text i 0 ≡ 91 → MaximalGap text (i + 1) k → ItemsAt text limit (d + 1) k → ValueAt text limit d i
-array_of text limit d i k few here gap (inl (j, vs, h, f)) = inl (j, node (array vs) (from_to i j), (few, (here, refl, k, gap, h)), further_on text i k j (omega (arith, gap.forward)) f)
+array_of text limit d i k few here gap (inl (j, vs, h, f)) = inl (j, parsed (array vs) (from_to i j), (few, (here, refl, k, gap, h)), further_on text i k j (omega (arith, gap.forward)) f)
 array_of text limit d i k few here gap (inr (e, h)) = inr (e, in_array d i k e few here gap h)
 
 inline_of : (text : List ℕ) (limit d i k : ℕ) → d ≤ limit → get_or text i 0 ≡ 123 → MaximalGap text (i + 1) k → PairsAt text limit [] (d + 1) k → ValueAt text limit d i
-inline_of text limit d i k few here gap (inl (j, ps, h, f)) = inl (j, node (inline ps) (from_to i j), (few, (here, refl, k, gap, h)), further_on text i k j (omega (arith, gap.forward)) f)
+inline_of text limit d i k few here gap (inl (j, ps, h, f)) = inl (j, parsed (inline ps) (from_to i j), (few, (here, refl, k, gap, h)), further_on text i k j (omega (arith, gap.forward)) f)
 inline_of text limit d i k few here gap (inr (e, h)) = inr (e, in_inline d i k e few here gap h)
 
 closing_at : (text : List ℕ) (i : ℕ) → IsUtf8 text → 0 < get_or text i 0 → get_or text i 0 < 128 → Further text i (i + 1)
@@ -250,7 +250,7 @@ mutual
             ]
       ]
 
-  pairs_stand : (fuel : ℕ) (text : List ℕ) (limit : ℕ) (es : List Event) (d i : ℕ) → IsUtf8 text → AllJudged text → 1 ≤ limit → 3 * length text + 3 ≤ fuel + 3 * i → IsCharBoundary text i → PairsAt text limit es d i
+  pairs_stand : (fuel : ℕ) (text : List ℕ) (limit : ℕ) (es : List KeyValue) (d i : ℕ) → IsUtf8 text → AllJudged text → 1 ≤ limit → 3 * length text + 3 ≤ fuel + 3 * i → IsCharBoundary text i → PairsAt text limit es d i
   pairs_stand zero text limit es d i u all some l b = absurd (omega (arith, l, b.0))
   pairs_stand (suc fuel) text limit es d i u all some l b =
       elim (bool_cases (get_or text i 0 == 125)) [

@@ -7,7 +7,7 @@ use Rattle.toml_span_lex.specs.Tokens.{string}
 use Rattle.toml_span_lex.proofs.Unique.{run_unique}
 use Rattle.toml_span_read.specs.declared.fault.Due.TheVariants as dues
 use Rattle.toml_span_read.specs.declared.fault.Fault.{Fault}
-use Rattle.toml_span_read.specs.Data.{Event}
+use Rattle.toml_span_read.specs.Data.{KeyValue}
 use Rattle.toml_span_read.specs.Dates.{begins_date}
 use Rattle.toml_span_read.specs.Faults.{IsNoDate, begins_bare, opens_nested, Begins, BeginsNumber, IsUnquoted, NoBare, IsTokenFault}
 use Rattle.toml_span_read.specs.Earlier.{Clear, Crossing}
@@ -153,21 +153,21 @@ mutual
       let u = value_unique y v text limit d i n m b a in
       let t : q ≡ p = sign_unique 44 text m q p (rw u.1 at h) g in items_one text limit {d = d} {i = p} {e = e} {f = f} r (rw t at z)
 
-  pairs_one : (text : List ℕ) (limit : ℕ) {es : List Event} {d i : ℕ} {e f : Fault} → StuckPairs text limit es d i e → StuckPairs text limit es d i f → e ≡ f
+  pairs_one : (text : List ℕ) (limit : ℕ) {es : List KeyValue} {d i : ℕ} {e f : Fault} → StuckPairs text limit es d i e → StuckPairs text limit es d i f → e ≡ f
   pairs_one text limit (in_pair es d i e n r) (in_pair es' d' i' f n' z) = pair_one text limit {d = d} {i = i} {e = e} {f = f} r z
   pairs_one text limit (in_pair es d i e n r) (crosses es' d' i' m p f s c) = absurd (pair_excluded text limit {d = d} {i = i} {e = e} r p m s)
   pairs_one text limit (in_pair es d i e n r) (behind_pair es' d' i' m k p f s l x w) = absurd (pair_excluded text limit {d = d} {i = i} {e = e} r p m s)
   pairs_one text limit (in_pair es d i e n r) (pair_on es' d' i' m k p f s l g z) = absurd (pair_excluded text limit {d = d} {i = i} {e = e} r p m s)
   pairs_one text limit (crosses es d i m p e s c) (in_pair es' d' i' f n z) = absurd (pair_excluded text limit {d = d} {i = i} {e = f} z p m s)
   pairs_one text limit (crosses es d i m p e s c) (crosses es' d' i' n q f t b) =
-      let u = pair_unique q p text limit d i n m t s in crossing_one es p e f c (subst (λ (x : Event). Crossing es x f) u.0 b)
+      let u = pair_unique q p text limit d i n m t s in crossing_one es p e f c (subst (λ (x : KeyValue). Crossing es x f) u.0 b)
   pairs_one text limit (crosses es d i m p e s c) (behind_pair es' d' i' n k q f t l x w) =
-      let u = pair_unique q p text limit d i n m t s in absurd (clear_crossing es p e (subst (λ (x : Event). Clear es x) u.0 l) c)
+      let u = pair_unique q p text limit d i n m t s in absurd (clear_crossing es p e (subst (λ (x : KeyValue). Clear es x) u.0 l) c)
   pairs_one text limit (crosses es d i m p e s c) (pair_on es' d' i' n k q f t l g z) =
-      let u = pair_unique q p text limit d i n m t s in absurd (clear_crossing es p e (subst (λ (x : Event). Clear es x) u.0 l) c)
+      let u = pair_unique q p text limit d i n m t s in absurd (clear_crossing es p e (subst (λ (x : KeyValue). Clear es x) u.0 l) c)
   pairs_one text limit (behind_pair es d i m k p e s l x w) (in_pair es' d' i' f n z) = absurd (pair_excluded text limit {d = d} {i = i} {e = f} z p m s)
   pairs_one text limit (behind_pair es d i m k p e s l x w) (crosses es' d' i' n q f t b) =
-      let u = pair_unique q p text limit d i n m t s in absurd (clear_crossing es p f l (subst (λ (x : Event). Crossing es x f) u.0 b))
+      let u = pair_unique q p text limit d i n m t s in absurd (clear_crossing es p f l (subst (λ (x : KeyValue). Crossing es x f) u.0 b))
   pairs_one text limit (behind_pair es d i m k p e s l x w) (behind_pair es' d' i' n o q f t b y v) =
       let u = pair_unique q p text limit d i n m t s in
       let h : o ≡ k = gap_unique text m o k (rw u.1 at y.before) x.before in wanted_one text k dues.Comma e f w (rw h at v)
@@ -175,13 +175,13 @@ mutual
       let u = pair_unique q p text limit d i n m t s in absurd (comma_or_neither 125 text m o k (rw u.1 at g) x)
   pairs_one text limit (pair_on es d i m k p e s l g r) (in_pair es' d' i' f n z) = absurd (pair_excluded text limit {d = d} {i = i} {e = f} z p m s)
   pairs_one text limit (pair_on es d i m k p e s l g r) (crosses es' d' i' n q f t b) =
-      let u = pair_unique q p text limit d i n m t s in absurd (clear_crossing es p f l (subst (λ (x : Event). Crossing es x f) u.0 b))
+      let u = pair_unique q p text limit d i n m t s in absurd (clear_crossing es p f l (subst (λ (x : KeyValue). Crossing es x f) u.0 b))
   pairs_one text limit (pair_on es d i m k p e s l g r) (behind_pair es' d' i' n o q f t b x w) =
       let u = pair_unique p q text limit d i m n s t in absurd (comma_or_neither 125 text n k o (rw u.1 at g) x)
   pairs_one text limit (pair_on es d i m k p e s l g r) (pair_on es' d' i' n o q f t b h z) =
       let u = pair_unique q p text limit d i n m t s in
       let y : o ≡ k = sign_unique 44 text m o k (rw u.1 at h) g in
-      pairs_one text limit {es = es ++ (p ∷ [])} {d = d} {i = k} {e = e} {f = f} r (subst (λ (x : Event). StuckPairs text limit (es ++ (x ∷ [])) d k f) u.0 (rw y at z))
+      pairs_one text limit {es = es ++ (p ∷ [])} {d = d} {i = k} {e = e} {f = f} r (subst (λ (x : KeyValue). StuckPairs text limit (es ++ (x ∷ [])) d k f) u.0 (rw y at z))
 
   pair_one : (text : List ℕ) (limit : ℕ) {d i : ℕ} {e f : Fault} → StuckPair text limit d i e → StuckPair text limit d i f → e ≡ f
   pair_one text limit (in_key d i e r) (in_key d' i' f z) = dotted_one text limit {i = i} {e = e} {f = f} r z

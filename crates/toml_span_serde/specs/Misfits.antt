@@ -3,7 +3,7 @@ use Rattle.std.specs.Prelude.{◌≡◌, ◌≤◌, ◌⊎◌, ⊤, ℕ, List, �
 use Rattle.toml_span_lex.specs.declared.span.Span.{Span}
 use Rattle.toml_span_lex.specs.declared.stop.Stop.{Stop}
 use Rattle.toml_span_lex.specs.declared.stop.Stop.TheVariants as stop
-use Rattle.toml_span_tree.specs.Error.{Fault, Kind, fault_of, custom, missing_field, wanted}
+use Rattle.toml_span_tree.specs.Error.{ErrorContent, Kind, content_of, custom, missing_field, wanted}
 use Rattle.toml_span_tree.specs.Node.{Node}
 use Rattle.toml_span_tree.specs.Path.{Place, place_at}
 use Rattle.toml_span_tree.specs.Path as tree
@@ -67,13 +67,13 @@ kind_of_reason (is.MissingField name) = missing_field (string_bytes name)
 kind_of_reason reason = custom (reason_text reason)
 
 -- the error that tells a misfit
-abbrev pub fault_of_misfit : Misfit → Fault
-fault_of_misfit m = record { kind = kind_of_reason m.reason; span = m.span; line_info = m.line_info }
+abbrev pub content_of_misfit : Misfit → ErrorContent
+content_of_misfit m = record { kind = kind_of_reason m.reason; span = m.span; line_info = m.line_info }
 
 -- what an error tells
-abbrev pub fault_of_error : Error → Fault
-fault_of_error (error.Refused e) = fault_of e
-fault_of_error (error.Misfit m) = fault_of_misfit m
+abbrev pub content_of_error : Error → ErrorContent
+content_of_error (error.Refused e) = content_of e
+content_of_error (error.Misfit m) = content_of_misfit m
 
 abbrev pub step_of : Step → tree.Step
 step_of (step.Key name) = tree.key (string_bytes name)
