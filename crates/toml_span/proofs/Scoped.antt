@@ -3,7 +3,7 @@ use Rattle.std.proofs.Common.{◌≡◌, ℕ, zero, suc, ◌<◌, ◌⊎◌, Boo
 use Rattle.std.specs.Prelude.{⊤, if◌then◌else◌}
 use Rattle.std.proofs.lemmas.Bool.{cases_Bool, cases_lt}
 use Rattle.toml_span_tree.specs.Path.{Path, Step, key, position}
-use Rattle.toml_span_read.specs.Data.{ParsedValue, parsed, ParsedInner, scalar, array, inline, ParsedItems, no_items, item, ParsedPairs, no_pairs, pair, KeyValue, parsed_span, Block}
+use Rattle.toml_span_read.specs.Data.{ParsedValue, parsed, ParsedInner, scalar, array, inline, ParsedItems, no_items, item, ParsedPairs, no_pairs, pair, KeyValue, Block}
 use Rattle.toml_span_read.specs.Keys.{SimpleKey}
 use Rattle.toml_span_claims.specs.declared.claims.Sort.{Sort}
 use Rattle.toml_span_claims.specs.declared.claims.Sort.TheVariants.{Passed, StandardTable, ArrayOfTables, TableElement, Assigned}

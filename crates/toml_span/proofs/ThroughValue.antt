@@ -10,11 +10,11 @@ use Rattle.toml_span_claims.specs.declared.claims.Blame.TheVariants.{DuplicateTa
 use Rattle.toml_span_claims.specs.declared.claims.Sort.TheVariants.{StandardTable, TableElement, Dotted, Assigned}
 use Rattle.toml_span_claims.specs.declared.claims.Head.{Head}
 use Rattle.toml_span_claims.specs.Claims.{Claim, Claims, no_claims, claimed, scope, followed, key_value_claims, header_claim, array_claims, end_claims, header_claims, section_claims, claims_behind, claims, head_of}
-use Rattle.toml_span_claims.specs.Clashes.{NamedClash, blame, clash, IsFree}
+use Rattle.toml_span_claims.specs.Clashes.{blame}
 use Rattle.toml_span_claims.specs.Flat.{all_claims, by_header}
 use Rattle.toml_span_claims.specs.Paths.{same_path, with_key, with_position, enter, target, elements_added, opened_by, section_path}
 use Rattle.toml_span_assembly.proofs.EachClaim.{same_path-eq}
-use Rattle.toml_span.specs.Clashing.{IsIn, DoClash, IsPair, IsFirstPair, own}
+use Rattle.toml_span.specs.Clashing.{IsIn, IsPair, IsFirstPair, own}
 use Rattle.toml_span.specs.Order.{claim_start}
 use Rattle.toml_span.proofs.Apart.{in-right}
 use Rattle.toml_span.proofs.EntryDecides.{path-self}

@@ -8,7 +8,7 @@ use Rattle.toml_span_read.specs.Data as read
 use Rattle.toml_span_read_laws.specs.Places.{CutsContent}
 use Rattle.toml_span_read_laws.specs.Again.{ReadsAgain, ScalarReadsAgain}
 use Rattle.toml_span_claims.specs.declared.claims.Sort.TheVariants.{Assigned}
-use Rattle.toml_span_claims.specs.Claims.{Claim, Claims, no_claims, claimed, scope, followed, parsed_inner}
+use Rattle.toml_span_claims.specs.Claims.{Claims, no_claims, claimed, scope, followed, parsed_inner}
 use Rattle.toml_span_claims.specs.Claims.{value_claims}
 use Rattle.toml_span_claims.specs.Claims.{value_shape}
 

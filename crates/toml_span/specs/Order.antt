@@ -9,7 +9,8 @@ use Rattle.toml_span_claims.specs.declared.claims.Sort.TheVariants.{ArrayOfTable
 abbrev pub claim_start : Claim → ℕ
 claim_start c = c.mark.key.start
 
--- the second claim starts behind the first; or the first is an array of tables and the second its entry, which one key
+-- the second claim starts behind the first; or the first is an array of tables and the second its element, which one
+-- key
 -- claims
 abbrev pub Follows : Claim → Claim → Type 0
 Follows c d =

@@ -12,7 +12,7 @@ use Rattle.toml_span_lex.specs.Tokenizer.{FirstPlace}
 use Rattle.toml_span_lex.specs.declared.stop.Stop.{Stop}
 use Rattle.toml_span_lex.specs.declared.stop.Stop.TheVariants as stops
 use Rattle.toml_span_read.specs.Borrowed.{IsWrittenRight as IsRightRead, AreWrittenRight as AreRightRead, section_written, sections_written}
-use Rattle.toml_span_read.specs.Data.{KeyValue, Block, block}
+use Rattle.toml_span_read.specs.Data.{Block, block}
 use Rattle.toml_span_read.specs.Places.{IsInside, SectionInside}
 use Rattle.toml_span_read.specs.Keys.{SimpleKey}
 use Rattle.toml_span_read.specs.Grammar.{first_block}

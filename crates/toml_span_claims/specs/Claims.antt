@@ -42,13 +42,13 @@ abbrev pub shape_claimed : Sort → Shape
 shape_claimed ArrayOfTables = shape_array
 shape_claimed _ = shape_table
 
--- an entry of an array stands at no key
+-- an element of an array of tables stands at no key
 abbrev pub key_span_of : Sort → Span → Option Span
 key_span_of TableElement key = None
 key_span_of _ key = Some key
 
 -- What stands where a claim of a table, or of an array of tables, decides. That of a header which passes through an
--- entry never does: the entry's own claim is earlier.
+-- element never does: the element's own claim is earlier.
 abbrev pub place_claimed : Mark → Place
 place_claimed m = record { shape = shape_claimed m.sort; key_span = key_span_of m.sort m.key; span = m.extent }
 
@@ -136,19 +136,19 @@ header_mark h sort key = record { sort = sort; key = key; line = h.line; extent 
 abbrev pub header_claim : Head → Sort → Path → SimpleKey → Claim
 header_claim h sort p k = table_claim p k (header_mark h sort k.span)
 
--- the array itself is claimed with its first entry
+-- the array itself is claimed with its first element
 abbrev pub array_claims : Head → Path → SimpleKey → ℕ → Claims → Claims
 array_claims h p k zero rest = claimed (header_claim h ArrayOfTables p k) rest
 array_claims h p k (suc n) rest = rest
 
--- at the end of a header, where n entries were added at p: a table, or the next entry of an array of tables
+-- at the end of a header, where n elements were added at p: a table, or the next element of an array of tables
 unfoldable pub end_claims : Head → Path → SimpleKey → ℕ → Claims
 end_claims h p k n =
     if h.array
     then array_claims h p k n (claimed (header_claim h TableElement (with_position p n) k) no_claims)
     else claimed (header_claim h StandardTable p k) no_claims
 
--- Each part but the last passes through a table: the latest entry, where an array of tables stands there.
+-- Each part but the last passes through a table: the latest element, where an array of tables stands there.
 unfoldable pub header_claims : (Path → ℕ) → Head → Path → List SimpleKey → Claims
 header_claims counts h p [] = no_claims
 header_claims counts h p (k ∷ []) = end_claims h (with_key p k) k (counts (with_key p k))
@@ -156,7 +156,7 @@ header_claims counts h p (k ∷ l ∷ more) =
     let q = enter (counts (with_key p k)) (with_key p k) in
     claimed (header_claim h Passed q k) (header_claims counts h q (l ∷ more))
 
--- what a section claims, where `counts` counts the entries of each array before it
+-- what a section claims, where `counts` counts the elements of each array of tables before it
 unfoldable pub section_claims : (Path → ℕ) → Block → Claims
 section_claims counts b =
     followed (header_claims counts (head_of b) [] b.header) (key_value_claims b.key_values (section_path counts b))

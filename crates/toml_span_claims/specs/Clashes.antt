@@ -13,7 +13,7 @@ use Rattle.toml_span_claims.specs.Claims.{Claim, Claims, no_claims, claimed, sco
 
 -- What is told where an earlier claim has the first sort, and a later one on the same path the second. A table may be
 -- passed through again and again, and opened once. An array of tables is claimed once, and then entered through its
--- entries; an entry is claimed once, and then passed through. A value and then a dotted key of one section or inline
+-- elements; an element is claimed once, and then passed through. A value and then a dotted key of one section or inline
 -- table is a fault of reading; elsewhere another clash comes before it.
 abbrev pub blame : Sort → Sort → Option Blame
 blame Passed ArrayOfTables = Some RedefineAsArray

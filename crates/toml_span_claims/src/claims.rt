@@ -21,11 +21,11 @@ pub enum Sort {
     #[default]
     Passed,
     /// As the table that a header in single brackets opens.
-    Section,
-    /// As the array to which a header in double brackets adds an entry.
+    StandardTable,
+    /// As the array to which a header in double brackets adds a table.
     ArrayOfTables,
-    /// As an entry of an array of tables.
-    Entry,
+    /// As a table that is an element of an array of tables.
+    TableElement,
     /// As a table that a dotted key passes through: `a` in `a.b = 1`.
     Dotted,
     /// As a value that is assigned.

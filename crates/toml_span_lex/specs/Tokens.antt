@@ -47,7 +47,7 @@ lexeme tokens.RightBracket = punctuator right_bracket
 lexeme (tokens.Keylike s) = keylike s.now
 lexeme (tokens.String src val multiline) = string src.now (cow_str_bytes val) multiline
 
--- a sign in the words of an error
+-- a punctuator in the words of an error
 abbrev pub punctuator_words : ℕ → List ℕ
 punctuator_words c =
     if c == equals then codes "an equals"
@@ -98,7 +98,7 @@ abbrev pub Stands : List ℕ → ℕ → ℕ → Span → Lexeme → Type 0
 Stands text i j span (string src value multi) = IsString text i j span src value multi
 Stands text i j span l = IsToken text i j l × (span ≡ record { start = i; end = j })
 
--- the characters that begin a token: a blank, a sign, a line feed or a hash
+-- the characters that begin a token: a blank, a punctuator, a line feed or a hash
 abbrev pub begins_alone : ℕ → Bool
 begins_alone c = is_blank c || is_punctuator c || c == line_feed || c == hash
 

@@ -188,7 +188,7 @@ crossing_found key_values next inner last f start first end key tells (outer, p,
     let more = behind_part rest last in
     record {
       outer = outer;
-      simple_key = p;
+      part = p;
       more = more.0;
       rest = more.1;
       first = first;

@@ -1,12 +1,12 @@
 -- Examples of keys that cross earlier values, and of keys that are clear of them.
-use Rattle.std.proofs.Common.{◌≡◌, ℕ, ◌+◌, List, [], ◌∷◌, true, refl}
+use Rattle.std.proofs.Common.{ℕ, ◌+◌, List, [], ◌∷◌, true, refl}
 use Rattle.toml_span_tree.specs.Node.{boolean}
 use Rattle.toml_span_lex.specs.declared.span.Span.{Span}
 use Rattle.toml_span_read.specs.declared.fault.Fault.{Fault}
 use Rattle.toml_span_read.specs.declared.fault.FaultKind.TheVariants as kinds
 use Rattle.toml_span_read.specs.Data.{parsed, KeyValue, scalar}
 use Rattle.toml_span_read.specs.Keys.{SimpleKey}
-use Rattle.toml_span_read.specs.Earlier.{NoneAt, NoneThrough, Clear, Crossing}
+use Rattle.toml_span_read.specs.Earlier.{NoneAt, Clear, Crossing}
 use Rattle.toml_span_read.proofs.EarlierLemmas.{through_none, through_more, clear_of}
 
 abbrev at : ℕ → ℕ → Span

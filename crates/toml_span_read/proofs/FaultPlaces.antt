@@ -1,5 +1,5 @@
 -- Where the faults of tokens are.
-use Rattle.std.proofs.Common.{◌≡◌, ℕ, ◌+◌, ◌<◌, ◌≤◌, ◌⊎◌, Bool, true, false, List, length, get_or, arith, inl, inr, refl}
+use Rattle.std.proofs.Common.{◌≡◌, ℕ, ◌+◌, ◌<◌, ◌≤◌, Bool, true, false, List, length, get_or, arith, inl, inr}
 use Rattle.std.specs.Prelude.{◌==◌, if◌then◌else◌}
 use Rattle.toml_span_lex.specs.declared.tokens.Error.{Error}
 use Rattle.toml_span_lex.specs.declared.tokens.Error.TheVariants as errors
@@ -8,15 +8,13 @@ use Rattle.toml_span_lex.specs.Pieces.{IsContentFault}
 use Rattle.toml_span_lex.specs.Strings.{IsNoString}
 use Rattle.toml_span_lex.specs.Text.{LineEnd}
 use Rattle.toml_span_lex.proofs.Runs.{crlf_first}
-use Rattle.toml_span_lex.specs.Tokens.{IsUnexpected, IsNoToken, Lexeme, Stands}
-use Rattle.toml_span_lex.specs.declared.span.Span.{Span}
+use Rattle.toml_span_lex.specs.Tokens.{IsUnexpected, IsNoToken}
 use Rattle.toml_span_lex.proofs.OneFault.{char_within, HexCase, ends, other, value, hex_case}
 use Rattle.toml_span_lex.proofs.Within.{token_within}
-use Rattle.toml_span_read.specs.declared.fault.Due.{Due}
 use Rattle.toml_span_read.specs.declared.fault.Found.{Found}
 use Rattle.toml_span_read.specs.declared.fault.Fault.{Fault}
 use Rattle.toml_span_read.specs.declared.fault.FaultKind.{FaultKind}
-use Rattle.toml_span_read.specs.Faults.{fault_at, invalid_number, token_fault, found_words, IsFound, IsTokenFault, wanted_fault}
+use Rattle.toml_span_read.specs.Faults.{fault_at, token_fault, IsFound, IsTokenFault}
 use Rattle.toml_span_read.specs.Places.{StartsInside}
 use Rattle.toml_span_read.proofs.Places.{read_within}
 

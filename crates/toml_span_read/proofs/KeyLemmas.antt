@@ -1,9 +1,7 @@
 -- How dotted keys are put together.
-use Rattle.std.proofs.Common.{◌≡◌, ℕ, ◌+◌, ◌<◌, ◌≤◌, ◌⊎◌, Bool, true, false, List, [], ◌∷◌, ◌++◌, length, map, get_or, arith, inl, inr, sym, ◌∙◌, refl, ap, append_assoc, length-append, Result, Ok, Err}
+use Rattle.std.proofs.Common.{◌≡◌, ℕ, ◌+◌, ◌<◌, ◌≤◌, Bool, true, false, List, [], ◌∷◌, ◌++◌, length, map, get_or, arith, inl, inr, refl, ap, length-append, Result, Ok, Err}
 use Rattle.std.specs.Prelude.{not, ◌&&◌, ◌==◌, if◌then◌else◌}
 use Rattle.std.specs.Result.{IsErrAnd}
-use Rattle.std.specs.Global.{Global}
-use Rattle.smallvec.specs.SmallVec.{SmallVec}
 use Rattle.toml_span_lex.specs.declared.key.Key.{Key}
 use Rattle.toml_span_lex.specs.declared.stop.Stop.{Stop}
 use Rattle.toml_span_lex.specs.declared.stop.Stop.TheVariants as stops
@@ -14,11 +12,10 @@ use Rattle.toml_span_lex.proofs.MadeStrings.{content_from_after}
 use Rattle.toml_span_read.specs.declared.fault.FaultKind.{FaultKind}
 use Rattle.toml_span_read.specs.Places.{StartsInside}
 use Rattle.toml_span_read.specs.declared.fault.Fault.{Fault}
-use Rattle.toml_span_read.specs.declared.value.DottedKey.{DottedKey}
 use Rattle.toml_span_read.specs.Gaps.{Dot}
-use Rattle.toml_span_read.specs.Keys.{SimpleKey, simple_key, parts, SpellsSimpleKey, Onward, SpellsKey}
+use Rattle.toml_span_read.specs.Keys.{SimpleKey, simple_key, SpellsSimpleKey, Onward, SpellsKey}
 use Rattle.toml_span_read.specs.code.Keys.{KeyGives, DottedGives, HeaderKeyGives}
-use Rattle.toml_span_read.specs.Stuck.{StuckOnward, no_part, dotted_on, StuckKey, no_first, onward, StuckHeaderKey, no_header_part}
+use Rattle.toml_span_read.specs.Stuck.{StuckOnward, part_here, StuckKey, no_first, onward, StuckHeaderKey, header_part_here}
 
 -- an error that `?` hands on
 pub handed_on : {T E : Type 0} (r : Result T E) (x : E) → IsErrAnd r (λ y. y ≡ x) → r ≡ Err x
@@ -41,7 +38,7 @@ first_fault (stops.Fault e) text limit i h = no_first i e h
 pub part_fault : (stop : Stop Fault) (text : List ℕ) (limit i n m p : ℕ) → ((e : Fault) → StuckOnward text limit n m e → StuckKey text limit i e)
     → Dot text m p → KeyGives text p (Err stop) → DottedGives text limit i (Err stop)
 part_fault (stops.Memory e) text limit i n m p stuck d h = tt
-part_fault (stops.Fault e) text limit i n m p stuck d h = stuck e (no_part n m p e d h)
+part_fault (stops.Fault e) text limit i n m p stuck d h = stuck e (part_here n m p e d (inl h))
 
 pub same_stuck : (e f : Fault) (text : List ℕ) (limit i : ℕ) → e ≡ f → StuckKey text limit i f → StuckKey text limit i e
 same_stuck e f text limit i is h = rw is h
@@ -70,7 +67,7 @@ parts_length (k ∷ ks) last = let h = parts_length ks last in omega arith
 pub header_fault : (stop : Stop Fault) (text : List ℕ) (limit i n m : ℕ) → ((e : Fault) → StuckHeaderKey text limit n m e → StuckHeaderKey text limit 0 i e)
     → KeyGives text m (Err stop) → HeaderKeyGives text limit i (Err stop)
 header_fault (stops.Memory e) text limit i n m stuck h = tt
-header_fault (stops.Fault e) text limit i n m stuck h = stuck e (no_header_part n m e h)
+header_fault (stops.Fault e) text limit i n m stuck h = stuck e (header_part_here n m e (inl h))
 
 pub header_more : (ps qs : List Key) (key : Key) (text : List ℕ) (i m n p : ℕ) → qs ≡ ps ++ (key ∷ [])
     → ((tail : List SimpleKey) (j : ℕ) → SpellsKey tail text m j → SpellsKey (map simple_key ps ++ tail) text i j)

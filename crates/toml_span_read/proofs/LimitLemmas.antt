@@ -1,22 +1,20 @@
 -- What is put together stays within the limit.
-use Rattle.std.proofs.Common.{◌≡◌, ℕ, ◌+◌, ◌<◌, ◌≤◌, ◌⊎◌, Bool, true, false, List, [], ◌∷◌, ◌++◌, length, map, arith, inl, inr, sym, refl, ap, subst, length-append}
+use Rattle.std.proofs.Common.{◌≡◌, ℕ, ◌+◌, ◌≤◌, true, false, List, [], ◌∷◌, ◌++◌, length, map, arith, inl, inr, refl, ap, subst}
 use Rattle.std.proofs.lemmas.Bool.{false≢true}
 use Rattle.toml_span_lex.specs.declared.span.Span.{Span}
-use Rattle.toml_span_lex.specs.declared.key.Key.{Key}
 use Rattle.toml_span_read.specs.declared.value.Val.{Val}
 use Rattle.toml_span_read.specs.declared.value.Assignment.{Assignment}
-use Rattle.toml_span_read.specs.Data.{ParsedValue, parsed, ParsedInner, scalar, array, inline, ParsedItems, no_items, item, ParsedPairs, no_pairs, pair, KeyValue, onto, pairs_onto, view, key_value, parsed_span}
+use Rattle.toml_span_read.specs.Data.{ParsedValue, parsed, ParsedInner, scalar, array, inline, ParsedItems, item, ParsedPairs, pair, KeyValue, onto, pairs_onto, view, key_value, parsed_span}
 use Rattle.toml_span_read.specs.code.Values.{is_scalar}
 use Rattle.std.proofs.Common.{Err}
 use Rattle.toml_span_tree.specs.Node.{Scalar}
 use Rattle.toml_span_lex.specs.declared.stop.Stop.{Stop}
 use Rattle.toml_span_lex.specs.declared.stop.Stop.TheVariants as stops
 use Rattle.toml_span_read.specs.declared.fault.Fault.{Fault}
-use Rattle.toml_span_read.specs.Places.{StartsInside}
 use Rattle.toml_span_read.specs.code.Faults.{IsPlacedStop}
 use Rattle.toml_span_read.specs.Gaps.{Dot}
 use Rattle.toml_span_read.specs.code.Earlier.{StartBefore, AddsClear}
-use Rattle.toml_span_read.specs.Keys.{SimpleKey, simple_key, SpellsSimpleKey, Onward, SpellsKey}
+use Rattle.toml_span_read.specs.Keys.{SimpleKey, SpellsSimpleKey, Onward, SpellsKey}
 use Rattle.toml_span_read.proofs.KeyLemmas.{string_before}
 use Rattle.toml_span_read.specs.Limits.{Within, WithinInner, WithinItems, WithinPairs, WithinKeyValue, WithinKeyValues, WithinSection, WithinSections}
 use Rattle.toml_span_read.specs.code.Limits.{IsSpanned}

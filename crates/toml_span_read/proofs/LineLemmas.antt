@@ -1,7 +1,6 @@
 -- How lines, headers and sections are put together.
-use Rattle.std.proofs.Common.{◌≡◌, ℕ, ◌+◌, ◌<◌, ◌≤◌, ◌⊎◌, zero, suc, Bool, true, false, List, [], ◌∷◌, ◌++◌, length, map, get_or, arith, inl, inr, sym, ◌∙◌, refl, ap, append-nil, Result, Ok, Err, Option, Some, None}
+use Rattle.std.proofs.Common.{◌≡◌, ℕ, ◌+◌, ◌<◌, ◌≤◌, zero, suc, Bool, true, false, List, [], ◌∷◌, ◌++◌, length, map, get_or, arith, inl, inr, refl, ap, append-nil, Ok, Err}
 use Rattle.std.specs.Prelude.{◌==◌}
-use Rattle.toml_span_lex.specs.declared.span.Span.{Span}
 use Rattle.toml_span_lex.specs.declared.key.Key.{Key}
 use Rattle.toml_span_lex.specs.declared.stop.Stop.{Stop}
 use Rattle.toml_span_lex.specs.declared.stop.Stop.TheVariants as stops
@@ -13,15 +12,14 @@ use Rattle.toml_span_read.specs.declared.value.Assignment.{Assignment}
 use Rattle.toml_span_read.specs.declared.section.Section.{Section}
 use Rattle.toml_span_read.specs.declared.sections.Header.{Header}
 use Rattle.toml_span_read.specs.Data.{ParsedValue, KeyValue, key_value, Block, block}
-use Rattle.toml_span_read.specs.Earlier.{Clear, Crossing}
+use Rattle.toml_span_read.specs.Earlier.{Clear}
 use Rattle.toml_span_read.specs.code.Earlier.{AddsClear}
-use Rattle.toml_span_read.specs.Gaps.{MaximalGap, Equals, Tail, NoTail}
-use Rattle.toml_span_read.specs.Grammar.{Spells, SpellsKeyValue, SpellsKeyValues, SpellsLines, OpensHeader, ClosesHeader, HeaderFront, SpellsHeader, last_end, SpellsSection, first_block, SpellsSections, SpellsDocument}
+use Rattle.toml_span_read.specs.Gaps.{MaximalGap, Equals, Tail}
+use Rattle.toml_span_read.specs.Grammar.{Spells, SpellsKeyValue, SpellsKeyValues, SpellsLines, OpensHeader, SpellsHeader, last_end, SpellsSection, first_block, SpellsSections, SpellsDocument}
 use Rattle.toml_span_read.specs.Keys.{SimpleKey, simple_key, SpellsKey}
 use Rattle.toml_span_read.specs.code.Keys.{DottedGives, HeaderKeyGives}
-use Rattle.toml_span_read.specs.Stuck.{StuckKeyValue, line_key, line_equals, line_value, StuckKeyValues, in_line, no_newline, crossing, line_on, StuckLines, StuckHeader, header_key, header_close, header_rest, StuckSections, in_header, in_section, section_on, StuckDocument, before_headers, behind_header}
-use Rattle.toml_span_read.specs.Faults.{StuckTail, NoClosing}
-use Rattle.toml_span_read.specs.code.Sections.{KeyValueGives, LineGives, LinesGive, CloseGives, HeaderGives, block_of, first_blocks, SectionsGive}
+use Rattle.toml_span_read.specs.Stuck.{line_key, line_equals, line_value, StuckKeyValues, in_line, no_newline, crossing, line_on, StuckLines, header_key, header_close, header_rest, StuckSections, section_on, StuckDocument, behind_header}
+use Rattle.toml_span_read.specs.code.Sections.{KeyValueGives, LineGives, LinesGive, CloseGives, HeaderGives, block_of}
 use Rattle.toml_span_read.specs.code.Values.{ValueGives}
 use Rattle.toml_span_read.specs.code.Wanted.{WantedGives}
 use Rattle.toml_span_read.proofs.KeyLemmas.{map_more}
@@ -42,7 +40,7 @@ line_key_fault (stops.Fault e) text limit i h = line_key i e h
 pub line_equals_fault : (stop : Stop Fault) (text : List ℕ) (limit i a n : ℕ) (ps : List SimpleKey) → SpellsKey ps text i a → length ps ≤ limit → MaximalRun is_blank text a n
     → (get_or text n 0 == 61) ≡ false → WantedGives text n dues.Equals stop → KeyValueGives text limit i (Err stop)
 line_equals_fault (stops.Memory e) text limit i a n ps key few run none h = tt
-line_equals_fault (stops.Fault e) text limit i a n ps key few run none h = line_equals i a n ps e key few run none h
+line_equals_fault (stops.Fault e) text limit i a n ps key few run none h = line_equals i a n ps e key few run (none, h)
 
 pub line_value_fault : (stop : Stop Fault) (text : List ℕ) (limit i a b r : ℕ) (ps : List SimpleKey) → SpellsKey ps text i a → length ps ≤ limit → Equals text a b → r ≡ length ps
     → ValueGives text limit r b (Err stop) → KeyValueGives text limit i (Err stop)

@@ -1,10 +1,10 @@
 -- Memory is wanted only where there is something to keep.
-use Rattle.std.proofs.Common.{◌≡◌, ℕ, ◌+◌, ◌<◌, ◌≤◌, List, [], ◌∷◌, ◌++◌, length, arith, ap, Result, Ok, Err, Option, Some, None}
+use Rattle.std.proofs.Common.{◌≡◌, ℕ, ◌+◌, ◌<◌, ◌≤◌, List, [], ◌∷◌, ◌++◌, length, arith, ap, Err, Some}
 use Rattle.toml_span_lex.specs.declared.stop.Stop.{Stop}
 use Rattle.toml_span_lex.specs.declared.stop.Stop.TheVariants as stops
 use Rattle.toml_span_lex.specs.Tokenizer.{FirstPlace}
 use Rattle.toml_span_read.specs.declared.section.Section.{Section}
-use Rattle.toml_span_read.specs.Data.{KeyValue, block}
+use Rattle.toml_span_read.specs.Data.{KeyValue}
 use Rattle.toml_span_read.specs.Gaps.{MaximalGap}
 use Rattle.toml_span_read.specs.Keys.{SimpleKey, SpellsKey}
 use Rattle.toml_span_read.specs.Grammar.{SpellsKeyValue, SpellsKeyValues, SpellsLines, first_block}

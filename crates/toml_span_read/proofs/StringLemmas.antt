@@ -1,5 +1,5 @@
 -- What strings give.
-use Rattle.std.proofs.Common.{◌≡◌, ℕ, ◌+◌, ◌<◌, ◌≤◌, Bool, List, length, Bor, refl, inr}
+use Rattle.std.proofs.Common.{◌≡◌, ℕ, Bool, List, Bor, refl, inr}
 use Rattle.std.specs.Prelude.{Ok}
 use Rattle.std.specs.Cow.{cow_str_bytes}
 use Rattle.std.specs.Global.{Global}

@@ -21,7 +21,7 @@ use Rattle.toml_span_read.specs.code.Numbers.{NumberGives}
 use Rattle.toml_span_read.specs.Grammar.{from_to, truth_text, IsScalar, Spells, SpellsPair, SpellsItems, SpellsPairs}
 use Rattle.toml_span_read.specs.Faults.{opens_nested, begins_bare, begins_number, Begins, BeginsNumber, IsOtherWord, NoBare}
 use Rattle.toml_span_read.specs.code.Values.{IsTooDeep, BareGives, ValueGives, PairGives}
-use Rattle.toml_span_read.specs.Stuck.{no_value, no_string, too_deep, no_bare, in_array, in_inline, StuckItems, in_item, behind_item, StuckPairs, in_pair, crosses, behind_pair, pair_on, in_key, no_equals, in_value}
+use Rattle.toml_span_read.specs.Stuck.{value_here, in_array, in_inline, StuckItems, in_item, behind_item, StuckPairs, in_pair, crosses, behind_pair, pair_on, in_key, no_equals, in_value}
 use Rattle.toml_span_read.specs.Keys.{SimpleKey, opens_string, SpellsKey}
 use Rattle.toml_span_read.specs.code.Keys.{DottedGives}
 use Rattle.toml_span_read.specs.Gaps.{MaximalGap, Separator, Closes, Neither}
@@ -76,11 +76,11 @@ none_of false false c h k = h
 pub no_value_stuck : (stop : Stop Fault) (text : List ℕ) (limit d i : ℕ) → (opens_nested (get_or text i 0) || opens_string (get_or text i 0)) ≡ false → begins_bare (get_or text i 0) ≡ false
     → NoValueGives text i stop → ValueGives text limit d i (Err stop)
 no_value_stuck (stops.Memory e) text limit d i o b h = tt
-no_value_stuck (stops.Fault e) text limit d i o b h = no_value d i e (none_of (opens_nested (get_or text i 0)) (begins_bare (get_or text i 0)) (opens_string (get_or text i 0)) o b) h
+no_value_stuck (stops.Fault e) text limit d i o b h = value_here d i e (inl ((none_of (opens_nested (get_or text i 0)) (begins_bare (get_or text i 0)) (opens_string (get_or text i 0)) o b), h))
 
 pub deep_stuck : (stop : Stop Fault) (text : List ℕ) (limit d i : ℕ) → limit < d → Begins text i → IsTooDeep i stop → ValueGives text limit d i (Err stop)
 deep_stuck (stops.Memory e) text limit d i l b h = absurd h
-deep_stuck (stops.Fault e) text limit d i l b h = too_deep d i e l b h
+deep_stuck (stops.Fault e) text limit d i l b h = value_here d i e (inr (inr (inl (l, b, h))))
 
 or_right : (a b : Bool) → b ≡ true → (a || b) ≡ true
 or_right true b h = refl
@@ -98,7 +98,7 @@ nested_begins text i h = inl (or_left (opens_nested (get_or text i 0)) (begins_b
 
 pub bare_stuck : (stop : Stop Fault) (text : List ℕ) (limit d i : ℕ) → d ≤ limit → BareGives text i (Err stop) → ValueGives text limit d i (Err stop)
 bare_stuck (stops.Memory e) text limit d i l h = tt
-bare_stuck (stops.Fault e) text limit d i l h = no_bare d i e l h
+bare_stuck (stops.Fault e) text limit d i l h = value_here d i e (inr (inr (inr (l, h))))
 
 pub bare_made : (v : ParsedValue) (kind : ValKind) (text : List ℕ) (limit d i j : ℕ) → v ≡ parsed (kind_view kind) (from_to i j) → d ≤ limit → BareGives text i (Ok (kind, j))
     → Spells v text limit d i j
@@ -108,7 +108,7 @@ bare_made v kind text limit d i j e l (s, k, h) = rw (e, k) (l, h)
 
 pub string_stuck : (stop : Stop Fault) (text : List ℕ) (limit d i : ℕ) → opens_string (get_or text i 0) ≡ true → StringReads text i (Err stop) → ValueGives text limit d i (Err stop)
 string_stuck (stops.Memory e) text limit d i o h = tt
-string_stuck (stops.Fault e) text limit d i o h = no_string d i e o h
+string_stuck (stops.Fault e) text limit d i o h = value_here d i e (inr (inl (o, h)))
 
 pub opens_quote : (b : ℕ) → (b ≡ 34) ⊎ (b ≡ 39) → opens_string b ≡ true
 opens_quote b (inl e) = rw e refl
@@ -154,7 +154,7 @@ pub behind_stuck : (stop : Stop Fault) (v : Val) (text : List ℕ) (limit d i k 
     → ((e : Fault) → StuckItems text limit (d + 1) n e → StuckItems text limit (d + 1) k e)
     → Spells (view v) text limit (d + 1) n m → Neither 93 text m p → WantedGives text p dues.RightBracket stop → ValueGives text limit d i (Err stop)
 behind_stuck (stops.Memory e) v text limit d i k n m p l here gap stuck s neither h = tt
-behind_stuck (stops.Fault e) v text limit d i k n m p l here gap stuck s neither h = in_array d i k e l here gap (stuck e (behind_item (d + 1) n m p (view v) e s neither h))
+behind_stuck (stops.Fault e) v text limit d i k n m p l here gap stuck s neither h = in_array d i k e l here gap (stuck e (behind_item (d + 1) n m p (view v) e s neither.before (neither.no_comma, neither.no_bracket, h)))
 
 -- ---- inline tables
 
@@ -211,7 +211,7 @@ pub pair_behind_stuck : (stop : Stop Fault) (vs : List Assignment) (v : Assignme
     → SpellsPair (key_value v) text limit (d + 1) n m → Clear (map key_value vs) (key_value v) → Neither 125 text m p → WantedGives text p dues.Comma stop → ValueGives text limit d i (Err stop)
 pair_behind_stuck (stops.Memory e) vs v text limit d i k n m p l here gap stuck s clear neither h = tt
 pair_behind_stuck (stops.Fault e) vs v text limit d i k n m p l here gap stuck s clear neither h =
-    in_inline d i k e l here gap (stuck e (behind_pair (map key_value vs) (d + 1) n m p (key_value v) e s clear neither h))
+    in_inline d i k e l here gap (stuck e (behind_pair (map key_value vs) (d + 1) n m p (key_value v) e s clear neither.before (neither.no_comma, neither.no_bracket, h)))
 
 -- ---- pairs
 
@@ -226,7 +226,7 @@ key_stuck (stops.Fault e) text limit d i h = in_key d i e h
 pub equals_stuck : (stop : Stop Fault) (ps : List SimpleKey) (text : List ℕ) (limit d i a n : ℕ) → SpellsKey ps text i a → length ps ≤ limit → MaximalGap text a n → (get_or text n 0 == 61) ≡ false
     → WantedGives text n dues.Equals stop → PairGives text limit d i (Err stop)
 equals_stuck (stops.Memory e) ps text limit d i a n key few gap other h = tt
-equals_stuck (stops.Fault e) ps text limit d i a n key few gap other h = no_equals d i a n ps e key few gap other h
+equals_stuck (stops.Fault e) ps text limit d i a n key few gap other h = no_equals d i a n ps e key few gap (other, h)
 
 pub value_stuck : (stop : Stop Fault) (ps : List SimpleKey) (text : List ℕ) (limit d r i a b : ℕ) → SpellsKey ps text i a → length ps ≤ limit → Separator 61 text a b → r ≡ d + length ps
     → ValueGives text limit r b (Err stop) → PairGives text limit d i (Err stop)

@@ -1,5 +1,6 @@
--- Where a document gets stuck: the forms before the fault, and the fault that stands behind them.
-use Rattle.std.specs.Prelude.{◌≡◌, ℕ, ◌+◌, ◌<◌, ◌≤◌, Bool, true, false, ◌==◌, List, [], ◌∷◌, ◌++◌, map, length}
+-- Where a document gets stuck: the forms before the fault, and the fault of the tables (`Faults`) that stands behind
+-- them.
+use Rattle.std.specs.Prelude.{◌≡◌, ℕ, ◌+◌, ◌<◌, ◌≤◌, Bool, false, ◌==◌, List, [], ◌∷◌, ◌++◌, map, length}
 use Rattle.std.specs.Prelude.{slice_index, Vec, Result, Ok, Err}
 use Rattle.std.specs.Global.{Global}
 use Rattle.toml_span_lex.specs.Bytes.{is_blank, equals, MaximalRun, left_bracket, comma, left_brace, right_brace}
@@ -11,12 +12,10 @@ use Rattle.toml_span_tree.specs.Error.{content_of}
 use Rattle.toml_span_tree.specs.declared.error.Error.{Error}
 use Rattle.toml_span_read.specs.Places.{StartsInside}
 use Rattle.toml_span_read.specs.declared.fault.Fault.{Fault}
-use Rattle.toml_span_read.specs.declared.fault.FaultKind.TheVariants as kinds
-use Rattle.toml_span_read.specs.Gaps.{Dot, MaximalGap, Separator, Neither, Equals, Tail}
-use Rattle.toml_span_read.specs.Faults.{fault_at, NoSimpleKey, IsWanted, IsNoValue, IsTokenFault, Begins, NoBare}
-use Rattle.toml_span_read.specs.Faults.{StuckTail}
-use Rattle.toml_span_read.specs.Faults.{NoClosing, Tells, begins_value}
-use Rattle.toml_span_read.specs.Keys.{SimpleKey, SpellsSimpleKey, opens_string, SpellsKey}
+use Rattle.toml_span_read.specs.Gaps.{Dot, MaximalGap, Separator, Equals, Tail}
+use Rattle.toml_span_read.specs.Faults.{NoSimpleKey, NoPart, NoHeaderPart, NoEquals, NoValue, NoComma, NoClosing}
+use Rattle.toml_span_read.specs.Faults.{StuckTail, Tells}
+use Rattle.toml_span_read.specs.Keys.{SimpleKey, SpellsSimpleKey, SpellsKey}
 use Rattle.toml_span_read.specs.declared.fault.Due.TheVariants as dues
 use Rattle.toml_span_read.specs.Data.{ParsedValue, KeyValue, Block, block}
 use Rattle.toml_span_read.specs.Earlier.{Clear, Crossing}
@@ -31,9 +30,7 @@ use Rattle.toml_span_read.specs.declared.section.Section.{Section}
 --
 -- within `*( dot-sep simple-key )`
 pub data StuckOnward (text : List ℕ) (limit : ℕ) : ℕ → ℕ → Fault → Type 0 where
-  no_part : (n m p : ℕ) (e : Fault) → Dot text m p → NoSimpleKey text p e → StuckOnward text limit n m e
-  too_many : (n m p q : ℕ) (s : SimpleKey) → Dot text m p → SpellsSimpleKey s text p q → limit ≤ n
-      → StuckOnward text limit n m (fault_at kinds.ExceededDepthLimit p)
+  part_here : (n m p : ℕ) (e : Fault) → Dot text m p → NoPart text limit n p e → StuckOnward text limit n m e
   dotted_on : (n m p q : ℕ) (s : SimpleKey) (e : Fault) → Dot text m p → SpellsSimpleKey s text p q → n < limit
       → StuckOnward text limit (n + 1) q e → StuckOnward text limit n m e
 
@@ -49,9 +46,7 @@ pub data StuckKey (text : List ℕ) (limit : ℕ) : ℕ → Fault → Type 0 whe
 --
 -- within the `key` of `std-table = std-table-open key std-table-close` or of `array-table`
 pub data StuckHeaderKey (text : List ℕ) (limit : ℕ) : ℕ → ℕ → Fault → Type 0 where
-  no_header_part : (n i : ℕ) (e : Fault) → NoSimpleKey text i e → StuckHeaderKey text limit n i e
-  header_too_many : (n i m : ℕ) (s : SimpleKey) → SpellsSimpleKey s text i m → limit ≤ n
-      → StuckHeaderKey text limit n i (record { kind = kinds.ExceededDepthLimit; span = s.span })
+  header_part_here : (n i : ℕ) (e : Fault) → NoHeaderPart text limit n i e → StuckHeaderKey text limit n i e
   header_on : (n i m p : ℕ) (s : SimpleKey) (e : Fault) → SpellsSimpleKey s text i m → n < limit → Dot text m p
       → StuckHeaderKey text limit (n + 1) p e → StuckHeaderKey text limit n i e
 
@@ -62,16 +57,7 @@ mutual
   --
   -- within `val = string / boolean / array / inline-table / date-time / float / integer`
   pub data StuckValue (text : List ℕ) (limit : ℕ) : ℕ → ℕ → Fault → Type 0 where
-    -- no value begins at i
-    no_value : (d i : ℕ) (e : Fault) → begins_value (slice_index text i) ≡ false → IsNoValue text i e
-        → StuckValue text limit d i e
-    -- quotes open at i, and no string is there
-    no_string : (d i : ℕ) (e : Fault) → opens_string (slice_index text i) ≡ true → IsTokenFault text i e
-        → StuckValue text limit d i e
-    -- a value begins at i, past the limit
-    too_deep : (d i : ℕ) (e : Fault) → limit < d → Begins text i → e ≡ fault_at kinds.ExceededDepthLimit i
-        → StuckValue text limit d i e
-    no_bare : (d i : ℕ) (e : Fault) → d ≤ limit → NoBare text i e → StuckValue text limit d i e
+    value_here : (d i : ℕ) (e : Fault) → NoValue text limit d i e → StuckValue text limit d i e
     -- a bracket opens at i, and an element or the closing bracket is stuck
     in_array : (d i k : ℕ) (e : Fault) → d ≤ limit → slice_index text i ≡ left_bracket → MaximalGap text (i + 1) k
         → StuckItems text limit (d + 1) k e → StuckValue text limit d i e
@@ -87,8 +73,7 @@ mutual
         → StuckItems text limit d i e
     -- behind an element stands neither a comma nor the closing bracket
     behind_item : (d i m n : ℕ) (v : ParsedValue) (e : Fault) → Spells v text limit d i m
-        → Neither right_bracket text m n
-        → IsWanted text n dues.RightBracket e → StuckItems text limit d i e
+        → MaximalGap text m n → NoComma right_bracket dues.RightBracket text n e → StuckItems text limit d i e
     item_on : (d i m p : ℕ) (v : ParsedValue) (e : Fault) → Spells v text limit d i m → Separator comma text m p
         → StuckItems text limit d p e → StuckItems text limit d i e
 
@@ -100,12 +85,10 @@ mutual
         → StuckPair text limit d i e → StuckPairs text limit es d i e
     -- the key of a whole pair goes through the value of an earlier one
     crosses : (es : List KeyValue) (d i m : ℕ) (p : KeyValue) (e : Fault) → SpellsPair p text limit d i m
-        → Crossing es p e
-        → StuckPairs text limit es d i e
+        → Crossing es p e → StuckPairs text limit es d i e
     -- behind a pair stands neither a comma nor the closing brace
     behind_pair : (es : List KeyValue) (d i m n : ℕ) (p : KeyValue) (e : Fault) → SpellsPair p text limit d i m
-        → Clear es p
-        → Neither right_brace text m n → IsWanted text n dues.Comma e → StuckPairs text limit es d i e
+        → Clear es p → MaximalGap text m n → NoComma right_brace dues.Comma text n e → StuckPairs text limit es d i e
     pair_on : (es : List KeyValue) (d i m n : ℕ) (p : KeyValue) (e : Fault) → SpellsPair p text limit d i m → Clear es p
         → Separator comma text m n → StuckPairs text limit (es ++ (p ∷ [])) d n e → StuckPairs text limit es d i e
 
@@ -114,8 +97,7 @@ mutual
     in_key : (d i : ℕ) (e : Fault) → StuckKey text limit i e → StuckPair text limit d i e
     -- behind the key stands no equals sign
     no_equals : (d i a n : ℕ) (ss : List SimpleKey) (e : Fault) → SpellsKey ss text i a → length ss ≤ limit
-        → MaximalGap text a n → (slice_index text n == equals) ≡ false → IsWanted text n dues.Equals e
-        → StuckPair text limit d i e
+        → MaximalGap text a n → NoEquals text n e → StuckPair text limit d i e
     in_value : (d i a b : ℕ) (ss : List SimpleKey) (e : Fault) → SpellsKey ss text i a → length ss ≤ limit
         → Separator equals text a b → StuckValue text limit (d + length ss) b e → StuckPair text limit d i e
 
@@ -125,12 +107,9 @@ mutual
 pub data StuckKeyValue (text : List ℕ) (limit : ℕ) : ℕ → Fault → Type 0 where
   line_key : (i : ℕ) (e : Fault) → StuckKey text limit i e → StuckKeyValue text limit i e
   line_equals : (i a n : ℕ) (ps : List SimpleKey) (e : Fault) → SpellsKey ps text i a → length ps ≤ limit
-      → MaximalRun is_blank text a n
-      → (slice_index text n == equals) ≡ false → IsWanted text n dues.Equals e → StuckKeyValue text limit i e
+      → MaximalRun is_blank text a n → NoEquals text n e → StuckKeyValue text limit i e
   line_value : (i a b : ℕ) (ps : List SimpleKey) (e : Fault) → SpellsKey ps text i a → length ps ≤ limit
-      → Equals text a b
-      → StuckValue text limit (length ps) b e
-      → StuckKeyValue text limit i e
+      → Equals text a b → StuckValue text limit (length ps) b e → StuckKeyValue text limit i e
 
 -- Behind these earlier values of a section this fault stands, where no header is next. A key that goes through one of
 -- them is told once the rest of its line has been read.
@@ -138,15 +117,12 @@ pub data StuckKeyValue (text : List ℕ) (limit : ℕ) : ℕ → Fault → Type 
 -- within `expression =/ ws keyval ws [ comment ]`
 pub data StuckKeyValues (text : List ℕ) (limit : ℕ) : List KeyValue → ℕ → Fault → Type 0 where
   in_line : (earlier : List KeyValue) (i : ℕ) (e : Fault) → i < length text
-      → (slice_index text i == left_bracket) ≡ false
-      → StuckKeyValue text limit i e
+      → (slice_index text i == left_bracket) ≡ false → StuckKeyValue text limit i e
       → StuckKeyValues text limit earlier i e
   no_newline : (earlier : List KeyValue) (i m : ℕ) (ev : KeyValue) (e : Fault) → SpellsKeyValue ev text limit i m
       → StuckTail text m e → StuckKeyValues text limit earlier i e
   crossing : (earlier : List KeyValue) (i m n : ℕ) (ev : KeyValue) (e : Fault) → SpellsKeyValue ev text limit i m
-      → Tail text m n
-      → Crossing earlier ev e
-      → StuckKeyValues text limit earlier i e
+      → Tail text m n → Crossing earlier ev e → StuckKeyValues text limit earlier i e
   line_on : (earlier : List KeyValue) (i m n k : ℕ) (ev : KeyValue) (e : Fault) → SpellsKeyValue ev text limit i m
       → Tail text m n → Clear earlier ev → MaximalGap text n k
       → StuckKeyValues text limit (earlier ++ (ev ∷ [])) k e → StuckKeyValues text limit earlier i e

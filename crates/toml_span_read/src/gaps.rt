@@ -84,7 +84,7 @@ pub fn dot(text: &str, at: usize) -> Option<usize>
     }
 }
 
-/// What is behind the byte of a sign.
+/// What is behind a byte of ASCII.
 #[inline]
 pub fn behind_byte(text: &str, at: usize) -> usize
     requires some { 0 < slice_index text.now at }

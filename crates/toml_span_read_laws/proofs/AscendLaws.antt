@@ -1,10 +1,9 @@
 -- Where a text spells a document, its headers, keys and values stand one behind the other.
-use Rattle.std.proofs.Common.{◌≡◌, ℕ, ◌+◌, ◌<◌, ◌≤◌, List, [], ◌∷◌, ◌++◌, length, arith, refl, sym, ◌∙◌}
-use Rattle.toml_span_lex.specs.declared.span.Span.{Span}
+use Rattle.std.proofs.Common.{ℕ, ◌+◌, ◌≤◌, List, [], ◌∷◌, ◌++◌, length, arith}
 use Rattle.toml_span_read.specs.Data.{KeyValue, Block}
 use Rattle.toml_span_read.specs.Keys.{SimpleKey}
 use Rattle.toml_span_read.specs.Places.{Ascend}
-use Rattle.toml_span_read.specs.Grammar.{SpellsKeyValue, SpellsKeyValues, SpellsHeader, last_end, SpellsSection, first_block, SpellsSections, SpellsDocument}
+use Rattle.toml_span_read.specs.Grammar.{SpellsKeyValues, SpellsHeader, last_end, first_block, SpellsSections, SpellsDocument}
 use Rattle.toml_span_read_laws.specs.Places.{KeyValuesAscend, BlocksAscend}
 use Rattle.toml_span_read.proofs.InsideLemmas.{tail_inside, opens_on, shuts_on}
 use Rattle.toml_span_read.proofs.KeyOrder.{dotted_ascend}

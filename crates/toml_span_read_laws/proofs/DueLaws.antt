@@ -1,5 +1,5 @@
 -- Where a text gets stuck, something is due.
-use Rattle.std.proofs.Common.{◌≡◌, ℕ, ◌+◌, ◌≤◌, Bool, true, false, List, [], ◌∷◌, ◌++◌, length, Result, Ok, Err, Vec, Global, arith, inl, inr, refl}
+use Rattle.std.proofs.Common.{◌≡◌, ℕ, ◌+◌, ◌≤◌, Bool, true, false, List, [], ◌∷◌, ◌++◌, length, Result, Ok, Err, Vec, Global, arith, inl, inr}
 use Rattle.toml_span_lex.specs.declared.stop.Stop.{Stop}
 use Rattle.toml_span_lex.specs.declared.stop.Stop.TheVariants as stops
 use Rattle.toml_span_tree.specs.declared.error.Error.{Error}
@@ -8,7 +8,7 @@ use Rattle.toml_span_read.specs.declared.fault.Fault.{Fault}
 use Rattle.toml_span_read.specs.Data.{KeyValue}
 use Rattle.toml_span_read_laws.specs.Due.{Frame, in_section, in_brackets, in_braces, under_key, depth, a_line, a_part, an_equals, a_value, an_element, a_comma, a_verdict, a_header_part, a_closing, a_tail, a_line_end, DueAt, first_line, line_part, line_equals, line_value, line_tail, tail_rest, line_verdict, next_line, part_next, opens_header, header_part_next, header_closes, closes_again, header_tail, next_section, opens_array, item_value, behind_item, behind_comma, opens_table, pair_part, pair_equals, pair_value, pair_verdict, behind_pair, IsDue, RefusedWhereDue}
 use Rattle.toml_span_read.specs.Gaps.{Dot}
-use Rattle.toml_span_read.specs.Stuck.{StuckOnward, no_part, too_many, dotted_on, StuckKey, no_first, onward, StuckHeaderKey, no_header_part, header_too_many, header_on, StuckKeyValue, StuckKeyValues, StuckHeader, StuckSections, StuckDocument, ReadsDocument, StuckValue, StuckItems, StuckPairs, StuckPair}
+use Rattle.toml_span_read.specs.Stuck.{StuckOnward, part_here, dotted_on, StuckKey, no_first, onward, StuckHeaderKey, header_part_here, header_on, StuckKeyValue, StuckKeyValues, StuckHeader, StuckSections, StuckDocument, ReadsDocument, StuckValue, StuckItems, StuckPairs, StuckPair}
 use Rattle.toml_span_read.specs.Stuck as l
 use Rattle.toml_span_read.specs.Grammar.{ClosesHeader, SpellsKeyValues}
 use Rattle.toml_span_read.specs.Faults.{NoClosing, StuckTail}
@@ -16,8 +16,7 @@ use Rattle.toml_span_read.specs.Faults.{NoClosing, StuckTail}
 -- ---- keys
 
 onward_due : (text : List ℕ) (limit : ℕ) {n m : ℕ} {e : Fault} → StuckOnward text limit n m e → (fs : List Frame) → ((p : ℕ) → Dot text m p → DueAt text limit (a_part n) fs p) → IsDue text limit e
-onward_due text limit (no_part n m p e dot h) fs w = (a_part n, fs, p, w p dot, inl h)
-onward_due text limit (too_many n m p q part dot key o) fs w = (a_part n, fs, p, w p dot, inr (part, q, key, o, refl))
+onward_due text limit (part_here n m p e dot h) fs w = (a_part n, fs, p, w p dot, h)
 onward_due text limit (dotted_on n m p q part e dot key few r) fs w =
     onward_due text limit {n = n + 1} {m = q} {e = e} r fs (λ x d. part_next fs n p q x part (w p dot) key few d)
 
@@ -26,8 +25,7 @@ dotted_due text limit some (no_first i e h) fs w = (a_part 0, fs, i, w, inl h)
 dotted_due text limit some (onward i m part e key r) fs w = onward_due text limit {n = 1} {m = m} {e = e} r fs (λ p d. part_next fs 0 i m p part w key (omega (arith, some)) d)
 
 header_key_due : (text : List ℕ) (limit : ℕ) {n i : ℕ} {e : Fault} → StuckHeaderKey text limit n i e → (fs : List Frame) → DueAt text limit (a_header_part n) fs i → IsDue text limit e
-header_key_due text limit (no_header_part n i e h) fs w = (a_header_part n, fs, i, w, inl h)
-header_key_due text limit (header_too_many n i m part key o) fs w = (a_header_part n, fs, i, w, inr (part, m, key, o, refl))
+header_key_due text limit (header_part_here n i e h) fs w = (a_header_part n, fs, i, w, h)
 header_key_due text limit (header_on n i m p part e key few dot r) fs w =
     header_key_due text limit {n = n + 1} {i = p} {e = e} r fs (header_part_next fs n i m p part w key few dot)
 
@@ -35,10 +33,10 @@ header_key_due text limit (header_on n i m p part e key few dot r) fs w =
 
 mutual
   value_due : (text : List ℕ) (limit : ℕ) (some : 1 ≤ limit) {d i : ℕ} {e : Fault} → StuckValue text limit d i e → (fs : List Frame) → depth fs ≡ d → DueAt text limit a_value fs i → IsDue text limit e
-  value_due text limit some (l.no_value d i e n h) fs u w = (a_value, fs, i, w, inl (n, h))
-  value_due text limit some (l.no_string d i e o h) fs u w = (a_value, fs, i, w, inr (inl (o, h)))
-  value_due text limit some (l.too_deep d i e o b h) fs u w = (a_value, fs, i, w, inr (inr (inl (omega arith, b, h))))
-  value_due text limit some (l.no_bare d i e o h) fs u w = (a_value, fs, i, w, inr (inr (inr (omega arith, h))))
+  value_due text limit some (l.value_here d i e (inl (n, h))) fs u w = (a_value, fs, i, w, inl (n, h))
+  value_due text limit some (l.value_here d i e (inr (inl (o, h)))) fs u w = (a_value, fs, i, w, inr (inl (o, h)))
+  value_due text limit some (l.value_here d i e (inr (inr (inl (o, b, h))))) fs u w = (a_value, fs, i, w, inr (inr (inl (omega arith, b, h))))
+  value_due text limit some (l.value_here d i e (inr (inr (inr (o, h))))) fs u w = (a_value, fs, i, w, inr (inr (inr (omega arith, h))))
   value_due text limit some (l.in_array d i k e o here gap r) fs u w =
       items_due text limit some {d = d + 1} {i = k} {e = e} r fs (omega arith) (opens_array fs i k w (omega arith) here gap)
   value_due text limit some (l.in_inline d i k e o here gap r) fs u w =
@@ -46,8 +44,8 @@ mutual
 
   items_due : (text : List ℕ) (limit : ℕ) (some : 1 ≤ limit) {d i : ℕ} {e : Fault} → StuckItems text limit d i e → (fs : List Frame) → depth (in_brackets ∷ fs) ≡ d → DueAt text limit an_element (in_brackets ∷ fs) i → IsDue text limit e
   items_due text limit some (l.in_item d i e other r) fs u w = value_due text limit some {d = d} {i = i} {e = e} r (in_brackets ∷ fs) u (item_value fs i w other)
-  items_due text limit some (l.behind_item d i m n v e h r wanted) fs u w =
-      (a_comma, in_brackets ∷ fs, n, behind_item fs i m n v w (rw u h) r.before, (r.no_comma, r.no_bracket, wanted))
+  items_due text limit some (l.behind_item d i m n v e h gap none) fs u w =
+      (a_comma, in_brackets ∷ fs, n, behind_item fs i m n v w (rw u h) gap, none)
   items_due text limit some (l.item_on d i m p v e h c r) fs u w =
       items_due text limit some {d = d} {i = p} {e = e} r fs u (behind_comma (in_brackets ∷ fs) c.at p (behind_item fs i m c.at v w (rw u h) c.before) c.here c.behind)
 
@@ -55,8 +53,8 @@ mutual
       → DueAt text limit an_element (in_braces es ∷ fs) i → IsDue text limit e
   pairs_due text limit some (l.in_pair es d i e other r) fs u w = pair_due text limit some es {d = d} {i = i} {e = e} r fs u (pair_part es fs i w other)
   pairs_due text limit some (l.crosses es d i m p e h c) fs u w = (a_verdict p, in_braces es ∷ fs, m, pair_verdict es fs i m p w (rw u h), c)
-  pairs_due text limit some (l.behind_pair es d i m n p e h clear r wanted) fs u w =
-      (a_comma, in_braces (es ++ (p ∷ [])) ∷ fs, n, behind_pair es fs m n p (pair_verdict es fs i m p w (rw u h)) clear r.before, (r.no_comma, r.no_bracket, wanted))
+  pairs_due text limit some (l.behind_pair es d i m n p e h clear gap none) fs u w =
+      (a_comma, in_braces (es ++ (p ∷ [])) ∷ fs, n, behind_pair es fs m n p (pair_verdict es fs i m p w (rw u h)) clear gap, none)
   pairs_due text limit some (l.pair_on es d i m n p e h clear c r) fs u w =
       pairs_due text limit some {es = es ++ (p ∷ [])} {d = d} {i = n} {e = e} r fs u
       (behind_comma (in_braces (es ++ (p ∷ [])) ∷ fs) c.at n (behind_pair es fs m c.at p (pair_verdict es fs i m p w (rw u h)) clear c.before) c.here c.behind)
@@ -64,7 +62,7 @@ mutual
   pair_due : (text : List ℕ) (limit : ℕ) (some : 1 ≤ limit) (es : List KeyValue) {d i : ℕ} {e : Fault} → StuckPair text limit d i e → (fs : List Frame) → depth (in_braces es ∷ fs) ≡ d
       → DueAt text limit (a_part 0) (in_braces es ∷ fs) i → IsDue text limit e
   pair_due text limit some es (l.in_key d i e r) fs u w = dotted_due text limit some {i = i} {e = e} r (in_braces es ∷ fs) w
-  pair_due text limit some es (l.no_equals d i a n ps e key few gap none h) fs u w = (an_equals (length ps), in_braces es ∷ fs, n, pair_equals es fs i a n ps w key few gap, (none, h))
+  pair_due text limit some es (l.no_equals d i a n ps e key few gap none) fs u w = (an_equals (length ps), in_braces es ∷ fs, n, pair_equals es fs i a n ps w key few gap, none)
   pair_due text limit some es (l.in_value d i a b ps e key few q r) fs u w =
       value_due text limit some {d = d + length ps} {i = b} {e = e} r (under_key (length ps) ∷ (in_braces es ∷ fs)) (omega arith)
       (pair_value es fs (length ps) q.at b (pair_equals es fs i a q.at ps w key few q.before) q.here q.behind)
@@ -73,7 +71,7 @@ mutual
 
 key_value_due : (text : List ℕ) (limit : ℕ) (some : 1 ≤ limit) (es : List KeyValue) {i : ℕ} {e : Fault} → StuckKeyValue text limit i e → DueAt text limit (a_part 0) (in_section es ∷ []) i → IsDue text limit e
 key_value_due text limit some es (l.line_key i e r) w = dotted_due text limit some {i = i} {e = e} r (in_section es ∷ []) w
-key_value_due text limit some es (l.line_equals i a n ps e key few run none h) w = (an_equals (length ps), in_section es ∷ [], n, line_equals es i a n ps w key few run, (none, h))
+key_value_due text limit some es (l.line_equals i a n ps e key few run none) w = (an_equals (length ps), in_section es ∷ [], n, line_equals es i a n ps w key few run, none)
 key_value_due text limit some es (l.line_value i a b ps e key few q r) w =
     value_due text limit some {d = length ps} {i = b} {e = e} r (under_key (length ps) ∷ (in_section es ∷ [])) (omega arith)
     (line_value es (length ps) q.at b (line_equals es i a q.at ps w key few q.before) q.here q.behind)

@@ -13,7 +13,7 @@ use Rattle.toml_span_read.specs.Faults.{fault_at, NoSimpleKey, NoClosing, StuckT
 use Rattle.toml_span_read.specs.Gaps.{MaximalGap, Dot}
 use Rattle.toml_span_read.specs.Grammar.{from_to, last_end, ClosesHeader, SpellsHeader, SpellsKeyValues}
 use Rattle.toml_span_read.specs.Keys.{SimpleKey, SpellsSimpleKey}
-use Rattle.toml_span_read.specs.Stuck.{StuckOnward, no_part, too_many, dotted_on, StuckKey, no_first, onward, StuckHeaderKey, no_header_part, header_too_many, header_on, StuckKeyValue, StuckKeyValues, StuckSections, StuckDocument, StuckValue, StuckItems, StuckPairs, StuckPair}
+use Rattle.toml_span_read.specs.Stuck.{StuckOnward, part_here, dotted_on, StuckKey, no_first, onward, StuckHeaderKey, header_part_here, header_on, StuckKeyValue, StuckKeyValues, StuckSections, StuckDocument, StuckValue, StuckItems, StuckPairs, StuckPair}
 use Rattle.toml_span_read.specs.Stuck as l
 
 -- ---- what gets stuck from a place on
@@ -78,8 +78,8 @@ From text limit what fs i e = ⊥
 -- ---- keys
 
 onward_made : (text : List ℕ) (limit n m p : ℕ) {e : Fault} → Dot text m p → FromPart text limit n p e → StuckOnward text limit n m e
-onward_made text limit n m p dot (here e h) = no_part n m p e dot h
-onward_made text limit n m p dot (past part j key o) = too_many n m p j part dot key o
+onward_made text limit n m p dot (here e h) = part_here n m p e dot (inl h)
+onward_made text limit n m p dot (past part j key o) = part_here n m p (fault_at kinds.ExceededDepthLimit p) dot (inr (part, j, key, o, refl))
 onward_made text limit n m p dot (behind part j e key few r) = dotted_on n m p j part e dot key few r
 
 key_made : (fs : List Frame) (text : List ℕ) (limit i : ℕ) (e : Fault) → StuckKey text limit i e → FromKey text limit fs i e
@@ -117,7 +117,7 @@ leads : (text : List ℕ) (limit : ℕ) {what : What} {fs : List Frame} {i : ℕ
 leads text limit (first_line i k begins gap) e (inl r) = l.before_headers i e begins (k, gap, r)
 leads text limit (first_line i k begins gap) e (inr (evs, j, h, r)) = l.behind_header i j evs e begins (k, gap, h) r
 leads text limit (line_part es i w on other) e r = leads text limit {what = a_line} {fs = in_section es ∷ []} {i = i} w e (inl (l.in_line es i e on other r))
-leads text limit (line_equals es i a n ps w key few run) e (inl (none, h)) = leads text limit {what = a_part 0} {fs = in_section es ∷ []} {i = i} w e (l.line_equals i a n ps e key few run none h)
+leads text limit (line_equals es i a n ps w key few run) e (inl none) = leads text limit {what = a_part 0} {fs = in_section es ∷ []} {i = i} w e (l.line_equals i a n ps e key few run none)
 leads text limit (line_equals es i a n ps w key few run) e (inr (h, b, more, r)) = leads text limit {what = a_part 0} {fs = in_section es ∷ []} {i = i} w e (l.line_value i a b ps e key few (record { at = n; before = run; here = h; behind = more }) r)
 leads text limit (line_value es k n b w h run) e r = leads text limit {what = an_equals k} {fs = in_section es ∷ []} {i = n} w e (inr (h, b, run, outermost text limit k b e r))
 leads text limit (line_tail es i m ev w h) e r = leads text limit {what = a_line} {fs = in_section es ∷ []} {i = i} w e (inl (l.no_newline es i m ev e h r))
@@ -139,16 +139,16 @@ leads text limit (next_section es i m k array ps w h gap) e (inl r) = leads text
 leads text limit (next_section es i m k array ps w h gap) e (inr (evs, j, more, r)) = leads text limit {what = a_line} {fs = in_section es ∷ []} {i = i} w e (inr ([], i, refl, section_made text limit i m k j array ps evs e h gap more r))
 leads text limit (opens_array fs i k w few h gap) e r = leads text limit {what = a_value} {fs = fs} {i = i} w e (l.in_array (depth fs) i k e few h gap r)
 leads text limit (item_value fs i w other) e r = leads text limit {what = an_element} {fs = in_brackets ∷ fs} {i = i} w e (l.in_item (depth (in_brackets ∷ fs)) i e other r)
-leads text limit (behind_item fs i m n v w h gap) e (inl (c, b, r)) = leads text limit {what = an_element} {fs = in_brackets ∷ fs} {i = i} w e (l.behind_item (depth (in_brackets ∷ fs)) i m n v e h (record { before = gap; no_comma = c; no_bracket = b }) r)
+leads text limit (behind_item fs i m n v w h gap) e (inl none) = leads text limit {what = an_element} {fs = in_brackets ∷ fs} {i = i} w e (l.behind_item (depth (in_brackets ∷ fs)) i m n v e h gap none)
 leads text limit (behind_item fs i m n v w h gap) e (inr (c, p, more, r)) = leads text limit {what = an_element} {fs = in_brackets ∷ fs} {i = i} w e (l.item_on (depth (in_brackets ∷ fs)) i m p v e h (record { at = n; before = gap; here = c; behind = more }) r)
 leads text limit (behind_comma fs n p w h gap) e r = leads text limit {what = a_comma} {fs = fs} {i = n} w e (comma_made fs text limit n p e h gap r)
 leads text limit (opens_table fs i k w few h gap) e r = leads text limit {what = a_value} {fs = fs} {i = i} w e (l.in_inline (depth fs) i k e few h gap r)
 leads text limit (pair_part es fs i w other) e r = leads text limit {what = an_element} {fs = in_braces es ∷ fs} {i = i} w e (l.in_pair es (depth (in_braces es ∷ fs)) i e other r)
-leads text limit (pair_equals es fs i a n ps w key few gap) e (inl (none, h)) = leads text limit {what = a_part 0} {fs = in_braces es ∷ fs} {i = i} w e (l.no_equals (depth (in_braces es ∷ fs)) i a n ps e key few gap none h)
+leads text limit (pair_equals es fs i a n ps w key few gap) e (inl none) = leads text limit {what = a_part 0} {fs = in_braces es ∷ fs} {i = i} w e (l.no_equals (depth (in_braces es ∷ fs)) i a n ps e key few gap none)
 leads text limit (pair_equals es fs i a n ps w key few gap) e (inr (h, b, more, r)) = leads text limit {what = a_part 0} {fs = in_braces es ∷ fs} {i = i} w e (l.in_value (depth (in_braces es ∷ fs)) i a b ps e key few (record { at = n; before = gap; here = h; behind = more }) r)
 leads text limit (pair_value es fs k n b w h gap) e r = leads text limit {what = an_equals k} {fs = in_braces es ∷ fs} {i = n} w e (inr (h, b, gap, r))
 leads text limit (pair_verdict es fs i m p w h) e (inl c) = leads text limit {what = an_element} {fs = in_braces es ∷ fs} {i = i} w e (l.crosses es (depth (in_braces es ∷ fs)) i m p e h c)
-leads text limit (pair_verdict es fs i m p w h) e (inr (clear, n, gap, inl (c, b, r))) = leads text limit {what = an_element} {fs = in_braces es ∷ fs} {i = i} w e (l.behind_pair es (depth (in_braces es ∷ fs)) i m n p e h clear (record { before = gap; no_comma = c; no_bracket = b }) r)
+leads text limit (pair_verdict es fs i m p w h) e (inr (clear, n, gap, inl none)) = leads text limit {what = an_element} {fs = in_braces es ∷ fs} {i = i} w e (l.behind_pair es (depth (in_braces es ∷ fs)) i m n p e h clear gap none)
 leads text limit (pair_verdict es fs i m p w h) e (inr (clear, n, gap, inr (c, q, more, r))) = leads text limit {what = an_element} {fs = in_braces es ∷ fs} {i = i} w e (l.pair_on es (depth (in_braces es ∷ fs)) i m q p e h clear (record { at = n; before = gap; here = c; behind = more }) r)
 leads text limit (behind_pair es fs m n p w clear gap) e r = leads text limit {what = a_verdict p} {fs = in_braces es ∷ fs} {i = m} w e (inr (clear, n, gap, r))
 
@@ -165,10 +165,7 @@ told_from (an_equals k) (in_section es ∷ fs) text limit i e o h = inl h
 told_from (an_equals k) (in_brackets ∷ fs) text limit i e o h = h
 told_from (an_equals k) (in_braces es ∷ fs) text limit i e o h = inl h
 told_from (an_equals k) (under_key n ∷ fs) text limit i e o h = h
-told_from a_value fs text limit i e o (inl (n, h)) = l.no_value (depth fs) i e n h
-told_from a_value fs text limit i e o (inr (inl (q, h))) = l.no_string (depth fs) i e q h
-told_from a_value fs text limit i e o (inr (inr (inl (g, b, h)))) = l.too_deep (depth fs) i e g b h
-told_from a_value fs text limit i e o (inr (inr (inr (g, h)))) = l.no_bare (depth fs) i e g h
+told_from a_value fs text limit i e o h = l.value_here (depth fs) i e h
 told_from an_element fs text limit i e o h = absurd h
 told_from a_comma [] text limit i e o h = absurd h
 told_from a_comma (in_section es ∷ fs) text limit i e o h = absurd h
@@ -180,8 +177,7 @@ told_from (a_verdict ev) (in_section es ∷ fs) text limit i e o h = inl h
 told_from (a_verdict ev) (in_brackets ∷ fs) text limit i e o h = absurd h
 told_from (a_verdict ev) (in_braces es ∷ fs) text limit i e o h = inl h
 told_from (a_verdict ev) (under_key n ∷ fs) text limit i e o h = absurd h
-told_from (a_header_part n) fs text limit i e o (inl h) = no_header_part n i e h
-told_from (a_header_part n) fs text limit i e o (inr (part, j, key, g, u)) = rw u (header_too_many n i j part key g)
+told_from (a_header_part n) fs text limit i e o h = header_part_here n i e h
 told_from (a_closing false) fs text limit i e o h = inl h
 told_from (a_closing true) fs text limit i e o h = inl (inl h)
 told_from a_tail fs text limit i e o h = absurd h

@@ -15,7 +15,7 @@ use Rattle.toml_span_read.specs.declared.fault.Fault.{Fault}
 use Rattle.toml_span_read.specs.Gaps.{GapPiece, begins_gap, GapBy, MaximalGap, Dot, NoDot, Separator, Closes, Neither}
 use Rattle.toml_span_read.specs.Faults.{IsTokenFault, NoSimpleKey}
 use Rattle.toml_span_read.specs.Keys.{SimpleKey, SpellsSimpleKey, opens_string, Onward, SpellsKey}
-use Rattle.toml_span_read.specs.Stuck.{StuckOnward, no_part, too_many, dotted_on, StuckKey, no_first, onward}
+use Rattle.toml_span_read.specs.Stuck.{StuckOnward, part_here, dotted_on, StuckKey, no_first, onward}
 
 -- a byte b that is k passes where k does not
 pub clash : (p : ℕ → Bool) (b k : ℕ) → p b ≡ true → b ≡ k → p k ≡ false → ⊥
@@ -184,11 +184,11 @@ dotted_byte [] text i j h = absurd h
 dotted_byte (s ∷ ss) text i j (m, key, rest) = key_byte s text i m key
 
 onward_excluded : (text : List ℕ) (limit : ℕ) {n m : ℕ} {e : Fault} → StuckOnward text limit n m e → (ss : List SimpleKey) (j : ℕ) → Onward ss text m j → n + length ss ≤ limit → ⊥
-onward_excluded text limit (no_part n m p e d h) [] j a l = dot_or_none text m p d a.1
-onward_excluded text limit (no_part n m p e d h) (s ∷ ss) j (p', q, d', key, rest) l =
+onward_excluded text limit (part_here n m p e d (inl h)) [] j a l = dot_or_none text m p d a.1
+onward_excluded text limit (part_here n m p e d (inl h)) (s ∷ ss) j (p', q, d', key, rest) l =
     let f : p' ≡ p = dot_unique text m p' p d' d in key_or_none s text p q e (rw f at key) h
-onward_excluded text limit (too_many n m p q s d k o) [] j a l = dot_or_none text m p d a.1
-onward_excluded text limit (too_many n m p q s d k o) (t ∷ ts) j a l = omega arith
+onward_excluded text limit (part_here n m p e d (inr (s, q, k, o, is))) [] j a l = dot_or_none text m p d a.1
+onward_excluded text limit (part_here n m p e d (inr (s, q, k, o, is))) (t ∷ ts) j a l = omega arith
 onward_excluded text limit (dotted_on n m p q s e d k few h) [] j a l = dot_or_none text m p d a.1
 onward_excluded text limit (dotted_on n m p q s e d k few h) (t ∷ ts) j (p', q', d', key, rest) l =
     let f : p' ≡ p = dot_unique text m p' p d' d in

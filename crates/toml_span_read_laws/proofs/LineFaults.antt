@@ -25,16 +25,16 @@ none v text limit d i j e h s = value_excluded text limit {d = d} {i = i} {e = e
 
 pub key_value_one : (text : List ℕ) (limit i : ℕ) (e f : Fault) → StuckKeyValue text limit i e → StuckKeyValue text limit i f → e ≡ f
 key_value_one text limit i e f (line_key i' e' r) (line_key j' f' z) = dotted_one text limit {i = i} {e = e} {f = f} r z
-key_value_one text limit i e f (line_key i' e' r) (line_equals j' a n ps f' key few run ne w) = absurd (dotted_excluded text limit {i = i} {e = e} r ps a key few)
+key_value_one text limit i e f (line_key i' e' r) (line_equals j' a n ps f' key few run (ne, w)) = absurd (dotted_excluded text limit {i = i} {e = e} r ps a key few)
 key_value_one text limit i e f (line_key i' e' r) (line_value j' a b ps f' key few eq z) = absurd (dotted_excluded text limit {i = i} {e = e} r ps a key few)
-key_value_one text limit i e f (line_equals i' a n ps e' key few run ne w) (line_key j' f' z) = absurd (dotted_excluded text limit {i = i} {e = f} z ps a key few)
-key_value_one text limit i e f (line_equals i' a n ps e' key few run ne w) (line_equals j' b m qs f' key' few' walk ne' v) =
+key_value_one text limit i e f (line_equals i' a n ps e' key few run (ne, w)) (line_key j' f' z) = absurd (dotted_excluded text limit {i = i} {e = f} z ps a key few)
+key_value_one text limit i e f (line_equals i' a n ps e' key few run (ne, w)) (line_equals j' b m qs f' key' few' walk (ne', v)) =
     let u = dotted_unique qs ps text i b a key' key in
     let y : m ≡ n = run_unique is_blank text a m n (rw u.1 at walk) run in wanted_one text n dues.Equals e f w (rw y at v)
-key_value_one text limit i e f (line_equals i' a n ps e' key few run ne w) (line_value j' b c qs f' key' few' eq z) =
+key_value_one text limit i e f (line_equals i' a n ps e' key few run (ne, w)) (line_value j' b c qs f' key' few' eq z) =
     let u = dotted_unique qs ps text i b a key' key in absurd (equals_or_none text a c n (rw u.1 at eq) run ne)
 key_value_one text limit i e f (line_value i' a b ps e' key few eq r) (line_key j' f' z) = absurd (dotted_excluded text limit {i = i} {e = f} z ps a key few)
-key_value_one text limit i e f (line_value i' a b ps e' key few eq r) (line_equals j' c n qs f' key' few' run ne w) =
+key_value_one text limit i e f (line_value i' a b ps e' key few eq r) (line_equals j' c n qs f' key' few' run (ne, w)) =
     let u = dotted_unique ps qs text i a c key key' in absurd (equals_or_none text c b n (rw u.1 at eq) run ne)
 key_value_one text limit i e f (line_value i' a b ps e' key few eq r) (line_value j' c d qs f' key' few' eq' z) =
     let u = dotted_unique qs ps text i c a key' key in

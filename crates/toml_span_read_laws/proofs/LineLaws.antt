@@ -18,7 +18,7 @@ use Rattle.toml_span_read.specs.Data.{ParsedValue, KeyValue, Block, block}
 use Rattle.toml_span_read.specs.Gaps.{Skipped, Tail, NoTail, Equals}
 use Rattle.toml_span_read.specs.Grammar.{Spells, from_to, SpellsKeyValue, SpellsKeyValues, SpellsLines, OpensHeader, ClosesHeader, HeaderFront, SpellsHeader, last_end, SpellsSection, SpellsSections, SpellsDocument}
 use Rattle.toml_span_read.specs.Keys.{SimpleKey, opens_string, SpellsKey}
-use Rattle.toml_span_read.specs.Stuck.{StuckHeaderKey, no_header_part, header_too_many, header_on, StuckKeyValue, line_key, line_equals, line_value, StuckKeyValues, in_line, no_newline, crossing, line_on, StuckLines, StuckHeader, header_key, header_close, header_rest, StuckSections, in_header, in_section, section_on, StuckDocument, before_headers, behind_header, ReadsDocument, AreRead, StuckValue}
+use Rattle.toml_span_read.specs.Stuck.{StuckHeaderKey, header_part_here, header_on, StuckKeyValue, line_key, line_equals, line_value, StuckKeyValues, in_line, no_newline, crossing, line_on, StuckLines, StuckHeader, header_key, header_close, header_rest, StuckSections, in_header, in_section, section_on, StuckDocument, before_headers, behind_header, ReadsDocument, AreRead, StuckValue}
 use Rattle.toml_span_read.specs.Faults.{StuckTail, NoClosing}
 use Rattle.toml_span_read_laws.proofs.EarlierLaws.{clear_crossing}
 use Rattle.toml_span_read_laws.proofs.KeyLaws.{clash, not_here, gap_unique, key_unique, key_or_none, dot_unique, dot_or_none, dotted_unique, dotted_byte, dotted_excluded}
@@ -97,7 +97,7 @@ key_value_unique one x y text limit i j k a b =
 
 pub key_value_excluded : ValueOrFault → (text : List ℕ) (limit i : ℕ) (e : Fault) → StuckKeyValue text limit i e → (x : KeyValue) (j : ℕ) → SpellsKeyValue x text limit i j → ⊥
 key_value_excluded none text limit i e (line_key i' e' r) x j a = dotted_excluded text limit {i = i} {e = e} r x.parts a.key_end a.key a.few
-key_value_excluded none text limit i e (line_equals i' m n ps e' key few run other w) x j a =
+key_value_excluded none text limit i e (line_equals i' m n ps e' key few run (other, w)) x j a =
     let p = dotted_unique x.parts ps text i a.key_end m a.key key in equals_or_none text m a.from n (rw p.1 at a.sign) run other
 key_value_excluded none text limit i e (line_value i' m b ps e' key few sign r) x j a =
     let p = dotted_unique x.parts ps text i a.key_end m a.key key in
@@ -194,8 +194,8 @@ header_byte ps b text limit i j h = opens_byte b text i h.front.inside h.front.o
 
 pub header_key_excluded : (text : List ℕ) (limit : ℕ) {n i : ℕ} {e : Fault} → StuckHeaderKey text limit n i e → (ss : List SimpleKey) (j : ℕ) → SpellsKey ss text i j → n + length ss ≤ limit → ⊥
 header_key_excluded text limit h [] j a l = a
-header_key_excluded text limit (no_header_part n i e h) (s ∷ ss) j (m, key, rest) l = key_or_none s text i m e key h
-header_key_excluded text limit (header_too_many n i m s k o) (t ∷ ts) j a l = omega (arith, o, l)
+header_key_excluded text limit (header_part_here n i e (inl h)) (s ∷ ss) j (m, key, rest) l = key_or_none s text i m e key h
+header_key_excluded text limit (header_part_here n i e (inr (s, m, k, o, is))) (t ∷ ts) j a l = omega (arith, o, l)
 header_key_excluded text limit (header_on n i m p s e k few d h) (t ∷ []) j (m', key, rest) l =
     let u = key_unique t s text i m' m key k in dot_or_none text m p d (rw u.1 at rest.1)
 header_key_excluded text limit (header_on n i m p s e k few d h) (t ∷ t' ∷ ts) j (m', key, (p', q, d', key', rest)) l =

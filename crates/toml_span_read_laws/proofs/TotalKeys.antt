@@ -24,7 +24,7 @@ use Rattle.toml_span_read.specs.code.Gaps.{Further, DotGives}
 use Rattle.toml_span_read.specs.Gaps.{Dot, NoDot}
 use Rattle.toml_span_read_laws.specs.code.Judged.{Judged}
 use Rattle.toml_span_read.specs.Keys.{SimpleKey, SpellsSimpleKey, opens_string, Onward, SpellsKey}
-use Rattle.toml_span_read.specs.Stuck.{StuckOnward, StuckKey, StuckHeaderKey, no_part, too_many, dotted_on, no_first, onward, no_header_part, header_too_many, header_on}
+use Rattle.toml_span_read.specs.Stuck.{StuckOnward, StuckKey, StuckHeaderKey, part_here, dotted_on, no_first, onward, header_part_here, header_on}
 use Rattle.toml_span_read.proofs.NumberLemmas.{bool_cases}
 use Rattle.toml_span_read.proofs.Places.{run_some}
 
@@ -126,10 +126,10 @@ onward_stands (suc fuel) text limit n m u all l few b =
       | inl none ↦ inl (m, [], (refl, none), omega (arith, few), omega arith, b)
       | inr d ↦
           elim (key_stands text d.0 u (all d.0 d.2.boundary)) [
-            | inr x ↦ inr (x.0, no_part n m d.0 x.0 d.1 x.1)
+            | inr x ↦ inr (x.0, part_here n m d.0 x.0 d.1 (inl x.1))
             | inl k ↦
                 elim (cases_lt n limit) [
-                  | inr past ↦ inr (fault_at kinds.ExceededDepthLimit d.0, too_many n m d.0 k.0 k.1 d.1 k.2 past)
+                  | inr past ↦ inr (fault_at kinds.ExceededDepthLimit d.0, part_here n m d.0 (fault_at kinds.ExceededDepthLimit d.0) d.1 (inr (k.1, k.0, k.2, past, refl)))
                   | inl under ↦
                       elim (onward_stands fuel text limit (n + 1) k.0 u all (omega (arith, l, d.2.on, k.3.on)) (omega (arith, under)) k.3.boundary) [
                         | inl o ↦ inl (o.0, k.1 ∷ o.1, (d.0, k.0, d.1, k.2, o.2), omega (arith, o.3), omega (arith, d.2.on, k.3.on, o.4), o.5)
@@ -169,10 +169,10 @@ pub header_key_stands : (fuel : ℕ) (text : List ℕ) (limit n i : ℕ) → IsU
 header_key_stands zero text limit n i u all l b = absurd (omega (arith, l, b.0))
 header_key_stands (suc fuel) text limit n i u all l b =
     elim (key_stands text i u (all i b)) [
-      | inr x ↦ inr (x.0, no_header_part n i x.0 x.1)
+      | inr x ↦ inr (x.0, header_part_here n i x.0 (inl x.1))
       | inl k ↦
           elim (cases_lt n limit) [
-            | inr past ↦ inr (record { kind = kinds.ExceededDepthLimit; span = k.1.span }, header_too_many n i k.0 k.1 k.2 past)
+            | inr past ↦ inr (record { kind = kinds.ExceededDepthLimit; span = k.1.span }, header_part_here n i (record { kind = kinds.ExceededDepthLimit; span = k.1.span }) (inr (k.1, k.0, k.2, past, refl)))
             | inl under ↦
                 elim (dot_sum text k.0 (all k.0 k.3.boundary).dot) [
                   | inl none ↦ inl (k.0, k.1 ∷ [], (k.0, k.2, (refl, none)), omega (arith, under), k.3)

@@ -50,7 +50,7 @@ key_value_stands text limit i u all some b =
       | inr x ↦ inr (x.0, line_key i x.0 x.1)
       | inl k ↦
           elim (equals_sum text k.0 (all k.0 k.4.boundary).equals) [
-            | inr n ↦ let w = wanted_stands text n.0 dues.Equals (all n.0 n.3).stands in inr (w.0, line_equals i k.0 n.0 k.1 w.0 k.2 k.3 n.1 n.2 w.1)
+            | inr n ↦ let w = wanted_stands text n.0 dues.Equals (all n.0 n.3).stands in inr (w.0, line_equals i k.0 n.0 k.1 w.0 k.2 k.3 n.1 (n.2, w.1))
             | inl s ↦
                 elim (value_or_stuck text limit (length k.1) s.0 u all some s.2.boundary) [
                   | inr x ↦ inr (x.0, line_value i k.0 s.0 k.1 x.0 k.2 k.3 s.1 x.1)

@@ -16,7 +16,7 @@ use Rattle.toml_span_read.specs.Earlier.{Clear}
 use Rattle.toml_span_read.specs.Grammar.{IsScalar, Spells, SpellsInner, SpellsItems, SpellsPairs, SpellsPair}
 use Rattle.toml_span_read.specs.Faults.{begins_bare, opens_nested, NoBare}
 use Rattle.toml_span_read.specs.code.Values.{ValueGives, IsReadAs}
-use Rattle.toml_span_read.specs.Stuck.{StuckValue, no_value, no_string, too_deep, no_bare, in_array, in_inline, StuckItems, in_item, behind_item, item_on, StuckPairs, in_pair, crosses, behind_pair, pair_on, StuckPair, in_key, no_equals, in_value}
+use Rattle.toml_span_read.specs.Stuck.{StuckValue, value_here, in_array, in_inline, StuckItems, in_item, behind_item, item_on, StuckPairs, in_pair, crosses, behind_pair, pair_on, StuckPair, in_key, no_equals, in_value}
 use Rattle.toml_span_read_laws.proofs.EarlierLaws.{clear_crossing}
 use Rattle.toml_span_read_laws.proofs.KeyLaws.{clash, not_here, gap_unique, sign_unique, closes_unique, close_or_comma, sign_or_none, close_or_neither, comma_or_neither, dotted_unique, dotted_byte, dotted_excluded}
 use Rattle.toml_span_read_laws.proofs.ScalarLaws.{scalar_unique, scalar_byte, quoted_or_fault, bare_byte, bare_or_fault}
@@ -163,10 +163,10 @@ no_pair_at p text limit d i m e h = no_dotted_at p.parts text i h.0 125 refl e h
 
 mutual
   pub value_excluded : (text : List ℕ) (limit : ℕ) {d i : ℕ} {e : Fault} → StuckValue text limit d i e → (v : ParsedValue) (j : ℕ) → Spells v text limit d i j → ⊥
-  value_excluded text limit (no_value d i e n w) v j h = false≢true (sym n ∙ value_byte v text limit d i j h)
-  value_excluded text limit (no_string d i e o w) (parsed x s) j h = no_quoted x s text limit d i j e h.1 o (λ y g. quoted_or_fault y s text i j e g o w)
-  value_excluded text limit (too_deep d i e l b w) (parsed x s) j h = omega (arith, l, h.0)
-  value_excluded text limit (no_bare d i e l n) (parsed x s) j h = no_bare_here x s text limit d i j e h.1 n
+  value_excluded text limit (value_here d i e (inl (n, w))) v j h = false≢true (sym n ∙ value_byte v text limit d i j h)
+  value_excluded text limit (value_here d i e (inr (inl (o, w)))) (parsed x s) j h = no_quoted x s text limit d i j e h.1 o (λ y g. quoted_or_fault y s text i j e g o w)
+  value_excluded text limit (value_here d i e (inr (inr (inl (l, b, w))))) (parsed x s) j h = omega (arith, l, h.0)
+  value_excluded text limit (value_here d i e (inr (inr (inr (l, n))))) (parsed x s) j h = no_bare_here x s text limit d i j e h.1 n
   value_excluded text limit (in_array d i k e l here gap r) (parsed x s) j h =
       let u = items_here x s text limit d i j k here gap h.1 in items_excluded text limit {d = d + 1} {i = k} {e = e} r u.0 j u.1
   value_excluded text limit (in_inline d i k e l here gap r) (parsed x s) j h =
@@ -175,11 +175,11 @@ mutual
   items_excluded : (text : List ℕ) (limit : ℕ) {d i : ℕ} {e : Fault} → StuckItems text limit d i e → (vs : ParsedItems) (j : ℕ) → SpellsItems vs text limit d i j → ⊥
   items_excluded text limit (in_item d i e other r) no_items j h = not_here (get_or text i 0) 93 h.0 other
   items_excluded text limit (in_item d i e other r) (item v vs) j (m, a, z) = value_excluded text limit {d = d} {i = i} {e = e} r v m a
-  items_excluded text limit (behind_item d i m n v e a r w) no_items j h = no_value_at v text limit d i m 93 refl h.0 a
-  items_excluded text limit (behind_item d i m n v e a r w) (item y ws) j (m', b, inl (f, c)) =
-      let u = value_unique v y text limit d i m m' a b in close_or_neither 93 text m j n (rw (sym u.1) at c) r
-  items_excluded text limit (behind_item d i m n v e a r w) (item y ws) j (m', b, inr (p, c, z)) =
-      let u = value_unique v y text limit d i m m' a b in comma_or_neither 93 text m p n (rw (sym u.1) at c) r
+  items_excluded text limit (behind_item d i m n v e a r (rc, rb, w)) no_items j h = no_value_at v text limit d i m 93 refl h.0 a
+  items_excluded text limit (behind_item d i m n v e a r (rc, rb, w)) (item y ws) j (m', b, inl (f, c)) =
+      let u = value_unique v y text limit d i m m' a b in close_or_neither 93 text m j n (rw (sym u.1) at c) (record { before = r; no_comma = rc; no_bracket = rb })
+  items_excluded text limit (behind_item d i m n v e a r (rc, rb, w)) (item y ws) j (m', b, inr (p, c, z)) =
+      let u = value_unique v y text limit d i m m' a b in comma_or_neither 93 text m p n (rw (sym u.1) at c) (record { before = r; no_comma = rc; no_bracket = rb })
   items_excluded text limit (item_on d i m p v e a g r) no_items j h = no_value_at v text limit d i m 93 refl h.0 a
   items_excluded text limit (item_on d i m p v e a g r) (item w ws) j (m', b, inl (f, c)) =
       let u = value_unique v w text limit d i m m' a b in close_or_comma 93 text m j p (λ z. omega arith) (rw (sym u.1) at c) g
@@ -195,13 +195,13 @@ mutual
   pairs_excluded text limit (crosses es d i m p e s c) (pair ss v x ps) j (n, q, clear, z) =
       let u = pair_unique p (record { parts = ss; value = v; extent = x }) text limit d i m n s q in
       clear_crossing es p e (subst (λ (q : KeyValue). Clear es q) (sym u.0) clear) c
-  pairs_excluded text limit (behind_pair es d i m n p e s l r w) no_pairs j h = no_pair_at p text limit d i m h.0 s
-  pairs_excluded text limit (behind_pair es d i m n p e s l r w) (pair ss v x ps) j (m', q, clear, inl (f, c)) =
+  pairs_excluded text limit (behind_pair es d i m n p e s l r (rc, rb, w)) no_pairs j h = no_pair_at p text limit d i m h.0 s
+  pairs_excluded text limit (behind_pair es d i m n p e s l r (rc, rb, w)) (pair ss v x ps) j (m', q, clear, inl (f, c)) =
       let u = pair_unique p (record { parts = ss; value = v; extent = x }) text limit d i m m' s q in
-      close_or_neither 125 text m j n (rw (sym u.1) at c) r
-  pairs_excluded text limit (behind_pair es d i m n p e s l r w) (pair ss v x ps) j (m', q, clear, inr (y, c, z)) =
+      close_or_neither 125 text m j n (rw (sym u.1) at c) (record { before = r; no_comma = rc; no_bracket = rb })
+  pairs_excluded text limit (behind_pair es d i m n p e s l r (rc, rb, w)) (pair ss v x ps) j (m', q, clear, inr (y, c, z)) =
       let u = pair_unique p (record { parts = ss; value = v; extent = x }) text limit d i m m' s q in
-      comma_or_neither 125 text m y n (rw (sym u.1) at c) r
+      comma_or_neither 125 text m y n (rw (sym u.1) at c) (record { before = r; no_comma = rc; no_bracket = rb })
   pairs_excluded text limit (pair_on es d i m n p e s l g r) no_pairs j h = no_pair_at p text limit d i m h.0 s
   pairs_excluded text limit (pair_on es d i m n p e s l g r) (pair ss v x ps) j (m', q, clear, inl (f, c)) =
       let u = pair_unique p (record { parts = ss; value = v; extent = x }) text limit d i m m' s q in
@@ -213,7 +213,7 @@ mutual
 
   pub pair_excluded : (text : List ℕ) (limit : ℕ) {d i : ℕ} {e : Fault} → StuckPair text limit d i e → (p : KeyValue) (j : ℕ) → SpellsPair p text limit d i j → ⊥
   pair_excluded text limit (in_key d i e r) p j (a, b, key, few, eq, val, ext) = dotted_excluded text limit r p.parts a key few
-  pair_excluded text limit (no_equals d i a n ts e key few g ne w) p j (a', b, key', few', eq, val, ext) =
+  pair_excluded text limit (no_equals d i a n ts e key few g (ne, w)) p j (a', b, key', few', eq, val, ext) =
       let u = dotted_unique p.parts ts text i a' a key' key in sign_or_none 61 text a b n (rw u.1 at eq) g ne
   pair_excluded text limit (in_value d i a b ts e key few eq r) p j (a', b', key', few', eq', val, ext) =
       let u = front_unique p.parts ts text i a' a b' b key' key eq' eq in value_excluded text limit {d = d + length ts} {i = b} {e = e} r p.value j (rw (u.0, u.1) at val)

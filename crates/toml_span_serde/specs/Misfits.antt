@@ -10,6 +10,7 @@ use Rattle.toml_span_tree.specs.Path as tree
 use Rattle.toml_span_tree.specs.Value.{view}
 use Rattle.toml_span_tree.specs.declared.value.Value.{Value}
 use Rattle.toml_span_read.specs.Places.{IsLineInfo}
+use Rattle.toml_span_read.specs.Limits.{depth_limit}
 use Rattle.toml_span_assembly.specs.Parsing.{IsRefusal, IsTree}
 use Rattle.toml_span_serde.specs.declared.misfit.Expected.{Expected}
 use Rattle.toml_span_serde.specs.declared.misfit.Expected.TheVariants as expected
@@ -99,10 +100,10 @@ HasLine text m = m.span.start ≤ length text → (line column : ℕ) × (m.line
 
 -- the text spells a document, whose tree has this property
 abbrev pub HasTree : List ℕ → (Node → Type 0) → Type 0
-HasTree text P = (root : Value) × IsTree text 128 root × P (view root)
+HasTree text P = (root : Value) × IsTree text depth_limit root × P (view root)
 
 -- the text is refused, or it has a tree and a place of it is told
 abbrev pub IsRefused : List ℕ → Stop Error → Type 0
 IsRefused text (stop.Memory e) = ⊤
-IsRefused text (stop.Fault (error.Refused e)) = IsRefusal text 128 (stop.Fault e)
+IsRefused text (stop.Fault (error.Refused e)) = IsRefusal text depth_limit (stop.Fault e)
 IsRefused text (stop.Fault (error.Misfit m)) = HasTree text (Names (path_of m.path.items) m.span) × HasLine text m

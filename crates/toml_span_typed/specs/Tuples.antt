@@ -1,5 +1,5 @@
 -- What an array of two elements is read as, each element as a type of its own.
-use Rattle.std.specs.Prelude.{◌≡◌, ◌≢◌, ⊤, ℕ, List, [], ◌∷◌, ◌++◌, length, Result, Ok, Err, None, codes}
+use Rattle.std.specs.Prelude.{◌≡◌, ◌≢◌, ⊤, ℕ, [], ◌∷◌, ◌++◌, length, Result, Ok, Err, None, codes}
 use Rattle.std.specs.Fmt.{decimal}
 use Rattle.toml_span_lex.specs.declared.span.Span.{Span}
 use Rattle.toml_span_lex.specs.declared.stop.Stop.{Stop}

@@ -7,13 +7,13 @@ use Rattle.toml_span_lex.specs.declared.stop.Stop.{Stop}
 use Rattle.toml_span_lex.specs.declared.stop.Stop.TheVariants as stops
 use Rattle.toml_span_tree.specs.declared.error.Error.{Error}
 use Rattle.toml_span_tree.specs.declared.value.Value.{Value}
-use Rattle.toml_span_tree.specs.Error.{ErrorContent, content_of, missing_field}
+use Rattle.toml_span_tree.specs.Error.{ErrorContent, content_of}
 use Rattle.toml_span_tree.specs.Node.{Members, Node, node, taken, scalar, array, table, entry_at}
 use Rattle.toml_span_tree.specs.Path.{Path, Place, key}
 use Rattle.toml_span_tree.specs.Value.{view}
 use Rattle.toml_span_typed.specs.Errors.{Errors, all, one}
 use Rattle.toml_span_typed.specs.Reads.{Answers, Gives, result_map}
-use Rattle.toml_span_typed.specs.TableHelper.{State, OpensTable, Refuses, Requires, found, fresh, keeping, missing, noted, without}
+use Rattle.toml_span_typed.specs.TableHelper.{State, OpensTable, Refuses, Requires, fresh, keeping, missing, noted, without}
 use Rattle.toml_span_typed.specs.declared.de_helpers.table_helper.Unfinished.{Unfinished}
 use Rattle.toml_span_typed.specs.declared.de_helpers.table_helper.Unfinished.TheVariants as unfinished
 use Rattle.toml_span_claims.specs.Ordered.{IsOrdered}
@@ -22,9 +22,9 @@ use Rattle.toml_span.specs.Document.{IsDocument, IsValueOf, subtree, without_key
 use Rattle.toml_span.specs.Helpers.{IsOver, ReadsPart, HasNoKeyBut, except, left_over}
 use Rattle.toml_span.proofs.Fields.{ends-ok, ends-faults, required-at, required-over}
 use Rattle.toml_span_uses.specs.Fields.{IsField, IsStopped, errors_in, number, whole}
-use Rattle.toml_span_uses.specs.Servers.{AreServers, ListErrors, NoServers, ReadsList, ServerReads, lacks, list_reads, number_or, port_in, server_errors}
+use Rattle.toml_span_uses.specs.Servers.{AreServers, ListErrors, NoServers, ReadsList, ServerReads, lacks, list_reads, number_or, port_in}
 use Rattle.toml_span_uses.specs.declared.servers.Server.{Server}
-use Rattle.toml_span_uses.proofs.Reading.{Over, after-noted, after-read, moved, never-empty, on-document, over-root}
+use Rattle.toml_span_uses.proofs.Reading.{Over, after-noted, after-read, never-empty, on-document, over-root}
 
 -- ---- one server
 

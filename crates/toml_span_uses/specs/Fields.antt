@@ -11,6 +11,7 @@ use Rattle.toml_span_tree.specs.Path.{Path, Place, Shape, shape_taken, shape_sca
 use Rattle.toml_span_typed.specs.Errors.{Errors, all, one}
 use Rattle.toml_span_typed.specs.Reads.{read_integer, result_map, unsigned}
 use Rattle.toml_span_read.specs.Places.{IsLineInfo}
+use Rattle.toml_span_read.specs.Limits.{depth_limit}
 use Rattle.toml_span_typed.specs.declared.de_helpers.table_helper.Unfinished.{Unfinished}
 use Rattle.toml_span_typed.specs.declared.de_helpers.table_helper.Unfinished.TheVariants as unfinished
 use Rattle.toml_span_assembly.specs.Parsing.{IsRefusal}
@@ -57,14 +58,15 @@ number = read_integer (codes "u16") (unsigned (2 ^ 16))
 -- The text is refused with this span, line and column: the span is in the text, and they are those of its start.
 abbrev pub IsRefusedAt : List ℕ → Span → ℕ × ℕ → Type 0
 IsRefusedAt text span info =
-    (error : Error) × IsRefusal text 128 (stops.Fault error) × (error.span ≡ span) × (error.line_info ≡ Some info)
+    (error : Error) × IsRefusal text depth_limit (stops.Fault error) × (error.span ≡ span)
+    × (error.line_info ≡ Some info)
     × (span.start ≤ length text) × (span.start ≤ span.end) × IsLineInfo text span.start info.0 info.1
 
 -- The text is refused, and the error tells why; or it is read, and the error is the last of those of its port.
 abbrev pub NoPort : List ℕ → Stop Error → Type 0
 NoPort text (stops.Memory e) = ⊤
 NoPort text (stops.Fault error) =
-    IsRefusal text 128 (stops.Fault error)
+    IsRefusal text depth_limit (stops.Fault error)
     ⊎ IsDocument text (λ places. (faults : Errors)
     × (required_field number (codes "port") (whole text) places ≡ Err faults) × (content_of error ≡ faults.last))
 

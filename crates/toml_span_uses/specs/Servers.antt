@@ -16,6 +16,7 @@ use Rattle.toml_span.specs.Document.{IsDocument, IsValueOf, subtree}
 use Rattle.toml_span.specs.Helpers.{HasNoKeyBut, ReadsPart, except, left_over}
 use Rattle.toml_span_uses.specs.Fields.{errors_in, number, whole}
 use Rattle.toml_span_uses.specs.declared.servers.Server.{Server}
+use Rattle.toml_span_read.specs.Limits.{depth_limit}
 
 -- ---- one server
 
@@ -66,7 +67,7 @@ ListErrors span places errors = MatchOption (places (key (codes "servers") ∷ [
 abbrev pub NoServers : List ℕ → Stop Errors → Type 0
 NoServers text (stops.Memory e) = ⊤
 NoServers text (stops.Fault faults) =
-    ((error : Error) × IsRefusal text 128 (stops.Fault error) × (faults ≡ one (content_of error)))
+    ((error : Error) × IsRefusal text depth_limit (stops.Fault error) × (faults ≡ one (content_of error)))
     ⊎ IsDocument text (λ places. (errors : List ErrorContent) × (rest : Members) × ListErrors (whole text) places errors
     × IsValueOf (except (codes "servers" ∷ []) places) (node (table rest) (whole text))
     × (all faults ≡ errors ++ left_over (codes "servers" ∷ []) (whole text) rest))

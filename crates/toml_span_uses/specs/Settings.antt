@@ -15,6 +15,7 @@ use Rattle.toml_span.specs.Document.{IsDocument, IsValueOf}
 use Rattle.toml_span.specs.Helpers.{HasNoKeyBut, except, left_over}
 use Rattle.toml_span_uses.specs.Fields.{errors_in, number, optional_field, required_field, whole}
 use Rattle.toml_span_uses.specs.declared.settings.Settings.{Settings}
+use Rattle.toml_span_read.specs.Limits.{depth_limit}
 
 abbrev pub names : List (List ℕ)
 names = codes "host" ∷ codes "port" ∷ codes "secure" ∷ []
@@ -38,6 +39,6 @@ errors_of span places rest =
 abbrev pub NoSettings : List ℕ → Stop Errors → Type 0
 NoSettings text (stops.Memory e) = ⊤
 NoSettings text (stops.Fault faults) =
-    ((error : Error) × IsRefusal text 128 (stops.Fault error) × (faults ≡ one (content_of error)))
+    ((error : Error) × IsRefusal text depth_limit (stops.Fault error) × (faults ≡ one (content_of error)))
     ⊎ IsDocument text (λ places. (rest : Members) × IsValueOf (except names places) (node (table rest) (whole text))
     × (all faults ≡ errors_of (whole text) places rest))

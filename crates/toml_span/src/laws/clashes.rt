@@ -20,7 +20,7 @@ pub fn told_is_first_by_place()
 
 /// What stands at a position is never said by a header that passes through it: the claim of the entry, or of the
 /// array's element, decides there.
-pub fn no_header_through_an_entry_decides()
+pub fn no_header_through_an_element_decides()
     ensures { (text : List ℕ) (limit : ℕ) (blocks : List Block) (path : Path) (index : ℕ) (c : Claim)
         → SpellsDocument blocks text limit
         → deciding_claim (claims_at (path ++ (position index ∷ [])) (all_claims (claims blocks))) ≡ Some c

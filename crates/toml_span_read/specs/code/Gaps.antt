@@ -1,4 +1,4 @@
--- What the functions of gaps and signs give.
+-- What the functions of gaps and separators give.
 use Rattle.std.specs.Prelude.{◌≡◌, ℕ, ◌<◌, ◌≤◌, false, ◌==◌, List, slice_index, Result, Ok, Err, Option, Some, None}
 use Rattle.std.specs.Str.{IsCharBoundary}
 use Rattle.toml_span_lex.specs.Bytes.{is_blank, MaximalRun, comma, equals}
@@ -30,7 +30,7 @@ BehindGives c text i (behind.Comma j) = Separator comma text i j × Further text
 BehindGives c text i (behind.Closed j) = Closes c text i j × Further text i j
 BehindGives c text i (behind.Neither j) = Neither c text i j × IsCharBoundary text j
 
--- a sign with gaps round it, or where it is due
+-- a byte with gaps round it, or where it is due
 abbrev pub SeparatorGives : ℕ → List ℕ → ℕ → Result ℕ ℕ → Type 0
 SeparatorGives c text i (Ok j) = Separator c text i j × Further text i j
 SeparatorGives c text i (Err k) = MaximalGap text i k × ((slice_index text k == c) ≡ false) × IsCharBoundary text k

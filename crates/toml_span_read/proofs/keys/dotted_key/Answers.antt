@@ -1,7 +1,6 @@
-use Rattle.std.proofs.Common.{arith, ◌≡◌, [], ◌∷◌}
-use Rattle.toml_span_read.specs.declared.fault.FaultKind.TheVariants.{ExceededDepthLimit}
+use Rattle.std.proofs.Common.{arith, [], ◌∷◌, inr, refl}
 use Rattle.toml_span_read.specs.Faults.{fault_at}
-use Rattle.toml_span_read.specs.Stuck.{too_many, dotted_on, onward}
+use Rattle.toml_span_read.specs.Stuck.{part_here, dotted_on}
 use Rattle.toml_span_read.specs.Borrowed.{IsWrittenRight, key_written, keys_written}
 use Rattle.toml_span_read.proofs.BorrowLemmas.{all_append, keys_more}
 use Rattle.toml_span_read.proofs.KeyLemmas.{handed_on, one_more, first_fault, part_fault, dotted_first, dotted_more, same_stuck}
@@ -33,7 +32,7 @@ returns-in_err-key-clause-gives c =
 pub returns-then-len-limit-clause-gives : goal.returns-then-len-limit-clause-gives
 returns-then-len-limit-clause-gives c =
     same_stuck c.fault_at.result _ c.args.text.now c.args.limit c.args.at c.fault_at.ensures
-    (c.parts.invariant.stuck _ (too_many _ _ _ _ _ c.in-Some.ensures.0 c.in_ok-key.ensures.gives (omega (arith, c.len.ensures))))
+    (c.parts.invariant.stuck _ (part_here _ _ _ _ c.in-Some.ensures.0 (inr (_, _, c.in_ok-key.ensures.gives, omega (arith, c.len.ensures), refl))))
 
 pub parts-preserved : goal.parts-preserved
 parts-preserved c =

@@ -1,6 +1,6 @@
-use Rattle.std.proofs.Common.{arith}
+use Rattle.std.proofs.Common.{arith, inr, refl}
 use Rattle.toml_span_read.specs.Keys.{simple_key}
-use Rattle.toml_span_read.specs.Stuck.{header_too_many, header_on}
+use Rattle.toml_span_read.specs.Stuck.{header_part_here, header_on}
 use Rattle.toml_span_read.specs.Borrowed.{IsWrittenRight}
 use Rattle.toml_span_read.proofs.BorrowLemmas.{keys_more}
 use Rattle.toml_span_read.proofs.KeyLemmas.{handed_on, one_more, header_fault, header_more, key_placed}
@@ -12,7 +12,7 @@ returns-in_err-key-clause-gives c =
     (header_fault c.in_err-key.field-0.0 c.args.text.now c.args.limit c.args.at _ c.parts.next c.parts.invariant.stuck c.in_err-key.ensures.gives)
 
 pub returns-then-len-limit-clause-gives : goal.returns-then-len-limit-clause-gives
-returns-then-len-limit-clause-gives c = c.parts.invariant.stuck _ (header_too_many _ _ _ _ c.in_ok-key.ensures.gives (omega (arith, c.len.ensures.value)))
+returns-then-len-limit-clause-gives c = c.parts.invariant.stuck _ (header_part_here _ _ _ (inr (_, _, c.in_ok-key.ensures.gives, omega (arith, c.len.ensures.value), refl)))
 
 pub returns-then-len-limit-clause-advances : goal.returns-then-len-limit-clause-advances
 returns-then-len-limit-clause-advances c = key_placed c.args.text.now _ _ (simple_key c.in_ok-key.key) _ c.in_ok-key.ensures.gives

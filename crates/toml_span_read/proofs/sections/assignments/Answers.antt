@@ -1,5 +1,4 @@
-use Rattle.std.proofs.Common.{arith, rules, [], ◌<◌, ◌≡◌, length, false, get_or}
-use Rattle.std.specs.Prelude.{◌==◌}
+use Rattle.std.proofs.Common.{arith, rules, [], ◌<◌, length}
 use Rattle.toml_span_read.specs.Borrowed.{IsWrittenRight, assignment_written}
 use Rattle.toml_span_read.proofs.BorrowLemmas.{joined_more}
 use Rattle.toml_span_read.proofs.LimitLemmas.{crossing_placed, key_values_more}

@@ -1,4 +1,4 @@
-use Rattle.std.proofs.Common.{◌≡◌, ◌≤◌, ◌-◌, ◌⊎◌, length, get_or}
+use Rattle.std.proofs.Common.{◌≡◌, ◌-◌, ◌⊎◌, length, get_or}
 use Rattle.std.specs.Str.{IsCharBoundary}
 use Rattle.toml_span_read.specs.Borrowed.{AreWrittenRight, sections_written}
 use Rattle.toml_span_read.specs.Limits.{WithinSections}

@@ -2,7 +2,6 @@ use Rattle.std.proofs.Common.{◌≡◌, [], ◌∷◌, List, sym, subst, ap, �
 use Rattle.std.proofs.lemmas.Bool.{false≢true}
 use Rattle.toml_span_tree.specs.Error.{ErrorContent}
 use Rattle.toml_span_typed.specs.TableHelper.{State, keeping, state_of, unasked, unexpected_entries}
-use Rattle.toml_span_tree.specs.Value.{is_filled, members_view}
 use Rattle.toml_span_typed.proofs.Tables.{filled-of_entries, unasked-of_entries}
 use Rattle.toml_span_typed.proofs.de_helpers.table_helper.TableHelper.keep_unasked.Goals as goal
 
