@@ -3,7 +3,7 @@ ghost use Rattle.std.specs.Prelude.{◌≡◌, ◌++◌, length, slice_get, opti
 ghost use Rattle.std.specs.Iterator.{YieldsFirstBy, item_count};
 ghost use Rattle.toml_span_tree.specs.Error.{content_of};
 ghost use Rattle.toml_span_typed.specs.Errors.{all};
-ghost use Rattle.toml_span_typed.specs.code.Faults.{all_of_option};
+ghost use Rattle.toml_span_typed.specs.code.Errors.{all_of_option};
 
 use std::alloc::{AllocError, Global};
 use std::fmt::{Display, Formatter, Write};
@@ -21,7 +21,7 @@ pub struct DeserError<'s> {
 
 impl<'s> Model for DeserError<'s> {
     ghost use Rattle.toml_span_typed.specs.Errors.{Errors};
-    ghost use Rattle.toml_span_typed.specs.code.Faults.{faults_in};
+    ghost use Rattle.toml_span_typed.specs.code.Errors.{faults_in};
     ghost use Rattle.toml_span_tree.specs.Error.{content_of};
 
     ghost Value = { Errors };
@@ -190,7 +190,7 @@ pub struct ErrorIter<'a, 's> {
 impl<'a, 's> Model for ErrorIter<'a, 's> {
     ghost use Rattle.std.specs.Prelude.{List, ◌++◌, map};
     ghost use Rattle.toml_span_tree.specs.Error.{ErrorContent, content_of};
-    ghost use Rattle.toml_span_typed.specs.code.Faults.{last_left};
+    ghost use Rattle.toml_span_typed.specs.code.Errors.{last_left};
 
     ghost Value = { List ErrorContent };
 

@@ -18,8 +18,8 @@ pub fn told_is_first_by_place()
         × (clash c d ≡ Some told)) }
 {}
 
-/// What stands at a position is never said by a header that passes through it: the claim of the entry, or of the
-/// array's element, decides there.
+/// What stands at a position is never said by a header that passes through it: the claim of the element decides there,
+/// of an array of tables or of an array in brackets.
 pub fn no_header_through_an_element_decides()
     ensures { (text : List ℕ) (limit : ℕ) (blocks : List Block) (path : Path) (index : ℕ) (c : Claim)
         → SpellsDocument blocks text limit
