@@ -1,5 +1,5 @@
 -- What is put together is borrowed as its parts are.
-use Rattle.std.proofs.Common.{◌≡◌, ℕ, ◌+◌, Bool, true, false, List, [], ◌∷◌, ◌++◌, map, get_or, rules, inl, inr, sym, ap, ◌∙◌, Global, Bor, Ok}
+use Rattle.std.proofs.Common.{◌≡◌, ℕ, Bool, true, false, List, [], ◌∷◌, ◌++◌, map, get_or, rules, inl, inr, sym, ap, ◌∙◌, Global, Bor, Ok}
 use Rattle.std.specs.Prelude.{slice_range}
 use Rattle.std.proofs.lemmas.Bool.{false≢true}
 use Rattle.std.specs.Cow.{cow_str_bytes, IsBorrowedStr}

@@ -1,5 +1,4 @@
 use Rattle.std.proofs.Common.{arith, [], ◌∷◌, inr, refl}
-use Rattle.toml_span_read.specs.Faults.{fault_at}
 use Rattle.toml_span_read.specs.Stuck.{part_here, dotted_on}
 use Rattle.toml_span_read.specs.Borrowed.{IsWrittenRight, key_written, keys_written}
 use Rattle.toml_span_read.proofs.BorrowLemmas.{all_append, keys_more}
