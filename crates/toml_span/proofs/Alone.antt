@@ -4,12 +4,12 @@ use Rattle.std.proofs.lemmas.Bool.{cases_Bool}
 use Rattle.std.proofs.lemmas.Option.{none-some, same_Some}
 use Rattle.toml_span_tree.specs.Node.{Scalar}
 use Rattle.toml_span_tree.specs.Path.{Path, shape_scalar}
-use Rattle.toml_span_read.specs.Data.{Node, node, scalar, array, inline, span_of, Block}
+use Rattle.toml_span_read.specs.Data.{ParsedValue, parsed, scalar, array, inline, parsed_span, Block}
 use Rattle.toml_span_read.specs.Grammar.{SpellsDocument}
 use Rattle.toml_span_claims.specs.declared.claims.Blame.TheVariants.{DuplicateKey}
 use Rattle.toml_span_claims.specs.declared.claims.Sort.{Sort}
-use Rattle.toml_span_claims.specs.declared.claims.Sort.TheVariants.{Passed, Section, ArrayOfTables, Entry, Dotted, Assigned}
-use Rattle.toml_span_claims.specs.Claims.{Claim, Claims, no_claims, claimed, scope, followed, value_claims, inner_claims, item_claims, pair_claims, value_shape, inner_of, claims}
+use Rattle.toml_span_claims.specs.declared.claims.Sort.TheVariants.{Passed, StandardTable, ArrayOfTables, TableElement, Dotted, Assigned}
+use Rattle.toml_span_claims.specs.Claims.{Claim, Claims, no_claims, claimed, scope, followed, value_claims, inner_claims, item_claims, pair_claims, value_shape, parsed_inner, claims}
 use Rattle.toml_span_claims.specs.Clashes.{blame, Resolves}
 use Rattle.toml_span_claims.specs.Flat.{all_claims, claims_at}
 use Rattle.toml_span_claims.specs.Paths.{same_path}
@@ -38,9 +38,9 @@ under-from a p q (s, r, is) (t, on) = (s, r ++ t, on ∙ ap (λ l. l ++ t) is �
 
 is-value : (s : Sort) → (s ≡ Assigned) ⊎ (s ≡ Assigned → ⊥)
 is-value Passed = inr (λ e. cc)
-is-value Section = inr (λ e. cc)
+is-value StandardTable = inr (λ e. cc)
 is-value ArrayOfTables = inr (λ e. cc)
-is-value Entry = inr (λ e. cc)
+is-value TableElement = inr (λ e. cc)
 is-value Dotted = inr (λ e. cc)
 is-value Assigned = inl refl
 
@@ -154,11 +154,11 @@ at-right q xs ys h = at-append q xs ys ∙ ap (λ l. l ++ claims_at q ys) (at-no
 -- The claim's value is read again, nothing clashes in it, all its claims are below the claim, and nothing else is on the claim's
 -- path or below.
 pub record Alone (text : List ℕ) (limit : ℕ) (c : Claim) (cs : Claims) : Type 0 where
-  pub value : Node
+  pub value : ParsedValue
   pub again : ValueReadsAgain text limit value
-  pub shape : c.place.shape ≡ value_shape (inner_of value)
-  pub span : c.place.span ≡ span_of value
-  pub brackets : (s : Scalar) → value_shape (inner_of value) ≡ shape_scalar s → ⊥
+  pub shape : c.place.shape ≡ value_shape (parsed_inner value)
+  pub span : c.place.span ≡ parsed_span value
+  pub brackets : (s : Scalar) → value_shape (parsed_inner value) ≡ shape_scalar s → ⊥
   pub resolves : Resolves [] (value_claims value c.path)
   pub below : (d : Claim) → IsIn d (all_claims (value_claims value c.path)) → IsUnder c.path d.path
   pub only : (r : Path) → claims_at (c.path ++ r) (all_claims cs) ≡ claims_at (c.path ++ r) (c ∷ all_claims (value_claims value c.path))
@@ -176,14 +176,14 @@ among-more text limit c cs more a same = record {
   only = λ r. same r ∙ a.only r;
 }
 
-bracket-scope : (v : Node) (p : Path) → ((s : Scalar) → value_shape (inner_of v) ≡ shape_scalar s → ⊥) → (inner : Claims) × (value_claims v p ≡ scope inner no_claims)
+bracket-scope : (v : ParsedValue) (p : Path) → ((s : Scalar) → value_shape (parsed_inner v) ≡ shape_scalar s → ⊥) → (inner : Claims) × (value_claims v p ≡ scope inner no_claims)
 unfolding value_claims inner_claims
-bracket-scope (node (scalar s) span) p brackets = absurd (brackets s refl)
-bracket-scope (node (array vs) span) p brackets = (item_claims vs 0 p, refl)
-bracket-scope (node (inline ps) span) p brackets = (pair_claims ps p, refl)
+bracket-scope (parsed (scalar s) span) p brackets = absurd (brackets s refl)
+bracket-scope (parsed (array vs) span) p brackets = (item_claims vs 0 p, refl)
+bracket-scope (parsed (inline ps) span) p brackets = (pair_claims ps p, refl)
 
-alone-here : (text : List ℕ) (limit : ℕ) (base : Path) (earlier : List Claim) (x : Claim) (v : Node) (rest : Claims) → Scene base earlier (Some x) (followed (value_claims v x.path) rest)
-    → ValueReadsAgain text limit v → x.place.shape ≡ value_shape (inner_of v) → x.place.span ≡ span_of v → ((s : Scalar) → value_shape (inner_of v) ≡ shape_scalar s → ⊥)
+alone-here : (text : List ℕ) (limit : ℕ) (base : Path) (earlier : List Claim) (x : Claim) (v : ParsedValue) (rest : Claims) → Scene base earlier (Some x) (followed (value_claims v x.path) rest)
+    → ValueReadsAgain text limit v → x.place.shape ≡ value_shape (parsed_inner v) → x.place.span ≡ parsed_span v → ((s : Scalar) → value_shape (parsed_inner v) ≡ shape_scalar s → ⊥)
     → Alone text limit x (claimed x (followed (value_claims v x.path) rest))
 unfolding followed all_claims
 alone-here text limit base earlier x v rest h again shape span brackets =
@@ -210,7 +210,7 @@ alone text limit base earlier last no_claims c h again here value brackets = abs
 alone text limit base earlier last (claimed x cs) c h again (inl same) value brackets =
     let (v, rest, reads, shape, span, behind) = again.0 (ap (λ y. y.mark.sort) (sym same) ∙ value) in
     let scene = scene-claimed base earlier last x cs h in
-    let plain : (s : Scalar) → value_shape (inner_of v) ≡ shape_scalar s → ⊥ = λ s is. brackets s (ap (λ y. y.place.shape) same ∙ shape ∙ is) in
+    let plain : (s : Scalar) → value_shape (parsed_inner v) ≡ shape_scalar s → ⊥ = λ s is. brackets s (ap (λ y. y.place.shape) same ∙ shape ∙ is) in
     let found = alone-here text limit base (earlier ++ (x ∷ [])) x v rest (subst (λ t. Scene base (earlier ++ (x ∷ [])) (Some x) t) behind scene) reads shape span plain in
     subst (λ y. Alone text limit y (claimed x cs)) (sym same) (subst (λ t. Alone text limit x (claimed x t)) (sym behind) found)
 alone text limit base earlier last (claimed x cs) c h again (inr more) value brackets =

@@ -5,7 +5,7 @@ use Rattle.std.proofs.lemmas.Option.{same_Some, none-some}
 use Rattle.toml_span_lex.specs.declared.stop.Stop.{Stop}
 use Rattle.toml_span_lex.specs.declared.stop.Stop.TheVariants as stops
 use Rattle.toml_span_tree.specs.Error as tree
-use Rattle.toml_span_tree.specs.Error.{fault_of}
+use Rattle.toml_span_tree.specs.Error.{content_of}
 use Rattle.toml_span_tree.specs.Path.{Path, place_at}
 use Rattle.toml_span_tree.specs.Value.{view}
 use Rattle.toml_span_tree.specs.declared.error.Error.{Error}
@@ -20,7 +20,7 @@ use Rattle.toml_span_read_laws.proofs.LineFaults.{document_one}
 use Rattle.toml_span_read_laws.proofs.LineLaws.{document_unique, document_excluded}
 use Rattle.toml_span_read_laws.proofs.ValueLaws.{value_unique, value_excluded}
 use Rattle.toml_span_claims.specs.Claims.{Claims, claims}
-use Rattle.toml_span_claims.specs.Clashes.{fault_of_clash, NamedClash, Resolves, TellsFirst}
+use Rattle.toml_span_claims.specs.Clashes.{content_of_clash, NamedClash, Resolves, TellsFirst}
 use Rattle.toml_span_claims.specs.Flat.{flat}
 use Rattle.toml_span_claims.specs.code.Machine.{nothing, first_clash}
 use Rattle.toml_span_assembly.specs.Parsing.{IsTreeOf, IsTree, IsFault, IsClashOf, IsClash, IsRefusal}
@@ -79,16 +79,16 @@ line_info-one text i l c m d a b = (
   ],
 )
 
-same-clash : (text : List ℕ) (bs : List Block) (e f : Error) → IsClashOf bs text e → IsClashOf bs text f → fault_of e ≡ fault_of f
+same-clash : (text : List ℕ) (bs : List Block) (e f : Error) → IsClashOf bs text e → IsClashOf bs text f → content_of e ≡ content_of f
 same-clash text bs e f a b =
     let same = one-first (claims bs) a.clash b.clash a.first b.first in
     let here = subst (λ t. IsLineInfo text t.meeting.place.start b.line b.column) (sym same) b.place in
     let info = line_info-one text a.clash.meeting.place.start a.line a.column b.line b.column a.place here in
-    a.tells ∙ ap (λ t. fault_of_clash t.meeting t.name (a.line, a.column)) same
-    ∙ ap (λ l. fault_of_clash b.clash.meeting b.clash.name (l, a.column)) info.0
-    ∙ ap (λ c. fault_of_clash b.clash.meeting b.clash.name (b.line, c)) info.1 ∙ sym b.tells
+    a.tells ∙ ap (λ t. content_of_clash t.meeting t.name (a.line, a.column)) same
+    ∙ ap (λ l. content_of_clash b.clash.meeting b.clash.name (l, a.column)) info.0
+    ∙ ap (λ c. content_of_clash b.clash.meeting b.clash.name (b.line, c)) info.1 ∙ sym b.tells
 
-pub one-clash : (text : List ℕ) (limit : ℕ) (e f : Error) → IsClash text limit e → IsClash text limit f → fault_of e ≡ fault_of f
+pub one-clash : (text : List ℕ) (limit : ℕ) (e f : Error) → IsClash text limit e → IsClash text limit f → content_of e ≡ content_of f
 one-clash text limit e f (bs, spelled, a) (cs, others, b) = same-clash text bs e f a (subst (λ l. IsClashOf l text f) (one-document text limit cs bs others spelled) b)
 
 pub stuck-or-clash : (text : List ℕ) (limit : ℕ) (e f : Error) → IsFault text limit e → IsClash text limit f → ⊥
@@ -96,16 +96,16 @@ stuck-or-clash text limit e f (fault, stuck, placed, tells) (bs, spelled, clash)
 
 -- ---- one fault
 
-tells-one : (text : List ℕ) (fault : Fault) (a b : tree.Fault) → Tells text fault a → Tells text fault b → a ≡ b
+tells-one : (text : List ℕ) (fault : Fault) (a b : tree.ErrorContent) → Tells text fault a → Tells text fault b → a ≡ b
 tells-one text fault a b (l, c, at, is) (m, d, here, same) =
     let info = line_info-one text fault.span.start l c m d at here in is ∙ (rw (info.0, info.1) (sym same))
 
-pub one-fault : (text : List ℕ) (limit : ℕ) (e f : Error) → IsFault text limit e → IsFault text limit f → fault_of e ≡ fault_of f
+pub one-fault : (text : List ℕ) (limit : ℕ) (e f : Error) → IsFault text limit e → IsFault text limit f → content_of e ≡ content_of f
 one-fault text limit e f (fault, stuck, placed, tells) (other, also, there, first_clash) =
     let same : other ≡ fault = document_one text limit other fault also stuck in
-    tells-one text fault (fault_of e) (fault_of f) tells (subst (λ x. Tells text x (fault_of f)) same first_clash)
+    tells-one text fault (content_of e) (content_of f) tells (subst (λ x. Tells text x (content_of f)) same first_clash)
 
-pub one-refusal : (text : List ℕ) (limit : ℕ) (e f : Error) → IsRefusal text limit (stops.Fault e) → IsRefusal text limit (stops.Fault f) → fault_of e ≡ fault_of f
+pub one-refusal : (text : List ℕ) (limit : ℕ) (e f : Error) → IsRefusal text limit (stops.Fault e) → IsRefusal text limit (stops.Fault f) → content_of e ≡ content_of f
 one-refusal text limit e f (inl a) (inl b) = one-fault text limit e f a b
 one-refusal text limit e f (inl a) (inr b) = absurd (stuck-or-clash text limit e f a b)
 one-refusal text limit e f (inr a) (inl b) = absurd (stuck-or-clash text limit f e b a)
@@ -163,7 +163,7 @@ decides text limit (clashed bs t) (Err (stops.Fault e)) h (inl (fault, stuck, pl
 decides text limit (clashed bs t) (Err (stops.Fault e)) h (inr c) = same-first text limit bs t e h c
 decides text limit (stuck_at f) (Ok root) h (bs, spelled, tree) = never-stuck text limit bs f spelled h
 decides text limit (stuck_at f) (Err (stops.Memory e)) h a = tt
-decides text limit (stuck_at f) (Err (stops.Fault e)) h (inl (fault, stuck, placed, tells)) = subst (λ x. Tells text x (fault_of e)) (document_one text limit fault f stuck h) tells
+decides text limit (stuck_at f) (Err (stops.Fault e)) h (inl (fault, stuck, placed, tells)) = subst (λ x. Tells text x (content_of e)) (document_one text limit fault f stuck h) tells
 decides text limit (stuck_at f) (Err (stops.Fault e)) h (inr (bs, spelled, c)) = absurd (never-stuck text limit bs f spelled h)
 
 -- ---- every text

@@ -9,11 +9,11 @@ use Rattle.toml_span_tree.specs.Value.{view}
 use Rattle.toml_span_tree.specs.declared.value.Value.{Value}
 use Rattle.toml_span_read.specs.Data.{Block}
 use Rattle.toml_span_read.specs.Grammar.{SpellsDocument}
-use Rattle.toml_span_claims.specs.declared.claims.Sort.TheVariants.{Entry}
+use Rattle.toml_span_claims.specs.declared.claims.Sort.TheVariants.{TableElement}
 use Rattle.toml_span_claims.specs.Claims.{Claim, Claims, no_claims, claimed, scope, claims}
 use Rattle.toml_span_claims.specs.Flat.{all_claims, flat}
 use Rattle.toml_span.specs.Clashing.{IsIn}
-use Rattle.toml_span.specs.Order.{start_of, Follows, key_at, KeysApart}
+use Rattle.toml_span.specs.Order.{claim_start, Follows, key_at, KeysApart}
 use Rattle.toml_span_assembly.specs.Parsing.{IsTree}
 use Rattle.toml_span_assembly.proofs.EachClaim.{Each, flat-decides}
 use Rattle.toml_span.proofs.Order.{IsKeyed, Onward, Rising, follows-start, document-rises}
@@ -41,7 +41,7 @@ each-in (scope inner cs) l f =
 
 -- the claim starts behind the other, or it is an entry
 abbrev pub IsLater : Claim → Claim → Type 0
-IsLater c d = (start_of c < start_of d) ⊎ (d.mark.sort ≡ Entry)
+IsLater c d = (claim_start c < claim_start d) ⊎ (d.mark.sort ≡ TableElement)
 
 follows-later : (c d : Claim) → Follows c d → IsLater c d
 follows-later c d (inl behind) = inl behind
@@ -56,7 +56,7 @@ onward-later c d [] j h i = absurd i
 onward-later c d (e ∷ ds) j h (inl same) = rw same (follows-later c e h.1)
 onward-later c d (e ∷ ds) j h (inr later) = later-on c e d h.1 (onward-later e d ds j h.2 later)
 
-pub onward-rest : (c : Claim) (ds : List Claim) (j : ℕ) → Onward c ds j → Rising ds (start_of c) j
+pub onward-rest : (c : Claim) (ds : List Claim) (j : ℕ) → Onward c ds j → Rising ds (claim_start c) j
 onward-rest c [] j h = omega (arith, h.1)
 onward-rest c (d ∷ ds) j h = (follows-start c d h.1, h.2)
 
@@ -67,19 +67,19 @@ onward-keyed c (d ∷ ds) j h = h.0
 rising-keyed : (c : Claim) (l : List Claim) (i j : ℕ) → Rising l i j → IsIn c l → IsKeyed c
 rising-keyed c [] i j r h = absurd h
 rising-keyed c (d ∷ ds) i j r (inl same) = rw same (onward-keyed d ds j r.1)
-rising-keyed c (d ∷ ds) i j r (inr later) = rising-keyed c ds (start_of d) j (onward-rest d ds j r.1) later
+rising-keyed c (d ∷ ds) i j r (inr later) = rising-keyed c ds (claim_start d) j (onward-rest d ds j r.1) later
 
-not-later : (c d : Claim) → (d.mark.sort ≡ Entry → ⊥) → start_of c ≡ start_of d → IsLater c d → ⊥
+not-later : (c d : Claim) → (d.mark.sort ≡ TableElement → ⊥) → claim_start c ≡ claim_start d → IsLater c d → ⊥
 not-later c d f e (inl behind) = omega arith
 not-later c d f e (inr entry) = f entry
 
 -- two claims that start at one place are one, if neither is an entry
-one-claim : (c d : Claim) (l : List Claim) (i j : ℕ) → Rising l i j → IsIn c l → IsIn d l → (c.mark.sort ≡ Entry → ⊥) → (d.mark.sort ≡ Entry → ⊥) → start_of c ≡ start_of d → c ≡ d
+one-claim : (c d : Claim) (l : List Claim) (i j : ℕ) → Rising l i j → IsIn c l → IsIn d l → (c.mark.sort ≡ TableElement → ⊥) → (d.mark.sort ≡ TableElement → ⊥) → claim_start c ≡ claim_start d → c ≡ d
 one-claim c d [] i j r h g f e at = absurd h
 one-claim c d (x ∷ xs) i j r (inl same) (inl other) f e at = same ∙ sym other
 one-claim c d (x ∷ xs) i j r (inl same) (inr later) f e at = absurd (not-later c d e at (rw same (onward-later x d xs j r.1 later)))
 one-claim c d (x ∷ xs) i j r (inr later) (inl other) f e at = absurd (not-later d c f (sym at) (rw other (onward-later x c xs j r.1 later)))
-one-claim c d (x ∷ xs) i j r (inr later) (inr also) f e at = one-claim c d xs (start_of x) j (onward-rest x xs j r.1) later also f e at
+one-claim c d (x ∷ xs) i j r (inr later) (inr also) f e at = one-claim c d xs (claim_start x) j (onward-rest x xs j r.1) later also f e at
 
 -- ---- keys
 

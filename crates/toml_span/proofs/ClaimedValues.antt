@@ -1,20 +1,20 @@
 -- What each claim of a document assigns is read again, and the claims behind it are those of that value.
 use Rattle.std.proofs.Common.{◌≡◌, ℕ, ◌⊎◌, List, inl, inr}
-use Rattle.toml_span_read.specs.Data.{Node, node, scalar, array, inline, span_of, Block}
+use Rattle.toml_span_read.specs.Data.{ParsedValue, parsed, scalar, array, inline, parsed_span, Block}
 use Rattle.toml_span_read.specs.Grammar.{SpellsDocument}
 use Rattle.toml_span_claims.specs.declared.claims.Sort.TheVariants.{Assigned}
-use Rattle.toml_span_claims.specs.Claims.{Claim, Claims, no_claims, claimed, scope, followed, inner_of, value_claims, value_shape, claims}
+use Rattle.toml_span_claims.specs.Claims.{Claim, Claims, no_claims, claimed, scope, followed, parsed_inner, value_claims, value_shape, claims}
 use Rattle.toml_span.specs.Laws.{AssignsAgain, ValueReadsAgain}
 use Rattle.toml_span.proofs.ReadAgain.{at-span, scalar-again}
 use Rattle.toml_span.proofs.SpelledClaims.{AllSpelled, Assigns, Makes, Spelled, document-spelled}
 
-spelled-again : (text : List ℕ) (limit : ℕ) (v : Node) → Spelled text limit v → ValueReadsAgain text limit v
-spelled-again text limit (node (scalar s) span) h = scalar-again s span text limit h.depth h.from h.to h.deep h.spells
-spelled-again text limit (node (array vs) span) h = at-span (node (array vs) span) text limit h.depth h.from h.to h.deep h.spells h.spells.1.1
-spelled-again text limit (node (inline ps) span) h = at-span (node (inline ps) span) text limit h.depth h.from h.to h.deep h.spells h.spells.1.1
+spelled-again : (text : List ℕ) (limit : ℕ) (v : ParsedValue) → Spelled text limit v → ValueReadsAgain text limit v
+spelled-again text limit (parsed (scalar s) span) h = scalar-again s span text limit h.depth h.from h.to h.deep h.spells
+spelled-again text limit (parsed (array vs) span) h = at-span (parsed (array vs) span) text limit h.depth h.from h.to h.deep h.spells h.spells.1.1
+spelled-again text limit (parsed (inline ps) span) h = at-span (parsed (inline ps) span) text limit h.depth h.from h.to h.deep h.spells h.spells.1.1
 
 claim-again : (text : List ℕ) (limit : ℕ) (c : Claim) (cs : Claims) → ((a : Assigns text limit c) × (rest : Claims) × (cs ≡ followed (value_claims a.value c.path) rest)) ⊎ Makes c → c.mark.sort ≡ Assigned
-    → (v : Node) × (rest : Claims) × ValueReadsAgain text limit v × (c.place.shape ≡ value_shape (inner_of v)) × (c.place.span ≡ span_of v) × (cs ≡ followed (value_claims v c.path) rest)
+    → (v : ParsedValue) × (rest : Claims) × ValueReadsAgain text limit v × (c.place.shape ≡ value_shape (parsed_inner v)) × (c.place.span ≡ parsed_span v) × (cs ≡ followed (value_claims v c.path) rest)
 claim-again text limit c cs (inl (a, rest, behind)) is = (a.value, rest, spelled-again text limit a.value a.spelled, a.shape, a.span, behind)
 claim-again text limit c cs (inr made) is = absurd (made.sort is)
 

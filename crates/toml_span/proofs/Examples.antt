@@ -6,23 +6,23 @@ use Rattle.toml_span_tree.specs.Error.{duplicate_key}
 use Rattle.toml_span_tree.specs.Node as tree
 use Rattle.toml_span_tree.specs.Node.{text, integer}
 use Rattle.toml_span_tree.specs.Path.{Path, key, position, Shape, shape_scalar, shape_array, shape_table, Place, place_at}
-use Rattle.toml_span_read.specs.Data.{Node, node, scalar, array, inline, no_items, item, no_pairs, pair, Event, Block}
-use Rattle.toml_span_read.specs.Keys.{Part}
+use Rattle.toml_span_read.specs.Data.{ParsedValue, parsed, scalar, array, inline, no_items, item, no_pairs, pair, KeyValue, Block}
+use Rattle.toml_span_read.specs.Keys.{SimpleKey}
 use Rattle.toml_span_read.specs.Grammar.{first_block, last_end}
 use Rattle.toml_span_claims.specs.declared.claims.Sort.{Sort}
-use Rattle.toml_span_claims.specs.declared.claims.Sort.TheVariants.{Passed, Section, ArrayOfTables, Entry, Dotted, Assigned}
+use Rattle.toml_span_claims.specs.declared.claims.Sort.TheVariants.{Passed, StandardTable, ArrayOfTables, TableElement, Dotted, Assigned}
 use Rattle.toml_span_claims.specs.declared.claims.Blame.{Blame}
 use Rattle.toml_span_claims.specs.declared.claims.Blame.TheVariants.{DuplicateTable, DuplicateKey, RedefineAsArray}
 use Rattle.toml_span_claims.specs.Paths.{same_path, enter, target, opened_by}
-use Rattle.toml_span_claims.specs.Claims.{Claim, Claims, no_claims, claimed, scope, table_claim, followed, key_claims, value_claims, inner_claims, item_claims, pair_claims, event_claims, end_claims, header_claims, section_claims, claims_behind, claims}
-use Rattle.toml_span_claims.specs.Clashes.{NamedClash, Resolves, TellsFirst, fault_of_clash}
-use Rattle.toml_span_claims.specs.Flat.{all_claims, claims_at, first_by_header, flat}
+use Rattle.toml_span_claims.specs.Claims.{Claim, Claims, no_claims, claimed, scope, table_claim, followed, key_claims, value_claims, inner_claims, item_claims, pair_claims, key_value_claims, end_claims, header_claims, section_claims, claims_behind, claims}
+use Rattle.toml_span_claims.specs.Clashes.{NamedClash, Resolves, TellsFirst, content_of_clash}
+use Rattle.toml_span_claims.specs.Flat.{all_claims, claims_at, first_claim_by_header, flat}
 use Rattle.toml_span_claims.specs.code.Machine.{change, show_all, first_clash}
 use Rattle.toml_span_assembly.proofs.Judged.{told-none, told-some}
 
 -- what the examples evaluate
 computed : ⊤
-unfolding same_path enter target opened_by followed key_claims value_claims inner_claims item_claims pair_claims event_claims end_claims header_claims section_claims claims_behind change show_all first_clash all_claims claims_at first_by_header flat
+unfolding same_path enter target opened_by followed key_claims value_claims inner_claims item_claims pair_claims key_value_claims end_claims header_claims section_claims claims_behind change show_all first_clash all_claims claims_at first_claim_by_header flat
 computed = tt
 
 -- ---- how sections are written
@@ -31,29 +31,29 @@ abbrev at : ℕ → ℕ → Span
 at i j = record { start = i; end = j }
 
 -- a bare key at i
-abbrev part : List ℕ → ℕ → Part
+abbrev part : List ℕ → ℕ → SimpleKey
 part name i = record { name = name; span = at i (i + length name) }
 
 -- an integer of one digit at i
-abbrev digit : ℕ → ℕ → Node
-digit n i = node (scalar (integer (pos n))) (at i (i + 1))
+abbrev digit : ℕ → ℕ → ParsedValue
+digit n i = parsed (scalar (integer (pos n))) (at i (i + 1))
 
 -- a text without escapes, which begins at i, behind its quote
-abbrev quoted : List ℕ → ℕ → Node
-quoted s i = node (scalar (text s)) (at i (i + length s))
+abbrev quoted : List ℕ → ℕ → ParsedValue
+quoted s i = parsed (scalar (text s)) (at i (i + length s))
 
 -- an assignment from i to j
-abbrev event : ℕ → ℕ → List Part → Node → Event
-event i j parts v = record { parts = parts; value = v; extent = at i j }
+abbrev key_value : ℕ → ℕ → List SimpleKey → ParsedValue → KeyValue
+key_value i j parts v = record { parts = parts; value = v; extent = at i j }
 
 -- a header whose line is from i to j, in double brackets or not, and the assignments behind it
-abbrev header : Bool → ℕ → ℕ → List Part → List Event → Block
-header double i j parts events = record { header = parts; array = double; header_span = at i j; extent = at i (last_end j events); events = events }
+abbrev header : Bool → ℕ → ℕ → List SimpleKey → List KeyValue → Block
+header double i j parts key_values = record { header = parts; array = double; header_span = at i j; extent = at i (last_end j key_values); key_values = key_values }
 
-abbrev headed : ℕ → ℕ → List Part → List Event → Block
+abbrev headed : ℕ → ℕ → List SimpleKey → List KeyValue → Block
 headed = header false
 
-abbrev entry : ℕ → ℕ → List Part → List Event → Block
+abbrev entry : ℕ → ℕ → List SimpleKey → List KeyValue → Block
 entry = header true
 
 -- ---- names and paths
@@ -187,15 +187,15 @@ one span = tree.node (tree.scalar (integer (pos 1))) span
 abbrev abc : List Block
 abc =
     headed 0 8 (part a 1 ∷ part b 3 ∷ part c 5 ∷ []) []
-    ∷ headed 8 12 (part a 9 ∷ []) (event 12 19 (part b 12 ∷ part d 14 ∷ []) (digit 1 18) ∷ [])
+    ∷ headed 8 12 (part a 9 ∷ []) (key_value 12 19 (part b 12 ∷ part d 14 ∷ []) (digit 1 18) ∷ [])
     ∷ []
 
 abbrev abc_claims : List Claim
 abc_claims =
     claims_table Passed /a a (at 1 2) (at 0 8) (at 0 8)
     ∷ claims_table Passed /a/b b (at 3 4) (at 0 8) (at 0 8)
-    ∷ claims_table Section /a/b/c c (at 5 6) (at 0 8) (at 0 8)
-    ∷ claims_table Section /a a (at 9 10) (at 8 12) (at 8 19)
+    ∷ claims_table StandardTable /a/b/c c (at 5 6) (at 0 8) (at 0 8)
+    ∷ claims_table StandardTable /a a (at 9 10) (at 8 12) (at 8 19)
     ∷ claims_table Dotted /a/b b (at 12 13) (at 18 19) (at 18 19)
     ∷ claims_value /a/b/d d (at 14 15) (number 1) (at 18 19)
     ∷ []
@@ -241,7 +241,7 @@ abc-shown = refl
 abbrev entry_and : List Block → List Block
 entry_and more =
     entry 0 6 (part a 2 ∷ [])
-    (event 6 17 (part t 6 ∷ []) (node (inline (pair (part x 11 ∷ []) (digit 1 15) (at 11 16) no_pairs)) (at 10 17)) ∷ [])
+    (key_value 6 17 (part t 6 ∷ []) (parsed (inline (pair (part x 11 ∷ []) (digit 1 15) (at 11 16) no_pairs)) (at 10 17)) ∷ [])
     ∷ entry 18 26 (part a 20 ∷ part b 22 ∷ []) []
     ∷ more
 
@@ -252,7 +252,7 @@ entries = entry_and (entry 26 32 (part a 28 ∷ []) [] ∷ headed 32 38 (part a 
 abbrev entries_claims : List Claim
 entries_claims =
     claims_table ArrayOfTables /a a (at 2 3) (at 0 6) (at 0 17)
-    ∷ claims_table Entry /a/0 a (at 2 3) (at 0 6) (at 0 17)
+    ∷ claims_table TableElement /a/0 a (at 2 3) (at 0 6) (at 0 17)
     ∷ claims_value /a/0/t t (at 6 7) shape_table (at 10 17)
     ∷ []
 
@@ -263,10 +263,10 @@ abbrev later_claims : List Claim
 later_claims =
     claims_table Passed /a/0 a (at 20 21) (at 18 26) (at 18 26)
     ∷ claims_table ArrayOfTables /a/0/b b (at 22 23) (at 18 26) (at 18 26)
-    ∷ claims_table Entry /a/0/b/0 b (at 22 23) (at 18 26) (at 18 26)
-    ∷ claims_table Entry /a/1 a (at 28 29) (at 26 32) (at 26 32)
+    ∷ claims_table TableElement /a/0/b/0 b (at 22 23) (at 18 26) (at 18 26)
+    ∷ claims_table TableElement /a/1 a (at 28 29) (at 26 32) (at 26 32)
     ∷ claims_table Passed /a/1 a (at 33 34) (at 32 38) (at 32 38)
-    ∷ claims_table Section /a/1/t t (at 35 36) (at 32 38) (at 32 38)
+    ∷ claims_table StandardTable /a/1/t t (at 35 36) (at 32 38) (at 32 38)
     ∷ []
 
 entries-claims : claims entries ≡ in_order entries_claims (scope (in_order inside_claims no_claims) (in_order later_claims no_claims))
@@ -323,7 +323,7 @@ through-told : TellsFirst [] (claims through) t_again
 unfolding computed
 through-told = told-some (claims through) t_again refl
 
-through-fault : fault_of_clash t_again.meeting t_again.name (3, 3) ≡ record { kind = duplicate_key t (at 6 7); span = at 29 30; line_info = Some (3, 3) }
+through-fault : content_of_clash t_again.meeting t_again.name (3, 3) ≡ record { kind = duplicate_key t (at 6 7); span = at 29 30; line_info = Some (3, 3) }
 through-fault = refl
 
 -- ---- two clashes: the later claim that comes first is told, with the earliest of those that it clashes with
@@ -333,7 +333,7 @@ abbrev twice : List Block
 twice =
     headed 0 8 (part x 1 ∷ part a 3 ∷ part c 5 ∷ []) []
     ∷ headed 8 14 (part x 9 ∷ part a 11 ∷ []) []
-    ∷ headed 14 18 (part x 15 ∷ []) (event 18 23 (part a 18 ∷ []) (digit 1 22) ∷ event 24 29 (part a 24 ∷ []) (digit 2 28) ∷ [])
+    ∷ headed 14 18 (part x 15 ∷ []) (key_value 18 23 (part a 18 ∷ []) (digit 1 22) ∷ key_value 24 29 (part a 24 ∷ []) (digit 2 28) ∷ [])
     ∷ []
 
 twice-told : TellsFirst [] (claims twice) (tells DuplicateKey a (at 3 4) (at 18 19))
@@ -344,7 +344,7 @@ twice-told = told-some (claims twice) (tells DuplicateKey a (at 3 4) (at 18 19))
 
 -- `t = {a = 1,` LF ` b.c = 2, # x` LF `}`
 abbrev inline_table : List Block
-inline_table = first_block (event 0 27 (part t 0 ∷ []) (node (inline (pair (part a 5 ∷ []) (digit 1 9) (at 5 10) (pair (part b 13 ∷ part c 15 ∷ []) (digit 2 19) (at 13 20) no_pairs))) (at 4 27)) ∷ [])
+inline_table = first_block (key_value 0 27 (part t 0 ∷ []) (parsed (inline (pair (part a 5 ∷ []) (digit 1 9) (at 5 10) (pair (part b 13 ∷ part c 15 ∷ []) (digit 2 19) (at 13 20) no_pairs))) (at 4 27)) ∷ [])
 
 inline_table-resolves : Resolves [] (claims inline_table)
 unfolding computed
@@ -378,9 +378,9 @@ inline_table-at-t-c = refl
 abbrev two_entries : List Block
 two_entries =
     entry 0 6 (part a 2 ∷ []) []
-    ∷ headed 6 12 (part a 7 ∷ part b 9 ∷ []) (event 12 17 (part x 12 ∷ []) (digit 1 16) ∷ [])
+    ∷ headed 6 12 (part a 7 ∷ part b 9 ∷ []) (key_value 12 17 (part x 12 ∷ []) (digit 1 16) ∷ [])
     ∷ entry 18 24 (part a 20 ∷ []) []
-    ∷ headed 24 30 (part a 25 ∷ part b 27 ∷ []) (event 30 35 (part x 30 ∷ []) (digit 2 34) ∷ [])
+    ∷ headed 24 30 (part a 25 ∷ part b 27 ∷ []) (key_value 30 35 (part x 30 ∷ []) (digit 2 34) ∷ [])
     ∷ []
 
 two_entries-resolves : Resolves [] (claims two_entries)
@@ -426,9 +426,9 @@ two_entries-at-a-b = refl
 -- `a.b.x = 1` LF `[a.c]` LF `[a]` LF `b.y = 2` LF
 abbrev dotted_then_section : List Block
 dotted_then_section =
-    first_block (event 0 9 (part a 0 ∷ part b 2 ∷ part x 4 ∷ []) (digit 1 8) ∷ [])
+    first_block (key_value 0 9 (part a 0 ∷ part b 2 ∷ part x 4 ∷ []) (digit 1 8) ∷ [])
     ++ headed 10 16 (part a 11 ∷ part c 13 ∷ []) []
-    ∷ headed 16 20 (part a 17 ∷ []) (event 20 27 (part b 20 ∷ part y 22 ∷ []) (digit 2 26) ∷ [])
+    ∷ headed 16 20 (part a 17 ∷ []) (key_value 20 27 (part b 20 ∷ part y 22 ∷ []) (digit 2 26) ∷ [])
     ∷ []
 
 dotted_then_section-told : TellsFirst [] (claims dotted_then_section) (tells DuplicateKey a (at 0 1) (at 17 18))
@@ -437,7 +437,7 @@ dotted_then_section-told = told-some (claims dotted_then_section) (tells Duplica
 
 -- `a.b = 1` LF `a = 2` LF
 abbrev dotted_then_assigned : List Block
-dotted_then_assigned = first_block (event 0 7 (part a 0 ∷ part b 2 ∷ []) (digit 1 6) ∷ event 8 13 (part a 8 ∷ []) (digit 2 12) ∷ [])
+dotted_then_assigned = first_block (key_value 0 7 (part a 0 ∷ part b 2 ∷ []) (digit 1 6) ∷ key_value 8 13 (part a 8 ∷ []) (digit 2 12) ∷ [])
 
 dotted_then_assigned-told : TellsFirst [] (claims dotted_then_assigned) (tells DuplicateKey a (at 0 1) (at 8 9))
 unfolding computed
@@ -461,7 +461,7 @@ array_then_section-told = told-some (claims array_then_section) (tells Duplicate
 
 -- `a = 1` LF `[a.b]` LF
 abbrev assigned_then_passed : List Block
-assigned_then_passed = first_block (event 0 5 (part a 0 ∷ []) (digit 1 4) ∷ []) ++ headed 6 12 (part a 7 ∷ part b 9 ∷ []) [] ∷ []
+assigned_then_passed = first_block (key_value 0 5 (part a 0 ∷ []) (digit 1 4) ∷ []) ++ headed 6 12 (part a 7 ∷ part b 9 ∷ []) [] ∷ []
 
 assigned_then_passed-told : TellsFirst [] (claims assigned_then_passed) (tells DuplicateKey a (at 0 1) (at 7 8))
 unfolding computed
@@ -469,7 +469,7 @@ assigned_then_passed-told = told-some (claims assigned_then_passed) (tells Dupli
 
 -- `[a.b]` LF `[a]` LF `b = 1` LF
 abbrev section_then_assigned : List Block
-section_then_assigned = headed 0 6 (part a 1 ∷ part b 3 ∷ []) [] ∷ headed 6 10 (part a 7 ∷ []) (event 10 15 (part b 10 ∷ []) (digit 1 14) ∷ []) ∷ []
+section_then_assigned = headed 0 6 (part a 1 ∷ part b 3 ∷ []) [] ∷ headed 6 10 (part a 7 ∷ []) (key_value 10 15 (part b 10 ∷ []) (digit 1 14) ∷ []) ∷ []
 
 section_then_assigned-told : TellsFirst [] (claims section_then_assigned) (tells DuplicateKey b (at 3 4) (at 10 11))
 unfolding computed
@@ -479,7 +479,7 @@ section_then_assigned-told = told-some (claims section_then_assigned) (tells Dup
 abbrev dotted_beside_array : List Block
 dotted_beside_array =
     entry 0 10 (part x 2 ∷ part a 4 ∷ part c 6 ∷ []) []
-    ∷ headed 10 14 (part x 11 ∷ []) (event 14 21 (part a 14 ∷ part b 16 ∷ []) (digit 1 20) ∷ [])
+    ∷ headed 10 14 (part x 11 ∷ []) (key_value 14 21 (part a 14 ∷ part b 16 ∷ []) (digit 1 20) ∷ [])
     ∷ []
 
 dotted_beside_array-resolves : Resolves [] (claims dotted_beside_array)
@@ -508,7 +508,7 @@ dotted_beside_array-at-x-a-c-0 = refl
 
 -- `apple.color = "red"` LF, and then a header
 abbrev apple_and : Block → List Block
-apple_and next = first_block (event 0 19 (part apple 0 ∷ part color 6 ∷ []) (quoted red 15) ∷ []) ++ next ∷ []
+apple_and next = first_block (key_value 0 19 (part apple 0 ∷ part color 6 ∷ []) (quoted red 15) ∷ []) ++ next ∷ []
 
 -- `[apple]` LF
 abbrev apple_section : List Block
@@ -540,7 +540,7 @@ apple_passed-at-apple-texture = refl
 
 -- `a = {b = 1, b = 2}`
 abbrev twice_inline : List Block
-twice_inline = first_block (event 0 18 (part a 0 ∷ []) (node (inline (pair (part b 5 ∷ []) (digit 1 9) (at 5 10) (pair (part b 12 ∷ []) (digit 2 16) (at 12 17) no_pairs))) (at 4 18)) ∷ [])
+twice_inline = first_block (key_value 0 18 (part a 0 ∷ []) (parsed (inline (pair (part b 5 ∷ []) (digit 1 9) (at 5 10) (pair (part b 12 ∷ []) (digit 2 16) (at 12 17) no_pairs))) (at 4 18)) ∷ [])
 
 twice_inline-told : TellsFirst [] (claims twice_inline) (tells DuplicateKey b (at 5 6) (at 12 13))
 unfolding computed
@@ -548,7 +548,7 @@ twice_inline-told = told-some (claims twice_inline) (tells DuplicateKey b (at 5 
 
 -- `[x]` LF `y = ['z', 'zz']`
 abbrev array_of_texts : List Block
-array_of_texts = headed 0 4 (part x 1 ∷ []) (event 4 19 (part y 4 ∷ []) (node (array (item (quoted z 10) (item (quoted zz 15) no_items))) (at 8 19)) ∷ []) ∷ []
+array_of_texts = headed 0 4 (part x 1 ∷ []) (key_value 4 19 (part y 4 ∷ []) (parsed (array (item (quoted z 10) (item (quoted zz 15) no_items))) (at 8 19)) ∷ []) ∷ []
 
 array_of_texts-resolves : Resolves [] (claims array_of_texts)
 unfolding computed

@@ -9,18 +9,18 @@ use Rattle.toml_span_lex.specs.declared.span.Span.{Span}
 use Rattle.toml_span_lex.specs.declared.stop.Stop.{Stop}
 use Rattle.toml_span_lex.specs.declared.stop.Stop.TheVariants as stop
 use Rattle.toml_span_tree.specs.declared.error.Error.{Error}
-use Rattle.toml_span_tree.specs.Error.{Fault}
+use Rattle.toml_span_tree.specs.Error.{ErrorContent}
 use Rattle.toml_span_tree.specs.Node.{Node, node, taken, scalar, array, table, Members, no_members, member, entry_at}
 use Rattle.toml_span_tree.specs.Path.{Path, key, position, Place, shape_table, reached, place_of}
 use Rattle.toml_span_claims.specs.Flat.{Shows}
 use Rattle.toml_span_claims.specs.Ordered.{IsNameBefore, EachName, MembersOrdered}
-use Rattle.toml_span_typed.specs.Faults.{Faults, all}
+use Rattle.toml_span_typed.specs.Errors.{Errors, all}
 use Rattle.toml_span_claims.proofs.Grafts.{same_step-self}
 use Rattle.toml_span_tree.specs.Value.{is_filled}
 use Rattle.toml_span_typed.specs.declared.de_helpers.table_helper.TableHelper.{TableHelper}
 use Rattle.toml_span_typed.specs.declared.de_helpers.table_helper.Unfinished.{Unfinished}
 use Rattle.toml_span_typed.specs.declared.de_helpers.table_helper.Unfinished.TheVariants as unfinished
-use Rattle.toml_span_typed.specs.TableHelper.{State, Opens, Requires, Tries, Refuses, Starved, found, fresh, keeping, noted, unasked, unexpected_entries, where_filled, without}
+use Rattle.toml_span_typed.specs.TableHelper.{State, OpensTable, Requires, Tries, Refuses, Starved, found, fresh, keeping, noted, unasked, unexpected_entries, where_filled, without}
 use Rattle.toml_span.specs.Document.{subtree, IsValueOf}
 use Rattle.toml_span.specs.Helpers.{hide, except, IsOver, table_of, RequiresAt, TriesAt, EndsWith, HasNoKeyBut}
 use Rattle.toml_span.proofs.OneTree.{At, shown, same-name, first-entry, later-entry, not-again}
@@ -88,7 +88,7 @@ over-noted : (places : Path → Option Place) (name : List ℕ) (s : State) → 
 over-noted places name s h =
     (ordered-without name s.members h.0, λ p. shows-without name s.members s.span (except s.asked places) h.0 h.1 p ∙ sym (except-more s.asked name places p))
 
-over-kept : (places : Path → Option Place) (faults : List Fault) (s : State) → IsOver places s → IsOver places (keeping faults s)
+over-kept : (places : Path → Option Place) (faults : List ErrorContent) (s : State) → IsOver places s → IsOver places (keeping faults s)
 over-kept places faults s h = h
 
 found-value : (places : Path → Option Place) (name : List ℕ) (s : State) (value : Node) → IsOver places s → found name s ≡ Some value → IsValueOf (subtree (except s.asked places) (key name ∷ [])) value
@@ -96,7 +96,7 @@ found-value places name s value h is =
     let (k, at) = node-reached (entry_at name s.members) value is in
     part-value (except s.asked places) (table_of s) (key name ∷ []) (k, value) h (ap (option_and_then (reached [])) at)
 
-pub opens-over : (places : Path → Option Place) (m : Node) (s : State) → IsValueOf places m → Opens m (Ok s) → IsOver places s × (s.asked ≡ []) × (s.errors ≡ [])
+pub opens-over : (places : Path → Option Place) (m : Node) (s : State) → IsValueOf places m → OpensTable m (Ok s) → IsOver places s × (s.asked ≡ []) × (s.errors ≡ [])
 opens-over places (node taken at) s h is = cc
 opens-over places (node (scalar x) at) s h is = cc
 opens-over places (node (array ns) at) s h is = cc
@@ -104,7 +104,7 @@ opens-over places (node (table ms) at) s h is =
     let same : s ≡ fresh ms at = cc in
     subst (λ t. IsOver places t × (t.asked ≡ []) × (t.errors ≡ [])) (sym same) (h, refl, refl)
 
-pub opens-some : (places : Path → Option Place) (m : Node) → IsValueOf places m → ((s : State) × Opens m (Ok s)) ↔ (option_map (λ x. x.shape) (places []) ≡ Some shape_table)
+pub opens-some : (places : Path → Option Place) (m : Node) → IsValueOf places m → ((s : State) × OpensTable m (Ok s)) ↔ (option_map (λ x. x.shape) (places []) ≡ Some shape_table)
 opens-some places (node taken at) h = (λ opened. absurd (let is = opened.1 in cc), λ is. absurd (let here = ap (option_map (λ x. x.shape)) (h.1 []) ∙ is in cc))
 opens-some places (node (scalar x) at) h = (λ opened. absurd (let is = opened.1 in cc), λ is. absurd (let here = ap (option_map (λ x. x.shape)) (h.1 []) ∙ is in cc))
 opens-some places (node (array ns) at) h = (λ opened. absurd (let is = opened.1 in cc), λ is. absurd (let here = ap (option_map (λ x. x.shape)) (h.1 []) ∙ is in cc))
@@ -122,7 +122,7 @@ either : (o : Option Node) (A : Type 0) (B : Node → Type 0) (C : Type 0) → M
 either None A B C h f g = f h
 either (Some n) A B C h f g = g n h
 
-pub required-at : {T : Type 0} (reads : Node → Result T Faults → Node → Type 0) (places : Path → Option Place) (name : List ℕ) (before after : State) (answer : Result T (Stop Error)) → IsOver places before
+pub required-at : {T : Type 0} (reads : Node → Result T Errors → Node → Type 0) (places : Path → Option Place) (name : List ℕ) (before after : State) (answer : Result T (Stop Error)) → IsOver places before
     → Requires reads name before answer after → RequiresAt reads name (except before.asked places) before answer after
 required-at reads places name before after (Ok x) h (value, left, is, read, noted) = ((value, left, found-value places name before value h is, read), noted)
 required-at reads places name before after (Err (stop.Fault error)) h answer =
@@ -134,7 +134,7 @@ starved-over : (places : Path → Option Place) (name : List ℕ) (before after 
 starved-over places name before after h (inl same) = subst (IsOver places) (sym same) h
 starved-over places name before after h (inr noted) = subst (IsOver places) (sym noted) (over-noted places name before h)
 
-pub required-over : {T : Type 0} (reads : Node → Result T Faults → Node → Type 0) (places : Path → Option Place) (name : List ℕ) (before after : State) (answer : Result T (Stop Error)) → IsOver places before
+pub required-over : {T : Type 0} (reads : Node → Result T Errors → Node → Type 0) (places : Path → Option Place) (name : List ℕ) (before after : State) (answer : Result T (Stop Error)) → IsOver places before
     → Requires reads name before answer after → IsOver places after
 required-over reads places name before after (Ok x) h (value, left, is, read, noted) = subst (IsOver places) (sym noted) (over-noted places name before h)
 required-over reads places name before after (Err (stop.Fault error)) h answer =
@@ -143,7 +143,7 @@ required-over reads places name before after (Err (stop.Fault error)) h answer =
     (λ n b. subst (IsOver places) (sym b.4) (over-noted places name before h))
 required-over reads places name before after (Err (stop.Memory error)) h answer = starved-over places name before after h answer
 
-pub tried-at : {T : Type 0} (reads : Node → Result T Faults → Node → Type 0) (places : Path → Option Place) (name : List ℕ) (before after : State) (answer : Result (Option T) AllocError) → IsOver places before
+pub tried-at : {T : Type 0} (reads : Node → Result T Errors → Node → Type 0) (places : Path → Option Place) (name : List ℕ) (before after : State) (answer : Result (Option T) AllocError) → IsOver places before
     → Tries reads name before answer after → TriesAt reads name (except before.asked places) before answer after
 tried-at reads places name before after (Ok (Some x)) h (value, left, is, read, noted) = ((value, left, found-value places name before value h is, read), noted)
 tried-at reads places name before after (Ok None) h answer =
@@ -151,7 +151,7 @@ tried-at reads places name before after (Ok None) h answer =
     (λ n x is b. (b.0, (n, b.1, found-value places name before n h is, b.2), b.3))
 tried-at reads places name before after (Err error) h answer = answer
 
-pub tried-over : {T : Type 0} (reads : Node → Result T Faults → Node → Type 0) (places : Path → Option Place) (name : List ℕ) (before after : State) (answer : Result (Option T) AllocError) → IsOver places before
+pub tried-over : {T : Type 0} (reads : Node → Result T Errors → Node → Type 0) (places : Path → Option Place) (name : List ℕ) (before after : State) (answer : Result (Option T) AllocError) → IsOver places before
     → Tries reads name before answer after → IsOver places after
 tried-over reads places name before after (Ok (Some x)) h (value, left, is, read, noted) = subst (IsOver places) (sym noted) (over-noted places name before h)
 tried-over reads places name before after (Ok None) h answer =
@@ -166,7 +166,7 @@ both-empty : {A : Type 0} (xs ys : List A) → xs ++ ys ≡ [] → (xs ≡ []) �
 both-empty [] ys h = (refl, h)
 both-empty (x ∷ xs) ys h = cc
 
-none-left : (ms : Members) (at : Span) (places : Path → Option Place) (fault : Fault) → Shows (node (table ms) at) places → where_filled ms (fault ∷ []) ≡ [] → (name : List ℕ) → places (key name ∷ []) ≡ None
+none-left : (ms : Members) (at : Span) (places : Path → Option Place) (fault : ErrorContent) → Shows (node (table ms) at) places → where_filled ms (fault ∷ []) ≡ [] → (name : List ℕ) → places (key name ∷ []) ≡ None
 none-left no_members at places fault shows h name = sym (shows (key name ∷ []))
 none-left (member other s n ms) at places fault shows h name = cc
 
@@ -178,15 +178,15 @@ left-filled : (ms : Members) (at : Span) (places : Path → Option Place) → Sh
 left-filled no_members at places shows h = cc
 left-filled (member other s n ms) at places shows h = (other, place_of (Some s, n), first-left other s n ms at places shows)
 
-all-told : (ms : Members) (at : Span) (places : Path → Option Place) (faults : List Fault) → Shows (node (table ms) at) places → ((name : List ℕ) → places (key name ∷ []) ≡ None) → where_filled ms faults ≡ []
+all-told : (ms : Members) (at : Span) (places : Path → Option Place) (faults : List ErrorContent) → Shows (node (table ms) at) places → ((name : List ℕ) → places (key name ∷ []) ≡ None) → where_filled ms faults ≡ []
 all-told no_members at places faults shows none = refl
 all-told (member other s n ms) at places faults shows none =
     absurd (none-some (place_of (Some s, n)) (sym (none other) ∙ first-left other s n ms at places shows))
 
-never-empty : (faults : Faults) → [] ≡ all faults → ⊥
+never-empty : (faults : Errors) → [] ≡ all faults → ⊥
 never-empty faults h = by faults.earlier h
   where
-    by : (earlier : List Fault) → [] ≡ earlier ++ faults.last ∷ [] → ⊥
+    by : (earlier : List ErrorContent) → [] ≡ earlier ++ faults.last ∷ [] → ⊥
     by [] is = cc
     by (e ∷ earlier) is = cc
 
@@ -208,7 +208,7 @@ ends-ok places s (Err (unfinished.Memory helper)) h refuses = (
       absurd (none-some place (sym (both.1 name) ∙ is)),
 )
 
-pub ends-faults : (places : Path → Option Place) (s : State) (faults : Faults) → IsOver places s → Refuses s (Err (unfinished.Faults faults)) → EndsWith places s faults
+pub ends-faults : (places : Path → Option Place) (s : State) (faults : Errors) → IsOver places s → Refuses s (Err (unfinished.Faults faults)) → EndsWith places s faults
 ends-faults places s faults h refuses = (s.members, h, sym refuses)
 
 pub ends-memory : (places : Path → Option Place) (s : State) (helper : TableHelper) → IsOver places s → Refuses s (Err (unfinished.Memory helper)) → HasNoKeyBut s.asked places → ⊥

@@ -7,24 +7,24 @@ use Rattle.toml_span_read.specs.Data.{Block}
 use Rattle.toml_span_read.specs.Grammar.{SpellsDocument}
 use Rattle.toml_span_claims.specs.declared.claims.Blame.{Blame}
 use Rattle.toml_span_claims.specs.declared.claims.Sort.{Sort}
-use Rattle.toml_span_claims.specs.declared.claims.Sort.TheVariants.{Passed, Section, ArrayOfTables, Entry, Dotted, Assigned}
+use Rattle.toml_span_claims.specs.declared.claims.Sort.TheVariants.{Passed, StandardTable, ArrayOfTables, TableElement, Dotted, Assigned}
 use Rattle.toml_span_claims.specs.Claims.{Claim, Claims, no_claims, claimed, scope, claims}
 use Rattle.toml_span_claims.specs.Clashes.{NamedClash, named, blame, meeting, meets, clash, IsFree, Resolves, TellsFirst, told_here, told_behind, told_inside, told_after}
 use Rattle.toml_span_claims.specs.Flat.{all_claims}
 use Rattle.toml_span_claims.specs.Paths.{same_path}
 use Rattle.toml_span.specs.Clashing.{IsIn, DoClash, IsPair, IsFirstPair}
-use Rattle.toml_span.specs.Order.{start_of}
+use Rattle.toml_span.specs.Order.{claim_start}
 use Rattle.toml_span.proofs.Answered.{resolves-or-told}
 use Rattle.toml_span.proofs.Apart.{IsLater, in-left, in-right, onward-later, onward-rest}
 use Rattle.toml_span.proofs.Order.{Rising, document-rises}
 
 -- ---- claims that clash are no entries
 
-blame-entry : (s : Sort) → blame s Entry ≡ None
+blame-entry : (s : Sort) → blame s TableElement ≡ None
 blame-entry Passed = refl
-blame-entry Section = refl
+blame-entry StandardTable = refl
 blame-entry ArrayOfTables = refl
-blame-entry Entry = refl
+blame-entry TableElement = refl
 blame-entry Dotted = refl
 blame-entry Assigned = refl
 
@@ -42,12 +42,12 @@ clash-blames c d t h = elim (cases_Bool (same_path c.path d.path)) [
   | inr off ↦ absurd (none-some t (rw off at h))
 ]
 
-pub later-plain : (c d : Claim) → DoClash c d → d.mark.sort ≡ Entry → ⊥
+pub later-plain : (c d : Claim) → DoClash c d → d.mark.sort ≡ TableElement → ⊥
 later-plain c d (t, h) is =
     let (b, blames) = (clash-blames c d t h).1 in
     none-some b (sym (blame-entry c.mark.sort) ∙ sym (ap (blame c.mark.sort) is) ∙ blames)
 
-earlier-plain : (c d : Claim) → DoClash c d → c.mark.sort ≡ Entry → ⊥
+earlier-plain : (c d : Claim) → DoClash c d → c.mark.sort ≡ TableElement → ⊥
 earlier-plain c d (t, h) is =
     let (b, blames) = (clash-blames c d t h).1 in
     none-some b (ap (λ s. blame s d.mark.sort) (sym is) ∙ blames)
@@ -60,7 +60,7 @@ Rises (c ∷ cs) = ((d : Claim) → IsIn d cs → IsLater c d) × Rises cs
 
 pub rising-rises : (cs : List Claim) (i j : ℕ) → Rising cs i j → Rises cs
 rising-rises [] i j r = tt
-rising-rises (c ∷ cs) i j r = (λ d h. onward-later c d cs j r.1 h, rising-rises cs (start_of c) j (onward-rest c cs j r.1))
+rising-rises (c ∷ cs) i j r = (λ d h. onward-later c d cs j r.1 h, rising-rises cs (claim_start c) j (onward-rest c cs j r.1))
 
 pub in-cases : (c : Claim) (xs ys : List Claim) → IsIn c (xs ++ ys) → IsIn c xs ⊎ IsIn c ys
 in-cases c [] ys h = inr h
@@ -93,7 +93,7 @@ rises-across [] ys c d r h g = absurd h
 rises-across (x ∷ xs) ys c d r (inl same) g = rw same (r.0 d (in-right d xs ys g))
 rises-across (x ∷ xs) ys c d r (inr more) g = rises-across xs ys c d r.1 more g
 
-pub strictly : (c d : Claim) → IsLater c d → (d.mark.sort ≡ Entry → ⊥) → start_of c < start_of d
+pub strictly : (c d : Claim) → IsLater c d → (d.mark.sort ≡ TableElement → ⊥) → claim_start c < claim_start d
 strictly c d (inl behind) plain = behind
 strictly c d (inr entry) plain = absurd (plain entry)
 
@@ -144,7 +144,7 @@ pub record Pair (earlier : List Claim) (cs : Claims) (t : NamedClash) : Type 0 w
   pub told : clash c d ≡ Some t
 
 -- the earliest of the partners
-partner-first : (before after : List Claim) (c d : Claim) (e : Claim) → IsFree before d → Rises (before ++ (c ∷ after)) → IsIn e (before ++ (c ∷ after)) → DoClash e d → (e ≡ c) ⊎ (start_of c < start_of e)
+partner-first : (before after : List Claim) (c d : Claim) (e : Claim) → IsFree before d → Rises (before ++ (c ∷ after)) → IsIn e (before ++ (c ∷ after)) → DoClash e d → (e ≡ c) ⊎ (claim_start c < claim_start e)
 partner-first before after c d e free r h clashes = elim (in-cases e before (c ∷ after) h) [
   | inl front ↦ absurd (free-clash before e d free front clashes)
   | inr (inl same) ↦ inl same
@@ -201,7 +201,7 @@ pair-behind earlier x cs t free p = record {
 -- one in a scope inside, before all that is behind it
 pair-inside : (earlier : List Claim) (inner cs : Claims) (t : NamedClash) → Rises (all_claims inner ++ all_claims cs) → Pair [] inner t → Pair earlier (scope inner cs) t
 pair-inside earlier inner cs t r p =
-    let after : (e f : Claim) → IsPair earlier cs e f → start_of p.d < start_of f = λ e f more.
+    let after : (e f : Claim) → IsPair earlier cs e f → claim_start p.d < claim_start f = λ e f more.
     strictly p.d f (rises-across (all_claims inner) (all_claims cs) p.d f r (pair-in [] inner p.c p.d p.is.pair) (pair-in earlier cs e f more)) (later-plain e f (pair-clash earlier cs e f more)) in
     record {
       c = p.c;

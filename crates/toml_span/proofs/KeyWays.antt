@@ -4,12 +4,12 @@ use Rattle.std.specs.Prelude.{⊤}
 use Rattle.std.proofs.lemmas.List.{append_cancel_left}
 use Rattle.toml_span_lex.specs.declared.span.Span.{Span}
 use Rattle.toml_span_tree.specs.Path.{Path, key}
-use Rattle.toml_span_read.specs.Data.{Node, node, Inner, scalar, array, inline, Items, no_items, item, Pairs, no_pairs, pair, Event}
+use Rattle.toml_span_read.specs.Data.{ParsedValue, parsed, ParsedInner, scalar, array, inline, ParsedItems, no_items, item, ParsedPairs, no_pairs, pair, KeyValue}
 use Rattle.toml_span_read.specs.Earlier.{Clear, NoneAt, path}
-use Rattle.toml_span_read.specs.Grammar.{Spells, SpellsInner, SpellsItems, SpellsPairs, SpellsEvents}
-use Rattle.toml_span_read.specs.Keys.{Part}
+use Rattle.toml_span_read.specs.Grammar.{Spells, SpellsInner, SpellsItems, SpellsPairs, SpellsKeyValues}
+use Rattle.toml_span_read.specs.Keys.{SimpleKey}
 use Rattle.toml_span_claims.specs.declared.claims.Sort.TheVariants.{Dotted, Assigned}
-use Rattle.toml_span_claims.specs.Claims.{Claim, Claims, no_claims, claimed, scope, followed, key_claims, value_claims, inner_claims, item_claims, pair_claims, event_claims, element, assigned, dotted}
+use Rattle.toml_span_claims.specs.Claims.{Claim, Claims, no_claims, claimed, scope, followed, key_claims, value_claims, inner_claims, item_claims, pair_claims, key_value_claims, element, assigned, dotted}
 use Rattle.toml_span_claims.specs.Paths.{with_key, with_position}
 use Rattle.toml_span.specs.Clashing.{IsIn, own}
 use Rattle.toml_span.proofs.Apart.{in-left, in-right}
@@ -57,16 +57,16 @@ one-base R laws l a b _ _ same ra rb peace (next_key p r k is made way) (next_ke
 
 -- ---- the values of a section
 
-unfoldable pub keys : List Part → Path
+unfoldable pub keys : List SimpleKey → Path
 keys [] = []
 keys (k ∷ ks) = key k.name ∷ keys ks
 
-keys-append : (xs ys : List Part) → keys (xs ++ ys) ≡ keys xs ++ keys ys
+keys-append : (xs ys : List SimpleKey) → keys (xs ++ ys) ≡ keys xs ++ keys ys
 unfolding keys
 keys-append [] ys = refl
 keys-append (x ∷ xs) ys = ap (λ l. key x.name ∷ l) (keys-append xs ys)
 
-names-same : (xs ys : List Part) → keys xs ≡ keys ys → path xs ≡ path ys
+names-same : (xs ys : List SimpleKey) → keys xs ≡ keys ys → path xs ≡ path ys
 unfolding keys
 names-same [] [] h = refl
 names-same [] (y ∷ ys) h = cc
@@ -77,22 +77,22 @@ names-same (x ∷ xs) (y ∷ ys) h =
     ap (λ n. n ∷ path xs) first ∙ ap (λ l. y.name ∷ l) (names-same xs ys rest)
 
 -- the assignment is one of these
-abbrev pub IsEvent : Event → List Event → Type 0
-IsEvent e [] = ⊥
-IsEvent e (x ∷ xs) = (e ≡ x) ⊎ IsEvent e xs
+abbrev pub IsKeyValue : KeyValue → List KeyValue → Type 0
+IsKeyValue e [] = ⊥
+IsKeyValue e (x ∷ xs) = (e ≡ x) ⊎ IsKeyValue e xs
 
-event-left : (e : Event) (xs ys : List Event) → IsEvent e xs → IsEvent e (xs ++ ys)
-event-left e [] ys h = absurd h
-event-left e (x ∷ xs) ys (inl here) = inl here
-event-left e (x ∷ xs) ys (inr later) = inr (event-left e xs ys later)
+key_value-left : (e : KeyValue) (xs ys : List KeyValue) → IsKeyValue e xs → IsKeyValue e (xs ++ ys)
+key_value-left e [] ys h = absurd h
+key_value-left e (x ∷ xs) ys (inl here) = inl here
+key_value-left e (x ∷ xs) ys (inr later) = inr (key_value-left e xs ys later)
 
-event-last : (e : Event) (xs : List Event) → IsEvent e (xs ++ (e ∷ []))
-event-last e [] = inl refl
-event-last e (x ∷ xs) = inr (event-last e xs)
+key_value-last : (e : KeyValue) (xs : List KeyValue) → IsKeyValue e (xs ++ (e ∷ []))
+key_value-last e [] = inl refl
+key_value-last e (x ∷ xs) = inr (key_value-last e xs)
 
 -- one of the assignments has its value at the path
-abbrev pub AssignsAt : Path → List Event → Path → Type 0
-AssignsAt base es p = (e : Event) × IsEvent e es × (p ≡ base ++ keys e.parts)
+abbrev pub AssignsAt : Path → List KeyValue → Path → Type 0
+AssignsAt base es p = (e : KeyValue) × IsKeyValue e es × (p ≡ base ++ keys e.parts)
 
 -- a way to the path from a table at which a section begins
 pub record Traced (R : List Claim → Path → Type 0) (l : List Claim) (p : Path) : Type 0 where
@@ -101,7 +101,7 @@ pub record Traced (R : List Claim → Path → Type 0) (l : List Claim) (p : Pat
   pub way : Way l base p
 
 -- Each value has such a way, and if it begins at this base, then the value is one of these assignments.
-abbrev pub Known : (List Claim → Path → Type 0) → Path → List Event → List Claim → Type 0
+abbrev pub Known : (List Claim → Path → Type 0) → Path → List KeyValue → List Claim → Type 0
 Known R base es l =
     (c : Claim) → IsIn c l → c.mark.sort ≡ Assigned → (t : Traced R l c.path) × (t.base ≡ base → Peaceful l → AssignsAt base es c.path)
 
@@ -113,7 +113,7 @@ traced-on : (R : List Claim → Path → Type 0) (laws : Bases R) (l more : List
 traced-on R laws l more p t = record { base = t.base; root = laws.more l more t.base t.root; way = way-on l more t.base p t.way }
 
 -- behind claims that assign nothing, but for one that assigns this
-known-on : (R : List Claim → Path → Type 0) (laws : Bases R) (base : Path) (es fs : List Event) (l more : List Claim) → Known R base es l → ((e : Event) → IsEvent e es → IsEvent e fs)
+known-on : (R : List Claim → Path → Type 0) (laws : Bases R) (base : Path) (es fs : List KeyValue) (l more : List Claim) → Known R base es l → ((e : KeyValue) → IsKeyValue e es → IsKeyValue e fs)
     → ((c : Claim) → IsIn c more → c.mark.sort ≡ Assigned → Traced R (l ++ more) c.path × AssignsAt base fs c.path) → Known R base fs (l ++ more)
 unfolding traced-on
 known-on R laws base es fs l more known wide new c here is = elim (in-cases c l more here) [
@@ -125,16 +125,16 @@ known-on R laws base es fs l more known wide new c here is = elim (in-cases c l 
 
 -- ---- a clear key
 
-split-last : (m : Part) (more : List Part) → (rest : List Part) × (last : Part) × (m ∷ more ≡ rest ++ (last ∷ []))
+split-last : (m : SimpleKey) (more : List SimpleKey) → (rest : List SimpleKey) × (last : SimpleKey) × (m ∷ more ≡ rest ++ (last ∷ []))
 split-last m [] = ([], m, refl)
 split-last m (n ∷ more) = let (rest, last, is) = split-last n more in (m ∷ rest, last, ap (λ l. m ∷ l) is)
 
-none-there : (names : List (List ℕ)) (es : List Event) (e : Event) → NoneAt names es → IsEvent e es → path e.parts ≡ names → ⊥
+none-there : (names : List (List ℕ)) (es : List KeyValue) (e : KeyValue) → NoneAt names es → IsKeyValue e es → path e.parts ≡ names → ⊥
 none-there names [] e none here is = here
 none-there names (x ∷ es) e none (inl same) is = none.0 (ap (λ y. path y.parts) (sym same) ∙ is)
 none-there names (x ∷ es) e none (inr more) is = none-there names es e none.1 more is
 
-not-clear : (base : Path) (es : List Event) (next : Event) (outer : List Part) (k m : Part) (more : List Part) (p : Path) → Clear es next → next.parts ≡ outer ++ (k ∷ m ∷ more)
+not-clear : (base : Path) (es : List KeyValue) (next : KeyValue) (outer : List SimpleKey) (k m : SimpleKey) (more : List SimpleKey) (p : Path) → Clear es next → next.parts ≡ outer ++ (k ∷ m ∷ more)
     → AssignsAt base es p → p ≡ base ++ keys (outer ++ (k ∷ [])) → ⊥
 not-clear base es next outer k m more p clear is (e, among, there) on =
     let (rest, last, split) = split-last m more in
@@ -159,34 +159,34 @@ guarded-followed earlier (claimed c xs) ys h g =
 guarded-followed earlier (scope inner xs) ys h g = (h.0, guarded-followed earlier xs ys h.1 g)
 
 -- claims behind these earlier ones, with the values of these assignments
-pub record Walked (R : List Claim → Path → Type 0) (base : Path) (es : List Event) (l : List Claim) (cs : Claims) : Type 0 where
+pub record Walked (R : List Claim → Path → Type 0) (base : Path) (es : List KeyValue) (l : List Claim) (cs : Claims) : Type 0 where
   pub guarded : Guarded l cs
   pub known : Known R base es (l ++ own cs)
 
 -- the path of a part behind outer ones
-part-at : (base p : Path) (outer : List Part) (k : Part) → p ≡ base ++ keys outer → with_key p k ≡ base ++ keys (outer ++ (k ∷ []))
+part-at : (base p : Path) (outer : List SimpleKey) (k : SimpleKey) → p ≡ base ++ keys outer → with_key p k ≡ base ++ keys (outer ++ (k ∷ []))
 unfolding keys
 part-at base p outer k on =
     ap (λ q. q ++ (key k.name ∷ [])) on ∙ append_assoc base (keys outer) (key k.name ∷ []) ∙ ap (λ q. base ++ q) (sym (keys-append outer (k ∷ [])))
 
-key-walk : (R : List Claim → Path → Type 0) (laws : Bases R) (base : Path) (es : List Event) (next : Event) (outer parts : List Part) (v : Node) (inside : Path → Claims) (l : List Claim) (p : Path)
-    → Clear es next → R l base → next.parts ≡ outer ++ parts → p ≡ base ++ keys outer → ((k : Part) → Way l base (with_key p k)) → Known R base es l
+key-walk : (R : List Claim → Path → Type 0) (laws : Bases R) (base : Path) (es : List KeyValue) (next : KeyValue) (outer parts : List SimpleKey) (v : ParsedValue) (inside : Path → Claims) (l : List Claim) (p : Path)
+    → Clear es next → R l base → next.parts ≡ outer ++ parts → p ≡ base ++ keys outer → ((k : SimpleKey) → Way l base (with_key p k)) → Known R base es l
     → ((q : Path) → own (inside q) ≡ []) → ((q : Path) (m : List Claim) → Guarded m (inside q)) → Walked R base (es ++ (next ∷ [])) l (key_claims p parts v inside)
 unfolding key_claims
 key-walk R laws base es next outer [] v inside l p clear root is on way known none inner = record {
   guarded = tt;
-  known = known-on R laws base es (es ++ (next ∷ [])) l [] known (λ e. event-left e es (next ∷ [])) (λ c here sort. absurd here);
+  known = known-on R laws base es (es ++ (next ∷ [])) l [] known (λ e. key_value-left e es (next ∷ [])) (λ c here sort. absurd here);
 }
 key-walk R laws base es next outer (k ∷ []) v inside l p clear root is on way known none inner =
     let q = with_key p k in
     let a = assigned q k v in
     let at : q ≡ base ++ keys next.parts = part-at base p outer k on ∙ ap (λ ps. base ++ keys ps) (sym is) in
     let mine : Traced R (l ++ (a ∷ [])) q = record { base = base; root = laws.more l (a ∷ []) base root; way = way-on l (a ∷ []) base q (way k) } in
-    let found : AssignsAt base (es ++ (next ∷ [])) q = (next, event-last next es, at) in
+    let found : AssignsAt base (es ++ (next ∷ [])) q = (next, key_value-last next es, at) in
     record {
       guarded = ((λ dotted. absurd (let no : Assigned ≡ Dotted = dotted in cc)), inner q (l ++ (a ∷ [])));
       known = subst (λ xs. Known R base (es ++ (next ∷ [])) (l ++ (a ∷ xs))) (sym (none q))
-          (known-on R laws base es (es ++ (next ∷ [])) l (a ∷ []) known (λ e. event-left e es (next ∷ [])) (λ c here sort. elim here [
+          (known-on R laws base es (es ++ (next ∷ [])) l (a ∷ []) known (λ e. key_value-left e es (next ∷ [])) (λ c here sort. elim here [
             | inl same ↦ subst (λ x. Traced R (l ++ (a ∷ [])) x.path × AssignsAt base (es ++ (next ∷ [])) x.path) (sym same) (mine, found)
             | inr none ↦ absurd none
           ]));
@@ -215,11 +215,11 @@ key-walk R laws base es next outer (k ∷ m ∷ more) v inside l p clear root is
 
 -- ---- values
 
-value-own : (v : Node) (p : Path) → own (value_claims v p) ≡ []
+value-own : (v : ParsedValue) (p : Path) → own (value_claims v p) ≡ []
 unfolding value_claims inner_claims
-value-own (node (scalar s) span) p = refl
-value-own (node (array vs) span) p = refl
-value-own (node (inline ps) span) p = refl
+value-own (parsed (scalar s) span) p = refl
+value-own (parsed (array vs) span) p = refl
+value-own (parsed (inline ps) span) p = refl
 
 -- the keys of an inline table all begin at it
 abbrev IsAt : Path → List Claim → Path → Type 0
@@ -235,14 +235,14 @@ at-bases : (p : Path) → Bases (IsAt p)
 at-bases p = record { more = λ l m q h. h; apart = λ l a b from to way made peace. at-apart p l a b from to (way-under l a b way) }
 
 -- a key of this base whose walk begins
-begun : (R : List Claim → Path → Type 0) (laws : Bases R) (base : Path) (es : List Event) (next : Event) (l : List Claim) → Clear es next → R l base → Known R base es l
+begun : (R : List Claim → Path → Type 0) (laws : Bases R) (base : Path) (es : List KeyValue) (next : KeyValue) (l : List Claim) → Clear es next → R l base → Known R base es l
     → ((q : Path) (m : List Claim) → Guarded m (value_claims next.value q)) → Walked R base (es ++ (next ∷ [])) l (key_claims base next.parts next.value (value_claims next.value))
 unfolding keys
 begun R laws base es next l clear root known inner =
     key-walk R laws base es next [] next.parts next.value (value_claims next.value) l base clear root refl (sym (append-nil base)) (λ k. first_key (with_key base k) k.name refl) known
     (value-own next.value) inner
 
-element-guarded : (v : Node) (q : Path) (rest : Claims) (l : List Claim) → ((m : List Claim) → Guarded m (value_claims v q)) → ((m : List Claim) → Guarded m rest)
+element-guarded : (v : ParsedValue) (q : Path) (rest : Claims) (l : List Claim) → ((m : List Claim) → Guarded m (value_claims v q)) → ((m : List Claim) → Guarded m rest)
     → Guarded l (claimed (element q v) (followed (value_claims v q) rest))
 element-guarded v q rest l h g =
     let m = l ++ (element q v ∷ []) in
@@ -251,22 +251,22 @@ element-guarded v q rest l h g =
 mutual
   unfolding value_claims inner_claims item_claims pair_claims
 
-  value-guarded : (v : Node) (p : Path) (l : List Claim) (text : List ℕ) (limit d i j : ℕ) → Spells v text limit d i j → Guarded l (value_claims v p)
-  value-guarded (node k span) p l text limit d i j (few, h) = inner-guarded k span p l text limit d i j h
+  value-guarded : (v : ParsedValue) (p : Path) (l : List Claim) (text : List ℕ) (limit d i j : ℕ) → Spells v text limit d i j → Guarded l (value_claims v p)
+  value-guarded (parsed k span) p l text limit d i j (few, h) = inner-guarded k span p l text limit d i j h
 
-  inner-guarded : (k : Inner) (span : Span) (p : Path) (l : List Claim) (text : List ℕ) (limit d i j : ℕ) → SpellsInner k span text limit d i j → Guarded l (inner_claims k p)
+  inner-guarded : (k : ParsedInner) (span : Span) (p : Path) (l : List Claim) (text : List ℕ) (limit d i j : ℕ) → SpellsInner k span text limit d i j → Guarded l (inner_claims k p)
   inner-guarded (scalar s) span p l text limit d i j h = tt
   inner-guarded (array vs) span p l text limit d i j (here, e, k, gap, h) = (items-guarded vs 0 p [] text limit (d + 1) k j h, tt)
   inner-guarded (inline ps) span p l text limit d i j (here, e, k, gap, h) = (pairs-guarded ps [] p [] text limit (d + 1) k j (λ c none. absurd none) h, tt)
 
-  items-guarded : (vs : Items) (n : ℕ) (p : Path) (l : List Claim) (text : List ℕ) (limit d i j : ℕ) → SpellsItems vs text limit d i j → Guarded l (item_claims vs n p)
+  items-guarded : (vs : ParsedItems) (n : ℕ) (p : Path) (l : List Claim) (text : List ℕ) (limit d i j : ℕ) → SpellsItems vs text limit d i j → Guarded l (item_claims vs n p)
   items-guarded no_items n p l text limit d i j h = tt
   items-guarded (item v vs) n p l text limit d i j (m, h, inl (e, close)) =
       element-guarded v (with_position p n) (item_claims vs (suc n) p) l (λ x. value-guarded v (with_position p n) x text limit d i m h) (λ x. rw e tt)
   items-guarded (item v vs) n p l text limit d i j (m, h, inr (k, comma, rest)) =
       element-guarded v (with_position p n) (item_claims vs (suc n) p) l (λ x. value-guarded v (with_position p n) x text limit d i m h) (λ x. items-guarded vs (suc n) p x text limit d k j rest)
 
-  pairs-guarded : (ps : Pairs) (es : List Event) (p : Path) (l : List Claim) (text : List ℕ) (limit d i j : ℕ) → Known (IsAt p) p es l → SpellsPairs ps es text limit d i j
+  pairs-guarded : (ps : ParsedPairs) (es : List KeyValue) (p : Path) (l : List Claim) (text : List ℕ) (limit d i j : ℕ) → Known (IsAt p) p es l → SpellsPairs ps es text limit d i j
       → Guarded l (pair_claims ps p)
   pairs-guarded no_pairs es p l text limit d i j known h = tt
   pairs-guarded (pair ss v x ps) es p l text limit d i j known (m, (a, b, named, few, sign, h, extent), clear, inl (e, close)) =
@@ -280,20 +280,20 @@ mutual
 
 -- ---- the assignments of a section
 
-pub events-walk : (R : List Claim → Path → Type 0) (laws : Bases R) (base : Path) (evs before : List Event) (l : List Claim) (text : List ℕ) (limit i j : ℕ) → SpellsEvents evs before text limit i j
-    → R l base → Known R base before l → (es : List Event) × Walked R base es l (event_claims evs base)
-unfolding event_claims
-events-walk R laws base [] before l text limit i j h root known = (
+pub key_values-walk : (R : List Claim → Path → Type 0) (laws : Bases R) (base : Path) (evs before : List KeyValue) (l : List Claim) (text : List ℕ) (limit i j : ℕ) → SpellsKeyValues evs before text limit i j
+    → R l base → Known R base before l → (es : List KeyValue) × Walked R base es l (key_value_claims evs base)
+unfolding key_value_claims
+key_values-walk R laws base [] before l text limit i j h root known = (
   before,
   record {
     guarded = tt;
     known = known-on R laws base before before l [] known (λ e h. h) (λ c here sort. absurd here);
   },
 )
-events-walk R laws base (e ∷ evs) before l text limit i j (m, n, k, h, tail, clear, gap, rest) root known =
+key_values-walk R laws base (e ∷ evs) before l text limit i j (m, n, k, h, tail, clear, gap, rest) root known =
     let front = key_claims base e.parts e.value (value_claims e.value) in
-    let behind = event_claims evs base in
+    let behind = key_value_claims evs base in
     let walked = begun R laws base before e l clear root known (λ q x. value-guarded e.value q x text limit (length e.parts) h.from m h.spelled) in
-    let (es, more) = events-walk R laws base evs (before ++ (e ∷ [])) (l ++ own front) text limit k j rest (laws.more l (own front) base root) walked.known in
+    let (es, more) = key_values-walk R laws base evs (before ++ (e ∷ [])) (l ++ own front) text limit k j rest (laws.more l (own front) base root) walked.known in
     let all : (l ++ own front) ++ own behind ≡ l ++ own (followed front behind) = append_assoc l (own front) (own behind) ∙ ap (λ x. l ++ x) (sym (own-followed front behind)) in
     (es, record { guarded = guarded-followed l front behind walked.guarded more.guarded; known = subst (λ xs. Known R base es xs) all more.known })

@@ -4,12 +4,12 @@ use Rattle.std.specs.Prelude.{⊤}
 use Rattle.std.proofs.lemmas.Bool.{cases_Bool}
 use Rattle.std.proofs.lemmas.List.{append_cancel_left}
 use Rattle.toml_span_tree.specs.Path.{Path, Step, key, position}
-use Rattle.toml_span_read.specs.Data.{Node, node, Inner, scalar, array, inline, Items, no_items, item, Pairs, no_pairs, pair}
-use Rattle.toml_span_read.specs.Keys.{Part}
+use Rattle.toml_span_read.specs.Data.{ParsedValue, parsed, ParsedInner, scalar, array, inline, ParsedItems, no_items, item, ParsedPairs, no_pairs, pair}
+use Rattle.toml_span_read.specs.Keys.{SimpleKey}
 use Rattle.toml_span_read_laws.specs.Again.{moved, moved_inner, moved_items, moved_pairs, moved_parts, moved_span}
 use Rattle.toml_span_claims.specs.Claims.{Claim, Claims, no_claims, claimed, scope, followed, key_claims, value_claims, inner_claims, item_claims, pair_claims, element, assigned, dotted}
 use Rattle.toml_span_claims.specs.Clashes.{blame, Resolves, or_else}
-use Rattle.toml_span_claims.specs.Flat.{all_claims, claims_at, decides, first, first_by_header, by_header}
+use Rattle.toml_span_claims.specs.Flat.{all_claims, claims_at, deciding_claim, first_claim, first_claim_by_header, by_header}
 use Rattle.toml_span_claims.specs.Paths.{same_path, with_key, with_position}
 use Rattle.toml_span_claims.proofs.Grafts.{same_step-self}
 use Rattle.toml_span_assembly.proofs.EachClaim.{same_path-eq}
@@ -47,20 +47,20 @@ beside-step p r q s x (tail, is, on) =
 
 -- ---- values
 
-assigned-moved : (from to : ℕ) (v : Node) (k : Part) (p r q s : Path) → Beside p r q s → Moves from to p r (assigned q k v) (assigned s (record { name = k.name; span = moved_span from to k.span }) (moved from to v))
-assigned-moved from to (node (scalar x) span) k p r q s b = record { beside = b; sort = refl; place = refl }
-assigned-moved from to (node (array vs) span) k p r q s b = record { beside = b; sort = refl; place = refl }
-assigned-moved from to (node (inline ps) span) k p r q s b = record { beside = b; sort = refl; place = refl }
+assigned-moved : (from to : ℕ) (v : ParsedValue) (k : SimpleKey) (p r q s : Path) → Beside p r q s → Moves from to p r (assigned q k v) (assigned s (record { name = k.name; span = moved_span from to k.span }) (moved from to v))
+assigned-moved from to (parsed (scalar x) span) k p r q s b = record { beside = b; sort = refl; place = refl }
+assigned-moved from to (parsed (array vs) span) k p r q s b = record { beside = b; sort = refl; place = refl }
+assigned-moved from to (parsed (inline ps) span) k p r q s b = record { beside = b; sort = refl; place = refl }
 
-element-moved : (from to : ℕ) (v : Node) (p r q s : Path) → Beside p r q s → Moves from to p r (element q v) (element s (moved from to v))
-element-moved from to (node (scalar x) span) p r q s b = record { beside = b; sort = refl; place = refl }
-element-moved from to (node (array vs) span) p r q s b = record { beside = b; sort = refl; place = refl }
-element-moved from to (node (inline ps) span) p r q s b = record { beside = b; sort = refl; place = refl }
+element-moved : (from to : ℕ) (v : ParsedValue) (p r q s : Path) → Beside p r q s → Moves from to p r (element q v) (element s (moved from to v))
+element-moved from to (parsed (scalar x) span) p r q s b = record { beside = b; sort = refl; place = refl }
+element-moved from to (parsed (array vs) span) p r q s b = record { beside = b; sort = refl; place = refl }
+element-moved from to (parsed (inline ps) span) p r q s b = record { beside = b; sort = refl; place = refl }
 
-dotted-moved : (from to : ℕ) (v : Node) (k : Part) (p r q s : Path) → Beside p r q s → Moves from to p r (dotted q k v) (dotted s (record { name = k.name; span = moved_span from to k.span }) (moved from to v))
-dotted-moved from to (node i span) k p r q s b = record { beside = b; sort = refl; place = refl }
+dotted-moved : (from to : ℕ) (v : ParsedValue) (k : SimpleKey) (p r q s : Path) → Beside p r q s → Moves from to p r (dotted q k v) (dotted s (record { name = k.name; span = moved_span from to k.span }) (moved from to v))
+dotted-moved from to (parsed i span) k p r q s b = record { beside = b; sort = refl; place = refl }
 
-key-moved : (from to : ℕ) (parts : List Part) (v : Node) (p r q s : Path) (inside other : Path → Claims) → Beside p r q s → ((t u : Path) → Beside p r t u → AreMoved from to p r (inside t) (other u))
+key-moved : (from to : ℕ) (parts : List SimpleKey) (v : ParsedValue) (p r q s : Path) (inside other : Path → Claims) → Beside p r q s → ((t u : Path) → Beside p r t u → AreMoved from to p r (inside t) (other u))
     → AreMoved from to p r (key_claims q parts v inside) (key_claims s (moved_parts from to parts) (moved from to v) other)
 unfolding key_claims
 key-moved from to [] v p r q s inside other b h = none_moved
@@ -75,15 +75,15 @@ key-moved from to (k ∷ l ∷ more) v p r q s inside other b h =
 mutual
   unfolding value_claims inner_claims item_claims pair_claims
 
-  pub value-moved : (v : Node) (from to : ℕ) (p r q s : Path) → Beside p r q s → AreMoved from to p r (value_claims v q) (value_claims (moved from to v) s)
-  value-moved (node k span) from to p r q s b = inner-moved k from to p r q s b
+  pub value-moved : (v : ParsedValue) (from to : ℕ) (p r q s : Path) → Beside p r q s → AreMoved from to p r (value_claims v q) (value_claims (moved from to v) s)
+  value-moved (parsed k span) from to p r q s b = inner-moved k from to p r q s b
 
-  inner-moved : (k : Inner) (from to : ℕ) (p r q s : Path) → Beside p r q s → AreMoved from to p r (inner_claims k q) (inner_claims (moved_inner from to k) s)
+  inner-moved : (k : ParsedInner) (from to : ℕ) (p r q s : Path) → Beside p r q s → AreMoved from to p r (inner_claims k q) (inner_claims (moved_inner from to k) s)
   inner-moved (scalar x) from to p r q s b = none_moved
   inner-moved (array vs) from to p r q s b = scope_moved (item_claims vs 0 q) (item_claims (moved_items from to vs) 0 s) no_claims no_claims (items-moved vs 0 from to p r q s b) none_moved
   inner-moved (inline ps) from to p r q s b = scope_moved (pair_claims ps q) (pair_claims (moved_pairs from to ps) s) no_claims no_claims (pairs-moved ps from to p r q s b) none_moved
 
-  items-moved : (vs : Items) (n : ℕ) (from to : ℕ) (p r q s : Path) → Beside p r q s → AreMoved from to p r (item_claims vs n q) (item_claims (moved_items from to vs) n s)
+  items-moved : (vs : ParsedItems) (n : ℕ) (from to : ℕ) (p r q s : Path) → Beside p r q s → AreMoved from to p r (item_claims vs n q) (item_claims (moved_items from to vs) n s)
   items-moved no_items n from to p r q s b = none_moved
   items-moved (item v vs) n from to p r q s b =
       let m = beside-step p r q s (position n) b in
@@ -91,7 +91,7 @@ mutual
       (followed-moved from to p r (value_claims v (with_position q n)) (value_claims (moved from to v) (with_position s n)) (item_claims vs (suc n) q) (item_claims (moved_items from to vs) (suc n) s)
       (value-moved v from to p r (with_position q n) (with_position s n) m) (items-moved vs (suc n) from to p r q s b))
 
-  pairs-moved : (ps : Pairs) (from to : ℕ) (p r q s : Path) → Beside p r q s → AreMoved from to p r (pair_claims ps q) (pair_claims (moved_pairs from to ps) s)
+  pairs-moved : (ps : ParsedPairs) (from to : ℕ) (p r q s : Path) → Beside p r q s → AreMoved from to p r (pair_claims ps q) (pair_claims (moved_pairs from to ps) s)
   pairs-moved no_pairs from to p r q s b = none_moved
   pairs-moved (pair parts v x ps) from to p r q s b =
       followed-moved from to p r (key_claims q parts v (value_claims v)) (key_claims s (moved_parts from to parts) (moved from to v) (value_claims (moved from to v))) (pair_claims ps q)
@@ -147,12 +147,12 @@ MayMove from to p r None (Some y) = ⊥
 MayMove from to p r (Some x) None = ⊥
 MayMove from to p r (Some x) (Some y) = Moves from to p r x y
 
-first-moved : (from to : ℕ) (p r : Path) (xs ys : List Claim) → AllMoved from to p r xs ys → MayMove from to p r (first xs) (first ys)
+first-moved : (from to : ℕ) (p r : Path) (xs ys : List Claim) → AllMoved from to p r xs ys → MayMove from to p r (first_claim xs) (first_claim ys)
 first-moved from to p r _ _ no_more = tt
 first-moved from to p r _ _ (one_more x y xs ys m h) = m
 
-header-moved : (from to : ℕ) (p r : Path) (xs ys : List Claim) → AllMoved from to p r xs ys → MayMove from to p r (first_by_header xs) (first_by_header ys)
-unfolding first_by_header
+header-moved : (from to : ℕ) (p r : Path) (xs ys : List Claim) → AllMoved from to p r xs ys → MayMove from to p r (first_claim_by_header xs) (first_claim_by_header ys)
+unfolding first_claim_by_header
 header-moved from to p r _ _ no_more = tt
 header-moved from to p r _ _ (one_more x y xs ys m h) =
     let same = ap by_header m.sort in
@@ -174,10 +174,10 @@ place-moved from to p r (Some x) None h = absurd h
 place-moved from to p r (Some x) (Some y) h = ap Some h.place
 
 pub decides-moved : (from to : ℕ) (p r : Path) (xs ys : List Claim) → AllMoved from to p r xs ys
-    → option_map (λ c. c.place) (decides ys) ≡ option_map (moved_place from to) (option_map (λ c. c.place) (decides xs))
+    → option_map (λ c. c.place) (deciding_claim ys) ≡ option_map (moved_place from to) (option_map (λ c. c.place) (deciding_claim xs))
 decides-moved from to p r xs ys h =
-    place-moved from to p r (decides xs) (decides ys)
-    (or-moved from to p r (first_by_header xs) (first_by_header ys) (first xs) (first ys) (header-moved from to p r xs ys h) (first-moved from to p r xs ys h))
+    place-moved from to p r (deciding_claim xs) (deciding_claim ys)
+    (or-moved from to p r (first_claim_by_header xs) (first_claim_by_header ys) (first_claim xs) (first_claim ys) (header-moved from to p r xs ys h) (first-moved from to p r xs ys h))
 
 -- ---- clashes
 

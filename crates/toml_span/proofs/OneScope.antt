@@ -8,7 +8,7 @@ use Rattle.toml_span_read.specs.Grammar.{SpellsDocument}
 use Rattle.toml_span_claims.specs.declared.claims.Blame.{Blame}
 use Rattle.toml_span_claims.specs.declared.claims.Blame.TheVariants.{DuplicateKey}
 use Rattle.toml_span_claims.specs.declared.claims.Sort.{Sort}
-use Rattle.toml_span_claims.specs.declared.claims.Sort.TheVariants.{Passed, Section, ArrayOfTables, Entry, Dotted, Assigned}
+use Rattle.toml_span_claims.specs.declared.claims.Sort.TheVariants.{Passed, StandardTable, ArrayOfTables, TableElement, Dotted, Assigned}
 use Rattle.toml_span_claims.specs.Claims.{Claim, Claims, no_claims, claimed, scope, claims}
 use Rattle.toml_span_claims.specs.Clashes.{named, blame, meeting, clash, IsFree, Resolves}
 use Rattle.toml_span_claims.specs.Flat.{all_claims}
@@ -26,19 +26,19 @@ unfolding clash
 do-clash c d b same is = (named d.name (meeting c.mark d.mark b), rw (same, path-self d.path, is) refl)
 
 -- a value and a table on one path clash, whichever comes first
-value-first : (s : Sort) → (s ≡ Assigned → ⊥) → (s ≡ Entry → ⊥) → blame Assigned s ≡ Some DuplicateKey
+value-first : (s : Sort) → (s ≡ Assigned → ⊥) → (s ≡ TableElement → ⊥) → blame Assigned s ≡ Some DuplicateKey
 value-first Passed value entry = refl
-value-first Section value entry = refl
+value-first StandardTable value entry = refl
 value-first ArrayOfTables value entry = refl
-value-first Entry value entry = absurd (entry refl)
+value-first TableElement value entry = absurd (entry refl)
 value-first Dotted value entry = refl
 value-first Assigned value entry = absurd (value refl)
 
-table-first : (s : Sort) → (s ≡ Assigned → ⊥) → (s ≡ Entry → ⊥) → blame s Assigned ≡ Some DuplicateKey
+table-first : (s : Sort) → (s ≡ Assigned → ⊥) → (s ≡ TableElement → ⊥) → blame s Assigned ≡ Some DuplicateKey
 table-first Passed value entry = refl
-table-first Section value entry = refl
+table-first StandardTable value entry = refl
 table-first ArrayOfTables value entry = refl
-table-first Entry value entry = absurd (entry refl)
+table-first TableElement value entry = absurd (entry refl)
 table-first Dotted value entry = refl
 table-first Assigned value entry = absurd (value refl)
 
@@ -79,7 +79,7 @@ peaceful-two (x ∷ l) c d h (inr more) (inl other) differ first last = h.0 c mo
 peaceful-two (x ∷ l) c d h (inr more) (inr also) differ first last = peaceful-two l c d h.1 more also differ first last
 
 -- a value and a table of one scope are not on one path
-pub value-apart : (l : List Claim) (a e : Claim) → Peaceful l → IsIn a l → IsIn e l → a.mark.sort ≡ Assigned → (e.mark.sort ≡ Assigned → ⊥) → (e.mark.sort ≡ Entry → ⊥) → a.path ≡ e.path → ⊥
+pub value-apart : (l : List Claim) (a e : Claim) → Peaceful l → IsIn a l → IsIn e l → a.mark.sort ≡ Assigned → (e.mark.sort ≡ Assigned → ⊥) → (e.mark.sort ≡ TableElement → ⊥) → a.path ≡ e.path → ⊥
 value-apart l a e h here there value table entry same =
     peaceful-two l a e h here there (λ s. table (sym s ∙ value))
     (do-clash a e DuplicateKey same (ap (λ s. blame s e.mark.sort) value ∙ value-first e.mark.sort table entry))
@@ -98,7 +98,7 @@ under-length : (base p : Path) (s : Step) (rest : Path) → p ≡ base ++ (s ∷
 under-length base p s rest is = ap (λ q. length q) is ∙ length-append base (s ∷ rest)
 
 -- an entry and a value are never on one path
-pub entry-value : (base : Path) (l : List Claim) (a e : Claim) → Fits base l a → Fits base l e → a.mark.sort ≡ Assigned → e.mark.sort ≡ Entry → a.path ≡ e.path → ⊥
+pub entry-value : (base : Path) (l : List Claim) (a e : Claim) → Fits base l a → Fits base l e → a.mark.sort ≡ Assigned → e.mark.sort ≡ TableElement → a.path ≡ e.path → ⊥
 entry-value base l a e fits other value is same =
     let (none, (p, k, n, on)) = other.entry is in
     elim (fits.assigned value) [

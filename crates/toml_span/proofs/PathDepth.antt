@@ -8,15 +8,15 @@ use Rattle.toml_span_tree.specs.Node as tree
 use Rattle.toml_span_tree.specs.Path.{Path, key, position, Place, reached, place_of, node_at}
 use Rattle.toml_span_tree.specs.Value.{view}
 use Rattle.toml_span_tree.specs.declared.value.Value.{Value}
-use Rattle.toml_span_read.specs.Data.{Node as Read, node, Inner, scalar, array, inline, Items, no_items, item, Pairs, no_pairs, pair, Event, Block}
-use Rattle.toml_span_read.specs.Keys.{Part}
-use Rattle.toml_span_read.specs.Limits.{Within, WithinInner, WithinItems, WithinPairs, WithinEvents}
-use Rattle.toml_span_read.specs.Grammar.{SpellsDocument, SpellsSections, SpellsEvents, first_block}
+use Rattle.toml_span_read.specs.Data.{ParsedValue as Read, parsed, ParsedInner, scalar, array, inline, ParsedItems, no_items, item, ParsedPairs, no_pairs, pair, KeyValue, Block}
+use Rattle.toml_span_read.specs.Keys.{SimpleKey}
+use Rattle.toml_span_read.specs.Limits.{Within, WithinInner, WithinItems, WithinPairs, WithinKeyValues}
+use Rattle.toml_span_read.specs.Grammar.{SpellsDocument, SpellsSections, SpellsKeyValues, first_block}
 use Rattle.toml_span_read_laws.proofs.DepthLaws.{value_within}
-use Rattle.toml_span_claims.specs.declared.claims.Sort.TheVariants.{Entry}
+use Rattle.toml_span_claims.specs.declared.claims.Sort.TheVariants.{TableElement}
 use Rattle.toml_span_claims.specs.declared.claims.Head.{Head}
-use Rattle.toml_span_claims.specs.Paths.{entries_at, opened_by, section_path, enter, target, with_key, with_position}
-use Rattle.toml_span_claims.specs.Claims.{Claim, Claims, no_claims, claimed, key_claims, value_claims, inner_claims, item_claims, pair_claims, event_claims, array_claims, end_claims, header_claims, section_claims, claims_behind, claims, head_of, header_claim}
+use Rattle.toml_span_claims.specs.Paths.{elements_added, opened_by, section_path, enter, target, with_key, with_position}
+use Rattle.toml_span_claims.specs.Claims.{Claim, Claims, no_claims, claimed, key_claims, value_claims, inner_claims, item_claims, pair_claims, key_value_claims, array_claims, end_claims, header_claims, section_claims, claims_behind, claims, head_of, header_claim}
 use Rattle.toml_span_claims.specs.Flat.{flat}
 use Rattle.toml_span.specs.Laws.{keys_in}
 use Rattle.toml_span_assembly.specs.Parsing.{IsTree}
@@ -43,19 +43,19 @@ size-steps (key name ∷ p) = ap suc (size-steps p)
 size-steps (position i ∷ p) = let more = size-steps p in omega (arith, more)
 
 -- what a header of these parts may add: a key and a position for each
-abbrev room : ℕ → List Part → ℕ
+abbrev room : ℕ → List SimpleKey → ℕ
 room w [] = 0
 room w (k ∷ ks) = suc (w + room w ks)
 
-room-keys : (ks : List Part) → room 0 ks ≡ length ks
+room-keys : (ks : List SimpleKey) → room 0 ks ≡ length ks
 room-keys [] = refl
 room-keys (k ∷ ks) = let more = room-keys ks in omega (arith, more)
 
-room-steps : (ks : List Part) → room 1 ks ≡ 2 * length ks
+room-steps : (ks : List SimpleKey) → room 1 ks ≡ 2 * length ks
 room-steps [] = refl
 room-steps (k ∷ ks) = let more = room-steps ks in omega (arith, more)
 
-size-below : (w : ℕ) (p : Path) (k : Part) → size w (with_key p k) ≡ size w p + 1
+size-below : (w : ℕ) (p : Path) (k : SimpleKey) → size w (with_key p k) ≡ size w p + 1
 size-below w [] k = refl
 size-below w (key name ∷ p) k = let more = size-below w p k in omega (arith, more)
 size-below w (position i ∷ p) k = let more = size-below w p k in omega (arith, more)
@@ -70,7 +70,7 @@ unfolding enter
 size-enter w zero p = omega arith
 size-enter w (suc latest) p = let here = size-at w p latest in omega (arith, here)
 
-size-target : (w : ℕ) (e : Path → ℕ) (p : Path) (k : Part) (parts : List Part) → size w (target e p (k ∷ parts)) + w ≤ size w p + room w (k ∷ parts)
+size-target : (w : ℕ) (e : Path → ℕ) (p : Path) (k : SimpleKey) (parts : List SimpleKey) → size w (target e p (k ∷ parts)) + w ≤ size w p + room w (k ∷ parts)
 unfolding target
 size-target w e p k [] = let here = size-below w p k in omega (arith, here)
 size-target w e p k (l ∷ more) =
@@ -80,7 +80,7 @@ size-target w e p k (l ∷ more) =
     let rest = size-target w e (enter (e q) q) l more in
     omega (arith, here, on, rest)
 
-section-at : (w : ℕ) (e : Path → ℕ) (b : Block) (k : Part) (parts : List Part) → b.header ≡ k ∷ parts → size w (section_path e b) ≤ room w (k ∷ parts)
+section-at : (w : ℕ) (e : Path → ℕ) (b : Block) (k : SimpleKey) (parts : List SimpleKey) → b.header ≡ k ∷ parts → size w (section_path e b) ≤ room w (k ∷ parts)
 section-at w e b k parts is =
     let few : size w (target e [] b.header) + w ≤ room w (k ∷ parts) = rw is (let h = size-target w e [] k parts in omega (arith, h)) in
     elim (cases_Bool b.array) [
@@ -88,7 +88,7 @@ section-at w e b k parts is =
       | inr tab ↦ rw tab (omega (arith, few))
     ]
 
-size-section : (w : ℕ) (e : Path → ℕ) (b : Block) (parts : List Part) → b.header ≡ parts → (b.header ≡ [] → b.array ≡ false) → size w (section_path e b) ≤ room w parts
+size-section : (w : ℕ) (e : Path → ℕ) (b : Block) (parts : List SimpleKey) → b.header ≡ parts → (b.header ≡ [] → b.array ≡ false) → size w (section_path e b) ≤ room w parts
 unfolding target
 size-section w e b [] is header = rw (header is, is) (omega arith)
 size-section w e b (k ∷ parts) is header = section-at w e b k parts is
@@ -99,7 +99,7 @@ size-section w e b (k ∷ parts) is header = section-at w e b k parts is
 abbrev IsWithin : ℕ → ℕ → Claim → Type 0
 IsWithin w n c = size w c.path ≤ n
 
-key-depth : (w n : ℕ) (p : Path) (parts : List Part) (v : Read) (inside : Path → Claims) → size w p + length parts ≤ n
+key-depth : (w n : ℕ) (p : Path) (parts : List SimpleKey) (v : Read) (inside : Path → Claims) → size w p + length parts ≤ n
     → ((q : Path) → size w q ≡ size w p + length parts → Each (IsWithin w n) (inside q)) → Each (IsWithin w n) (key_claims p parts v inside)
 unfolding key_claims
 key-depth w n p [] v inside few h = tt
@@ -109,24 +109,24 @@ key-depth w n p (k ∷ l ∷ more) v inside few h =
     (omega (arith, here, few), key-depth w n (with_key p k) (l ∷ more) v inside (omega (arith, here, few)) (λ q same. h q (omega (arith, here, same))))
 
 at-most : (w n limit d : ℕ) (v : Read) (p : Path) → size w p + limit ≤ n + d → Within limit d v → size w p ≤ n
-at-most w n limit d (node k span) p few h = omega (arith, few, h.0)
+at-most w n limit d (parsed k span) p few h = omega (arith, few, h.0)
 
-parts-few : (w n limit d : ℕ) (parts : List Part) (v : Read) (p : Path) → size w p + limit ≤ n + d → Within limit (d + length parts) v → size w p + length parts ≤ n
-parts-few w n limit d parts (node k span) p few h = omega (arith, few, h.0)
+parts-few : (w n limit d : ℕ) (parts : List SimpleKey) (v : Read) (p : Path) → size w p + limit ≤ n + d → Within limit (d + length parts) v → size w p + length parts ≤ n
+parts-few w n limit d parts (parsed k span) p few h = omega (arith, few, h.0)
 
 -- each bracket round a value is a step at most, and each part of a key is one
 mutual
   unfolding value_claims inner_claims item_claims pair_claims
 
   value-depth : (w n limit d : ℕ) → w ≤ 1 → (v : Read) (p : Path) → size w p + limit ≤ n + d → Within limit d v → Each (IsWithin w n) (value_claims v p)
-  value-depth w n limit d one (node k span) p few h = inner-depth w n limit d one k p few h.1
+  value-depth w n limit d one (parsed k span) p few h = inner-depth w n limit d one k p few h.1
 
-  inner-depth : (w n limit d : ℕ) → w ≤ 1 → (k : Inner) (p : Path) → size w p + limit ≤ n + d → WithinInner limit d k → Each (IsWithin w n) (inner_claims k p)
+  inner-depth : (w n limit d : ℕ) → w ≤ 1 → (k : ParsedInner) (p : Path) → size w p + limit ≤ n + d → WithinInner limit d k → Each (IsWithin w n) (inner_claims k p)
   inner-depth w n limit d one (scalar s) p few h = tt
   inner-depth w n limit d one (array vs) p few h = (item-depth w n limit (d + 1) one vs 0 p (omega (arith, few)) h, tt)
   inner-depth w n limit d one (inline ps) p few h = (pair-depth w n limit (d + 1) one ps p (omega (arith, few)) h, tt)
 
-  item-depth : (w n limit d : ℕ) → w ≤ 1 → (vs : Items) (i : ℕ) (p : Path) → size w p + limit + 1 ≤ n + d → WithinItems limit d vs → Each (IsWithin w n) (item_claims vs i p)
+  item-depth : (w n limit d : ℕ) → w ≤ 1 → (vs : ParsedItems) (i : ℕ) (p : Path) → size w p + limit + 1 ≤ n + d → WithinItems limit d vs → Each (IsWithin w n) (item_claims vs i p)
   item-depth w n limit d one no_items i p few h = tt
   item-depth w n limit d one (item v vs) i p few h =
       let here = size-at w p i in
@@ -135,7 +135,7 @@ mutual
         each-followed (IsWithin w n) (value_claims v (with_position p i)) (item_claims vs (suc i) p) (value-depth w n limit d one v (with_position p i) below h.0) (item-depth w n limit d one vs (suc i) p few h.1),
       )
 
-  pair-depth : (w n limit d : ℕ) → w ≤ 1 → (ps : Pairs) (p : Path) → size w p + limit ≤ n + d → WithinPairs limit d ps → Each (IsWithin w n) (pair_claims ps p)
+  pair-depth : (w n limit d : ℕ) → w ≤ 1 → (ps : ParsedPairs) (p : Path) → size w p + limit ≤ n + d → WithinPairs limit d ps → Each (IsWithin w n) (pair_claims ps p)
   pair-depth w n limit d one no_pairs p few h = tt
   pair-depth w n limit d one (pair parts v extent rest) p few h =
       each-followed (IsWithin w n) (key_claims p parts v (value_claims v)) (pair_claims rest p)
@@ -143,27 +143,27 @@ mutual
       (λ q same. value-depth w n limit (d + length parts) one v q (omega (arith, same, few)) h.1))
       (pair-depth w n limit d one rest p few h.2)
 
-event-depth : (w n limit : ℕ) → w ≤ 1 → (es : List Event) (p : Path) → size w p + limit ≤ n → WithinEvents limit es → Each (IsWithin w n) (event_claims es p)
-unfolding event_claims
-event-depth w n limit one [] p few h = tt
-event-depth w n limit one (e ∷ es) p few h =
-    each-followed (IsWithin w n) (key_claims p e.parts e.value (value_claims e.value)) (event_claims es p)
+key_value-depth : (w n limit : ℕ) → w ≤ 1 → (es : List KeyValue) (p : Path) → size w p + limit ≤ n → WithinKeyValues limit es → Each (IsWithin w n) (key_value_claims es p)
+unfolding key_value_claims
+key_value-depth w n limit one [] p few h = tt
+key_value-depth w n limit one (e ∷ es) p few h =
+    each-followed (IsWithin w n) (key_claims p e.parts e.value (value_claims e.value)) (key_value_claims es p)
     (key-depth w n p e.parts e.value (value_claims e.value) (omega (arith, few, h.0.0))
     (λ q same. value-depth w n limit (0 + length e.parts) one e.value q (omega (arith, same, few)) h.0.1))
-    (event-depth w n limit one es p few h.1)
+    (key_value-depth w n limit one es p few h.1)
 
-end-depth : (w n : ℕ) (h : Head) (p : Path) (k : Part) (entries : ℕ) → size w p + w ≤ n → Each (IsWithin w n) (end_claims h p k entries)
+end-depth : (w n : ℕ) (h : Head) (p : Path) (k : SimpleKey) (entries : ℕ) → size w p + w ≤ n → Each (IsWithin w n) (end_claims h p k entries)
 unfolding end_claims
 end-depth w n h p k entries few = elim (cases_Bool h.array) [
   | inl arr ↦ rw arr (added w n h p k entries few)
   | inr tab ↦ rw tab (omega (arith, few), tt)
 ]
   where
-    added : (w n : ℕ) (h : Head) (p : Path) (k : Part) (entries : ℕ) → size w p + w ≤ n → Each (IsWithin w n) (array_claims h p k entries (claimed (header_claim h Entry (with_position p entries) k) no_claims))
+    added : (w n : ℕ) (h : Head) (p : Path) (k : SimpleKey) (entries : ℕ) → size w p + w ≤ n → Each (IsWithin w n) (array_claims h p k entries (claimed (header_claim h TableElement (with_position p entries) k) no_claims))
     added w n h p k zero few = let here = size-at w p 0 in (omega (arith, few), (omega (arith, few, here), tt))
     added w n h p k (suc entries) few = let here = size-at w p (suc entries) in (omega (arith, few, here), tt)
 
-header-depth : (w n : ℕ) (e : Path → ℕ) (h : Head) (p : Path) (parts : List Part) → size w p + room w parts ≤ n → Each (IsWithin w n) (header_claims e h p parts)
+header-depth : (w n : ℕ) (e : Path → ℕ) (h : Head) (p : Path) (parts : List SimpleKey) → size w p + room w parts ≤ n → Each (IsWithin w n) (header_claims e h p parts)
 unfolding header_claims
 header-depth w n e h p [] few = tt
 header-depth w n e h p (k ∷ []) few = let here = size-below w p k in end-depth w n h (with_key p k) k (e (with_key p k)) (omega (arith, few, here))
@@ -178,47 +178,47 @@ header-depth w n e h p (k ∷ l ∷ more) few =
 -- the parts of each header, and the assignments, are within the limit
 abbrev WithinBlocks : ℕ → List Block → Type 0
 WithinBlocks limit [] = ⊤
-WithinBlocks limit (b ∷ bs) = (length b.header ≤ limit) × WithinEvents limit b.events × WithinBlocks limit bs
+WithinBlocks limit (b ∷ bs) = (length b.header ≤ limit) × WithinKeyValues limit b.key_values × WithinBlocks limit bs
 
 -- headers within the limit add at most so much
 abbrev HasRoom : ℕ → ℕ → ℕ → Type 0
-HasRoom w limit n = (parts : List Part) → length parts ≤ limit → room w parts ≤ n
+HasRoom w limit n = (parts : List SimpleKey) → length parts ≤ limit → room w parts ≤ n
 
 behind-depth : (w limit n : ℕ) → w ≤ 1 → HasRoom w limit n → (earlier bs : List Block) → AreSections bs → WithinBlocks limit bs → Each (IsWithin w (n + limit)) (claims_behind earlier bs)
 unfolding claims_behind section_claims
 behind-depth w limit n one few earlier [] headers h = tt
 behind-depth w limit n one few earlier (b ∷ bs) headers h =
-    let e = entries_at (opened_by earlier) in
+    let e = elements_added (opened_by earlier) in
     let P = IsWithin w (n + limit) in
     let header = few b.header h.0 in
     let here = size-section w e b b.header refl headers.0 in
     each-followed P (section_claims e b) (claims_behind (b ∷ earlier) bs)
-    (each-followed P (header_claims e (head_of b) [] b.header) (event_claims b.events (section_path e b))
+    (each-followed P (header_claims e (head_of b) [] b.header) (key_value_claims b.key_values (section_path e b))
     (header-depth w (n + limit) e (head_of b) [] b.header (omega (arith, header)))
-    (event-depth w (n + limit) limit one b.events (section_path e b) (omega (arith, here, header)) h.1))
+    (key_value-depth w (n + limit) limit one b.key_values (section_path e b) (omega (arith, here, header)) h.1))
     (behind-depth w limit n one few (b ∷ earlier) bs headers.1 h.2)
 
 -- ---- what a text spells is within the limit
 
-events-within : (es earlier : List Event) (text : List ℕ) (limit i j : ℕ) → SpellsEvents es earlier text limit i j → WithinEvents limit es
-events-within [] earlier text limit i j h = tt
-events-within (e ∷ es) earlier text limit i j (m, n, k, here, tail, clear, gap, rest) =
+key_values-within : (es earlier : List KeyValue) (text : List ℕ) (limit i j : ℕ) → SpellsKeyValues es earlier text limit i j → WithinKeyValues limit es
+key_values-within [] earlier text limit i j h = tt
+key_values-within (e ∷ es) earlier text limit i j (m, n, k, here, tail, clear, gap, rest) =
     let depth : length e.parts ≡ 0 + length e.parts = omega arith in
-    ((here.few, subst (λ d. Within limit d e.value) depth (value_within e.value text limit (length e.parts) here.from m here.spelled)), events-within es (earlier ++ (e ∷ [])) text limit k j rest)
+    ((here.few, subst (λ d. Within limit d e.value) depth (value_within e.value text limit (length e.parts) here.from m here.spelled)), key_values-within es (earlier ++ (e ∷ [])) text limit k j rest)
 
 sections-within : (bs : List Block) (text : List ℕ) (limit i : ℕ) → SpellsSections bs text limit i → WithinBlocks limit bs
 sections-within [] text limit i h = tt
 sections-within (b ∷ bs) text limit i (j, here, rest) =
-    (here.header.front.few, events-within b.events [] text limit here.lines.0 j here.lines.2, sections-within bs text limit j rest)
+    (here.header.front.few, key_values-within b.key_values [] text limit here.lines.0 j here.lines.2, sections-within bs text limit j rest)
 
-first-within : (limit : ℕ) (evs : List Event) (bs : List Block) → WithinEvents limit evs → WithinBlocks limit bs → WithinBlocks limit (first_block evs ++ bs)
+first-within : (limit : ℕ) (evs : List KeyValue) (bs : List Block) → WithinKeyValues limit evs → WithinBlocks limit bs → WithinBlocks limit (first_block evs ++ bs)
 first-within limit [] bs h g = g
 first-within limit (e ∷ evs) bs h g = (omega arith, h, g)
 
 spelled-within : (bs : List Block) (text : List ℕ) (limit : ℕ) → SpellsDocument bs text limit → WithinBlocks limit bs
 spelled-within bs text limit h =
     subst (WithinBlocks limit) (sym h.all)
-    (first-within limit h.first h.rest (events-within h.first [] text limit h.lines.0 h.end h.lines.2) (sections-within h.rest text limit h.end h.sections))
+    (first-within limit h.first h.rest (key_values-within h.first [] text limit h.lines.0 h.end h.lines.2) (sections-within h.rest text limit h.end h.sections))
 
 flat-size : (w n : ℕ) (text : List ℕ) (limit l : ℕ) (bs : List Block) (p : Path) (x : Place) → w ≤ 1 → HasRoom w limit n → SpellsDocument bs text limit
     → flat l (claims bs) p ≡ Some x → size w p ≤ n + limit

@@ -7,10 +7,10 @@ use Rattle.toml_span_tree.specs.Path.{Path, Place, shape_scalar, shape_table, pl
 use Rattle.toml_span_tree.specs.Value.{view}
 use Rattle.toml_span_tree.specs.declared.value.Value.{Value}
 use Rattle.toml_span_read_laws.specs.Again.{SpellsAgain, ReadsAgain, ScalarReadsAgain}
-use Rattle.toml_span_read.specs.Data.{Node, node, scalar, array, inline, span_of, Block}
+use Rattle.toml_span_read.specs.Data.{ParsedValue, parsed, scalar, array, inline, parsed_span, Block}
 use Rattle.toml_span_read.specs.Grammar.{from_to, Spells, SpellsDocument}
 use Rattle.toml_span_read_laws.proofs.AgainLines.{document_spelled}
-use Rattle.toml_span_claims.specs.Claims.{Claim, inner_of, value_shape, claims}
+use Rattle.toml_span_claims.specs.Claims.{Claim, parsed_inner, value_shape, claims}
 use Rattle.toml_span_claims.specs.Flat.{flat}
 use Rattle.toml_span_assembly.specs.Parsing.{IsTree}
 use Rattle.toml_span_assembly.proofs.EachClaim.{flat-decides}
@@ -19,26 +19,26 @@ use Rattle.toml_span.proofs.SpelledClaims.{Spelled, OfText, document-of_text}
 -- ---- values
 
 -- a value whose span is from where it begins to where it ends
-pub at-span : (v : Node) (text : List ℕ) (limit d i j : ℕ) → 1 ≤ d → Spells v text limit d i j → span_of v ≡ from_to i j → ReadsAgain text limit v
+pub at-span : (v : ParsedValue) (text : List ℕ) (limit d i j : ℕ) → 1 ≤ d → Spells v text limit d i j → parsed_span v ≡ from_to i j → ReadsAgain text limit v
 at-span v text limit d i j deep h e = subst (λ (s : Span). SpellsAgain v text limit s.start s.end) (sym e) (document_spelled v text limit d i j deep h)
 
-pub scalar-again : (s : Scalar) (span : Span) (text : List ℕ) (limit d i j : ℕ) → 1 ≤ d → Spells (node (scalar s) span) text limit d i j → ScalarReadsAgain text limit s span
+pub scalar-again : (s : Scalar) (span : Span) (text : List ℕ) (limit d i j : ℕ) → 1 ≤ d → Spells (parsed (scalar s) span) text limit d i j → ScalarReadsAgain text limit s span
 scalar-again (text_scalar v) span text limit d i j deep h = tt
-scalar-again (integer n) span text limit d i j deep h = at-span (node (scalar (integer n)) span) text limit d i j deep h h.1.2
-scalar-again (float x) span text limit d i j deep h = at-span (node (scalar (float x)) span) text limit d i j deep h h.1.2
-scalar-again (boolean b) span text limit d i j deep h = at-span (node (scalar (boolean b)) span) text limit d i j deep h h.1.1
-scalar-again (datetime x) span text limit d i j deep h = at-span (node (scalar (datetime x)) span) text limit d i j deep h h.1.4
+scalar-again (integer n) span text limit d i j deep h = at-span (parsed (scalar (integer n)) span) text limit d i j deep h h.1.2
+scalar-again (float x) span text limit d i j deep h = at-span (parsed (scalar (float x)) span) text limit d i j deep h h.1.2
+scalar-again (boolean b) span text limit d i j deep h = at-span (parsed (scalar (boolean b)) span) text limit d i j deep h h.1.1
+scalar-again (datetime x) span text limit d i j deep h = at-span (parsed (scalar (datetime x)) span) text limit d i j deep h h.1.4
 
 -- ---- the flat document
 
 -- the text spells this scalar, with this span
 abbrev pub HasScalar : List ℕ → ℕ → Scalar → Span → Type 0
-HasScalar text limit s span = Spelled text limit (node (scalar s) span)
+HasScalar text limit s span = Spelled text limit (parsed (scalar s) span)
 
-scalar-value : (text : List ℕ) (limit : ℕ) (v : Node) (s : Scalar) → Spelled text limit v → shape_scalar s ≡ value_shape (inner_of v) → HasScalar text limit s (span_of v)
-scalar-value text limit (node (scalar t) span) s h e = let same : s ≡ t = cc in rw same h
-scalar-value text limit (node (array vs) span) s h e = cc
-scalar-value text limit (node (inline ps) span) s h e = cc
+scalar-value : (text : List ℕ) (limit : ℕ) (v : ParsedValue) (s : Scalar) → Spelled text limit v → shape_scalar s ≡ value_shape (parsed_inner v) → HasScalar text limit s (parsed_span v)
+scalar-value text limit (parsed (scalar t) span) s h e = let same : s ≡ t = cc in rw same h
+scalar-value text limit (parsed (array vs) span) s h e = cc
+scalar-value text limit (parsed (inline ps) span) s h e = cc
 
 scalar-claimed : (text : List ℕ) (limit : ℕ) (c : Claim) (s : Scalar) → OfText text limit c → c.place.shape ≡ shape_scalar s → HasScalar text limit s c.place.span
 scalar-claimed text limit c s (inl a) is = subst (HasScalar text limit s) (sym a.span) (scalar-value text limit a.value s a.spelled (sym is ∙ a.shape))

@@ -3,13 +3,13 @@ use Rattle.std.proofs.Common.{◌≡◌, ℕ, zero, suc, ◌<◌, ◌⊎◌, Boo
 use Rattle.std.specs.Prelude.{⊤, if◌then◌else◌}
 use Rattle.std.proofs.lemmas.Bool.{cases_Bool, cases_lt}
 use Rattle.toml_span_tree.specs.Path.{Path, Step, key, position}
-use Rattle.toml_span_read.specs.Data.{Node, node, Inner, scalar, array, inline, Items, no_items, item, Pairs, no_pairs, pair, Event, span_of, Block}
-use Rattle.toml_span_read.specs.Keys.{Part}
+use Rattle.toml_span_read.specs.Data.{ParsedValue, parsed, ParsedInner, scalar, array, inline, ParsedItems, no_items, item, ParsedPairs, no_pairs, pair, KeyValue, Block}
+use Rattle.toml_span_read.specs.Keys.{SimpleKey}
 use Rattle.toml_span_claims.specs.declared.claims.Sort.{Sort}
-use Rattle.toml_span_claims.specs.declared.claims.Sort.TheVariants.{Passed, Section, ArrayOfTables, Entry, Assigned}
+use Rattle.toml_span_claims.specs.declared.claims.Sort.TheVariants.{Passed, StandardTable, ArrayOfTables, TableElement, Assigned}
 use Rattle.toml_span_claims.specs.declared.claims.Head.{Head}
-use Rattle.toml_span_claims.specs.Claims.{Claim, Claims, no_claims, claimed, scope, followed, key_claims, value_claims, inner_claims, item_claims, pair_claims, event_claims, element, assigned, dotted, head_of, header_claim, array_claims, end_claims, header_claims, section_claims, claims_behind, claims}
-use Rattle.toml_span_claims.specs.Paths.{same_path, with_key, with_position, enter, target, entries_at, opened_by, section_path}
+use Rattle.toml_span_claims.specs.Claims.{Claim, Claims, no_claims, claimed, scope, followed, key_claims, value_claims, inner_claims, item_claims, pair_claims, key_value_claims, element, assigned, dotted, head_of, header_claim, array_claims, end_claims, header_claims, section_claims, claims_behind, claims}
+use Rattle.toml_span_claims.specs.Paths.{same_path, with_key, with_position, enter, target, elements_added, opened_by, section_path}
 use Rattle.toml_span_claims.specs.code.Placing.{AreSections}
 use Rattle.toml_span_assembly.proofs.EachClaim.{same_path-eq}
 use Rattle.toml_span.specs.Clashing.{IsIn, own}
@@ -37,9 +37,9 @@ Makes l p = (e : Claim) × IsIn e l × (e.mark.sort ≡ Assigned → ⊥) × (e.
 pub record Fits (base : Path) (earlier : List Claim) (c : Claim) : Type 0 where
   pub under : IsUnder base c.path
   pub parent : IsChild base c.path ⊎ ((p : Path) × Makes earlier p × IsChild p c.path)
-  pub entry : c.mark.sort ≡ Entry → (base ≡ []) × ((p : Path) × (k : List ℕ) × (n : ℕ) × (c.path ≡ (p ++ (key k ∷ [])) ++ (position n ∷ [])))
+  pub entry : c.mark.sort ≡ TableElement → (base ≡ []) × ((p : Path) × (k : List ℕ) × (n : ℕ) × (c.path ≡ (p ++ (key k ∷ [])) ++ (position n ∷ [])))
   pub assigned : c.mark.sort ≡ Assigned → ((p : Path) × (k : List ℕ) × (c.path ≡ p ++ (key k ∷ []))) ⊎ IsChild base c.path
-  pub passed : c.mark.sort ≡ Passed → (p : Path) (n : ℕ) → c.path ≡ p ++ (position n ∷ []) → Has earlier Entry c.path
+  pub passed : c.mark.sort ≡ Passed → (p : Path) (n : ℕ) → c.path ≡ p ++ (position n ∷ []) → Has earlier TableElement c.path
 
 -- Each claim fits its scope, and each scope stands right behind a claim that assigns, at whose path it has its base.
 abbrev pub Scoped : Path → List Claim → Option Claim → Claims → Type 0
@@ -105,7 +105,7 @@ fits-on base l more c f = record {
   ];
   entry = f.entry;
   assigned = f.assigned;
-  passed = λ is p n on. has-on l more Entry c.path (f.passed is p n on);
+  passed = λ is p n on. has-on l more TableElement c.path (f.passed is p n on);
 }
 
 scoped-loose : (base : Path) (earlier : List Claim) (last : Option Claim) (cs : Claims) → Scoped base earlier None cs → Scoped base earlier last cs
@@ -137,7 +137,7 @@ child-parent base earlier p x (from, inl same) = inl (x, ap (λ l. l ++ (x ∷ [
 child-parent base earlier p x (from, inr made) = inr (p, made, (x, refl))
 
 -- a claim of a table at a key
-table-fits : (base : Path) (earlier : List Claim) (p : Path) (k : List ℕ) (c : Claim) → Stands base earlier p → c.path ≡ p ++ (key k ∷ []) → (c.mark.sort ≡ Entry → ⊥) → Fits base earlier c
+table-fits : (base : Path) (earlier : List Claim) (p : Path) (k : List ℕ) (c : Claim) → Stands base earlier p → c.path ≡ p ++ (key k ∷ []) → (c.mark.sort ≡ TableElement → ⊥) → Fits base earlier c
 table-fits base earlier p k c stands on plain = record {
   under = rw on (child-under base p (key k) stands.0);
   parent = rw on (child-parent base earlier p (key k) stands);
@@ -146,8 +146,8 @@ table-fits base earlier p k c stands on plain = record {
   passed = λ is q n there. absurd (key-position p q k n (sym on ∙ there));
 }
 
-key-scoped : (base : Path) (earlier : List Claim) (p : Path) (parts : List Part) (v : Node) (inside : Path → Claims) → Stands base earlier p
-    → ((k : Part) (q : Path) (l : List Claim) → IsUnder base (with_key q k) → Scoped base l (Some (assigned (with_key q k) k v)) (inside (with_key q k))) → Scoped base earlier None (key_claims p parts v inside)
+key-scoped : (base : Path) (earlier : List Claim) (p : Path) (parts : List SimpleKey) (v : ParsedValue) (inside : Path → Claims) → Stands base earlier p
+    → ((k : SimpleKey) (q : Path) (l : List Claim) → IsUnder base (with_key q k) → Scoped base l (Some (assigned (with_key q k) k v)) (inside (with_key q k))) → Scoped base earlier None (key_claims p parts v inside)
 unfolding key_claims
 key-scoped base earlier p [] v inside stands h = tt
 key-scoped base earlier p (k ∷ []) v inside stands h =
@@ -160,7 +160,7 @@ key-scoped base earlier p (k ∷ l ∷ more) v inside stands h =
           (child-from base p (key k.name) stands.0, inr (c, in-right c earlier (c ∷ []) (inl refl), (λ e. cc), refl)) h),
     )
 
-element-fits : (p : Path) (earlier : List Claim) (n : ℕ) (v : Node) → Fits p earlier (element (with_position p n) v)
+element-fits : (p : Path) (earlier : List Claim) (n : ℕ) (v : ParsedValue) → Fits p earlier (element (with_position p n) v)
 element-fits p earlier n v = record {
   under = (position n, [], refl);
   parent = inl (position n, refl);
@@ -172,15 +172,15 @@ element-fits p earlier n v = record {
 mutual
   unfolding value_claims inner_claims item_claims pair_claims
 
-  value-scoped : (v : Node) (base : Path) (earlier : List Claim) (a : Claim) → a.mark.sort ≡ Assigned → IsUnder base a.path → Scoped base earlier (Some a) (value_claims v a.path)
-  value-scoped (node k span) base earlier a is under = inner-scoped k base earlier a is under
+  value-scoped : (v : ParsedValue) (base : Path) (earlier : List Claim) (a : Claim) → a.mark.sort ≡ Assigned → IsUnder base a.path → Scoped base earlier (Some a) (value_claims v a.path)
+  value-scoped (parsed k span) base earlier a is under = inner-scoped k base earlier a is under
 
-  inner-scoped : (k : Inner) (base : Path) (earlier : List Claim) (a : Claim) → a.mark.sort ≡ Assigned → IsUnder base a.path → Scoped base earlier (Some a) (inner_claims k a.path)
+  inner-scoped : (k : ParsedInner) (base : Path) (earlier : List Claim) (a : Claim) → a.mark.sort ≡ Assigned → IsUnder base a.path → Scoped base earlier (Some a) (inner_claims k a.path)
   inner-scoped (scalar s) base earlier a is under = tt
   inner-scoped (array vs) base earlier a is under = (is, under, items-scoped vs 0 a.path [], tt)
   inner-scoped (inline ps) base earlier a is under = (is, under, pairs-scoped ps a.path [], tt)
 
-  items-scoped : (vs : Items) (n : ℕ) (p : Path) (earlier : List Claim) → Scoped p earlier None (item_claims vs n p)
+  items-scoped : (vs : ParsedItems) (n : ℕ) (p : Path) (earlier : List Claim) → Scoped p earlier None (item_claims vs n p)
   items-scoped no_items n p earlier = tt
   items-scoped (item v vs) n p earlier =
       let c = element (with_position p n) v in
@@ -190,7 +190,7 @@ mutual
             (value-scoped v p l c refl (position n, [], refl)) (items-scoped vs (suc n) p (l ++ own (value_claims v (with_position p n)))),
       )
 
-  pairs-scoped : (ps : Pairs) (p : Path) (earlier : List Claim) → Scoped p earlier None (pair_claims ps p)
+  pairs-scoped : (ps : ParsedPairs) (p : Path) (earlier : List Claim) → Scoped p earlier None (pair_claims ps p)
   pairs-scoped no_pairs p earlier = tt
   pairs-scoped (pair parts v extent ps) p earlier =
       let front = key_claims p parts v (value_claims v) in
@@ -199,31 +199,31 @@ mutual
       (λ k q l under. value-scoped v p l (assigned (with_key q k) k v) refl under))
       (pairs-scoped ps p (earlier ++ own front))
 
-events-scoped : (es : List Event) (base : Path) (earlier : List Claim) (p : Path) → Stands base earlier p → Scoped base earlier None (event_claims es p)
-unfolding event_claims
-events-scoped [] base earlier p stands = tt
-events-scoped (e ∷ es) base earlier p stands =
+key_values-scoped : (es : List KeyValue) (base : Path) (earlier : List Claim) (p : Path) → Stands base earlier p → Scoped base earlier None (key_value_claims es p)
+unfolding key_value_claims
+key_values-scoped [] base earlier p stands = tt
+key_values-scoped (e ∷ es) base earlier p stands =
     let front = key_claims p e.parts e.value (value_claims e.value) in
-    scoped-followed base earlier None front (event_claims es p)
+    scoped-followed base earlier None front (key_value_claims es p)
     (key-scoped base earlier p e.parts e.value (value_claims e.value) stands
     (λ k q l under. value-scoped e.value base l (assigned (with_key q k) k e.value) refl under))
-    (events-scoped es base (earlier ++ own front) p (stands-on base earlier (own front) p stands))
+    (key_values-scoped es base (earlier ++ own front) p (stands-on base earlier (own front) p stands))
 
 -- ---- headers
 
 -- an array of tables with so many entries
 abbrev HasEntries : List Claim → Path → ℕ → Type 0
-HasEntries l p n = (m : ℕ) → m < n → Has l ArrayOfTables p × Has l Entry (with_position p m)
+HasEntries l p n = (m : ℕ) → m < n → Has l ArrayOfTables p × Has l TableElement (with_position p m)
 
 entries-on : (l more : List Claim) (p : Path) (n : ℕ) → HasEntries l p n → HasEntries (l ++ more) p n
-entries-on l more p n h m few = (has-on l more ArrayOfTables p (h m few).0, has-on l more Entry (with_position p m) (h m few).1)
+entries-on l more p n h m few = (has-on l more ArrayOfTables p (h m few).0, has-on l more TableElement (with_position p m) (h m few).1)
 
 root-from : (p : Path) → IsFrom [] p
 root-from p = (p, refl)
 
 -- a claim of the document at a position of an array of tables
 entry-fits : (earlier : List Claim) (p : Path) (k : List ℕ) (n : ℕ) (c : Claim) → Has earlier ArrayOfTables (p ++ (key k ∷ [])) → c.path ≡ (p ++ (key k ∷ [])) ++ (position n ∷ [])
-    → (c.mark.sort ≡ Assigned → ⊥) → (c.mark.sort ≡ Passed → Has earlier Entry ((p ++ (key k ∷ [])) ++ (position n ∷ []))) → Fits [] earlier c
+    → (c.mark.sort ≡ Assigned → ⊥) → (c.mark.sort ≡ Passed → Has earlier TableElement ((p ++ (key k ∷ [])) ++ (position n ∷ []))) → Fits [] earlier c
 entry-fits earlier p k n c (e, here, is, there) on plain passed = record {
   under = rw on (child-under [] (p ++ (key k ∷ [])) (position n) (root-from (p ++ (key k ∷ []))));
   parent = inr (p ++ (key k ∷ []), (e, here, (λ no. let wrong : ArrayOfTables ≡ Assigned = sym is ∙ no in cc), there), (position n, on));
@@ -232,7 +232,7 @@ entry-fits earlier p k n c (e, here, is, there) on plain passed = record {
   passed = λ is q m there. rw on (passed is);
 }
 
-passed-fits : (n : ℕ) (earlier : List Claim) (h : Head) (p : Path) (k : Part) → Stands [] earlier p → HasEntries earlier (with_key p k) n → Fits [] earlier (header_claim h Passed (enter n (with_key p k)) k)
+passed-fits : (n : ℕ) (earlier : List Claim) (h : Head) (p : Path) (k : SimpleKey) → Stands [] earlier p → HasEntries earlier (with_key p k) n → Fits [] earlier (header_claim h Passed (enter n (with_key p k)) k)
 unfolding enter
 passed-fits zero earlier h p k stands few = table-fits [] earlier p k.name (header_claim h Passed (with_key p k) k) stands refl (λ e. cc)
 passed-fits (suc n) earlier h p k stands few =
@@ -241,39 +241,39 @@ passed-fits (suc n) earlier h p k stands few =
 
 -- what a header leaves at its end
 abbrev Ends : Bool → List Claim → Path → ℕ → Type 0
-Ends true l p n = Has l ArrayOfTables p × Has l Entry (with_position p n)
-Ends false l p n = Has l Section p
+Ends true l p n = Has l ArrayOfTables p × Has l TableElement (with_position p n)
+Ends false l p n = Has l StandardTable p
 
 -- a header's claims fit, and its end is claimed
 record Header (earlier : List Claim) (h : Head) (p : Path) (n : ℕ) (cs : Claims) : Type 0 where
   scoped : Scoped [] earlier None cs
   ends : Ends h.array (earlier ++ own cs) p n
 
-added : (n : ℕ) (earlier : List Claim) (h : Head) (p : Path) (k : Part) → Stands [] earlier p → HasEntries earlier (with_key p k) n
-    → Scoped [] earlier None (array_claims h (with_key p k) k n (claimed (header_claim h Entry (with_position (with_key p k) n) k) no_claims))
-    × Ends true (earlier ++ own (array_claims h (with_key p k) k n (claimed (header_claim h Entry (with_position (with_key p k) n) k) no_claims))) (with_key p k) n
+added : (n : ℕ) (earlier : List Claim) (h : Head) (p : Path) (k : SimpleKey) → Stands [] earlier p → HasEntries earlier (with_key p k) n
+    → Scoped [] earlier None (array_claims h (with_key p k) k n (claimed (header_claim h TableElement (with_position (with_key p k) n) k) no_claims))
+    × Ends true (earlier ++ own (array_claims h (with_key p k) k n (claimed (header_claim h TableElement (with_position (with_key p k) n) k) no_claims))) (with_key p k) n
 added zero earlier h p k stands few =
     let q = with_key p k in
     let a = header_claim h ArrayOfTables q k in
-    let c = header_claim h Entry (with_position q 0) k in
+    let c = header_claim h TableElement (with_position q 0) k in
     let found : Has (earlier ++ (a ∷ [])) ArrayOfTables q = (a, in-right a earlier (a ∷ []) (inl refl), refl, refl) in (
       (table-fits [] earlier p k.name a stands refl (λ e. cc), (entry-fits (earlier ++ (a ∷ [])) p k.name 0 c found refl (λ e. cc) (λ e. cc), tt)),
       ((a, in-right a earlier (a ∷ c ∷ []) (inl refl), refl, refl), (c, in-right c earlier (a ∷ c ∷ []) (inr (inl refl)), refl, refl)),
     )
 added (suc n) earlier h p k stands few =
     let q = with_key p k in
-    let c = header_claim h Entry (with_position q (suc n)) k in
+    let c = header_claim h TableElement (with_position q (suc n)) k in
     let found = (few n (omega arith)).0 in (
       (entry-fits earlier p k.name (suc n) c found refl (λ e. cc) (λ e. cc), tt),
       (has-on earlier (c ∷ []) ArrayOfTables q found, (c, in-right c earlier (c ∷ []) (inl refl), refl, refl)),
     )
 
-end-header : (n : ℕ) (earlier : List Claim) (h : Head) (p : Path) (k : Part) → Stands [] earlier p → HasEntries earlier (with_key p k) n → Header earlier h (with_key p k) n (end_claims h (with_key p k) k n)
+end-header : (n : ℕ) (earlier : List Claim) (h : Head) (p : Path) (k : SimpleKey) → Stands [] earlier p → HasEntries earlier (with_key p k) n → Header earlier h (with_key p k) n (end_claims h (with_key p k) k n)
 unfolding end_claims
 end-header n earlier h p k stands few = elim (cases_Bool h.array) [
   | inl arr ↦ let both = added n earlier h p k stands few in record { scoped = rw arr both.0; ends = rw arr both.1 }
   | inr tab ↦
-      let c = header_claim h Section (with_key p k) k in
+      let c = header_claim h StandardTable (with_key p k) k in
       record {
         scoped = rw tab (table-fits [] earlier p k.name c stands refl (λ e. cc), tt);
         ends = rw tab (c, in-right c earlier (c ∷ []) (inl refl), refl, refl);
@@ -284,7 +284,7 @@ end-header n earlier h p k stands few = elim (cases_Bool h.array) [
 abbrev Counted : List Claim → (Path → ℕ) → Type 0
 Counted l e = (p : Path) → HasEntries l p (e p)
 
-header-scoped : (e : Path → ℕ) (earlier : List Claim) (h : Head) (p : Path) (k : Part) (parts : List Part) → Stands [] earlier p → Counted earlier e
+header-scoped : (e : Path → ℕ) (earlier : List Claim) (h : Head) (p : Path) (k : SimpleKey) (parts : List SimpleKey) → Stands [] earlier p → Counted earlier e
     → Header earlier h (target e p (k ∷ parts)) (e (target e p (k ∷ parts))) (header_claims e h p (k ∷ parts))
 unfolding header_claims target
 header-scoped e earlier h p k [] stands counted = end-header (e (with_key p k)) earlier h p k stands (counted (with_key p k))
@@ -305,8 +305,8 @@ makes-of : (l : List Claim) (sort : Sort) (p : Path) → (sort ≡ Assigned → 
 makes-of l sort p plain (e, here, is, on) = (e, here, (λ no. plain (sym is ∙ no)), on)
 
 end-makes : (array : Bool) (l : List Claim) (p : Path) (n : ℕ) → Ends array l p n → Makes l (if array then with_position p n else p)
-end-makes true l p n h = makes-of l Entry (with_position p n) (λ e. cc) h.1
-end-makes false l p n h = makes-of l Section p (λ e. cc) h
+end-makes true l p n h = makes-of l TableElement (with_position p n) (λ e. cc) h.1
+end-makes false l p n h = makes-of l StandardTable p (λ e. cc) h
 
 pub own-followed : (xs ys : Claims) → own (followed xs ys) ≡ own xs ++ own ys
 unfolding followed
@@ -314,48 +314,48 @@ own-followed no_claims ys = refl
 own-followed (claimed c xs) ys = ap (λ l. c ∷ l) (own-followed xs ys)
 own-followed (scope inner xs) ys = own-followed xs ys
 
-one-more : (l : List Claim) (p : Path) (n : ℕ) → HasEntries l p n → Has l ArrayOfTables p → Has l Entry (with_position p n) → HasEntries l p (suc n)
+one-more : (l : List Claim) (p : Path) (n : ℕ) → HasEntries l p n → Has l ArrayOfTables p → Has l TableElement (with_position p n) → HasEntries l p (suc n)
 one-more l p n h made entry m few = elim (cases_lt m n) [
   | inl before ↦ h m before
-  | inr last ↦ let same : m ≡ n = omega (arith, few, last) in (made, subst (λ i. Has l Entry (with_position p i)) (sym same) entry)
+  | inr last ↦ let same : m ≡ n = omega (arith, few, last) in (made, subst (λ i. Has l TableElement (with_position p i)) (sym same) entry)
 ]
 
-counted-array : (l : List Claim) (before : List Path) (t : Path) → Counted l (entries_at before) → Ends true l t (entries_at before t) → Counted l (entries_at (t ∷ before))
+counted-array : (l : List Claim) (before : List Path) (t : Path) → Counted l (elements_added before) → Ends true l t (elements_added before t) → Counted l (elements_added (t ∷ before))
 counted-array l before t counted ends p = elim (cases_Bool (same_path t p)) [
   | inl here ↦
       let same = same_path-eq t p here in
-      rw here (one-more l p (entries_at before p) (counted p) (subst (λ q. Has l ArrayOfTables q) same ends.0) (subst (λ q. Has l Entry (with_position q (entries_at before q))) same ends.1))
+      rw here (one-more l p (elements_added before p) (counted p) (subst (λ q. Has l ArrayOfTables q) same ends.0) (subst (λ q. Has l TableElement (with_position q (elements_added before q))) same ends.1))
   | inr off ↦ rw off (counted p)
 ]
 
 -- what a section claims fits, and its entries are counted
 record Placed (earlier : List Claim) (b : Block) (blocks : List Block) : Type 0 where
-  scoped : Scoped [] earlier None (section_claims (entries_at (opened_by blocks)) b)
-  counted : Counted (earlier ++ own (section_claims (entries_at (opened_by blocks)) b)) (entries_at (opened_by (b ∷ blocks)))
+  scoped : Scoped [] earlier None (section_claims (elements_added (opened_by blocks)) b)
+  counted : Counted (earlier ++ own (section_claims (elements_added (opened_by blocks)) b)) (elements_added (opened_by (b ∷ blocks)))
 
 -- the header of a section, and what is opened by it
 record Opened (earlier : List Claim) (b : Block) (blocks : List Block) : Type 0 where
-  scoped : Scoped [] earlier None (header_claims (entries_at (opened_by blocks)) (head_of b) [] b.header)
-  stands : Stands [] (earlier ++ own (header_claims (entries_at (opened_by blocks)) (head_of b) [] b.header)) (section_path (entries_at (opened_by blocks)) b)
-  counted : Counted (earlier ++ own (header_claims (entries_at (opened_by blocks)) (head_of b) [] b.header)) (entries_at (opened_by (b ∷ blocks)))
+  scoped : Scoped [] earlier None (header_claims (elements_added (opened_by blocks)) (head_of b) [] b.header)
+  stands : Stands [] (earlier ++ own (header_claims (elements_added (opened_by blocks)) (head_of b) [] b.header)) (section_path (elements_added (opened_by blocks)) b)
+  counted : Counted (earlier ++ own (header_claims (elements_added (opened_by blocks)) (head_of b) [] b.header)) (elements_added (opened_by (b ∷ blocks)))
 
 counted-on : (l more : List Claim) (e : Path → ℕ) → Counted l e → Counted (l ++ more) e
 counted-on l more e h p = entries-on l more p (e p) (h p)
 
-counted-end : (array : Bool) (l : List Claim) (before : List Path) (t : Path) → Counted l (entries_at before) → Ends array l t (entries_at before t) → Counted l (entries_at (if array then t ∷ before else before))
+counted-end : (array : Bool) (l : List Claim) (before : List Path) (t : Path) → Counted l (elements_added before) → Ends array l t (elements_added before t) → Counted l (elements_added (if array then t ∷ before else before))
 counted-end true l before t counted ends = counted-array l before t counted ends
 counted-end false l before t counted ends = counted
 
-opened : (earlier : List Claim) (b : Block) (blocks : List Block) (parts : List Part) → b.header ≡ parts → (b.header ≡ [] → b.array ≡ false) → Counted earlier (entries_at (opened_by blocks)) → Opened earlier b blocks
+opened : (earlier : List Claim) (b : Block) (blocks : List Block) (parts : List SimpleKey) → b.header ≡ parts → (b.header ≡ [] → b.array ≡ false) → Counted earlier (elements_added (opened_by blocks)) → Opened earlier b blocks
 unfolding header_claims target opened_by
 opened earlier b blocks [] is headers counted =
     record {
       scoped = rw is tt;
       stands = rw (is, headers is) (root-from [], inl refl);
-      counted = rw (is, headers is) (counted-on earlier [] (entries_at (opened_by blocks)) counted);
+      counted = rw (is, headers is) (counted-on earlier [] (elements_added (opened_by blocks)) counted);
     }
 opened earlier b blocks (k ∷ parts) is headers counted =
-    let e = entries_at (opened_by blocks) in
+    let e = elements_added (opened_by blocks) in
     let t = target e [] (k ∷ parts) in
     let made = header-scoped e earlier (head_of b) [] k parts (root-from [], inl refl) counted in
     let l = earlier ++ own (header_claims e (head_of b) [] (k ∷ parts)) in
@@ -365,26 +365,26 @@ opened earlier b blocks (k ∷ parts) is headers counted =
       counted = rw is (counted-end b.array l (opened_by blocks) t (counted-on earlier (own (header_claims e (head_of b) [] (k ∷ parts))) e counted) made.ends);
     }
 
-section-scoped : (earlier : List Claim) (b : Block) (blocks : List Block) → (b.header ≡ [] → b.array ≡ false) → Counted earlier (entries_at (opened_by blocks)) → Placed earlier b blocks
+section-scoped : (earlier : List Claim) (b : Block) (blocks : List Block) → (b.header ≡ [] → b.array ≡ false) → Counted earlier (elements_added (opened_by blocks)) → Placed earlier b blocks
 unfolding section_claims
 section-scoped earlier b blocks headers counted =
-    let e = entries_at (opened_by blocks) in
+    let e = elements_added (opened_by blocks) in
     let front = header_claims e (head_of b) [] b.header in
     let p = section_path e b in
-    let behind = event_claims b.events p in
+    let behind = key_value_claims b.key_values p in
     let o = opened earlier b blocks b.header refl headers counted in
     let all : (earlier ++ own front) ++ own behind ≡ earlier ++ own (followed front behind) =
     append_assoc earlier (own front) (own behind) ∙ ap (λ l. earlier ++ l) (sym (own-followed front behind)) in
     record {
-      scoped = scoped-followed [] earlier None front behind o.scoped (events-scoped b.events [] (earlier ++ own front) p o.stands);
-      counted = subst (λ l. Counted l (entries_at (opened_by (b ∷ blocks)))) all (counted-on (earlier ++ own front) (own behind) (entries_at (opened_by (b ∷ blocks))) o.counted);
+      scoped = scoped-followed [] earlier None front behind o.scoped (key_values-scoped b.key_values [] (earlier ++ own front) p o.stands);
+      counted = subst (λ l. Counted l (elements_added (opened_by (b ∷ blocks)))) all (counted-on (earlier ++ own front) (own behind) (elements_added (opened_by (b ∷ blocks))) o.counted);
     }
 
-behind-scoped : (earlier : List Claim) (blocks bs : List Block) → AreSections bs → Counted earlier (entries_at (opened_by blocks)) → Scoped [] earlier None (claims_behind blocks bs)
+behind-scoped : (earlier : List Claim) (blocks bs : List Block) → AreSections bs → Counted earlier (elements_added (opened_by blocks)) → Scoped [] earlier None (claims_behind blocks bs)
 unfolding claims_behind
 behind-scoped earlier blocks [] headers counted = tt
 behind-scoped earlier blocks (b ∷ bs) headers counted =
-    let front = section_claims (entries_at (opened_by blocks)) b in
+    let front = section_claims (elements_added (opened_by blocks)) b in
     let here = section-scoped earlier b blocks headers.0 counted in
     scoped-followed [] earlier None front (claims_behind (b ∷ blocks) bs) here.scoped
     (behind-scoped (earlier ++ own front) (b ∷ blocks) bs headers.1 here.counted)

@@ -5,21 +5,21 @@ use Rattle.std.proofs.lemmas.Bool.{cases_Bool}
 use Rattle.toml_span_lex.specs.declared.span.Span.{Span}
 use Rattle.toml_span_tree.specs.Node.{Scalar}
 use Rattle.toml_span_tree.specs.Path.{Path, shape_scalar}
-use Rattle.toml_span_read.specs.Data.{Node, node, Inner, scalar, array, inline, Items, no_items, item, Pairs, no_pairs, pair, Event, span_of, Block}
-use Rattle.toml_span_read.specs.Grammar.{Spells, SpellsInner, SpellsItems, SpellsPairs, SpellsDocument, SpellsSections, SpellsEvents, first_block}
-use Rattle.toml_span_read.specs.Keys.{Part, Dotted}
+use Rattle.toml_span_read.specs.Data.{ParsedValue, parsed, ParsedInner, scalar, array, inline, ParsedItems, no_items, item, ParsedPairs, no_pairs, pair, KeyValue, parsed_span, Block}
+use Rattle.toml_span_read.specs.Grammar.{Spells, SpellsInner, SpellsItems, SpellsPairs, SpellsDocument, SpellsSections, SpellsKeyValues, first_block}
+use Rattle.toml_span_read.specs.Keys.{SimpleKey, SpellsKey}
 use Rattle.toml_span_claims.specs.declared.claims.Mark.{Mark}
 use Rattle.toml_span_claims.specs.declared.claims.Sort.{Sort}
-use Rattle.toml_span_claims.specs.declared.claims.Sort.TheVariants.{Passed, Section, ArrayOfTables, Entry, Dotted as DottedTable, Assigned}
+use Rattle.toml_span_claims.specs.declared.claims.Sort.TheVariants.{Passed, StandardTable, ArrayOfTables, TableElement, Dotted as DottedTable, Assigned}
 use Rattle.toml_span_claims.specs.declared.claims.Head.{Head}
-use Rattle.toml_span_claims.specs.Paths.{with_key, with_position, enter, entries_at, opened_by, section_path}
-use Rattle.toml_span_claims.specs.Claims.{Claim, Claims, no_claims, claimed, scope, followed, shape_of, table_claim, header_mark, header_claim, pair_mark, value_shape, inner_of, element, key_claims, value_claims, inner_claims, item_claims, pair_claims, event_claims, array_claims, end_claims, header_claims, section_claims, claims_behind, claims, head_of}
+use Rattle.toml_span_claims.specs.Paths.{with_key, with_position, enter, elements_added, opened_by, section_path}
+use Rattle.toml_span_claims.specs.Claims.{Claim, Claims, no_claims, claimed, scope, followed, shape_claimed, table_claim, header_mark, header_claim, pair_mark, value_shape, parsed_inner, element, key_claims, value_claims, inner_claims, item_claims, pair_claims, key_value_claims, array_claims, end_claims, header_claims, section_claims, claims_behind, claims, head_of}
 use Rattle.toml_span_assembly.proofs.EachClaim.{Each}
 
 -- ---- one claim
 
 -- the text from one place to another spells the value
-pub record Spelled (text : List ℕ) (limit : ℕ) (v : Node) : Type 0 where
+pub record Spelled (text : List ℕ) (limit : ℕ) (v : ParsedValue) : Type 0 where
   pub depth : ℕ
   pub from : ℕ
   pub to : ℕ
@@ -28,10 +28,10 @@ pub record Spelled (text : List ℕ) (limit : ℕ) (v : Node) : Type 0 where
 
 -- the claim assigns a value that is spelled
 pub record Assigns (text : List ℕ) (limit : ℕ) (c : Claim) : Type 0 where
-  pub value : Node
+  pub value : ParsedValue
   pub spelled : Spelled text limit value
-  pub shape : c.place.shape ≡ value_shape (inner_of value)
-  pub span : c.place.span ≡ span_of value
+  pub shape : c.place.shape ≡ value_shape (parsed_inner value)
+  pub span : c.place.span ≡ parsed_span value
 
 -- the claim assigns nothing: it makes a table or an array
 pub record Makes (c : Claim) : Type 0 where
@@ -72,31 +72,31 @@ spelled-followed text limit (claimed c xs) ys h g = (
 )
 spelled-followed text limit (scope inner xs) ys h g = (h.0, spelled-followed text limit xs ys h.1 g)
 
-no-scalar : (sort : Sort) (s : Scalar) → shape_of sort ≡ shape_scalar s → ⊥
+no-scalar : (sort : Sort) (s : Scalar) → shape_claimed sort ≡ shape_scalar s → ⊥
 no-scalar Passed s h = cc
-no-scalar Section s h = cc
+no-scalar StandardTable s h = cc
 no-scalar ArrayOfTables s h = cc
-no-scalar Entry s h = cc
+no-scalar TableElement s h = cc
 no-scalar DottedTable s h = cc
 no-scalar Assigned s h = cc
 
 -- a claim that assigns nothing, before others
-table-of_text : (text : List ℕ) (limit : ℕ) (p : Path) (k : Part) (m : Mark) (cs : Claims) → (m.sort ≡ Assigned → ⊥) → AllSpelled text limit cs → AllSpelled text limit (claimed (table_claim p k m) cs)
+table-of_text : (text : List ℕ) (limit : ℕ) (p : Path) (k : SimpleKey) (m : Mark) (cs : Claims) → (m.sort ≡ Assigned → ⊥) → AllSpelled text limit cs → AllSpelled text limit (claimed (table_claim p k m) cs)
 table-of_text text limit p k m cs h g = (inr (record { sort = h; shape = no-scalar m.sort }), g)
 
 -- ---- values
 
-key-of_text : (text : List ℕ) (limit : ℕ) (p : Path) (parts : List Part) (v : Node) → Spelled text limit v → ((q : Path) → AllSpelled text limit (value_claims v q))
+key-of_text : (text : List ℕ) (limit : ℕ) (p : Path) (parts : List SimpleKey) (v : ParsedValue) → Spelled text limit v → ((q : Path) → AllSpelled text limit (value_claims v q))
     → AllSpelled text limit (key_claims p parts v (value_claims v))
 unfolding key_claims
 key-of_text text limit p [] v s h = tt
 key-of_text text limit p (k ∷ []) v s h =
     let q = with_key p k in (inl (record { value = v; spelled = s; shape = refl; span = refl }, no_claims, sym (followed-none (value_claims v q))), h q)
 key-of_text text limit p (k ∷ l ∷ more) v s h =
-    table-of_text text limit (with_key p k) k (pair_mark DottedTable k.span (span_of v)) (key_claims (with_key p k) (l ∷ more) v (value_claims v)) (λ e. cc)
+    table-of_text text limit (with_key p k) k (pair_mark DottedTable k.span (parsed_span v)) (key_claims (with_key p k) (l ∷ more) v (value_claims v)) (λ e. cc)
     (key-of_text text limit (with_key p k) (l ∷ more) v s h)
 
-element-of_text : (v : Node) (q : Path) (rest : Claims) (text : List ℕ) (limit : ℕ) → Spelled text limit v → AllSpelled text limit (value_claims v q) → AllSpelled text limit rest
+element-of_text : (v : ParsedValue) (q : Path) (rest : Claims) (text : List ℕ) (limit : ℕ) → Spelled text limit v → AllSpelled text limit (value_claims v q) → AllSpelled text limit rest
     → AllSpelled text limit (claimed (element q v) (followed (value_claims v q) rest))
 element-of_text v q rest text limit s h g =
     (inl (record { value = v; spelled = s; shape = refl; span = refl }, rest, refl), spelled-followed text limit (value_claims v q) rest h g)
@@ -104,15 +104,15 @@ element-of_text v q rest text limit s h g =
 mutual
   unfolding value_claims inner_claims item_claims pair_claims
 
-  value-of_text : (v : Node) (p : Path) (text : List ℕ) (limit d i j : ℕ) → 1 ≤ d → Spells v text limit d i j → AllSpelled text limit (value_claims v p)
-  value-of_text (node k span) p text limit d i j deep (few, h) = inner-of_text k span p text limit d i j h
+  value-of_text : (v : ParsedValue) (p : Path) (text : List ℕ) (limit d i j : ℕ) → 1 ≤ d → Spells v text limit d i j → AllSpelled text limit (value_claims v p)
+  value-of_text (parsed k span) p text limit d i j deep (few, h) = inner-of_text k span p text limit d i j h
 
-  inner-of_text : (k : Inner) (span : Span) (p : Path) (text : List ℕ) (limit d i j : ℕ) → SpellsInner k span text limit d i j → AllSpelled text limit (inner_claims k p)
+  inner-of_text : (k : ParsedInner) (span : Span) (p : Path) (text : List ℕ) (limit d i j : ℕ) → SpellsInner k span text limit d i j → AllSpelled text limit (inner_claims k p)
   inner-of_text (scalar s) span p text limit d i j h = tt
   inner-of_text (array vs) span p text limit d i j (here, e, k, gap, h) = (items-of_text vs 0 p text limit (d + 1) k j (omega arith) h, tt)
   inner-of_text (inline ps) span p text limit d i j (here, e, k, gap, h) = (pairs-of_text ps [] p text limit (d + 1) k j (omega arith) h, tt)
 
-  items-of_text : (vs : Items) (n : ℕ) (p : Path) (text : List ℕ) (limit d i j : ℕ) → 1 ≤ d → SpellsItems vs text limit d i j → AllSpelled text limit (item_claims vs n p)
+  items-of_text : (vs : ParsedItems) (n : ℕ) (p : Path) (text : List ℕ) (limit d i j : ℕ) → 1 ≤ d → SpellsItems vs text limit d i j → AllSpelled text limit (item_claims vs n p)
   items-of_text no_items n p text limit d i j deep h = tt
   items-of_text (item v vs) n p text limit d i j deep (m, h, inl (e, close)) =
       element-of_text v (with_position p n) (item_claims vs (suc n) p) text limit (record { depth = d; from = i; to = m; deep = deep; spells = h })
@@ -121,7 +121,7 @@ mutual
       element-of_text v (with_position p n) (item_claims vs (suc n) p) text limit (record { depth = d; from = i; to = m; deep = deep; spells = h })
       (value-of_text v (with_position p n) text limit d i m deep h) (items-of_text vs (suc n) p text limit d k j deep rest)
 
-  pairs-of_text : (ps : Pairs) (es : List Event) (p : Path) (text : List ℕ) (limit d i j : ℕ) → 1 ≤ d → SpellsPairs ps es text limit d i j → AllSpelled text limit (pair_claims ps p)
+  pairs-of_text : (ps : ParsedPairs) (es : List KeyValue) (p : Path) (text : List ℕ) (limit d i j : ℕ) → 1 ≤ d → SpellsPairs ps es text limit d i j → AllSpelled text limit (pair_claims ps p)
   pairs-of_text no_pairs es p text limit d i j deep h = tt
   pairs-of_text (pair ss v x ps) es p text limit d i j deep (m, (a, b, key, few, sign, h, extent), clear, inl (e, close)) =
       spelled-followed text limit (key_claims p ss v (value_claims v)) (pair_claims ps p)
@@ -135,36 +135,36 @@ mutual
 
 -- ---- sections
 
-pub some-part : (parts : List Part) (text : List ℕ) (i j : ℕ) → Dotted parts text i j → 1 ≤ length parts
+pub some-part : (parts : List SimpleKey) (text : List ℕ) (i j : ℕ) → SpellsKey parts text i j → 1 ≤ length parts
 some-part [] text i j h = absurd h
 some-part (k ∷ parts) text i j h = omega arith
 
-events-of_text : (es before : List Event) (p : Path) (text : List ℕ) (limit i j : ℕ) → SpellsEvents es before text limit i j → AllSpelled text limit (event_claims es p)
-unfolding event_claims
-events-of_text [] before p text limit i j h = tt
-events-of_text (e ∷ es) before p text limit i j (m, n, k, h, tail, clear, gap, rest) =
+key_values-of_text : (es before : List KeyValue) (p : Path) (text : List ℕ) (limit i j : ℕ) → SpellsKeyValues es before text limit i j → AllSpelled text limit (key_value_claims es p)
+unfolding key_value_claims
+key_values-of_text [] before p text limit i j h = tt
+key_values-of_text (e ∷ es) before p text limit i j (m, n, k, h, tail, clear, gap, rest) =
     let deep = some-part e.parts text i h.key_end h.key in
-    spelled-followed text limit (key_claims p e.parts e.value (value_claims e.value)) (event_claims es p)
+    spelled-followed text limit (key_claims p e.parts e.value (value_claims e.value)) (key_value_claims es p)
     (key-of_text text limit p e.parts e.value (record { depth = length e.parts; from = h.from; to = m; deep = deep; spells = h.spelled })
     (λ q. value-of_text e.value q text limit (length e.parts) h.from m deep h.spelled))
-    (events-of_text es (before ++ (e ∷ [])) p text limit k j rest)
+    (key_values-of_text es (before ++ (e ∷ [])) p text limit k j rest)
 
-made : (text : List ℕ) (limit : ℕ) (h : Head) (sort : Sort) (p : Path) (k : Part) (cs : Claims) → (sort ≡ Assigned → ⊥) → AllSpelled text limit cs → AllSpelled text limit (claimed (header_claim h sort p k) cs)
+made : (text : List ℕ) (limit : ℕ) (h : Head) (sort : Sort) (p : Path) (k : SimpleKey) (cs : Claims) → (sort ≡ Assigned → ⊥) → AllSpelled text limit cs → AllSpelled text limit (claimed (header_claim h sort p k) cs)
 made text limit h sort p k cs f g = table-of_text text limit p k (header_mark h sort k.span) cs f g
 
-entry-of_text : (text : List ℕ) (limit : ℕ) (h : Head) (p : Path) (k : Part) (n : ℕ) → AllSpelled text limit (array_claims h p k n (claimed (header_claim h Entry (with_position p n) k) no_claims))
+entry-of_text : (text : List ℕ) (limit : ℕ) (h : Head) (p : Path) (k : SimpleKey) (n : ℕ) → AllSpelled text limit (array_claims h p k n (claimed (header_claim h TableElement (with_position p n) k) no_claims))
 entry-of_text text limit h p k zero =
-    made text limit h ArrayOfTables p k (claimed (header_claim h Entry (with_position p 0) k) no_claims) (λ e. cc) (made text limit h Entry (with_position p 0) k no_claims (λ e. cc) tt)
-entry-of_text text limit h p k (suc n) = made text limit h Entry (with_position p (suc n)) k no_claims (λ e. cc) tt
+    made text limit h ArrayOfTables p k (claimed (header_claim h TableElement (with_position p 0) k) no_claims) (λ e. cc) (made text limit h TableElement (with_position p 0) k no_claims (λ e. cc) tt)
+entry-of_text text limit h p k (suc n) = made text limit h TableElement (with_position p (suc n)) k no_claims (λ e. cc) tt
 
-end-of_text : (text : List ℕ) (limit : ℕ) (h : Head) (p : Path) (k : Part) (n : ℕ) → AllSpelled text limit (end_claims h p k n)
+end-of_text : (text : List ℕ) (limit : ℕ) (h : Head) (p : Path) (k : SimpleKey) (n : ℕ) → AllSpelled text limit (end_claims h p k n)
 unfolding end_claims
 end-of_text text limit h p k n = elim (cases_Bool h.array) [
   | inl double ↦ rw double (entry-of_text text limit h p k n)
-  | inr single ↦ rw single (made text limit h Section p k no_claims (λ e. cc) tt)
+  | inr single ↦ rw single (made text limit h StandardTable p k no_claims (λ e. cc) tt)
 ]
 
-header-of_text : (text : List ℕ) (limit : ℕ) (e : Path → ℕ) (h : Head) (p : Path) (parts : List Part) → AllSpelled text limit (header_claims e h p parts)
+header-of_text : (text : List ℕ) (limit : ℕ) (e : Path → ℕ) (h : Head) (p : Path) (parts : List SimpleKey) → AllSpelled text limit (header_claims e h p parts)
 unfolding header_claims
 header-of_text text limit e h p [] = tt
 header-of_text text limit e h p (k ∷ []) = end-of_text text limit h (with_key p k) k (e (with_key p k))
@@ -176,13 +176,13 @@ header-of_text text limit e h p (k ∷ l ∷ more) =
 -- what these sections assign is spelled
 abbrev BlocksOfText : List ℕ → ℕ → List Block → Type 0
 BlocksOfText text limit [] = ⊤
-BlocksOfText text limit (b ∷ bs) = ((p : Path) → AllSpelled text limit (event_claims b.events p)) × BlocksOfText text limit bs
+BlocksOfText text limit (b ∷ bs) = ((p : Path) → AllSpelled text limit (key_value_claims b.key_values p)) × BlocksOfText text limit bs
 
 sections-of_text : (bs : List Block) (text : List ℕ) (limit i : ℕ) → SpellsSections bs text limit i → BlocksOfText text limit bs
 sections-of_text [] text limit i h = tt
-sections-of_text (b ∷ bs) text limit i (j, h, rest) = (λ p. events-of_text b.events [] p text limit h.lines.0 j h.lines.2, sections-of_text bs text limit j rest)
+sections-of_text (b ∷ bs) text limit i (j, h, rest) = (λ p. key_values-of_text b.key_values [] p text limit h.lines.0 j h.lines.2, sections-of_text bs text limit j rest)
 
-with-first : (es : List Event) (bs : List Block) (text : List ℕ) (limit : ℕ) → ((p : Path) → AllSpelled text limit (event_claims es p)) → BlocksOfText text limit bs
+with-first : (es : List KeyValue) (bs : List Block) (text : List ℕ) (limit : ℕ) → ((p : Path) → AllSpelled text limit (key_value_claims es p)) → BlocksOfText text limit bs
     → BlocksOfText text limit (first_block es ++ bs)
 with-first [] bs text limit h more = more
 with-first (e ∷ es) bs text limit h more = (h, more)
@@ -191,15 +191,15 @@ behind-of_text : (earlier bs : List Block) (text : List ℕ) (limit : ℕ) → B
 unfolding claims_behind section_claims
 behind-of_text earlier [] text limit h = tt
 behind-of_text earlier (b ∷ bs) text limit h =
-    let e = entries_at (opened_by earlier) in
+    let e = elements_added (opened_by earlier) in
     spelled-followed text limit (section_claims e b) (claims_behind (b ∷ earlier) bs)
-    (spelled-followed text limit (header_claims e (head_of b) [] b.header) (event_claims b.events (section_path e b))
+    (spelled-followed text limit (header_claims e (head_of b) [] b.header) (key_value_claims b.key_values (section_path e b))
     (header-of_text text limit e (head_of b) [] b.header) (h.0 (section_path e b)))
     (behind-of_text (b ∷ earlier) bs text limit h.1)
 
 pub document-spelled : (bs : List Block) (text : List ℕ) (limit : ℕ) → SpellsDocument bs text limit → AllSpelled text limit (claims bs)
 document-spelled bs text limit x =
-    let first = λ (p : Path). events-of_text x.first [] p text limit x.lines.0 x.end x.lines.2 in
+    let first = λ (p : Path). key_values-of_text x.first [] p text limit x.lines.0 x.end x.lines.2 in
     behind-of_text [] bs text limit
     (subst (BlocksOfText text limit) (sym x.all) (with-first x.first x.rest text limit first (sections-of_text x.rest text limit x.end x.sections)))
 

@@ -3,23 +3,23 @@ use Rattle.std.proofs.Common.{◌≡◌, ℕ, zero, suc, ◌<◌, ◌≤◌, ◌
 use Rattle.std.specs.Prelude.{⊤, if◌then◌else◌}
 use Rattle.std.proofs.lemmas.Bool.{cases_Bool}
 use Rattle.toml_span_tree.specs.Path.{Path, Step, key, position}
-use Rattle.toml_span_read.specs.Data.{Event, Block}
-use Rattle.toml_span_read.specs.Keys.{Part, Dotted as IsDotted}
+use Rattle.toml_span_read.specs.Data.{KeyValue, Block}
+use Rattle.toml_span_read.specs.Keys.{SimpleKey, SpellsKey as IsDotted}
 use Rattle.toml_span_read.specs.Grammar.{SpellsDocument, SpellsLines, SpellsSections, first_block}
 use Rattle.toml_span_claims.specs.declared.claims.Blame.TheVariants.{DuplicateTable, DuplicateKey}
-use Rattle.toml_span_claims.specs.declared.claims.Sort.TheVariants.{Section, Entry, Dotted, Assigned}
+use Rattle.toml_span_claims.specs.declared.claims.Sort.TheVariants.{StandardTable, TableElement, Dotted, Assigned}
 use Rattle.toml_span_claims.specs.declared.claims.Head.{Head}
-use Rattle.toml_span_claims.specs.Claims.{Claim, Claims, no_claims, claimed, scope, followed, event_claims, header_claim, array_claims, end_claims, header_claims, section_claims, claims_behind, claims, head_of}
-use Rattle.toml_span_claims.specs.Clashes.{NamedClash, blame, clash, IsFree}
+use Rattle.toml_span_claims.specs.Claims.{Claim, Claims, no_claims, claimed, scope, followed, key_value_claims, header_claim, array_claims, end_claims, header_claims, section_claims, claims_behind, claims, head_of}
+use Rattle.toml_span_claims.specs.Clashes.{blame}
 use Rattle.toml_span_claims.specs.Flat.{all_claims, by_header}
-use Rattle.toml_span_claims.specs.Paths.{same_path, with_key, with_position, enter, target, entries_at, opened_by, section_path}
+use Rattle.toml_span_claims.specs.Paths.{same_path, with_key, with_position, enter, target, elements_added, opened_by, section_path}
 use Rattle.toml_span_assembly.proofs.EachClaim.{same_path-eq}
-use Rattle.toml_span.specs.Clashing.{IsIn, DoClash, IsPair, IsFirstPair, own}
-use Rattle.toml_span.specs.Order.{start_of}
+use Rattle.toml_span.specs.Clashing.{IsIn, IsPair, IsFirstPair, own}
+use Rattle.toml_span.specs.Order.{claim_start}
 use Rattle.toml_span.proofs.Apart.{in-right}
 use Rattle.toml_span.proofs.EntryDecides.{path-self}
 use Rattle.toml_span.proofs.FirstPair.{free-of, in-cases, clash-blames, later-plain, pair-in, pair-clash, Rises, rises-left, rises-right, rises-without, rising-rises, behind-claim, strictly}
-use Rattle.toml_span.proofs.KeyWays.{Bases, Guarded, Known, Traced, Way, events-walk, guarded-followed, way-last, way-on, way-under}
+use Rattle.toml_span.proofs.KeyWays.{Bases, Guarded, Known, Traced, Way, key_values-walk, guarded-followed, way-last, way-on, way-under}
 use Rattle.toml_span.proofs.OneScope.{Peaceful, do-clash, peaceful-across, peaceful-push, peaceful-two}
 use Rattle.toml_span.proofs.Order.{document-rises}
 use Rattle.toml_span.proofs.Scoped.{Has, front-same, has-on, key-position, last-same, own-followed}
@@ -29,7 +29,7 @@ use Rattle.toml_span.proofs.Scoped.{Has, front-same, has-on, key-position, last-
 -- the root, a table that a header opens, or an entry that was counted
 abbrev Opened : (Path → ℕ) → List Claim → Path → Type 0
 Opened e l p =
-    (p ≡ []) ⊎ ((q : Path) × (k : List ℕ) × (p ≡ q ++ (key k ∷ [])) × Has l Section p) ⊎ ((q : Path) × (n : ℕ) × (p ≡ with_position q n) × (n < e q))
+    (p ≡ []) ⊎ ((q : Path) × (k : List ℕ) × (p ≡ q ++ (key k ∷ [])) × Has l StandardTable p) ⊎ ((q : Path) × (n : ℕ) × (p ≡ with_position q n) × (n < e q))
 
 nil-snoc : (p : Path) (s : Step) → [] ≡ p ++ (s ∷ []) → ⊥
 nil-snoc [] s h = cc
@@ -40,10 +40,10 @@ nil-under [] s rest h = cc
 nil-under (x ∷ a) s rest h = cc
 
 -- a table that is opened and made by a dotted key
-twice-made : (l : List Claim) (p : Path) → Peaceful l → Has l Section p → Has l Dotted p → ⊥
+twice-made : (l : List Claim) (p : Path) → Peaceful l → Has l StandardTable p → Has l Dotted p → ⊥
 twice-made l p peace (c, here, is, on) (d, there, made, at) =
-    peaceful-two l c d peace here there (λ same. let no : Section ≡ Dotted = sym is ∙ same ∙ made in cc)
-    (do-clash c d DuplicateKey (on ∙ sym at) (ap (λ s. blame s d.mark.sort) is ∙ ap (blame Section) made))
+    peaceful-two l c d peace here there (λ same. let no : StandardTable ≡ Dotted = sym is ∙ same ∙ made in cc)
+    (do-clash c d DuplicateKey (on ∙ sym at) (ap (λ s. blame s d.mark.sort) is ∙ ap (blame StandardTable) made))
     (do-clash d c DuplicateKey (at ∙ sym on) (ap (λ s. blame s c.mark.sort) made ∙ ap (blame Dotted) is))
 
 opened-apart : (e : Path → ℕ) (l : List Claim) (a b : Path) → Opened e l b → Way l a b → Has l Dotted b → Peaceful l → ⊥
@@ -53,7 +53,7 @@ opened-apart e l a b (inr (inr (q, n, is, few))) way made peace = let (r, k, on)
 
 opened-more : (e f : Path → ℕ) (l more : List Claim) (p : Path) → ((q : Path) → e q ≤ f q) → Opened e l p → Opened f (l ++ more) p
 opened-more e f l more p grows (inl none) = inl none
-opened-more e f l more p grows (inr (inl (q, k, is, found))) = inr (inl (q, k, is, has-on l more Section p found))
+opened-more e f l more p grows (inr (inl (q, k, is, found))) = inr (inl (q, k, is, has-on l more StandardTable p found))
 opened-more e f l more p grows (inr (inr (q, n, is, few))) = inr (inr (q, n, is, omega (arith, few, grows q)))
 
 opened-bases : (e : Path → ℕ) → Bases (Opened e)
@@ -84,31 +84,31 @@ headed-plain (claimed x cs) c h (inl same) is = let no : false ≡ true = sym (a
 headed-plain (claimed x cs) c h (inr more) is = headed-plain cs c h.1 more is
 headed-plain (scope inner cs) c h here is = h
 
-entry-headed : (h : Head) (p : Path) (k : Part) (n : ℕ) → Headed (array_claims h p k n (claimed (header_claim h Entry (with_position p n) k) no_claims))
+entry-headed : (h : Head) (p : Path) (k : SimpleKey) (n : ℕ) → Headed (array_claims h p k n (claimed (header_claim h TableElement (with_position p n) k) no_claims))
 entry-headed h p k zero = (refl, (refl, tt))
 entry-headed h p k (suc n) = (refl, tt)
 
-end-headed : (h : Head) (p : Path) (k : Part) (n : ℕ) → Headed (end_claims h p k n)
+end-headed : (h : Head) (p : Path) (k : SimpleKey) (n : ℕ) → Headed (end_claims h p k n)
 unfolding end_claims
 end-headed h p k n = elim (cases_Bool h.array) [
   | inl double ↦ rw double (entry-headed h p k n)
   | inr single ↦ rw single (refl, tt)
 ]
 
-header-headed : (e : Path → ℕ) (h : Head) (p : Path) (parts : List Part) → Headed (header_claims e h p parts)
+header-headed : (e : Path → ℕ) (h : Head) (p : Path) (parts : List SimpleKey) → Headed (header_claims e h p parts)
 unfolding header_claims
 header-headed e h p [] = tt
 header-headed e h p (k ∷ []) = end-headed h (with_key p k) k (e (with_key p k))
 header-headed e h p (k ∷ l ∷ more) = (refl, header-headed e h (enter (e (with_key p k)) (with_key p k)) (l ∷ more))
 
 -- what a header in single brackets opens
-section-there : (e : Path → ℕ) (h : Head) (p : Path) (k : Part) (parts : List Part) → h.array ≡ false → Has (own (header_claims e h p (k ∷ parts))) Section (target e p (k ∷ parts))
+section-there : (e : Path → ℕ) (h : Head) (p : Path) (k : SimpleKey) (parts : List SimpleKey) → h.array ≡ false → Has (own (header_claims e h p (k ∷ parts))) StandardTable (target e p (k ∷ parts))
 unfolding header_claims target end_claims
-section-there e h p k [] single = rw single (header_claim h Section (with_key p k) k, inl refl, refl, refl)
+section-there e h p k [] single = rw single (header_claim h StandardTable (with_key p k) k, inl refl, refl, refl)
 section-there e h p k (l ∷ more) single =
     let (c, here, is, on) = section-there e h (enter (e (with_key p k)) (with_key p k)) l more single in (c, inr here, is, on)
 
-target-key : (e : Path → ℕ) (p : Path) (k : Part) (parts : List Part) → (q : Path) × (n : List ℕ) × (target e p (k ∷ parts) ≡ q ++ (key n ∷ []))
+target-key : (e : Path → ℕ) (p : Path) (k : SimpleKey) (parts : List SimpleKey) → (q : Path) × (n : List ℕ) × (target e p (k ∷ parts) ≡ q ++ (key n ∷ []))
 unfolding target
 target-key e p k [] = (p, k.name, refl)
 target-key e p k (l ∷ more) = target-key e (enter (e (with_key p k)) (with_key p k)) l more
@@ -117,35 +117,35 @@ target-key e p k (l ∷ more) = target-key e (enter (e (with_key p k)) (with_key
 
 -- the table of a section that begins: it is open, and no earlier section began there, if no claims clash
 record Begins (before after : List Path) (l all : List Claim) (base : Path) : Type 0 where
-  root : Opened (entries_at after) all base
-  grows : (q : Path) → entries_at before q ≤ entries_at after q
-  new : (p : Path) → Opened (entries_at before) l p → p ≡ base → Peaceful all → ⊥
+  root : Opened (elements_added after) all base
+  grows : (q : Path) → elements_added before q ≤ elements_added after q
+  new : (p : Path) → Opened (elements_added before) l p → p ≡ base → Peaceful all → ⊥
 
-one-more : (before : List Path) (t q : Path) → entries_at before q ≤ entries_at (t ∷ before) q
+one-more : (before : List Path) (t q : Path) → elements_added before q ≤ elements_added (t ∷ before) q
 one-more before t q = elim (cases_Bool (same_path t q)) [
   | inl here ↦ rw here (omega arith)
   | inr off ↦ rw off (omega arith)
 ]
 
-counted-here : (before : List Path) (t : Path) → entries_at before t < entries_at (t ∷ before) t
+counted-here : (before : List Path) (t : Path) → elements_added before t < elements_added (t ∷ before) t
 counted-here before t = rw (path-self t) (omega arith)
 
-new-entry : (before : List Path) (l all : List Claim) (t p : Path) → Opened (entries_at before) l p → p ≡ with_position t (entries_at before t) → Peaceful all → ⊥
-new-entry before l all t p (inl none) same peace = nil-snoc t (position (entries_at before t)) (sym none ∙ same)
-new-entry before l all t p (inr (inl (q, k, is, found))) same peace = key-position q t k (entries_at before t) (sym is ∙ same)
+new-entry : (before : List Path) (l all : List Claim) (t p : Path) → Opened (elements_added before) l p → p ≡ with_position t (elements_added before t) → Peaceful all → ⊥
+new-entry before l all t p (inl none) same peace = nil-snoc t (position (elements_added before t)) (sym none ∙ same)
+new-entry before l all t p (inr (inl (q, k, is, found))) same peace = key-position q t k (elements_added before t) (sym is ∙ same)
 new-entry before l all t p (inr (inr (q, n, is, few))) same peace =
-    let n_is : position n ≡ position (entries_at before t) = last-same q t (position n) (position (entries_at before t)) (sym is ∙ same) in
-    let m_is : n ≡ entries_at before t = cc in
-    let t_is = ap (λ x. entries_at before x) (front-same q t (position n) (position (entries_at before t)) (sym is ∙ same)) in
+    let n_is : position n ≡ position (elements_added before t) = last-same q t (position n) (position (elements_added before t)) (sym is ∙ same) in
+    let m_is : n ≡ elements_added before t = cc in
+    let t_is = ap (λ x. elements_added before x) (front-same q t (position n) (position (elements_added before t)) (sym is ∙ same)) in
     omega (arith, few, m_is, t_is)
 
-new-table : (before : List Path) (l more : List Claim) (t : Path) (q : Path) (k : List ℕ) (p : Path) → t ≡ q ++ (key k ∷ []) → Has more Section t → Opened (entries_at before) l p → p ≡ t → Peaceful (l ++ more) → ⊥
+new-table : (before : List Path) (l more : List Claim) (t : Path) (q : Path) (k : List ℕ) (p : Path) → t ≡ q ++ (key k ∷ []) → Has more StandardTable t → Opened (elements_added before) l p → p ≡ t → Peaceful (l ++ more) → ⊥
 new-table before l more t q k p is found (inl none) same peace = nil-snoc q (key k) (sym none ∙ same ∙ is)
 new-table before l more t q k p is (d, there, later, at) (inr (inl (r, n, on, (c, here, earlier, first)))) same peace =
-    peaceful-across l more c d peace here there (do-clash c d DuplicateTable (first ∙ same ∙ sym at) (ap (λ s. blame s d.mark.sort) earlier ∙ ap (blame Section) later))
+    peaceful-across l more c d peace here there (do-clash c d DuplicateTable (first ∙ same ∙ sym at) (ap (λ s. blame s d.mark.sort) earlier ∙ ap (blame StandardTable) later))
 new-table before l more t q k p is found (inr (inr (r, n, on, few))) same peace = key-position q r k n (sym is ∙ sym same ∙ on)
 
-begins : (array : Bool) (before : List Path) (e : Path → ℕ) (l : List Claim) (h : Head) (k : Part) (parts : List Part) → h.array ≡ array → e ≡ entries_at before
+begins : (array : Bool) (before : List Path) (e : Path → ℕ) (l : List Claim) (h : Head) (k : SimpleKey) (parts : List SimpleKey) → h.array ≡ array → e ≡ elements_added before
     → Begins before (if array then target e [] (k ∷ parts) ∷ before else before) l (l ++ own (header_claims e h [] (k ∷ parts)))
     (if array then with_position (target e [] (k ∷ parts)) (e (target e [] (k ∷ parts))) else target e [] (k ∷ parts))
 begins true before e l h k parts double same =
@@ -153,7 +153,7 @@ begins true before e l h k parts double same =
     let all = l ++ own (header_claims e h [] (k ∷ parts)) in
     let count = ap (λ f. f t) same in
     record {
-      root = inr (inr (t, e t, refl, subst (λ n. n < entries_at (t ∷ before) t) (sym count) (counted-here before t)));
+      root = inr (inr (t, e t, refl, subst (λ n. n < elements_added (t ∷ before) t) (sym count) (counted-here before t)));
       grows = one-more before t;
       new = λ p found is peace. new-entry before l all t p found (is ∙ ap (with_position t) count) peace;
     }
@@ -177,18 +177,18 @@ record Placed (before : List Claim) (e : Path → ℕ) (cs : Claims) : Type 0 wh
   guarded : Guarded before cs
   traced : AllTraced e (before ++ own cs)
 
-assigned-walk : (e : Path → ℕ) (base : Path) (evs : List Event) (l : List Claim) (text : List ℕ) (limit i j : ℕ) → SpellsLines evs text limit i j → Opened e l base
-    → Known (Opened e) base [] l → Placed l e (event_claims evs base)
+assigned-walk : (e : Path → ℕ) (base : Path) (evs : List KeyValue) (l : List Claim) (text : List ℕ) (limit i j : ℕ) → SpellsLines evs text limit i j → Opened e l base
+    → Known (Opened e) base [] l → Placed l e (key_value_claims evs base)
 assigned-walk e base evs l text limit i j (k, gap, h) root known =
-    let (es, w) = events-walk (Opened e) (opened-bases e) base evs [] l text limit k j h root known in
+    let (es, w) = key_values-walk (Opened e) (opened-bases e) base evs [] l text limit k j h root known in
     record { guarded = w.guarded; traced = λ c here sort. (w.known c here sort).0 }
 
-section-walk : (earlier : List Block) (b : Block) (l : List Claim) (text : List ℕ) (limit i j : ℕ) (k : Part) (parts : List Part) → b.header ≡ k ∷ parts → SpellsLines b.events text limit i j
-    → AllTraced (entries_at (opened_by earlier)) l → Placed l (entries_at (opened_by (b ∷ earlier))) (section_claims (entries_at (opened_by earlier)) b)
+section-walk : (earlier : List Block) (b : Block) (l : List Claim) (text : List ℕ) (limit i j : ℕ) (k : SimpleKey) (parts : List SimpleKey) → b.header ≡ k ∷ parts → SpellsLines b.key_values text limit i j
+    → AllTraced (elements_added (opened_by earlier)) l → Placed l (elements_added (opened_by (b ∷ earlier))) (section_claims (elements_added (opened_by earlier)) b)
 unfolding section_claims opened_by
 section-walk earlier b l text limit i j k parts is lines traced =
-    let e = entries_at (opened_by earlier) in
-    let f = entries_at (opened_by (b ∷ earlier)) in
+    let e = elements_added (opened_by earlier) in
+    let f = elements_added (opened_by (b ∷ earlier)) in
     let head = header_claims e (head_of b) [] b.header in
     let all = l ++ own head in
     let base = section_path e b in
@@ -201,36 +201,36 @@ section-walk earlier b l text limit i j k parts is lines traced =
           )
       | inr new ↦ absurd (headed-plain head c (header-headed e (head_of b) [] b.header) new sort)
     ]) in
-    let behind = event_claims b.events base in
-    let placed = assigned-walk f base b.events all text limit i j lines start.root known in
+    let behind = key_value_claims b.key_values base in
+    let placed = assigned-walk f base b.key_values all text limit i j lines start.root known in
     let whole : all ++ own behind ≡ l ++ own (followed head behind) = append_assoc l (own head) (own behind) ∙ ap (λ x. l ++ x) (sym (own-followed head behind)) in
     record {
       guarded = guarded-followed l head behind (headed-guarded l head (header-headed e (head_of b) [] b.header)) placed.guarded;
       traced = subst (λ xs. AllTraced f xs) whole placed.traced;
     }
 
-headed-section : (earlier : List Block) (b : Block) (l : List Claim) (text : List ℕ) (limit i j m n : ℕ) (parts : List Part) → b.header ≡ parts → IsDotted parts text m n → SpellsLines b.events text limit i j
-    → AllTraced (entries_at (opened_by earlier)) l → Placed l (entries_at (opened_by (b ∷ earlier))) (section_claims (entries_at (opened_by earlier)) b)
+headed-section : (earlier : List Block) (b : Block) (l : List Claim) (text : List ℕ) (limit i j m n : ℕ) (parts : List SimpleKey) → b.header ≡ parts → IsDotted parts text m n → SpellsLines b.key_values text limit i j
+    → AllTraced (elements_added (opened_by earlier)) l → Placed l (elements_added (opened_by (b ∷ earlier))) (section_claims (elements_added (opened_by earlier)) b)
 headed-section earlier b l text limit i j m n [] is dotted lines traced = absurd dotted
 headed-section earlier b l text limit i j m n (k ∷ parts) is dotted lines traced = section-walk earlier b l text limit i j k parts is lines traced
 
-sections-walk : (earlier bs : List Block) (l : List Claim) (text : List ℕ) (limit i : ℕ) → SpellsSections bs text limit i → AllTraced (entries_at (opened_by earlier)) l → Guarded l (claims_behind earlier bs)
+sections-walk : (earlier bs : List Block) (l : List Claim) (text : List ℕ) (limit i : ℕ) → SpellsSections bs text limit i → AllTraced (elements_added (opened_by earlier)) l → Guarded l (claims_behind earlier bs)
 unfolding claims_behind
 sections-walk earlier [] l text limit i h traced = tt
 sections-walk earlier (b ∷ bs) l text limit i (j, s, rest) traced =
-    let front = section_claims (entries_at (opened_by earlier)) b in
+    let front = section_claims (elements_added (opened_by earlier)) b in
     let placed = headed-section earlier b l text limit s.end j s.header.front.start s.header.front.end b.header refl s.header.front.key s.lines traced in
     guarded-followed l front (claims_behind (b ∷ earlier) bs) placed.guarded (sections-walk (b ∷ earlier) bs (l ++ own front) text limit j rest placed.traced)
 
 none-traced : (e : Path → ℕ) → AllTraced e []
 none-traced e c here sort = absurd here
 
-document-walk : (first : List Event) (rest : List Block) (text : List ℕ) (limit i j : ℕ) → SpellsLines first text limit i j → SpellsSections rest text limit j → Guarded [] (claims (first_block first ++ rest))
+document-walk : (first : List KeyValue) (rest : List Block) (text : List ℕ) (limit i j : ℕ) → SpellsLines first text limit i j → SpellsSections rest text limit j → Guarded [] (claims (first_block first ++ rest))
 unfolding claims_behind section_claims header_claims followed target opened_by
-document-walk [] rest text limit i j lines sections = sections-walk [] rest [] text limit j sections (none-traced (entries_at []))
+document-walk [] rest text limit i j lines sections = sections-walk [] rest [] text limit j sections (none-traced (elements_added []))
 document-walk (ev ∷ evs) rest text limit i j lines sections =
-    let placed = assigned-walk (entries_at []) [] (ev ∷ evs) [] text limit i j lines (inl refl) (λ c here sort. absurd here) in
-    let front = event_claims (ev ∷ evs) [] in
+    let placed = assigned-walk (elements_added []) [] (ev ∷ evs) [] text limit i j lines (inl refl) (λ c here sort. absurd here) in
+    let front = key_value_claims (ev ∷ evs) [] in
     let block = first_block (ev ∷ evs) in
     guarded-followed [] front (claims_behind block rest) placed.guarded (sections-walk block rest (own front) text limit j sections placed.traced)
 
@@ -240,7 +240,7 @@ document-guarded bs text limit h = subst (λ l. Guarded [] (claims l)) (sym h.al
 -- ---- the first pair
 
 pair-guarded : (earlier : List Claim) (cs : Claims) (c d : Claim) → Guarded earlier cs → Peaceful earlier → Rises (earlier ++ all_claims cs) → IsPair earlier cs c d
-    → ((e f : Claim) → IsPair earlier cs e f → (f ≡ d) ⊎ (start_of d < start_of f)) → c.mark.sort ≡ Assigned → d.mark.sort ≡ Dotted → ⊥
+    → ((e f : Claim) → IsPair earlier cs e f → (f ≡ d) ⊎ (claim_start d < claim_start f)) → c.mark.sort ≡ Assigned → d.mark.sort ≡ Dotted → ⊥
 unfolding all_claims
 pair-guarded earlier no_claims c d g peace r h first value through = h
 pair-guarded earlier (claimed x cs) c d g peace r (inl (same, here, (t, clashes))) first value through =
@@ -249,7 +249,7 @@ pair-guarded earlier (claimed x cs) c d g peace r (inl (same, here, (t, clashes)
 pair-guarded earlier (claimed x cs) c d g peace r (inr more) first value through =
     let late = strictly x d (behind-claim earlier x cs r d (pair-in (earlier ++ (x ∷ [])) cs c d more)) (later-plain c d (pair-clash (earlier ++ (x ∷ [])) cs c d more)) in
     let free = free-of earlier x (λ e here clashes. elim (first e x (inl (refl, here, clashes))) [
-      | inl same ↦ let at = ap start_of same in omega (arith, late, at)
+      | inl same ↦ let at = ap claim_start same in omega (arith, late, at)
       | inr early ↦ omega (arith, late, early)
     ]) in
     pair-guarded (earlier ++ (x ∷ [])) cs c d g.1 (peaceful-push earlier x peace free) (rw (append_assoc earlier (x ∷ []) (all_claims cs)) r) more (λ e f h. first e f (inr h)) value through

@@ -2,7 +2,7 @@
 use Rattle.std.specs.Prelude.{◌≡◌, ◌<◌, ◌⊎◌, List, [], ◌∷◌, ◌++◌, Some}
 use Rattle.toml_span_claims.specs.Claims.{Claim, Claims, no_claims, claimed, scope}
 use Rattle.toml_span_claims.specs.Clashes.{NamedClash, clash}
-use Rattle.toml_span.specs.Order.{start_of}
+use Rattle.toml_span.specs.Order.{claim_start}
 
 -- the claim stands in the list
 abbrev pub IsIn : Claim → List Claim → Type 0
@@ -24,8 +24,8 @@ IsPair earlier (scope inner cs) c d = IsPair [] inner c d ⊎ IsPair earlier cs 
 -- one before every other claim with which the later one clashes.
 pub record IsFirstPair (earlier : List Claim) (cs : Claims) (c d : Claim) : Type 0 where
   pub pair : IsPair earlier cs c d
-  pub first : (e f : Claim) → IsPair earlier cs e f → (f ≡ d) ⊎ (start_of d < start_of f)
-  pub partner : (e : Claim) → IsPair earlier cs e d → (e ≡ c) ⊎ (start_of c < start_of e)
+  pub first : (e f : Claim) → IsPair earlier cs e f → (f ≡ d) ⊎ (claim_start d < claim_start f)
+  pub partner : (e : Claim) → IsPair earlier cs e d → (e ≡ c) ⊎ (claim_start c < claim_start e)
 
 -- ---- claims of one scope
 

@@ -5,6 +5,7 @@ use Rattle.toml_span_tree.specs.Pointer.{pointer_segments, NamesPath}
 use Rattle.toml_span_tree.specs.Node.{Node}
 use Rattle.toml_span_read.specs.Data.{Block}
 use Rattle.toml_span_read.specs.Grammar.{SpellsDocument}
+use Rattle.toml_span_read.specs.Limits.{depth_limit}
 use Rattle.toml_span_claims.specs.Claims.{claims}
 use Rattle.toml_span_claims.specs.Clashes.{Resolves}
 use Rattle.toml_span_claims.specs.Flat.{flat, Shows}
@@ -13,7 +14,7 @@ use Rattle.toml_span_claims.specs.Ordered.{IsOrdered}
 -- The text spells sections of which no two claims clash, and P holds of their flat document.
 abbrev pub IsDocument : List ℕ → ((Path → Option Place) → Type 0) → Type 0
 IsDocument text P =
-    (blocks : List Block) × SpellsDocument blocks text 128 × Resolves [] (claims blocks)
+    (blocks : List Block) × SpellsDocument blocks text depth_limit × Resolves [] (claims blocks)
     × P (flat (length text) (claims blocks))
 
 -- At a path whose steps the pointer's segments name stands a place of which P holds.

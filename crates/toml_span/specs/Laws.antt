@@ -3,12 +3,13 @@ use Rattle.std.specs.Prelude.{◌≡◌, ⊤, ℕ, suc, ◌+◌, Bool, List, [],
 use Rattle.toml_span_lex.specs.declared.span.Span.{Span}
 use Rattle.toml_span_lex.specs.Strings.{IsString, IsEmptyOnOneLine}
 use Rattle.toml_span_tree.specs.Path.{Path, key, position}
-use Rattle.toml_span_read.specs.Data.{span_of}
+use Rattle.toml_span_read.specs.Data.{parsed_span}
 use Rattle.toml_span_read.specs.Data as read
 use Rattle.toml_span_read_laws.specs.Places.{CutsContent}
 use Rattle.toml_span_read_laws.specs.Again.{ReadsAgain, ScalarReadsAgain}
 use Rattle.toml_span_claims.specs.declared.claims.Sort.TheVariants.{Assigned}
-use Rattle.toml_span_claims.specs.Claims.{Claim, Claims, no_claims, claimed, scope, followed, inner_of, value_claims}
+use Rattle.toml_span_claims.specs.Claims.{Claims, no_claims, claimed, scope, followed, parsed_inner}
+use Rattle.toml_span_claims.specs.Claims.{value_claims}
 use Rattle.toml_span_claims.specs.Claims.{value_shape}
 
 -- how many keys a path has
@@ -29,18 +30,18 @@ pub record ShowsString (text value : List ℕ) (span : Span) : Type 0 where
   pub opening : IsEmptyOnOneLine i j → (value ≡ []) × (span ≡ record { start = i; end = i + 1 })
 
 -- the text at the value's span is read again as that value; of a string nothing is said
-abbrev pub ValueReadsAgain : List ℕ → ℕ → read.Node → Type 0
-ValueReadsAgain text limit (read.node (read.scalar s) span) = ScalarReadsAgain text limit s span
-ValueReadsAgain text limit (read.node (read.array items) span) =
-    ReadsAgain text limit (read.node (read.array items) span)
-ValueReadsAgain text limit (read.node (read.inline pairs) span) =
-    ReadsAgain text limit (read.node (read.inline pairs) span)
+abbrev pub ValueReadsAgain : List ℕ → ℕ → read.ParsedValue → Type 0
+ValueReadsAgain text limit (read.parsed (read.scalar s) span) = ScalarReadsAgain text limit s span
+ValueReadsAgain text limit (read.parsed (read.array items) span) =
+    ReadsAgain text limit (read.parsed (read.array items) span)
+ValueReadsAgain text limit (read.parsed (read.inline pairs) span) =
+    ReadsAgain text limit (read.parsed (read.inline pairs) span)
 
 -- What a claim assigns is read again as a value, and the claims right behind it are what that value claims.
 abbrev pub AssignsAgain : List ℕ → ℕ → Claims → Type 0
 AssignsAgain text limit no_claims = ⊤
 AssignsAgain text limit (claimed c cs) =
-    (c.mark.sort ≡ Assigned → (v : read.Node) × (rest : Claims) × ValueReadsAgain text limit v
-    × (c.place.shape ≡ value_shape (inner_of v))
-    × (c.place.span ≡ span_of v) × (cs ≡ followed (value_claims v c.path) rest)) × AssignsAgain text limit cs
+    (c.mark.sort ≡ Assigned → (v : read.ParsedValue) × (rest : Claims) × ValueReadsAgain text limit v
+    × (c.place.shape ≡ value_shape (parsed_inner v))
+    × (c.place.span ≡ parsed_span v) × (cs ≡ followed (value_claims v c.path) rest)) × AssignsAgain text limit cs
 AssignsAgain text limit (scope inner cs) = AssignsAgain text limit inner × AssignsAgain text limit cs

@@ -3,17 +3,19 @@ use Rattle.std.specs.Prelude.{◌≡◌, ⊤, ℕ, ◌<◌, ◌⊎◌, List, [],
 use Rattle.toml_span_lex.specs.declared.span.Span.{Span}
 use Rattle.toml_span_tree.specs.Path.{Path, Place}
 use Rattle.toml_span_claims.specs.Claims.{Claim}
-use Rattle.toml_span_claims.specs.declared.claims.Sort.TheVariants.{ArrayOfTables, Entry}
+use Rattle.toml_span_claims.specs.declared.claims.Sort.TheVariants.{ArrayOfTables, TableElement}
 
 -- where the key starts that claims, or the element
-abbrev pub start_of : Claim → ℕ
-start_of c = c.mark.key.start
+abbrev pub claim_start : Claim → ℕ
+claim_start c = c.mark.key.start
 
--- the second claim starts behind the first; or the first is an array of tables and the second its entry, which one key
+-- the second claim starts behind the first; or the first is an array of tables and the second its element, which one
+-- key
 -- claims
 abbrev pub Follows : Claim → Claim → Type 0
 Follows c d =
-    (start_of c < start_of d) ⊎ ((c.mark.sort ≡ ArrayOfTables) × (d.mark.sort ≡ Entry) × (c.mark.key ≡ d.mark.key))
+    (claim_start c < claim_start d)
+    ⊎ ((c.mark.sort ≡ ArrayOfTables) × (d.mark.sort ≡ TableElement) × (c.mark.key ≡ d.mark.key))
 
 -- each claim follows the one before it
 abbrev pub Ascends : List Claim → Type 0

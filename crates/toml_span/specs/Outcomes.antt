@@ -4,7 +4,7 @@ use Rattle.toml_span_lex.specs.declared.stop.Stop.{Stop}
 use Rattle.toml_span_lex.specs.declared.stop.Stop.TheVariants as stops
 use Rattle.toml_span_tree.specs.declared.error.Error.{Error}
 use Rattle.toml_span_tree.specs.declared.value.Value.{Value}
-use Rattle.toml_span_tree.specs.Error.{fault_of}
+use Rattle.toml_span_tree.specs.Error.{content_of}
 use Rattle.toml_span_tree.specs.Path.{Path, place_at}
 use Rattle.toml_span_tree.specs.Value.{view}
 use Rattle.toml_span_read.specs.Data.{Block}
@@ -13,7 +13,7 @@ use Rattle.toml_span_read.specs.Grammar.{SpellsDocument}
 use Rattle.toml_span_read.specs.Stuck.{StuckDocument}
 use Rattle.toml_span_read.specs.Places.{IsLineInfo}
 use Rattle.toml_span_read.specs.Faults.{Tells}
-use Rattle.toml_span_claims.specs.Clashes.{NamedClash, Resolves, TellsFirst, fault_of_clash}
+use Rattle.toml_span_claims.specs.Clashes.{NamedClash, Resolves, TellsFirst, content_of_clash}
 use Rattle.toml_span_claims.specs.Claims.{claims}
 use Rattle.toml_span_assembly.specs.Parsing.{IsTree, IsRefusal, IsTreeOf}
 
@@ -39,7 +39,7 @@ IsAnswered text limit (Err stop) = IsRefusal text limit stop
 abbrev pub TellsClash : List ℕ → NamedClash → Error → Type 0
 TellsClash text clash error =
     (line column : ℕ) × IsLineInfo text clash.meeting.place.start line column
-    × (fault_of error ≡ fault_of_clash clash.meeting clash.name (line, column))
+    × (content_of error ≡ content_of_clash clash.meeting clash.name (line, column))
 
 -- The tree of these sections, an error that tells this clash, or one that tells this fault; or want of memory.
 abbrev pub IsAnswerOf : List ℕ → Outcome → Result Value (Stop Error) → Type 0
@@ -51,7 +51,7 @@ IsAnswerOf text (clashed blocks clash) (Err (stops.Memory e)) = ⊤
 IsAnswerOf text (clashed blocks clash) (Err (stops.Fault error)) = TellsClash text clash error
 IsAnswerOf text (stuck_at fault) (Ok root) = ⊥
 IsAnswerOf text (stuck_at fault) (Err (stops.Memory e)) = ⊤
-IsAnswerOf text (stuck_at fault) (Err (stops.Fault error)) = Tells text fault (fault_of error)
+IsAnswerOf text (stuck_at fault) (Err (stops.Fault error)) = Tells text fault (content_of error)
 
 -- Both are trees, which show the same at each path, or both are errors, which tell the same. Want of memory is like
 -- each answer.
@@ -64,4 +64,4 @@ IsAlike (Err (stops.Memory e)) (Err (stops.Memory f)) = ⊤
 IsAlike (Err (stops.Memory e)) (Err (stops.Fault f)) = ⊤
 IsAlike (Err (stops.Fault e)) (Ok other) = ⊥
 IsAlike (Err (stops.Fault e)) (Err (stops.Memory f)) = ⊤
-IsAlike (Err (stops.Fault e)) (Err (stops.Fault f)) = fault_of e ≡ fault_of f
+IsAlike (Err (stops.Fault e)) (Err (stops.Fault f)) = content_of e ≡ content_of f

@@ -6,8 +6,8 @@ ghost use Rattle.toml_span_lex.specs.Strings.{HasChange};
 ghost use Rattle.toml_span_lex.specs.declared.span.Span.{Span};
 ghost use Rattle.toml_span_lex.specs.declared.stop.Stop.{Stop};
 ghost use Rattle.toml_span_lex.specs.declared.stop.Stop.TheVariants.{Fault as refused};
-ghost use Rattle.toml_span_typed.specs.Faults.{Faults};
-ghost use Rattle.toml_span_typed.specs.TableHelper.{Opens, Refuses, Requires, State, Tries};
+ghost use Rattle.toml_span_typed.specs.Errors.{Errors};
+ghost use Rattle.toml_span_typed.specs.TableHelper.{OpensTable, Refuses, Requires, State, Tries};
 ghost use Rattle.toml_span_typed.specs.declared.de_helpers.table_helper.TableHelper.{TableHelper};
 ghost use Rattle.toml_span_typed.specs.declared.de_helpers.table_helper.Unfinished.{Unfinished};
 ghost use Rattle.toml_span_typed.specs.declared.de_helpers.table_helper.Unfinished.TheVariants.{Faults as unfinished};
@@ -18,7 +18,7 @@ ghost use Rattle.toml_span_read.specs.Data.{Block};
 ghost use Rattle.toml_span_read.specs.Grammar.{SpellsDocument};
 ghost use Rattle.toml_span_read.specs.Stuck.{StuckDocument};
 ghost use Rattle.toml_span_read.specs.declared.fault.Fault.{Fault};
-ghost use Rattle.toml_span_tree.specs.Error.{fault_of};
+ghost use Rattle.toml_span_tree.specs.Error.{content_of};
 ghost use Rattle.toml_span_tree.specs.Node.{Node, Scalar, text as string};
 ghost use Rattle.toml_span_tree.specs.Path.{Path, Place, shape_scalar, shape_table, key, node_at, place_at};
 ghost use Rattle.toml_span_tree.specs.Pointer.{pointed};
@@ -65,11 +65,11 @@ pub fn one_answer()
     ensures tree { (text : List ℕ) (limit : ℕ) (root other : Value) (path : Path) → IsTree text limit root
         → IsTree text limit other → place_at path (view root) ≡ place_at path (view other) }
     ensures clash { (text : List ℕ) (limit : ℕ) (error other : Error) → IsClash text limit error
-        → IsClash text limit other → fault_of error ≡ fault_of other }
+        → IsClash text limit other → content_of error ≡ content_of other }
     ensures fault { (text : List ℕ) (limit : ℕ) (error other : Error) → IsFault text limit error
-        → IsFault text limit other → fault_of error ≡ fault_of other }
+        → IsFault text limit other → content_of error ≡ content_of other }
     ensures told { (text : List ℕ) (limit : ℕ) (error other : Error) → IsRefusal text limit (refused error)
-        → IsRefusal text limit (refused other) → fault_of error ≡ fault_of other }
+        → IsRefusal text limit (refused other) → content_of error ≡ content_of other }
     ensures alike { (text : List ℕ) (limit : ℕ) (result other : Result Value (Stop Error))
         → IsAnswered text limit result → IsAnswered text limit other → IsAlike result other }
 {}
@@ -224,9 +224,9 @@ pub fn pointers_name_places()
 /// A helper opens on a value exactly where the flat document has a table there, and holds the entries of that
 /// table.
 pub fn helper_opens_on_a_table()
-    ensures some { (places : Path → Option Place) (m : Node) → IsValueOf places m → ((s : State) × Opens m (Ok s))
+    ensures some { (places : Path → Option Place) (m : Node) → IsValueOf places m → ((s : State) × OpensTable m (Ok s))
         ↔ (option_map (λ x. x.shape) (places []) ≡ Some shape_table) }
-    ensures over { (places : Path → Option Place) (m : Node) (s : State) → IsValueOf places m → Opens m (Ok s)
+    ensures over { (places : Path → Option Place) (m : Node) (s : State) → IsValueOf places m → OpensTable m (Ok s)
         → IsOver places s × (s.asked ≡ []) × (s.errors ≡ []) }
 {}
 
@@ -257,7 +257,7 @@ pub fn optional_reads_the_document<'de, T: Deserialize<'de>>()
 pub fn finalize_ends_the_table()
     ensures ok { (places : Path → Option Place) (s : State) (answer : Result (Unit {0}) Unfinished) → IsOver places s
         → Refuses s answer → IsOk answer ↔ ((s.errors ≡ []) × HasNoKeyBut s.asked places) }
-    ensures faults { (places : Path → Option Place) (s : State) (faults : Faults) → IsOver places s
+    ensures faults { (places : Path → Option Place) (s : State) (faults : Errors) → IsOver places s
         → Refuses s (Err (unfinished faults)) → EndsWith places s faults }
     ensures memory { (places : Path → Option Place) (s : State) (helper : TableHelper) → IsOver places s
         → Refuses s (Err (starved helper)) → HasNoKeyBut s.asked places → ⊥ }

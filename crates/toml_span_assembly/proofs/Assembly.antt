@@ -8,13 +8,13 @@ use Rattle.toml_span_tree.specs.declared.value.Value.{Value}
 use Rattle.toml_span_tree.specs.declared.value.ValueInner.TheVariants.{Table as table_inner}
 use Rattle.toml_span_tree.proofs.Values.{inner_view-Table}
 use Rattle.toml_span_read.specs.declared.section.Section.{Section}
-use Rattle.toml_span_read.specs.Data.{event, Block, block}
-use Rattle.toml_span_read.specs.Keys.{part}
+use Rattle.toml_span_read.specs.Data.{key_value, Block, block}
+use Rattle.toml_span_read.specs.Keys.{simple_key}
 use Rattle.toml_span_claims.specs.declared.claims.Halt.{Halt}
 use Rattle.toml_span_claims.specs.declared.claims.Halt.TheVariants.{Memory, Clash}
 use Rattle.toml_span_claims.specs.declared.branch.Branch.{Branch}
-use Rattle.toml_span_claims.specs.Paths.{entries_at, opened_by}
-use Rattle.toml_span_claims.specs.Claims.{Claims, followed, event_claims, section_claims, claims_behind, claims, head_of}
+use Rattle.toml_span_claims.specs.Paths.{elements_added, opened_by}
+use Rattle.toml_span_claims.specs.Claims.{Claims, followed, key_value_claims, section_claims, claims_behind, claims, head_of}
 use Rattle.toml_span_claims.specs.Clashes.{or_else}
 use Rattle.toml_span_claims.specs.Flat.{flat, Shows}
 use Rattle.toml_span_claims.specs.code.Machine.{nothing, first_clash, put_all, clash_told}
@@ -41,22 +41,22 @@ remaining-first all rest root same headers fresh = record {
 }
 
 pub placed-block : (s : Section) (parts : List Key) (root new : Branch) (r : Result (Unit {0}) Halt) → parts ≡ s.header.items
-    → Places root new r (section_at (counts root) (head_of (block s)) (map part parts) (event_claims (map event s.assignments.items) [])) (grown (counts root) (head_of (block s)) (map part parts))
+    → Places root new r (section_at (counts root) (head_of (block s)) (map simple_key parts) (key_value_claims (map key_value s.assignments.items) [])) (grown (counts root) (head_of (block s)) (map simple_key parts))
     → Placed (block s) root new r
 placed-block s parts root new r same h = rw same at h
 
 -- the same, by absolute paths
-placed-is : (b : Block) (earlier : List Block) (root new : Branch) (r : Result (Unit {0}) Halt) → counts root ≡ entries_at (opened_by earlier)
+placed-is : (b : Block) (earlier : List Block) (root new : Branch) (r : Result (Unit {0}) Halt) → counts root ≡ elements_added (opened_by earlier)
     → (b.header ≡ [] → b.array ≡ false) → Placed b root new r
-    → Places root new r (section_claims (entries_at (opened_by earlier)) b) (entries_at (opened_by (b ∷ earlier)))
+    → Places root new r (section_claims (elements_added (opened_by earlier)) b) (elements_added (opened_by (b ∷ earlier)))
 placed-is b earlier root new r counting header placed =
-    subst (λ e. Places root new r (section_claims (entries_at (opened_by earlier)) b) e) (grown-is earlier b header)
-    (subst (λ cs. Places root new r cs (grown (entries_at (opened_by earlier)) (head_of b) b.header)) (section_at-is (entries_at (opened_by earlier)) b header)
-    (subst (λ e. Places root new r (section_at e (head_of b) b.header (event_claims b.events [])) (grown e (head_of b) b.header)) counting placed))
+    subst (λ e. Places root new r (section_claims (elements_added (opened_by earlier)) b) e) (grown-is earlier b header)
+    (subst (λ cs. Places root new r cs (grown (elements_added (opened_by earlier)) (head_of b) b.header)) (section_at-is (elements_added (opened_by earlier)) b header)
+    (subst (λ e. Places root new r (section_at e (head_of b) b.header (key_value_claims b.key_values [])) (grown e (head_of b) b.header)) counting placed))
 
 -- what the next section claims, and then the others
 next-claims : (earlier : List Block) (b : Block) (bs : List Block)
-    → claims_behind earlier (b ∷ bs) ≡ followed (section_claims (entries_at (opened_by earlier)) b) (claims_behind (b ∷ earlier) bs)
+    → claims_behind earlier (b ∷ bs) ≡ followed (section_claims (elements_added (opened_by earlier)) b) (claims_behind (b ∷ earlier) bs)
 unfolding claims_behind
 next-claims earlier b bs = refl
 
@@ -64,7 +64,7 @@ pub remaining-next : (all old new : List Block) (b : Block) (root w : Branch) �
 remaining-next all old new b root w steps inv placed =
     let headers : AreSections (b ∷ new) = subst AreSections steps inv.headers in
     let h = placed-is b inv.earlier root w (Ok tt) inv.counting headers.0 placed inv.scope in
-    let now = section_claims (entries_at (opened_by inv.earlier)) b in
+    let now = section_claims (elements_added (opened_by inv.earlier)) b in
     let later = claims_behind (b ∷ inv.earlier) new in
     let split = ap (claims_behind inv.earlier) steps ∙ next-claims inv.earlier b new in
     record {
@@ -83,7 +83,7 @@ assembles-err all old new length b root w q (Memory m) steps inv same placed = r
 assembles-err all old new length b root w q (Clash c) steps inv same placed =
     let headers : AreSections (b ∷ new) = subst AreSections steps inv.headers in
     let h = placed-is b inv.earlier root w (Err (Clash c)) inv.counting headers.0 placed inv.scope in
-    let now = section_claims (entries_at (opened_by inv.earlier)) b in
+    let now = section_claims (elements_added (opened_by inv.earlier)) b in
     let later = claims_behind (b ∷ inv.earlier) new in
     let split = ap (claims_behind inv.earlier) steps ∙ next-claims inv.earlier b new in
     rw same (told-some (claims all) (clash_told c)

@@ -13,15 +13,15 @@ use Rattle.toml_span_lex.specs.declared.key.Key.{Key}
 use Rattle.toml_span_tree.specs.Path.{Path, Step, key, position}
 use Rattle.toml_span_tree.specs.Value.{view}
 use Rattle.toml_span_tree.specs.declared.value.Value.{Value}
-use Rattle.toml_span_read.specs.Data.{Node as Read, node, Inner, scalar, array, inline, Items, no_items, item as one_item, Pairs, no_pairs, pair, span_of}
-use Rattle.toml_span_read.specs.Keys.{Part, part}
+use Rattle.toml_span_read.specs.Data.{ParsedValue as Read, parsed, ParsedInner, scalar, array, inline, ParsedItems, no_items, item as one_item, ParsedPairs, no_pairs, pair, parsed_span}
+use Rattle.toml_span_read.specs.Keys.{SimpleKey, simple_key}
 use Rattle.toml_span_claims.specs.declared.claims.Blame.{Blame}
 use Rattle.toml_span_claims.specs.declared.claims.Halt.{Halt}
 use Rattle.toml_span_claims.specs.declared.claims.Halt.TheVariants.{Memory, Clash}
 use Rattle.toml_span_claims.specs.declared.claims.Mark.{Mark}
 use Rattle.toml_span_claims.specs.declared.claims.Meeting.{Meeting}
 use Rattle.toml_span_claims.specs.declared.claims.Sort.{Sort}
-use Rattle.toml_span_claims.specs.declared.claims.Sort.TheVariants.{Passed, Section, ArrayOfTables, Entry, Dotted, Assigned}
+use Rattle.toml_span_claims.specs.declared.claims.Sort.TheVariants.{Passed, StandardTable, ArrayOfTables, TableElement, Dotted, Assigned}
 use Rattle.toml_span_claims.specs.declared.branch.Branch.{Branch}
 use Rattle.toml_span_claims.specs.declared.branch.Branch.TheViews.{out-Branch, roll-Branch}
 use Rattle.toml_span_claims.specs.declared.branch.Branch.TheOpen.{Branch-F}
@@ -43,13 +43,13 @@ use Rattle.toml_span_assembly.proofs.Shown.{show_all-marks}
 -- ---- where it clashes
 
 abbrev value_mark : Key → Read → Mark
-value_mark k v = pair_mark Assigned k.span (span_of v)
+value_mark k v = pair_mark Assigned k.span (parsed_span v)
 
 clashes-sort : (s : Sort) (f : Blame → Meeting) → is_entry_sort s ≡ false → (m : Meeting) × (option_map f (blame s Assigned) ≡ Some m)
 clashes-sort Passed f e = (_, refl)
-clashes-sort Section f e = (_, refl)
+clashes-sort StandardTable f e = (_, refl)
 clashes-sort ArrayOfTables f e = (_, refl)
-clashes-sort Entry f e = absurd (false≢true (sym e))
+clashes-sort TableElement f e = absurd (false≢true (sym e))
 clashes-sort Dotted f e = (_, refl)
 clashes-sort Assigned f e = (_, refl)
 
@@ -67,41 +67,41 @@ gives-clash (Err (Clash c)) o p t P Q first all h = all ∙ sym first ∙ h
 gives-clash (Err (Memory e)) o p t P Q first all h = tt
 
 -- what is told of the value's own claim comes first
-told-own : (n : Branch) (k : Key) (v : Read) (ms : List Mark) → (cells n (key (part k).name ∷ [])).marks ≡ ms
-    → first_clash (cells n) (pair_at [] (part k) v)
-    ≡ or_else (met ms (value_mark k v) (part k).name) (first_clash (change (λ q. cells n (key (part k).name ∷ q)) [] (with_claim (assigned [] (part k) v))) (value_claims v []))
+told-own : (n : Branch) (k : Key) (v : Read) (ms : List Mark) → (cells n (key (simple_key k).name ∷ [])).marks ≡ ms
+    → first_clash (cells n) (pair_at [] (simple_key k) v)
+    ≡ or_else (met ms (value_mark k v) (simple_key k).name) (first_clash (change (λ q. cells n (key (simple_key k).name ∷ q)) [] (with_claim (assigned [] (simple_key k) v))) (value_claims v []))
 unfolding first_clash pair_at
 told-own n k v ms is =
-    told-under (key (part k).name) (cells n) (claimed (assigned [] (part k) v) (value_claims v []))
-    ∙ ap (λ ms. or_else (met ms (value_mark k v) (part k).name) (first_clash (change (λ q. cells n (key (part k).name ∷ q)) [] (with_claim (assigned [] (part k) v))) (value_claims v []))) is
+    told-under (key (simple_key k).name) (cells n) (claimed (assigned [] (simple_key k) v) (value_claims v []))
+    ∙ ap (λ ms. or_else (met ms (value_mark k v) (simple_key k).name) (first_clash (change (λ q. cells n (key (simple_key k).name ∷ q)) [] (with_claim (assigned [] (simple_key k) v))) (value_claims v []))) is
 
 -- the value's own claim clashes
 pub refused : (n new : Branch) (k : Key) (v : Read) (r : Result (Unit {0}) Halt) (ms : List Mark) (m : Mark) (P : Unit {0} → Type 0) (d : Path → ℕ)
-    → (IsScope n → (cells n (key (part k).name ∷ [])).marks ≡ ms) → (IsScope n → IsNamed ms) → m ≡ value_mark k v
-    → Gives r (met ms m (part k).name) P → Places n new r (pair_at [] (part k) v) d
+    → (IsScope n → (cells n (key (simple_key k).name ∷ [])).marks ≡ ms) → (IsScope n → IsNamed ms) → m ≡ value_mark k v
+    → Gives r (met ms m (simple_key k).name) P → Places n new r (pair_at [] (simple_key k) v) d
 refused n new k v r ms m P d is held same h before =
-    let clash = clashes-named ms (value_mark k v) (part k).name refl (held before) in
-    let first = ap (λ m. met ms m (part k).name) same ∙ clash.1 in
-    let all = told-own n k v ms (is before) ∙ ap (λ o. or_else o (first_clash (change (λ q. cells n (key (part k).name ∷ q)) [] (with_claim (assigned [] (part k) v))) (value_claims v []))) clash.1 in
-    gives-clash r (met ms m (part k).name) (first_clash (cells n) (pair_at [] (part k) v)) clash.0 _ _ first all h
+    let clash = clashes-named ms (value_mark k v) (simple_key k).name refl (held before) in
+    let first = ap (λ m. met ms m (simple_key k).name) same ∙ clash.1 in
+    let all = told-own n k v ms (is before) ∙ ap (λ o. or_else o (first_clash (change (λ q. cells n (key (simple_key k).name ∷ q)) [] (with_claim (assigned [] (simple_key k) v))) (value_claims v []))) clash.1 in
+    gives-clash r (met ms m (simple_key k).name) (first_clash (cells n) (pair_at [] (simple_key k) v)) clash.0 _ _ first all h
 
 -- the value's own claim clashes with what stands at its name
 pub refused-child : (n new : Branch) (k : Key) (v : Read) (q : Result (Unit {0}) Halt) (e : Halt) (m : Mark) (P : Unit {0} → Type 0) (d : Path → ℕ)
-    → m ≡ value_mark k v → q ≡ Err e → Gives (Err e) (met (held_marks (child (part k).name n)) m (part k).name) P → Places n new q (pair_at [] (part k) v) d
-refused-child n new k v q e m P d same is h before = go (child (part k).name n) refl
+    → m ≡ value_mark k v → q ≡ Err e → Gives (Err e) (met (held_marks (child (simple_key k).name n)) m (simple_key k).name) P → Places n new q (pair_at [] (simple_key k) v) d
+refused-child n new k v q e m P d same is h before = go (child (simple_key k).name n) refl
   where
     later : Option NamedClash
-    later = first_clash (change (λ q. cells n (key (part k).name ∷ q)) [] (with_claim (assigned [] (part k) v))) (value_claims v [])
+    later = first_clash (change (λ q. cells n (key (simple_key k).name ∷ q)) [] (with_claim (assigned [] (simple_key k) v))) (value_claims v [])
 
-    met-is : (o : Option Branch) → child (part k).name n ≡ o → met (held_marks (child (part k).name n)) m (part k).name ≡ met (held_marks o) (value_mark k v) (part k).name
-    met-is o c = ap (λ x. met (held_marks x) m (part k).name) c ∙ ap (λ x. met (held_marks o) x (part k).name) same
+    met-is : (o : Option Branch) → child (simple_key k).name n ≡ o → met (held_marks (child (simple_key k).name n)) m (simple_key k).name ≡ met (held_marks o) (value_mark k v) (simple_key k).name
+    met-is o c = ap (λ x. met (held_marks x) m (simple_key k).name) c ∙ ap (λ x. met (held_marks o) x (simple_key k).name) same
 
-    go : (o : Option Branch) → child (part k).name n ≡ o
-        → Gives q (first_clash (cells n) (pair_at [] (part k) v)) (λ _. (cells new ≡ put_all (cells n) (pair_at [] (part k) v)) × (counts new ≡ d) × (IsScope new × (marks new ≡ marks n)))
-    go None c = gives-err q e (met (held_marks (child (part k).name n)) m (part k).name) _ _ _ is (λ t clash. absurd (none-some t (sym (met-is None c) ∙ clash))) h
+    go : (o : Option Branch) → child (simple_key k).name n ≡ o
+        → Gives q (first_clash (cells n) (pair_at [] (simple_key k) v)) (λ _. (cells new ≡ put_all (cells n) (pair_at [] (simple_key k) v)) × (counts new ≡ d) × (IsScope new × (marks new ≡ marks n)))
+    go None c = gives-err q e (met (held_marks (child (simple_key k).name n)) m (simple_key k).name) _ _ _ is (λ t clash. absurd (none-some t (sym (met-is None c) ∙ clash))) h
     go (Some x) c =
-        gives-err q e (met (held_marks (child (part k).name n)) m (part k).name) _ _ _ is
-        (λ t clash. told-own n k v (marks x) (ap (λ f. (f []).marks) (cells-child n (part k).name x c) ∙ ap (λ y. y.marks) (cells-here x))
+        gives-err q e (met (held_marks (child (simple_key k).name n)) m (simple_key k).name) _ _ _ is
+        (λ t clash. told-own n k v (marks x) (ap (λ f. (f []).marks) (cells-child n (simple_key k).name x c) ∙ ap (λ y. y.marks) (cells-here x))
         ∙ ap (λ o. or_else o later) (sym (met-is (Some x) c) ∙ clash))
         h
 
@@ -117,26 +117,26 @@ missing-free n k m name before is h = go (child k n) refl
 
 -- with a value of the same name
 pub refused-value : (n new : Branch) (k earlier : Key) (x : Value) (v : Read) (r : Result (Unit {0}) Halt) (ms : List Mark) (m : Mark) (name : List ℕ) (P : Unit {0} → Type 0) (d : Path → ℕ)
-    → (IsScope n → child (part k).name n ≡ None) → closed (part k).name n ≡ Some (earlier, x) → ms ≡ pair_mark Assigned earlier.span x.span ∷ [] → name ≡ (part k).name
-    → m ≡ value_mark k v → Gives r (met ms m name) P → Places n new r (pair_at [] (part k) v) d
+    → (IsScope n → child (simple_key k).name n ≡ None) → closed (simple_key k).name n ≡ Some (earlier, x) → ms ≡ pair_mark Assigned earlier.span x.span ∷ [] → name ≡ (simple_key k).name
+    → m ≡ value_mark k v → Gives r (met ms m name) P → Places n new r (pair_at [] (simple_key k) v) d
 refused-value n new k earlier x v r ms m name P d missing found is same mark h =
     refused n new k v r ms m P d
-    (λ before. ap (λ f. (f []).marks) (cells-closed n (part k).name (missing before)) ∙ marks-found _ earlier x _ found refl ∙ sym is)
+    (λ before. ap (λ f. (f []).marks) (cells-closed n (simple_key k).name (missing before)) ∙ marks-found _ earlier x _ found refl ∙ sym is)
     (λ before. rw is (refl, tt)) mark (rw same at h)
 
 -- ---- what a value claims in a scope that has none of its name
 
 told-value : (st : State) (v : Read) (p : Path) → first_clash st (value_claims v p) ≡ first_clash nothing (value_claims v p)
 unfolding first_clash value_claims inner_claims
-told-value st (node (scalar s) span) p = refl
-told-value st (node (array vs) span) p = refl
-told-value st (node (inline ps) span) p = refl
+told-value st (parsed (scalar s) span) p = refl
+told-value st (parsed (array vs) span) p = refl
+told-value st (parsed (inline ps) span) p = refl
 
 put-value : (st : State) (v : Read) (p : Path) → put_all st (value_claims v p) ≡ show_all st (value_claims v p)
 unfolding put_all show_all value_claims inner_claims
-put-value st (node (scalar s) span) p = refl
-put-value st (node (array vs) span) p = refl
-put-value st (node (inline ps) span) p = refl
+put-value st (parsed (scalar s) span) p = refl
+put-value st (parsed (array vs) span) p = refl
+put-value st (parsed (inline ps) span) p = refl
 
 -- all stands below the path
 abbrev AreBelow : Claims → Type 0
@@ -155,7 +155,7 @@ unfolding same_path
 below-step [] s = refl
 below-step (t ∷ p) s = refl
 
-below-key : (p : Path) (parts : List Part) (v : Read) (inside : Path → Claims) → ((q : Path) → AreBelow (inside q)) → AreBelow (key_claims p parts v inside)
+below-key : (p : Path) (parts : List SimpleKey) (v : Read) (inside : Path → Claims) → ((q : Path) → AreBelow (inside q)) → AreBelow (key_claims p parts v inside)
 unfolding key_claims
 below-key p [] v inside h = tt
 below-key p (k ∷ []) v inside h = (below-step p (key k.name), h (with_key p k))
@@ -165,19 +165,19 @@ mutual
   unfolding value_claims inner_claims item_claims pair_claims
 
   below-value : (v : Read) (p : Path) → AreBelow (value_claims v p)
-  below-value (node k span) p = below-inner k p
+  below-value (parsed k span) p = below-inner k p
 
-  below-inner : (k : Inner) (p : Path) → AreBelow (inner_claims k p)
+  below-inner : (k : ParsedInner) (p : Path) → AreBelow (inner_claims k p)
   below-inner (scalar x) p = tt
   below-inner (array vs) p = (below-items vs 0 p, tt)
   below-inner (inline ps) p = (below-pairs ps p, tt)
 
-  below-items : (vs : Items) (i : ℕ) (p : Path) → AreBelow (item_claims vs i p)
+  below-items : (vs : ParsedItems) (i : ℕ) (p : Path) → AreBelow (item_claims vs i p)
   below-items no_items i p = tt
   below-items (one_item v vs) i p =
       (below-step p (position i), below-followed (value_claims v (with_position p i)) (item_claims vs (suc i) p) (below-value v (with_position p i)) (below-items vs (suc i) p))
 
-  below-pairs : (ps : Pairs) (p : Path) → AreBelow (pair_claims ps p)
+  below-pairs : (ps : ParsedPairs) (p : Path) → AreBelow (pair_claims ps p)
   below-pairs no_pairs p = tt
   below-pairs (pair parts v extent rest) p =
       below-followed (key_claims p parts v (value_claims v)) (pair_claims rest p) (below-key p parts v (value_claims v) (λ q. below-value v q)) (below-pairs rest p)
@@ -201,12 +201,12 @@ cell-is : (a b : Cell) → a.marks ≡ b.marks → a.shown ≡ b.shown → a ≡
 cell-is a b m s = λ i. record { marks = m i; shown = s i }
 
 -- a finished value shows what was claimed
-value-cells : (k : Key) (x : Value) (v : Read) → IsFinished v x → value_cell k.span (view x) ≡ put_all (change nothing [] (with_claim (assigned [] (part k) v))) (value_claims v [])
+value-cells : (k : Key) (x : Value) (v : Read) → IsFinished v x → value_cell k.span (view x) ≡ put_all (change nothing [] (with_claim (assigned [] (simple_key k) v))) (value_claims v [])
 unfolding change same_path
-value-cells k x v h = fun_ext at ∙ sym (put-value (change nothing [] (with_claim (assigned [] (part k) v))) v [])
+value-cells k x v h = fun_ext at ∙ sym (put-value (change nothing [] (with_claim (assigned [] (simple_key k) v))) v [])
   where
     st : State
-    st = change nothing [] (with_claim (assigned [] (part k) v))
+    st = change nothing [] (with_claim (assigned [] (simple_key k) v))
 
     at : (p : Path) → value_cell k.span (view x) p ≡ show_all st (value_claims v []) p
     at [] =
@@ -223,26 +223,26 @@ pub record SetsValue (k : Key) (x : Value) (n new : Branch) : Type 0 where
   pub claims : marks new ≡ marks n
   pub added : entries new ≡ entries n
   pub tables : (out-Branch new).tables ≡ (out-Branch n).tables
-  pub closed_is : (name : List ℕ) → closed name new ≡ cond (bytes_eq (part k).name name) (Some (k, x)) (closed name n)
+  pub closed_is : (name : List ℕ) → closed name new ≡ cond (bytes_eq (simple_key k).name name) (Some (k, x)) (closed name n)
 
 child-stays : (n new : Branch) (k : Key) (x : Value) (name : List ℕ) → SetsValue k x n new → child name new ≡ child name n
 child-stays n new k x name sets = ap (child_in name) sets.tables
 
-cells-value : (n new : Branch) (k : Key) (x : Value) → SetsValue k x n new → child (part k).name n ≡ None → cells new ≡ graft (key (part k).name) (cells n) (value_cell k.span (view x))
+cells-value : (n new : Branch) (k : Key) (x : Value) → SetsValue k x n new → child (simple_key k).name n ≡ None → cells new ≡ graft (key (simple_key k).name) (cells n) (value_cell k.span (view x))
 unfolding cell_at graft
 cells-value n new k x sets missing = fun_ext at
   where
-    below : (b : Bool) (name : List ℕ) (p : Path) → bytes_eq (part k).name name ≡ b → or_closed (option_map (cell_at p) (child name n)) (closed_cell (cond b (Some (k, x)) (closed name n)) p)
+    below : (b : Bool) (name : List ℕ) (p : Path) → bytes_eq (simple_key k).name name ≡ b → or_closed (option_map (cell_at p) (child name n)) (closed_cell (cond b (Some (k, x)) (closed name n)) p)
         ≡ cond b (value_cell k.span (view x) p) (or_closed (option_map (cell_at p) (child name n)) (closed_cell (closed name n) p))
-    below true name p same = ap (λ o. or_closed (option_map (cell_at p) o) (value_cell k.span (view x) p)) (ap (λ l. child l n) (sym ((bytes_eq-Decides (part k).name name).0 same)) ∙ missing)
+    below true name p same = ap (λ o. or_closed (option_map (cell_at p) o) (value_cell k.span (view x) p)) (ap (λ l. child l n) (sym ((bytes_eq-Decides (simple_key k).name name).0 same)) ∙ missing)
     below false name p same = refl
 
-    at : (p : Path) → cells new p ≡ graft (key (part k).name) (cells n) (value_cell k.span (view x)) p
+    at : (p : Path) → cells new p ≡ graft (key (simple_key k).name) (cells n) (value_cell k.span (view x)) p
     at [] = ap own_cell sets.claims
     at (key name ∷ p) =
         ap (λ o. or_closed (option_map (cell_at p) o) (closed_cell (closed name new) p)) (child-stays n new k x name sets)
         ∙ ap (λ o. or_closed (option_map (cell_at p) (child name n)) (closed_cell o p)) (sets.closed_is name)
-        ∙ below (bytes_eq (part k).name name) name p refl
+        ∙ below (bytes_eq (simple_key k).name name) name p refl
     at (position i ∷ p) = ap (λ xs. or_nothing (option_map (cell_at p) (item i xs))) sets.added
 
 counts-value : (n new : Branch) (k : Key) (x : Value) → SetsValue k x n new → counts new ≡ counts n
@@ -254,7 +254,7 @@ counts-value n new k x sets = fun_ext at
     at (key name ∷ p) = ap (λ o. or_zero (option_map (count_at p) o)) (child-stays n new k x name sets)
     at (position i ∷ p) = ap (λ xs. or_zero (option_map (count_at p) (item i xs))) sets.added
 
-scope-value : (n new : Branch) (k : Key) (x : Value) → SetsValue k x n new → child (part k).name n ≡ None → IsOrdered (view x) → IsScope n → IsScope new × (marks new ≡ marks n)
+scope-value : (n new : Branch) (k : Key) (x : Value) → SetsValue k x n new → child (simple_key k).name n ≡ None → IsOrdered (view x) → IsScope n → IsScope new × (marks new ≡ marks n)
 scope-value n new k x sets missing good (sound m table names items ordered below inside, none) =
     ((sound new of_table of_names (λ i c h. absurd (no_item i c h)) of_values of_below (λ i c h. absurd (no_item i c h)), added), sets.claims)
   where
@@ -270,19 +270,19 @@ scope-value n new k x sets missing good (sound m table names items ordered below
     same : (name : List ℕ) (c : Branch) → child name new ≡ Some c → child name n ≡ Some c
     same name c h = sym (child-stays n new k x name sets) ∙ h
 
-    free : (b : Bool) (name : List ℕ) (c : Branch) → bytes_eq (part k).name name ≡ b → child name n ≡ Some c → cond b (Some (k, x)) (closed name n) ≡ None
-    free true name c is h = absurd (none-some c (sym missing ∙ ap (λ l. child l n) ((bytes_eq-Decides (part k).name name).0 is) ∙ h))
+    free : (b : Bool) (name : List ℕ) (c : Branch) → bytes_eq (simple_key k).name name ≡ b → child name n ≡ Some c → cond b (Some (k, x)) (closed name n) ≡ None
+    free true name c is h = absurd (none-some c (sym missing ∙ ap (λ l. child l n) ((bytes_eq-Decides (simple_key k).name name).0 is) ∙ h))
     free false name c is h = (names name c h).0
 
     of_names : AreNamed new
-    of_names name c h = (sets.closed_is name ∙ free (bytes_eq (part k).name name) name c refl (same name c h), (names name c (same name c h)).1)
+    of_names name c h = (sets.closed_is name ∙ free (bytes_eq (simple_key k).name name) name c refl (same name c h), (names name c (same name c h)).1)
 
     either : (b : Bool) (name : List ℕ) (e : Key × Value) → cond b (Some (k, x)) (closed name n) ≡ Some e → IsOrdered (view e.1)
     either true name e h = subst (λ (f : Key × Value). IsOrdered (view f.1)) (same_Some (k, x) e h) good
     either false name e h = ordered name e h
 
     of_values : HoldsOrderedValues new
-    of_values name e h = either (bytes_eq (part k).name name) name e (sym (sets.closed_is name) ∙ h)
+    of_values name e h = either (bytes_eq (simple_key k).name name) name e (sym (sets.closed_is name) ∙ h)
 
     of_below : (name : List ℕ) (c : Branch) → child name new ≡ Some c → Sound c
     of_below name c h = below name c (same name c h)
@@ -290,38 +290,38 @@ scope-value n new k x sets missing good (sound m table names items ordered below
 -- ---- a value of a new name
 
 -- what is told is what is told inside the value
-told-free : (n : Branch) (k : Key) (v : Read) → child (part k).name n ≡ None → closed (part k).name n ≡ None → first_clash (cells n) (pair_at [] (part k) v) ≡ first_clash nothing (value_claims v [])
+told-free : (n : Branch) (k : Key) (v : Read) → child (simple_key k).name n ≡ None → closed (simple_key k).name n ≡ None → first_clash (cells n) (pair_at [] (simple_key k) v) ≡ first_clash nothing (value_claims v [])
 told-free n k v missing free =
-    told-own n k v [] (ap (λ f. (f []).marks) (cells-closed n (part k).name missing) ∙ ap closed_marks free)
-    ∙ told-value (change (λ q. cells n (key (part k).name ∷ q)) [] (with_claim (assigned [] (part k) v))) v []
+    told-own n k v [] (ap (λ f. (f []).marks) (cells-closed n (simple_key k).name missing) ∙ ap closed_marks free)
+    ∙ told-value (change (λ q. cells n (key (simple_key k).name ∷ q)) [] (with_claim (assigned [] (simple_key k) v))) v []
 
 pub assigned-err : (n new : Branch) (k : Key) (v : Read) (value : Result Value Halt) (q : Result (Unit {0}) Halt) (e : Halt) (m : Mark) (d : Path → ℕ)
-    → m.sort ≡ Assigned → met (held_marks (child (part k).name n)) m (part k).name ≡ None → closed (part k).name n ≡ None → value ≡ Err e → q ≡ Err e
-    → ValueGives value v → Places n new q (pair_at [] (part k) v) d
+    → m.sort ≡ Assigned → met (held_marks (child (simple_key k).name n)) m (simple_key k).name ≡ None → closed (simple_key k).name n ≡ None → value ≡ Err e → q ≡ Err e
+    → ValueGives value v → Places n new q (pair_at [] (simple_key k) v) d
 assigned-err n new k v value q e m d sort admitted free was is h before =
-    gives-err q e (first_clash nothing (value_claims v [])) (first_clash (cells n) (pair_at [] (part k) v)) (IsFinished v) _ is
-    (λ t clash. told-free n k v (missing-free n (part k).name m (part k).name before sort admitted) free ∙ clash) (rw was at h)
+    gives-err q e (first_clash nothing (value_claims v [])) (first_clash (cells n) (pair_at [] (simple_key k) v)) (IsFinished v) _ is
+    (λ t clash. told-free n k v (missing-free n (simple_key k).name m (simple_key k).name before sort admitted) free ∙ clash) (rw was at h)
 
 pub assigned-ok : (n new : Branch) (k : Key) (x : Value) (v : Read) (value : Result Value Halt) (m : Mark)
-    → m.sort ≡ Assigned → met (held_marks (child (part k).name n)) m (part k).name ≡ None → closed (part k).name n ≡ None → value ≡ Ok x
-    → ValueGives value v → SetsValue k x n new → Places n new (Ok tt) (pair_at [] (part k) v) (counts n)
+    → m.sort ≡ Assigned → met (held_marks (child (simple_key k).name n)) m (simple_key k).name ≡ None → closed (simple_key k).name n ≡ None → value ≡ Ok x
+    → ValueGives value v → SetsValue k x n new → Places n new (Ok tt) (pair_at [] (simple_key k) v) (counts n)
 unfolding pair_at put_all
 assigned-ok n new k x v value m sort admitted free was h sets before =
     let given : ValueGives (Ok x) v = rw was at h in
-    let missing = missing-free n (part k).name m (part k).name before sort admitted in
-    let none : (λ p. cells n (key (part k).name ∷ p)) ≡ nothing = cells-closed n (part k).name missing ∙ ap closed_cell free in
-    let own = λ (f : State). put_all (change f [] (with_claim (assigned [] (part k) v))) (value_claims v []) in (
+    let missing = missing-free n (simple_key k).name m (simple_key k).name before sort admitted in
+    let none : (λ p. cells n (key (simple_key k).name ∷ p)) ≡ nothing = cells-closed n (simple_key k).name missing ∙ ap closed_cell free in
+    let own = λ (f : State). put_all (change f [] (with_claim (assigned [] (simple_key k) v))) (value_claims v []) in (
       told-free n k v missing free ∙ given.0,
       (
-        cells-value n new k x sets missing ∙ ap (graft (key (part k).name) (cells n)) (value-cells k x v given.1 ∙ ap own (sym none))
-            ∙ sym (put_all-under (key (part k).name) (cells n) (claimed (assigned [] (part k) v) (value_claims v []))),
+        cells-value n new k x sets missing ∙ ap (graft (key (simple_key k).name) (cells n)) (value-cells k x v given.1 ∙ ap own (sym none))
+            ∙ sym (put_all-under (key (simple_key k).name) (cells n) (claimed (assigned [] (simple_key k) v) (value_claims v []))),
         counts-value n new k x sets,
         scope-value n new k x sets missing given.1.2 before,
       ),
     )
 
 -- the map of the values after `insert`
-pub sets-value : (n : Branch) (b : Branch-F Branch) (k : Key) (x : Value) → closed (part k).name n ≡ None → b.marks.items ≡ marks n → b.entries.items ≡ entries n
+pub sets-value : (n : Branch) (b : Branch-F Branch) (k : Key) (x : Value) → closed (simple_key k).name n ≡ None → b.marks.items ≡ marks n → b.entries.items ≡ entries n
     → b.tables ≡ (out-Branch n).tables → b.values.entries ≡ insert_entry key_cmp (out-Branch n).values.entries k x → SetsValue k x n (roll-Branch b)
 sets-value n b k x free marks entries tables written = record {
   claims = ap (λ m. m.marks.items) (out-roll b) ∙ marks;
@@ -330,5 +330,5 @@ sets-value n b k x free marks entries tables written = record {
   closed_is = λ name.
       ap (λ m. lookup_entry (is_named name) m.values.entries) (out-roll b) ∙ ap (lookup_entry (is_named name)) written
       ∙ holds-insert k x (out-Branch n).values.entries free name
-      ∙ ap (λ c. cond c (Some (k, x)) (closed name n)) (is_eq-slice_cmp (part k).name name);
+      ∙ ap (λ c. cond c (Some (k, x)) (closed name n)) (is_eq-slice_cmp (simple_key k).name name);
 }

@@ -6,16 +6,16 @@ use Rattle.toml_span_tree.specs.Path.{Place, reached, place_of as tree_place}
 use Rattle.toml_span_tree.specs.Value.{inner_view}
 use Rattle.toml_span_tree.specs.declared.value.Value.{Value}
 use Rattle.toml_span_tree.specs.declared.value.ValueInner.TheVariants.{Table}
-use Rattle.toml_span_read.specs.Data.{Event, view, event, span_of}
-use Rattle.toml_span_read.specs.Keys.{part}
+use Rattle.toml_span_read.specs.Data.{KeyValue, view, key_value, parsed_span}
+use Rattle.toml_span_read.specs.Keys.{simple_key}
 use Rattle.toml_span_read.specs.declared.value.Assignment.{Assignment}
 use Rattle.toml_span_read.specs.declared.value.Val.{Val}
-use Rattle.toml_span_read.proofs.Views.{event_is, view_is}
+use Rattle.toml_span_read.proofs.Views.{key_value_is, view_is}
 use Rattle.toml_span_claims.specs.declared.claims.Halt.{Halt}
 use Rattle.toml_span_claims.specs.declared.claims.Halt.TheVariants.{Memory, Clash}
 use Rattle.toml_span_claims.specs.declared.branch.Branch.{Branch}
 use Rattle.toml_span_claims.specs.declared.branch.Branch.TheViews.{out-Branch}
-use Rattle.toml_span_claims.specs.Claims.{Claims, followed, assignment_claims, event_claims}
+use Rattle.toml_span_claims.specs.Claims.{Claims, followed, assignment_claims, key_value_claims}
 use Rattle.toml_span_claims.specs.Clashes.{or_else}
 use Rattle.toml_span_claims.specs.code.Machine.{State, nothing, show_all, put_all, first_clash}
 use Rattle.toml_span_claims.specs.code.Placing.{Places, ScopeGives, ShowsBelow, ShowsPlain, Finishes, place_shown}
@@ -24,7 +24,7 @@ use Rattle.toml_span_claims.specs.code.Tree.{marks, cells, counts, plain, IsScop
 use Rattle.toml_span_assembly.proofs.Absolute.{pair_at-is}
 use Rattle.toml_span_claims.proofs.Grafts.{told-followed, put_all-followed}
 use Rattle.toml_span_claims.proofs.Nodes.{cells-fresh, sound-fresh}
-use Rattle.toml_span_assembly.proofs.Shown.{put_all-shown, shown-plain, events-no_header}
+use Rattle.toml_span_assembly.proofs.Shown.{put_all-shown, shown-plain, key_values-no_header}
 
 -- no item is left
 pub none-left : {A : Type 0} (xs : List A) (n : ℕ) → n ≡ length xs → n ≡ 0 → xs ≡ []
@@ -34,17 +34,17 @@ none-left (x ∷ xs) n is none = absurd (omega (arith, is, none))
 -- ---- one assignment
 
 -- the value's span
-pub val_span : (v : Val) → v.span ≡ span_of (view v)
-val_span v = sym (ap span_of (view_is v))
+pub val_span : (v : Val) → v.span ≡ parsed_span (view v)
+val_span v = sym (ap parsed_span (view_is v))
 
-pair-claims : (a : Assignment) → pair_at (map part a.parts.inner.items) (part a.parts.last) (view a.value) ≡ assignment_claims (event a) []
-pair-claims a = pair_at-is (map part a.parts.inner.items) (part a.parts.last) (view a.value) ∙ ap (λ e. assignment_claims e []) (sym (event_is a))
+pair-claims : (a : Assignment) → pair_at (map simple_key a.parts.inner.items) (simple_key a.parts.last) (view a.value) ≡ assignment_claims (key_value a) []
+pair-claims a = pair_at-is (map simple_key a.parts.inner.items) (simple_key a.parts.last) (view a.value) ∙ ap (λ e. assignment_claims e []) (sym (key_value_is a))
 
 -- an assignment is the pair of its last part and the value
 pub places-one : (a : Assignment) (inner : List Key) (old new : Branch) (r : Result (Unit {0}) Halt) → inner ≡ a.parts.inner.items
-    → Places old new r (pair_at (map part inner) (part a.parts.last) (view a.value)) (counts old) → Places old new r (assignment_claims (event a) []) (counts old)
+    → Places old new r (pair_at (map simple_key inner) (simple_key a.parts.last) (view a.value)) (counts old) → Places old new r (assignment_claims (key_value a) []) (counts old)
 places-one a inner old new r is h =
-    subst (λ cs. Places old new r cs (counts old)) (ap (λ keys. pair_at (map part keys) (part a.parts.last) (view a.value)) is ∙ pair-claims a) h
+    subst (λ cs. Places old new r cs (counts old)) (ap (λ keys. pair_at (map simple_key keys) (simple_key a.parts.last) (view a.value)) is ∙ pair-claims a) h
 
 -- ---- one after another
 
@@ -57,22 +57,22 @@ pub record Remains (n : Branch) (rest : Claims) (first : Branch) (all : Claims) 
   pub kept : marks n ≡ marks first
 
 abbrev pub Placing : Branch → List Assignment → Branch → List Assignment → Type 0
-Placing n rest first all = IsScope first → Remains n (event_claims (map event rest) []) first (event_claims (map event all) [])
+Placing n rest first all = IsScope first → Remains n (key_value_claims (map key_value rest) []) first (key_value_claims (map key_value all) [])
 
 pub remains-first : (n : Branch) (rest all : List Assignment) → rest ≡ all → Placing n rest n all
 remains-first n rest all same =
     λ scope. record {
-      tells = ap (λ es. first_clash (cells n) (event_claims (map event es) [])) same;
-      gives = ap (λ es. put_all (cells n) (event_claims (map event es) [])) same;
+      tells = ap (λ es. first_clash (cells n) (key_value_claims (map key_value es) [])) same;
+      gives = ap (λ es. put_all (cells n) (key_value_claims (map key_value es) [])) same;
       counted = refl;
       scope = scope;
       kept = refl;
     }
 
-events-more : (old new : List Assignment) (a : Assignment) → old ≡ a ∷ new
-    → event_claims (map event old) [] ≡ followed (assignment_claims (event a) []) (event_claims (map event new) [])
-unfolding event_claims
-events-more old new a is = ap (λ es. event_claims (map event es) []) is
+key_values-more : (old new : List Assignment) (a : Assignment) → old ≡ a ∷ new
+    → key_value_claims (map key_value old) [] ≡ followed (assignment_claims (key_value a) []) (key_value_claims (map key_value new) [])
+unfolding key_value_claims
+key_values-more old new a is = ap (λ es. key_value_claims (map key_value es) []) is
 
 remains-more : (n w first : Branch) (rest ps more all : Claims) → rest ≡ followed ps more → Remains n rest first all → Places n w (Ok tt) ps (counts n) → Remains w more first all
 remains-more n w first rest ps more all split inv placed =
@@ -88,10 +88,10 @@ remains-more n w first rest ps more all split inv placed =
     }
 
 pub placing-more : (n w first : Branch) (old new all : List Assignment) (a : Assignment) → old ≡ a ∷ new → Placing n old first all
-    → Places n w (Ok tt) (assignment_claims (event a) []) (counts n) → Placing w new first all
+    → Places n w (Ok tt) (assignment_claims (key_value a) []) (counts n) → Placing w new first all
 placing-more n w first old new all a is inv placed =
-    λ scope. remains-more n w first (event_claims (map event old) []) (assignment_claims (event a) []) (event_claims (map event new) []) (event_claims (map event all) [])
-    (events-more old new a is) (inv scope) placed
+    λ scope. remains-more n w first (key_value_claims (map key_value old) []) (assignment_claims (key_value a) []) (key_value_claims (map key_value new) []) (key_value_claims (map key_value all) [])
+    (key_values-more old new a is) (inv scope) placed
 
 remains-err : (n w new first : Branch) (rest ps more all : Claims) (q : Result (Unit {0}) Halt) (e : Halt) → rest ≡ followed ps more → Remains n rest first all → q ≡ Err e
     → Places n w (Err e) ps (counts n) → Places first new q all (counts first)
@@ -101,18 +101,18 @@ remains-err n w new first rest ps more all q (Clash c) split inv same placed =
 remains-err n w new first rest ps more all q (Memory e) split inv same placed = rw same (λ scope. tt)
 
 pub placing-err : (n w first new : Branch) (old later all : List Assignment) (a : Assignment) (q : Result (Unit {0}) Halt) (e : Halt) → old ≡ a ∷ later → Placing n old first all → q ≡ Err e
-    → Places n w (Err e) (assignment_claims (event a) []) (counts n) → Places first new q (event_claims (map event all) []) (counts first)
+    → Places n w (Err e) (assignment_claims (key_value a) []) (counts n) → Places first new q (key_value_claims (map key_value all) []) (counts first)
 placing-err n w first new old later all a q e is inv same placed =
-    λ scope. remains-err n w new first (event_claims (map event old) []) (assignment_claims (event a) []) (event_claims (map event later) []) (event_claims (map event all) []) q e
-    (events-more old later a is) (inv scope) same placed scope
+    λ scope. remains-err n w new first (key_value_claims (map key_value old) []) (assignment_claims (key_value a) []) (key_value_claims (map key_value later) []) (key_value_claims (map key_value all) []) q e
+    (key_values-more old later a is) (inv scope) same placed scope
 
-pub placing-none : (n first : Branch) (rest all : List Assignment) → rest ≡ [] → Placing n rest first all → Places first n (Ok tt) (event_claims (map event all) []) (counts first)
-unfolding first_clash put_all event_claims
+pub placing-none : (n first : Branch) (rest all : List Assignment) → rest ≡ [] → Placing n rest first all → Places first n (Ok tt) (key_value_claims (map key_value all) []) (counts first)
+unfolding first_clash put_all key_value_claims
 placing-none n first rest all none inv =
     λ scope.
     let h = inv scope in
-    let told_none = ap (λ es. first_clash (cells n) (event_claims (map event es) [])) none in
-    let put_none = ap (λ es. put_all (cells n) (event_claims (map event es) [])) none in
+    let told_none = ap (λ es. first_clash (cells n) (key_value_claims (map key_value es) [])) none in
+    let put_none = ap (λ es. put_all (cells n) (key_value_claims (map key_value es) [])) none in
     (sym h.tells ∙ told_none, (sym put_none ∙ h.gives, h.counted, (h.scope, h.kept)))
 
 -- ---- inline tables
@@ -125,23 +125,23 @@ map-plain f None = refl
 map-plain f (Some m) = refl
 
 -- what assignments show from inside, they show from outside
-shows-plain : (i : tree.Inner) (es : List Event) (st : State) → st ≡ put_all nothing (event_claims es []) → ShowsBelow i st → ShowsPlain i (show_all nothing (event_claims es []))
+shows-plain : (i : tree.Inner) (es : List KeyValue) (st : State) → st ≡ put_all nothing (key_value_claims es []) → ShowsBelow i st → ShowsPlain i (show_all nothing (key_value_claims es []))
 shows-plain i es st is h s p =
     map-plain tree_place (reached (s ∷ p) (None, tree.node i (record { start = 0; end = 0 })))
-    ∙ ap (option_map plain) (h s p ∙ ap (λ f. place_shown (f (s ∷ p))) is ∙ ap (option_map (λ d. d.place)) (put_all-shown (event_claims es []) (s ∷ p)))
-    ∙ sym (shown-plain (event_claims es []) (s ∷ p) (events-no_header es []))
+    ∙ ap (option_map plain) (h s p ∙ ap (λ f. place_shown (f (s ∷ p))) is ∙ ap (option_map (λ d. d.place)) (put_all-shown (key_value_claims es []) (s ∷ p)))
+    ∙ sym (shown-plain (key_value_claims es []) (s ∷ p) (key_values-no_header es []))
 
-pub table-gives : (old new : Branch) (es : List Event) (table : BTreeMap Key Value) → IsFresh old → Places old new (Ok tt) (event_claims es []) (counts old)
-    → Finishes (out-Branch new).tables (out-Branch new).values (Ok table) → ScopeGives (Ok table) (λ t. inner_view (Table t)) (event_claims es [])
+pub table-gives : (old new : Branch) (es : List KeyValue) (table : BTreeMap Key Value) → IsFresh old → Places old new (Ok tt) (key_value_claims es []) (counts old)
+    → Finishes (out-Branch new).tables (out-Branch new).values (Ok table) → ScopeGives (Ok table) (λ t. inner_view (Table t)) (key_value_claims es [])
 table-gives old new es table fresh placed finished =
     let h = placed (fresh-scope old fresh) in
     let whole = finished new refl refl h.1.2.0 in (
-      ap (λ f. first_clash f (event_claims es [])) (sym (cells-fresh old fresh)) ∙ h.0,
-      (shows-plain (inner_view (Table table)) es (cells new) (h.1.0 ∙ ap (λ f. put_all f (event_claims es [])) (cells-fresh old fresh)) whole.0, whole.1),
+      ap (λ f. first_clash f (key_value_claims es [])) (sym (cells-fresh old fresh)) ∙ h.0,
+      (shows-plain (inner_view (Table table)) es (cells new) (h.1.0 ∙ ap (λ f. put_all f (key_value_claims es [])) (cells-fresh old fresh)) whole.0, whole.1),
     )
 
-pub table-err : {A : Type 0} (old new : Branch) (es : List Event) (seen : A → tree.Inner) (q : Result A Halt) (e : Halt) → IsFresh old → q ≡ Err e
-    → Places old new (Err e) (event_claims es []) (counts old) → ScopeGives q seen (event_claims es [])
+pub table-err : {A : Type 0} (old new : Branch) (es : List KeyValue) (seen : A → tree.Inner) (q : Result A Halt) (e : Halt) → IsFresh old → q ≡ Err e
+    → Places old new (Err e) (key_value_claims es []) (counts old) → ScopeGives q seen (key_value_claims es [])
 table-err old new es seen q (Clash c) fresh same placed =
-    rw same (ap (λ f. first_clash f (event_claims es [])) (sym (cells-fresh old fresh)) ∙ placed (fresh-scope old fresh))
+    rw same (ap (λ f. first_clash f (key_value_claims es [])) (sym (cells-fresh old fresh)) ∙ placed (fresh-scope old fresh))
 table-err old new es seen q (Memory e) fresh same placed = rw same tt

@@ -21,8 +21,8 @@ use Rattle.toml_span_read.specs.declared.value.Assignment.{Assignment}
 use Rattle.toml_span_read.specs.declared.value.Val.{Val}
 use Rattle.toml_span_read.specs.declared.value.ValKind.{ValKind, the_lemmas as read_lemmas}
 use Rattle.toml_span_read.specs.declared.value.ValKind.TheVariants as kinds
-use Rattle.toml_span_read.specs.Borrowed.{Written, string as string_written, name as name_written, AreRight as AreRightRead, joined, key_written, keys_written, dotted_written, written, kind_written, assignment_written, assignments_written, section_written, sections_written}
-use Rattle.toml_span_read.specs.Keys.{Part}
+use Rattle.toml_span_read.specs.Borrowed.{Written, string as string_written, name as name_written, AreWrittenRight as AreRightRead, joined, key_written, keys_written, dotted_written, written, kind_written, assignment_written, assignments_written, section_written, sections_written}
+use Rattle.toml_span_read.specs.Keys.{SimpleKey}
 use Rattle.toml_span_read.proofs.BorrowLemmas.{all_append, all_front, all_behind, written_is, assignment_written_is}
 use Rattle.toml_span_read.proofs.EarlierTree.{key_cmp}
 use Rattle.toml_span_claims.specs.declared.claims.Halt.{Halt}
@@ -57,7 +57,7 @@ assigned_twice (Err e) a b name Q P d f h = tt
 
 -- ---- what was read
 
-from_more : (text : List ℕ) (ps : List Part) (ws : List Written) → ((p : Part) → IsKeyOf p (keys_of ws) → IsKeyOf p ps) → AreRightRead text ws → AreFrom text ps ws
+from_more : (text : List ℕ) (ps : List SimpleKey) (ws : List Written) → ((p : SimpleKey) → IsKeyOf p (keys_of ws) → IsKeyOf p ps) → AreRightRead text ws → AreFrom text ps ws
 from_more text ps [] more h = tt
 from_more text ps (string_written s span ∷ ws) more h = (h.0, from_more text ps ws more h.1)
 from_more text ps (name_written s span ∷ ws) more h = ((h.0, more _ (inl refl)), from_more text ps ws (λ p q. more p (inr q)) h.1)
@@ -70,7 +70,7 @@ pub tree_borrows : {E : Type 0} (found : List Section) (text : List ℕ) (limit 
 tree_borrows found text limit (Ok root) spells h = (found, spells, h)
 tree_borrows found text limit (Err e) spells h = tt
 
-module _ (text : List ℕ) (ps : List Part) where
+module _ (text : List ℕ) (ps : List SimpleKey) where
   abbrev From : Written → Type 0
   From = IsFrom text ps
 

@@ -2,8 +2,8 @@
 use Rattle.std.proofs.Common.{◌≡◌, ℕ, List, [], ◌∷◌, Some, None, option_map, Result, Ok, Err, refl, sym, ap, ◌∙◌, subst, inl, inr}
 use Rattle.std.proofs.lemmas.Option.{none-some}
 use Rattle.toml_span_tree.specs.Path.{Path, key}
-use Rattle.toml_span_read.specs.Data.{Node as Read, span_of}
-use Rattle.toml_span_read.specs.Keys.{Part}
+use Rattle.toml_span_read.specs.Data.{ParsedValue as Read, parsed_span}
+use Rattle.toml_span_read.specs.Keys.{SimpleKey}
 use Rattle.toml_span_claims.specs.declared.claims.Blame.TheVariants.{DuplicateKey}
 use Rattle.toml_span_claims.specs.declared.claims.Halt.{Halt}
 use Rattle.toml_span_claims.specs.declared.claims.Mark.{Mark}
@@ -19,8 +19,8 @@ use Rattle.toml_span_claims.proofs.Claimed.{Marked, counts-marked, named-fresh, 
 use Rattle.toml_span_claims.proofs.Grafts.{graft-itself}
 use Rattle.toml_span_claims.proofs.Placed.{SetsChild, gives-map, places-beside, places-found, places-new, places-new-err, unclosed}
 
-abbrev dotted_mark : Part → Read → Mark
-dotted_mark k v = pair_mark Dotted k.span (span_of v)
+abbrev dotted_mark : SimpleKey → Read → Mark
+dotted_mark k v = pair_mark Dotted k.span (parsed_span v)
 
 -- ---- through a node
 
@@ -47,7 +47,7 @@ table-marked n mid m name sort h marked before = (
   ]),
 )
 
-pub passes-dotted : (n mid new : Branch) (k : Part) (inner : List Part) (last : Part) (v : Read) (m : Mark) (r : Result (Unit {0}) Halt)
+pub passes-dotted : (n mid new : Branch) (k : SimpleKey) (inner : List SimpleKey) (last : SimpleKey) (v : Read) (m : Mark) (r : Result (Unit {0}) Halt)
     → m ≡ dotted_mark k v → met (marks n) m k.name ≡ None → Marked m n mid → Places mid new r (pair_at inner last v) (counts mid)
     → Passes n new r (through_pair k inner last v) (counts n)
 passes-dotted n mid new k inner last v m r same free marked h =
@@ -59,7 +59,7 @@ passes-dotted n mid new k inner last v m r same free marked h =
     held : Reaches (λ n. IsScope n × IsNamed (marks n)) IsHeld mid new r (pair_at inner last v) (counts mid)
     held before = gives-map r _ _ _ _ refl (λ u g. (g.0, g.1, (g.2.0.0, subst IsNamed (sym g.2.1) before.1))) (h before.0)
 
-pub passes-dotted-err : (n new : Branch) (k : Part) (inner : List Part) (last : Part) (v : Read) (m : Mark) (q : Result (Unit {0}) Halt) (e : Halt) (P : Unit {0} → Type 0) (d : Path → ℕ)
+pub passes-dotted-err : (n new : Branch) (k : SimpleKey) (inner : List SimpleKey) (last : SimpleKey) (v : Read) (m : Mark) (q : Result (Unit {0}) Halt) (e : Halt) (P : Unit {0} → Type 0) (d : Path → ℕ)
     → m ≡ dotted_mark k v → q ≡ Err e → Gives (Err e) (met (marks n) m k.name) P → Passes n new q (through_pair k inner last v) d
 passes-dotted-err n new k inner last v m q e P d same is h =
     subst (λ m. Passes n new q (claimed (table_claim [] k m) (pair_at inner last v)) d) same
@@ -67,7 +67,7 @@ passes-dotted-err n new k inner last v m q e P d same is h =
 
 -- ---- below a name
 
-pub pair-found : (n new x w : Branch) (k : Part) (inner : List Part) (last : Part) (v : Read) (r : Result (Unit {0}) Halt)
+pub pair-found : (n new x w : Branch) (k : SimpleKey) (inner : List SimpleKey) (last : SimpleKey) (v : Read) (r : Result (Unit {0}) Halt)
     → child k.name n ≡ Some x → SetsChild k.name w n new → Passes x w r (through_pair k inner last v) (counts x) → Places n new r (pair_at (k ∷ inner) last v) (counts n)
 unfolding pair_at
 pair-found n new x w k inner last v r found sets h =
@@ -75,10 +75,10 @@ pair-found n new x w k inner last v r found sets h =
     (places-found n new x w k.name r (λ f. through_pair k inner last v) (λ f. f) found sets h)
 
 -- where no value of the name clashes with the key there is none
-free-dotted : (n : Branch) (k : Part) (v : Read) (m : Mark) → m ≡ dotted_mark k v → met (closed_marks (closed k.name n)) m k.name ≡ None → closed k.name n ≡ None
+free-dotted : (n : Branch) (k : SimpleKey) (v : Read) (m : Mark) → m ≡ dotted_mark k v → met (closed_marks (closed k.name n)) m k.name ≡ None → closed k.name n ≡ None
 free-dotted n k v m same h = unclosed (closed k.name n) m k.name h (ap (λ m. is_entry_sort m.sort) same, tt)
 
-pub pair-new : (n new x w : Branch) (k : Part) (inner : List Part) (last : Part) (v : Read) (m : Mark)
+pub pair-new : (n new x w : Branch) (k : SimpleKey) (inner : List SimpleKey) (last : SimpleKey) (v : Read) (m : Mark)
     → child k.name n ≡ None → m ≡ dotted_mark k v → met (closed_marks (closed k.name n)) m k.name ≡ None → IsFresh x → SetsChild k.name w n new
     → Passes x w (Ok tt) (through_pair k inner last v) (counts x) → Places n new (Ok tt) (pair_at (k ∷ inner) last v) (counts n)
 unfolding pair_at
@@ -86,14 +86,14 @@ pair-new n new x w k inner last v m missing same free fresh sets h =
     subst (Places n new (Ok tt) (pair_at (k ∷ inner) last v)) (graft-itself (key k.name) (counts n))
     (places-new n new x w k.name (λ f. through_pair k inner last v) (λ f. f) missing (free-dotted n k v m same free) fresh sets h)
 
-pub pair-new-err : (n new x w : Branch) (k : Part) (inner : List Part) (last : Part) (v : Read) (m : Mark) (r q : Result (Unit {0}) Halt) (e : Halt) (d : Path → ℕ)
+pub pair-new-err : (n new x w : Branch) (k : SimpleKey) (inner : List SimpleKey) (last : SimpleKey) (v : Read) (m : Mark) (r q : Result (Unit {0}) Halt) (e : Halt) (d : Path → ℕ)
     → child k.name n ≡ None → m ≡ dotted_mark k v → met (closed_marks (closed k.name n)) m k.name ≡ None → IsFresh x → r ≡ Err e → q ≡ Err e
     → Passes x w r (through_pair k inner last v) (counts x) → Places n new q (pair_at (k ∷ inner) last v) d
 unfolding pair_at
 pair-new-err n new x w k inner last v m r q e d missing same free fresh was is h =
     places-new-err n new x w k.name r q e (λ f. through_pair k inner last v) (counts x) d missing (free-dotted n k v m same free) fresh was is h
 
-pub pair-beside : (n new : Branch) (k : Part) (inner : List Part) (last : Part) (v : Read) (m : Mark) (q : Result (Unit {0}) Halt) (e : Halt) (P : Unit {0} → Type 0) (d : Path → ℕ)
+pub pair-beside : (n new : Branch) (k : SimpleKey) (inner : List SimpleKey) (last : SimpleKey) (v : Read) (m : Mark) (q : Result (Unit {0}) Halt) (e : Halt) (P : Unit {0} → Type 0) (d : Path → ℕ)
     → child k.name n ≡ None → m ≡ dotted_mark k v → q ≡ Err e → Gives (Err e) (met (closed_marks (closed k.name n)) m k.name) P → Places n new q (pair_at (k ∷ inner) last v) d
 unfolding pair_at
 pair-beside n new k inner last v m q e P d missing same is h =

@@ -6,7 +6,7 @@ use Rattle.std.proofs.lemmas.Option.{none-some, same_Some}
 use Rattle.toml_span_tree.specs.Path.{Path, Step, Place}
 use Rattle.toml_span_claims.specs.Claims.{Claim, Claims, no_claims, claimed, scope, followed}
 use Rattle.toml_span_claims.specs.Clashes.{or_else}
-use Rattle.toml_span_claims.specs.Flat.{flat, all_claims, claims_at, first_by_header, first, decides, by_header}
+use Rattle.toml_span_claims.specs.Flat.{flat, all_claims, claims_at, first_claim_by_header, first_claim, deciding_claim, by_header}
 use Rattle.toml_span_claims.specs.Paths.{same_path, same_step}
 use Rattle.toml_span_claims.proofs.Grafts.{same_step-eq}
 
@@ -62,15 +62,15 @@ each-at P q (c ∷ cs) h = elim (cases_Bool (same_path c.path q)) [
   | inr off ↦ rw off (each-at P q cs h.1)
 ]
 
-by_header-one : (P : Claim → Type 0) (cs : List Claim) → EachIn P cs → IfSome (first_by_header cs) P
-unfolding first_by_header
+by_header-one : (P : Claim → Type 0) (cs : List Claim) → EachIn P cs → IfSome (first_claim_by_header cs) P
+unfolding first_claim_by_header
 by_header-one P [] h = tt
 by_header-one P (c ∷ cs) h = elim (cases_Bool (by_header c.mark.sort)) [
   | inl here ↦ rw here h.0
   | inr off ↦ rw off (by_header-one P cs h.1)
 ]
 
-first-one : (P : Claim → Type 0) (cs : List Claim) → EachIn P cs → IfSome (first cs) P
+first-one : (P : Claim → Type 0) (cs : List Claim) → EachIn P cs → IfSome (first_claim cs) P
 first-one P [] h = tt
 first-one P (c ∷ cs) h = h.0
 
@@ -97,5 +97,5 @@ flat-decides P length cs s p x h is =
     let q = s ∷ p in
     let here = each-at P q (all_claims cs) (each-all P cs h) in
     let found = claims_at q (all_claims cs) in
-    decided P q (decides found) x
-    (either-one (On P q) (first_by_header found) (first found) (by_header-one (On P q) found here) (first-one (On P q) found here)) is
+    decided P q (deciding_claim found) x
+    (either-one (On P q) (first_claim_by_header found) (first_claim found) (by_header-one (On P q) found here) (first-one (On P q) found here)) is

@@ -5,7 +5,7 @@ use Rattle.std.proofs.lemmas.Bool.{cases_Bool, eqb-true, eqb-false, eq-eqb}
 use Rattle.std.proofs.lemmas.Option.{none-some}
 use Rattle.toml_span_tree.specs.Path.{Path, key, position}
 use Rattle.toml_span_claims.specs.declared.claims.Mark.{Mark}
-use Rattle.toml_span_claims.specs.declared.claims.Sort.TheVariants.{Entry}
+use Rattle.toml_span_claims.specs.declared.claims.Sort.TheVariants.{TableElement}
 use Rattle.toml_span_claims.specs.declared.claims.Halt.{Halt}
 use Rattle.toml_span_claims.specs.declared.branch.Branch.{Branch}
 use Rattle.toml_span_claims.specs.declared.branch.Branch.TheViews.{out-Branch, roll-Branch}
@@ -236,15 +236,15 @@ reaches-entry k m n new x w r cs c found puts lengths h =
 cells-next : (n x : Branch) → IsFresh x → (λ p. cells n (position (length (entries n)) ∷ p)) ≡ cells x
 cells-next n x fresh = cells-unopened n (length (entries n)) (item-past (entries n) (length (entries n)) (omega arith)) ∙ sym (cells-fresh x fresh)
 
-opens-fresh : (x : Branch) → IsFresh x → Opens Entry x
+opens-fresh : (x : Branch) → IsFresh x → Opens TableElement x
 opens-fresh x fresh = (sound-fresh x fresh, inr (refl, fresh.no_entries))
 
-entry-claimed : (k : Mark) (x w : Branch) → k.sort ≡ Entry → IsFresh x → marks w ≡ remember (marks x) k → IsEntry (marks w)
+entry-claimed : (k : Mark) (x w : Branch) → k.sort ≡ TableElement → IsFresh x → marks w ≡ remember (marks x) k → IsEntry (marks w)
 entry-claimed k x w entry fresh claimed = subst IsEntry (sym (claimed ∙ ap (λ l. remember l k) fresh.no_marks)) entry
 
 -- in a new one
-pub reaches-added : (k : Mark) (n new x w : Branch) (cs : Claims) → k.sort ≡ Entry → IsFresh x → PutsEntry (length (entries n)) w n new → length (entries new) ≡ suc (length (entries n))
-    → Opening (Opens Entry) k x w (Ok tt) cs (counts x) → Reaches IsOpen IsHeld n new (Ok tt) (under (position (counts n [])) cs) (one_more (counts n))
+pub reaches-added : (k : Mark) (n new x w : Branch) (cs : Claims) → k.sort ≡ TableElement → IsFresh x → PutsEntry (length (entries n)) w n new → length (entries new) ≡ suc (length (entries n))
+    → Opening (Opens TableElement) k x w (Ok tt) cs (counts x) → Reaches IsOpen IsHeld n new (Ok tt) (under (position (counts n [])) cs) (one_more (counts n))
 reaches-added k n new x w cs entry fresh puts lengths h =
     subst (λ i. Reaches IsOpen IsHeld n new (Ok tt) (under (position i) cs) (one_more (counts n))) (sym (counts-here n))
     (λ before.
@@ -260,15 +260,15 @@ reaches-added k n new x w cs entry fresh puts lengths h =
     ))
 
 -- pushed to the list of entries
-pub reaches-pushed : (k : Mark) (n : Branch) (b : Branch-F Branch) (x w : Branch) (cs : Claims) → k.sort ≡ Entry → IsFresh x → b.marks.items ≡ marks n → b.values ≡ (out-Branch n).values
-    → b.tables ≡ (out-Branch n).tables → b.entries.items ≡ entries n ++ w ∷ [] → Opening (Opens Entry) k x w (Ok tt) cs (counts x)
+pub reaches-pushed : (k : Mark) (n : Branch) (b : Branch-F Branch) (x w : Branch) (cs : Claims) → k.sort ≡ TableElement → IsFresh x → b.marks.items ≡ marks n → b.values ≡ (out-Branch n).values
+    → b.tables ≡ (out-Branch n).tables → b.entries.items ≡ entries n ++ w ∷ [] → Opening (Opens TableElement) k x w (Ok tt) cs (counts x)
     → Reaches IsOpen IsHeld n (roll-Branch b) (Ok tt) (under (position (counts n [])) cs) (one_more (counts n))
 reaches-pushed k n b x w cs entry fresh claims values tables pushed h =
     reaches-added k n (roll-Branch b) x w cs entry fresh (puts-push w n b claims values tables pushed)
     (ap (λ (a : Branch-F Branch). length a.entries.items) (out-roll b) ∙ ap length pushed ∙ length-push (entries n) w) h
 
 pub reaches-added-err : (k : Mark) (n new x w : Branch) (r q : Result (Unit {0}) Halt) (e : Halt) (cs : Claims) (c d : Path → ℕ) → IsFresh x → r ≡ Err e → q ≡ Err e
-    → Opening (Opens Entry) k x w r cs c → Reaches IsOpen IsHeld n new q (under (position (counts n [])) cs) d
+    → Opening (Opens TableElement) k x w r cs c → Reaches IsOpen IsHeld n new q (under (position (counts n [])) cs) d
 reaches-added-err k n new x w r q e cs c d fresh is same h =
     subst (λ i. Reaches IsOpen IsHeld n new q (under (position i) cs) d) (sym (counts-here n))
     (λ before.

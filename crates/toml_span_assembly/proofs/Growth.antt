@@ -11,10 +11,10 @@ use Rattle.toml_span_tree.specs.declared.value.ValueInner.TheVariants.{Table as 
 use Rattle.toml_span_lex.specs.Tokenizer.{FirstPlace}
 use Rattle.toml_span_lex.specs.declared.stop.Stop.{Stop}
 use Rattle.toml_span_lex.specs.declared.stop.Stop.TheVariants as stops
-use Rattle.toml_span_read.specs.Borrowed.{IsRight as IsRightRead, AreRight as AreRightRead, section_written, sections_written}
-use Rattle.toml_span_read.specs.Data.{Event, Block, block}
+use Rattle.toml_span_read.specs.Borrowed.{IsWrittenRight as IsRightRead, AreWrittenRight as AreRightRead, section_written, sections_written}
+use Rattle.toml_span_read.specs.Data.{Block, block}
 use Rattle.toml_span_read.specs.Places.{IsInside, SectionInside}
-use Rattle.toml_span_read.specs.Keys.{Part}
+use Rattle.toml_span_read.specs.Keys.{SimpleKey}
 use Rattle.toml_span_read.specs.Grammar.{first_block}
 use Rattle.toml_span_read.specs.code.Sections.{first_blocks, FirstGives, IsReadFirst, IsReadSection, SectionGives}
 use Rattle.toml_span_read.specs.Stuck.{HoldsForm}
@@ -58,7 +58,7 @@ grows-clash bs b root new None halt c none is headed grows placed = λ rest are.
     subst (λ all. TellsFirst [] (claims all) (clash_told c)) (sym (append_assoc bs (b ∷ []) rest))
     (assembles-err (bs ++ (b ∷ rest)) (b ∷ rest) rest 0 b root new (Err (halts.Clash c)) (halts.Clash c) refl (grows (b ∷ rest) (headed.0, are)) refl (rw is at placed))
 
-pub right-more : (text : List ℕ) (ps : List Part) (root new : Branch) (o : Option Clash) → is_some o ≡ false → IfNone o (AreRight text ps (standing root)) → (AreRight text ps (standing root) → AreRight text ps (standing new))
+pub right-more : (text : List ℕ) (ps : List SimpleKey) (root new : Branch) (o : Option Clash) → is_some o ≡ false → IfNone o (AreRight text ps (standing root)) → (AreRight text ps (standing root) → AreRight text ps (standing new))
     → IfNone o (AreRight text ps (standing new))
 right-more text ps root new None none right keeps = keeps right
 right-more text ps root new (Some c) none right keeps = tt
@@ -85,11 +85,11 @@ pub record Growing (text : List ℕ) (limit at : ℕ) (g : Grown) : Type 0 where
   pub inside : IsGrownInside (length text) g
   pub bare : sections ≡ [] → IsBare g
   pub read : AreRightRead text (sections_written sections)
-  pub borrows : (ps : List Part) → AreFrom text ps (sections_written sections) → GrownRight text ps g
+  pub borrows : (ps : List SimpleKey) → AreFrom text ps (sections_written sections) → GrownRight text ps g
 
 pub growing-first : (text : List ℕ) (limit at : ℕ) (o : Option Section) (g : Grown) → IsReadFirst text limit o → FirstGives text limit (Ok (o, at))
     → (AreSections (first_blocks o) → Grows (first_blocks o) g) → ((n : ℕ) → IfSome o (SectionInside n) → IsGrownInside n g)
-    → ((t : List ℕ) (ps : List Part) → IfSome o (λ s. AreFrom t ps (section_written s)) → GrownRight t ps g) → (o ≡ None → IsBare g)
+    → ((t : List ℕ) (ps : List SimpleKey) → IfSome o (λ s. AreFrom t ps (section_written s)) → GrownRight t ps g) → (o ≡ None → IsBare g)
     → Growing text limit at g × StuckFrom text limit at
 growing-first text limit at None g read (start, evs, begins, lines, same) grows inside borrows bare =
     let b = sections_begin [] evs text limit start at same begins lines in
@@ -112,7 +112,7 @@ blocks-end : (ss : List Section) (s : Section) → map block (ss ++ (s ∷ [])) 
 blocks-end [] s = refl
 blocks-end (x ∷ xs) s = ap (λ bs. block x ∷ bs) (blocks-end xs s)
 
-from-end : (text : List ℕ) (ps : List Part) (ss : List Section) (s : Section) → AreFrom text ps (sections_written (ss ++ (s ∷ [])))
+from-end : (text : List ℕ) (ps : List SimpleKey) (ss : List Section) (s : Section) → AreFrom text ps (sections_written (ss ++ (s ∷ [])))
     → AreFrom text ps (sections_written ss) × AreFrom text ps (section_written s)
 from-end text ps [] s h = (tt, all_front (IsFrom text ps) (section_written s) [] h)
 from-end text ps (x ∷ xs) s h =
@@ -127,7 +127,7 @@ never-empty (x ∷ xs) s none = cc
 
 pub growing-more : (text : List ℕ) (limit at next : ℕ) (s : Section) (g new : Grown) → IsReadSection text limit s → SectionGives text limit at (Ok (s, next)) → Growing text limit at g
     → ((bs : List Block) → AreSections (block s ∷ []) → Grows bs g → Grows (bs ++ (block s ∷ [])) new) → ((n : ℕ) → SectionInside n s → IsGrownInside n g → IsGrownInside n new)
-    → ((t : List ℕ) (ps : List Part) → AreFrom t ps (section_written s) → GrownRight t ps g → GrownRight t ps new)
+    → ((t : List ℕ) (ps : List SimpleKey) → AreFrom t ps (section_written s) → GrownRight t ps g → GrownRight t ps new)
     → Growing text limit next new
 growing-more text limit at next s g new read spelled old grows inside borrows = record {
   sections = old.sections ++ (s ∷ []);

@@ -7,14 +7,14 @@ use Rattle.std.proofs.lemmas.Bool.{eqb-false, eqb-true, true≢false}
 use Rattle.std.proofs.lemmas.Option.{none-some}
 use Rattle.toml_span_tree.specs.Path.{Path, key}
 use Rattle.toml_span_lex.specs.declared.key.Key.{Key}
-use Rattle.toml_span_read.specs.Keys.{Part, part}
+use Rattle.toml_span_read.specs.Keys.{SimpleKey, simple_key}
 use Rattle.toml_span_claims.specs.declared.claims.Blame.{Blame}
 use Rattle.toml_span_claims.specs.declared.claims.Blame.TheVariants as blames
 use Rattle.toml_span_claims.specs.declared.claims.Halt.{Halt}
 use Rattle.toml_span_claims.specs.declared.claims.Meeting.{Meeting}
 use Rattle.toml_span_claims.specs.declared.claims.Mark.{Mark}
 use Rattle.toml_span_claims.specs.declared.claims.Sort.{Sort}
-use Rattle.toml_span_claims.specs.declared.claims.Sort.TheVariants.{ArrayOfTables, Assigned, Dotted, Entry, Passed, Section}
+use Rattle.toml_span_claims.specs.declared.claims.Sort.TheVariants.{ArrayOfTables, Assigned, Dotted, TableElement, Passed, StandardTable}
 use Rattle.toml_span_claims.specs.declared.branch.Branch.{Branch}
 use Rattle.toml_span_claims.specs.declared.branch.Branch.TheViews.{out-Branch, roll-Branch}
 use Rattle.toml_span_claims.specs.declared.branch.Branch.TheOpen.{Branch-F}
@@ -48,22 +48,22 @@ met-first : (x m : Mark) (ms : List Mark) (name : List ℕ) → met (x ∷ ms) m
 met-first x m ms name h = free-first (blame x.sort m.sort) (meeting x m) (named name) (partner ms m) h
 
 -- a section claims no array
-section-table : (n : Branch) (m : Mark) (name : List ℕ) → m.sort ≡ Section → Sound n → met (marks n) m name ≡ None → entries n ≡ []
+section-table : (n : Branch) (m : Mark) (name : List ℕ) → m.sort ≡ StandardTable → Sound n → met (marks n) m name ≡ None → entries n ≡ []
 section-table n m name is h free = go (entries n) (sound-shape n h)
   where
     go : (xs : List Branch) → IsTableOrArray n xs → xs ≡ []
     go [] shape = refl
     go (x ∷ xs) array =
         let known : met (array.claim ∷ []) m name ≡ None = ap (λ l. met l m name) (sym array.only) ∙ free in
-        let clash : blame ArrayOfTables Section ≡ None = ap (λ s. blame s Section) (sym array.array) ∙ ap (blame array.claim.sort) (sym is) ∙ met-first array.claim m [] name known in
+        let clash : blame ArrayOfTables StandardTable ≡ None = ap (λ s. blame s StandardTable) (sym array.array) ∙ ap (blame array.claim.sort) (sym is) ∙ met-first array.claim m [] name known in
         absurd (none-some blames.DuplicateTable (sym clash))
 
 -- every claim on a table at a name clashes with that of an array
 table-clashes : (s : Sort) → is_array_sort s ≡ false → is_entry_sort s ≡ false → blame s ArrayOfTables ≡ None → ⊥
 table-clashes Passed array entry h = none-some blames.RedefineAsArray (sym h)
-table-clashes Section array entry h = none-some blames.DuplicateTable (sym h)
+table-clashes StandardTable array entry h = none-some blames.DuplicateTable (sym h)
 table-clashes ArrayOfTables array entry h = true≢false array
-table-clashes Entry array entry h = true≢false entry
+table-clashes TableElement array entry h = true≢false entry
 table-clashes Dotted array entry h = none-some blames.DuplicateKey (sym h)
 table-clashes Assigned array entry h = none-some blames.DuplicateKey (sym h)
 
@@ -82,7 +82,7 @@ array-fresh n m name is none h free =
 -- ---- a table is claimed, and assignments are placed below it
 
 -- what is placed behind the claim on a table
-opened : (A : Branch → Type 0) (k : Part) (m : Mark) (old mid new : Branch) (r : Result (Unit {0}) Halt) (cs : (Path → ℕ) → Claims) (d : (Path → ℕ) → Path → ℕ)
+opened : (A : Branch → Type 0) (k : SimpleKey) (m : Mark) (old mid new : Branch) (r : Result (Unit {0}) Halt) (cs : (Path → ℕ) → Claims) (d : (Path → ℕ) → Path → ℕ)
     → met (marks old) m k.name ≡ None → Marked m old mid → (A old → IsScope mid) → Places mid new r (cs (counts mid)) (d (counts mid))
     → Opening A m old new r (claimed (table_claim [] k m) (cs (counts old))) (d (counts old))
 opened A k m old mid new r cs d free h scope placed =
@@ -106,7 +106,7 @@ held-claimed : (m : Mark) (n new : Branch) → is_entry_sort m.sort ≡ false �
 held-claimed m n new other h claims =
     subst IsNamed (sym claims) (elim h.1 [ inl fresh ↦ named-fresh (marks n) m other fresh.no_marks | inr before ↦ named-remember (marks n) m other before ])
 
-module _ (h : Head) (k : Part) where
+module _ (h : Head) (k : SimpleKey) where
   pub opened-table : (sort : Sort) (tail : Claims) (old mid new : Branch) (r : Result (Unit {0}) Halt) → met (marks old) (header_mark h sort k.span) k.name ≡ None → Marked (header_mark h sort k.span) old mid
       → Places mid new r tail (counts mid) → Opening (Opens sort) (header_mark h sort k.span) old new r (opening h sort k tail) (counts old)
   opened-table sort tail old mid new r free claims placed before =
@@ -140,14 +140,14 @@ module _ (h : Head) (k : Part) where
       no_entry i c found = none-some c (sym (ap (item i) (claims.added ∙ none)) ∙ found)
 
   module _ (tail : Claims) where
-    pub end-table : (old new : Branch) (r : Result (Unit {0}) Halt) → h.array ≡ false → Opening (Opens Section) (header_mark h Section k.span) old new r (opening h Section k tail) (counts old)
+    pub end-table : (old new : Branch) (r : Result (Unit {0}) Halt) → h.array ≡ false → Opening (Opens StandardTable) (header_mark h StandardTable k.span) old new r (opening h StandardTable k tail) (counts old)
         → Passes old new r (ending h k tail (counts old [])) (grown_here (counts old) h)
     end-table old new r is placed =
-        let claims : ending h k tail (counts old []) ≡ opening h Section k tail = rw is refl in
+        let claims : ending h k tail (counts old []) ≡ opening h StandardTable k tail = rw is refl in
         let count : grown_here (counts old) h ≡ counts old = fun_ext (λ p. rw is refl) in
         subst (λ l. Passes old new r l (grown_here (counts old) h)) (sym claims)
-        (subst (λ c. Passes old new r (opening h Section k tail) c) (sym count)
-        (λ before. gives-map r _ _ _ _ refl (λ u g. (g.0, g.1, (g.2.0.0, held-claimed (header_mark h Section k.span) old new refl before g.2.1))) (placed (before.0, inl refl))))
+        (subst (λ c. Passes old new r (opening h StandardTable k tail) c) (sym count)
+        (λ before. gives-map r _ _ _ _ refl (λ u g. (g.0, g.1, (g.2.0.0, held-claimed (header_mark h StandardTable k.span) old new refl before g.2.1))) (placed (before.0, inl refl))))
 
     array-ending : (old : Branch) → h.array ≡ true → ending h k tail (counts old []) ≡ array_claims h [] k (counts old []) (adding h k tail (counts old []))
     array-ending old is = rw is refl
@@ -198,7 +198,7 @@ module _ (h : Head) (k : Part) where
 
     -- ---- the inner parts of a header
 
-    module _ (rest : List Part) where
+    module _ (rest : List SimpleKey) where
       pub descended : (old mid new : Branch) (r : Result (Unit {0}) Halt) → met (marks old) (header_mark h Passed k.span) k.name ≡ None → Marked (header_mark h Passed k.span) old mid
           → Places mid new r (section_at (counts mid) h rest tail) (grown (counts mid) h rest)
           → Opening IsScope (header_mark h Passed k.span) old new r (passing h k rest tail (counts old)) (grown (counts old) h rest)
@@ -212,7 +212,7 @@ module _ (h : Head) (k : Part) where
           reaches-claim-err IsScope (λ n. IsScope n × (marks n ≡ remember (marks old) (header_mark h Passed k.span))) k (header_mark h Passed k.span) old new q e P (section_at c h rest tail) d same clash
 
     -- into the latest entry
-    pub pass-latest : (rest : List Part) (m : ℕ) (n new x w : Branch) (r : Result (Unit {0}) Halt) → (rest ≡ [] → ⊥) → length (entries n) ≡ suc m
+    pub pass-latest : (rest : List SimpleKey) (m : ℕ) (n new x w : Branch) (r : Result (Unit {0}) Halt) → (rest ≡ [] → ⊥) → length (entries n) ≡ suc m
         → item m (entries n) ≡ Some x → PutsEntry m w n new → length (entries new) ≡ length (entries n)
         → Opening IsScope (header_mark h Passed k.span) x w r (passing h k rest tail (counts x)) (grown (counts x) h rest)
         → Passes n new r (through (counts n) h k rest tail) (grown_through (counts n) h rest)
@@ -223,7 +223,7 @@ module _ (h : Head) (k : Part) where
         (reaches-entry (header_mark h Passed k.span) m n new x w r (passing h k (l ∷ more) tail) (λ f. grown f h (l ∷ more)) found puts lengths placed)
 
     -- or on from the node itself
-    pub pass-here : (rest : List Part) (n new : Branch) (r : Result (Unit {0}) Halt) → (rest ≡ [] → ⊥) → entries n ≡ []
+    pub pass-here : (rest : List SimpleKey) (n new : Branch) (r : Result (Unit {0}) Halt) → (rest ≡ [] → ⊥) → entries n ≡ []
         → Opening IsScope (header_mark h Passed k.span) n new r (passing h k rest tail (counts n)) (grown (counts n) h rest)
         → Passes n new r (through (counts n) h k rest tail) (grown_through (counts n) h rest)
     pass-here [] n new r some none placed = absurd (some refl)
@@ -233,22 +233,22 @@ module _ (h : Head) (k : Part) where
         (λ before. gives-map r _ _ _ _ refl (λ u g. (g.0, g.1, (g.2.0.0, held-claimed (header_mark h Passed k.span) n new refl before g.2.1))) (placed (before.0, none)))
 
     -- what stands behind the first claim, where nothing stands yet
-    behind_first : (Path → ℕ) → List Part → Claims
+    behind_first : (Path → ℕ) → List SimpleKey → Claims
     behind_first e [] = if h.array then adding h k tail 0 else tail
     behind_first e (l ∷ more) = section_at e h (l ∷ more) tail
 
-    through-first : (rest : List Part) (e : Path → ℕ) → e [] ≡ 0 → through e h k rest tail ≡ claimed (table_claim [] k (header_mark h (part_sort h rest) k.span)) (behind_first e rest)
+    through-first : (rest : List SimpleKey) (e : Path → ℕ) → e [] ≡ 0 → through e h k rest tail ≡ claimed (table_claim [] k (header_mark h (part_sort h rest) k.span)) (behind_first e rest)
     unfolding behind_first
     through-first [] e none = rw none (go h.array)
       where
-        go : (b : Bool) → (if b then claimed (table_claim [] k (header_mark h ArrayOfTables k.span)) (adding h k tail 0) else opening h Section k tail)
-            ≡ claimed (table_claim [] k (header_mark h (if b then ArrayOfTables else Section) k.span)) (if b then adding h k tail 0 else tail)
+        go : (b : Bool) → (if b then claimed (table_claim [] k (header_mark h ArrayOfTables k.span)) (adding h k tail 0) else opening h StandardTable k tail)
+            ≡ claimed (table_claim [] k (header_mark h (if b then ArrayOfTables else StandardTable) k.span)) (if b then adding h k tail 0 else tail)
         go true = refl
         go false = refl
     through-first (l ∷ more) e none = rw none refl
 
     -- what clashes with a value of the name
-    pub section-beside : (rest : List Part) (n new : Branch) (q : Result (Unit {0}) Halt) (e : Halt) (P : Unit {0} → Type 0) (d : Path → ℕ)
+    pub section-beside : (rest : List SimpleKey) (n new : Branch) (q : Result (Unit {0}) Halt) (e : Halt) (P : Unit {0} → Type 0) (d : Path → ℕ)
         → child k.name n ≡ None → q ≡ Err e → Gives (Err e) (met (closed_marks (closed k.name n)) (header_mark h (part_sort h rest) k.span) k.name) P
         → Places n new q (section_at (counts n) h (k ∷ rest) tail) d
     section-beside rest n new q e P d missing same clash =
@@ -256,31 +256,31 @@ module _ (h : Head) (k : Part) where
         (places-beside n new k.name q e (table_claim [] k (header_mark h (part_sort h rest) k.span)) (behind_first (λ p. counts n (key k.name ∷ p)) rest) P d missing refl same clash)
 
     -- where nothing clashes no value stands there
-    pub section-free : (rest : List Part) (n : Branch) → met (closed_marks (closed k.name n)) (header_mark h (part_sort h rest) k.span) k.name ≡ None → closed k.name n ≡ None
+    pub section-free : (rest : List SimpleKey) (n : Branch) → met (closed_marks (closed k.name n)) (header_mark h (part_sort h rest) k.span) k.name ≡ None → closed k.name n ≡ None
     section-free rest n free = unclosed (closed k.name n) (header_mark h (part_sort h rest) k.span) k.name free (named rest, tt)
       where
-        ends : (b : Bool) → is_entry_sort (if b then ArrayOfTables else Section) ≡ false
+        ends : (b : Bool) → is_entry_sort (if b then ArrayOfTables else StandardTable) ≡ false
         ends true = refl
         ends false = refl
 
-        named : (rest : List Part) → is_entry_sort (part_sort h rest) ≡ false
+        named : (rest : List SimpleKey) → is_entry_sort (part_sort h rest) ≡ false
         named [] = ends h.array
         named (l ∷ more) = refl
 
-    pub section-found : (rest : List Part) (n new x w : Branch) (r : Result (Unit {0}) Halt) → child k.name n ≡ Some x → SetsChild k.name w n new
+    pub section-found : (rest : List SimpleKey) (n new x w : Branch) (r : Result (Unit {0}) Halt) → child k.name n ≡ Some x → SetsChild k.name w n new
         → Passes x w r (through (counts x) h k rest tail) (grown_through (counts x) h rest)
         → Places n new r (section_at (counts n) h (k ∷ rest) tail) (grown (counts n) h (k ∷ rest))
     section-found rest n new x w r found sets placed =
         rw (section_at-through, grown-through) (places-found n new x w k.name r (λ f. through f h k rest tail) (λ f. grown_through f h rest) found sets placed)
 
-    pub section-new : (rest : List Part) (n new x w v : Branch) → child k.name n ≡ None → closed k.name n ≡ None → IsFresh x → v ≡ w → SetsChild k.name v n new
+    pub section-new : (rest : List SimpleKey) (n new x w v : Branch) → child k.name n ≡ None → closed k.name n ≡ None → IsFresh x → v ≡ w → SetsChild k.name v n new
         → Passes x w (Ok tt) (through (counts x) h k rest tail) (grown_through (counts x) h rest)
         → Places n new (Ok tt) (section_at (counts n) h (k ∷ rest) tail) (grown (counts n) h (k ∷ rest))
     section-new rest n new x w v missing free fresh same sets placed =
         rw (section_at-through, grown-through)
         (places-new n new x w k.name (λ f. through f h k rest tail) (λ f. grown_through f h rest) missing free fresh (subst (λ a. SetsChild k.name a n new) same sets) placed)
 
-    pub section-new-err : (rest : List Part) (n new x w : Branch) (r q : Result (Unit {0}) Halt) (e : Halt) (d : Path → ℕ) → child k.name n ≡ None → closed k.name n ≡ None → IsFresh x
+    pub section-new-err : (rest : List SimpleKey) (n new x w : Branch) (r q : Result (Unit {0}) Halt) (e : Halt) (d : Path → ℕ) → child k.name n ≡ None → closed k.name n ≡ None → IsFresh x
         → r ≡ Err e → q ≡ Err e → Passes x w r (through (counts x) h k rest tail) (grown_through (counts x) h rest)
         → Places n new q (section_at (counts n) h (k ∷ rest) tail) d
     section-new-err rest n new x w r q e d missing free fresh is same placed =
@@ -297,37 +297,37 @@ some-entries n h none = eqb-false (vec_len (out-Branch n).entries) 0 h (omega (a
 pub no-latest : (n : Branch) → (0 < vec_len (out-Branch n).entries → ⊥) → entries n ≡ []
 no-latest n none = length-none (entries n) (grind (arith, (out-Branch n).entries.ok.0, none))
 
-pub parts-none : (xs : List Key) → (length xs == 0) ≡ true → map part xs ≡ []
+pub parts-none : (xs : List Key) → (length xs == 0) ≡ true → map simple_key xs ≡ []
 parts-none [] h = refl
 parts-none (x ∷ xs) h = absurd (omega (arith, eqb-true (length (x ∷ xs)) 0 h))
 
-pub parts-some : (xs : List Key) → (length xs == 0) ≡ false → map part xs ≡ [] → ⊥
+pub parts-some : (xs : List Key) → (length xs == 0) ≡ false → map simple_key xs ≡ [] → ⊥
 parts-some [] h none = true≢false h
-parts-some (x ∷ xs) h none = none-some (part x) (sym (ap head none))
+parts-some (x ∷ xs) h none = none-some (simple_key x) (sym (ap head none))
   where
-    head : List Part → Option Part
+    head : List SimpleKey → Option SimpleKey
     head [] = None
     head (k ∷ ks) = Some k
 
-pub parts-front : (xs : List Key) (first d : Key) → 1 ≤ length xs → first ≡ get_or xs 0 d → map part xs ≡ part first ∷ map part (take (length xs - 1) (drop 1 xs))
+pub parts-front : (xs : List Key) (first d : Key) → 1 ≤ length xs → first ≡ get_or xs 0 d → map simple_key xs ≡ simple_key first ∷ map simple_key (take (length xs - 1) (drop 1 xs))
 parts-front [] first d some same = absurd (omega arith)
 parts-front (x ∷ xs) first d some same =
     let all : take (suc (length xs) - 1) xs ≡ xs = take_all _ xs (omega arith) in
     rw (same, all) refl
 
-pub parts-below : (xs : List Key) → length xs < 1 → map part xs ≡ []
+pub parts-below : (xs : List Key) → length xs < 1 → map simple_key xs ≡ []
 parts-below [] h = refl
 parts-below (x ∷ xs) h = absurd (omega arith)
 
 -- ---- the code's nodes
 
 -- at the end of the header
-pub section-end : (h : Head) (tail : Claims) (parts : List Part) (n new : Branch) (r : Result (Unit {0}) Halt) → parts ≡ [] → Places n new r tail (counts n)
+pub section-end : (h : Head) (tail : Claims) (parts : List SimpleKey) (n new : Branch) (r : Result (Unit {0}) Halt) → parts ≡ [] → Places n new r tail (counts n)
     → Places n new r (section_at (counts n) h parts tail) (grown (counts n) h parts)
 unfolding section_at grown
 section-end h tail parts n new r none placed = subst (λ ps. Places n new r (section_at (counts n) h ps tail) (grown (counts n) h ps)) (sym none) placed
 
-pub pass-end : (h : Head) (k : Part) (tail : Claims) (rest : List Part) (n new : Branch) (r : Result (Unit {0}) Halt) → rest ≡ []
+pub pass-end : (h : Head) (k : SimpleKey) (tail : Claims) (rest : List SimpleKey) (n new : Branch) (r : Result (Unit {0}) Halt) → rest ≡ []
     → Passes n new r (ending h k tail (counts n [])) (grown_here (counts n) h) → Passes n new r (through (counts n) h k rest tail) (grown_through (counts n) h rest)
 pass-end h k tail rest n new r none placed = subst (λ ps. Passes n new r (through (counts n) h k ps tail) (grown_through (counts n) h ps)) (sym none) placed
 
@@ -335,7 +335,7 @@ pass-end h k tail rest n new r none placed = subst (λ ps. Passes n new r (throu
 abbrev pub with_entries : Branch → Vec Branch Global → Branch
 with_entries n xs = roll-Branch (record { marks = (out-Branch n).marks; values = (out-Branch n).values; tables = (out-Branch n).tables; entries = xs })
 
-pub pass-vec : (h : Head) (k : Part) (tail : Claims) (rest : List Part) (n x w : Branch) (r : Result (Unit {0}) Halt) → (rest ≡ [] → ⊥)
+pub pass-vec : (h : Head) (k : SimpleKey) (tail : Claims) (rest : List SimpleKey) (n x w : Branch) (r : Result (Unit {0}) Halt) → (rest ≡ [] → ⊥)
     → 0 < vec_len (out-Branch n).entries → x ≡ get_or (entries n) (vec_len (out-Branch n).entries - 1) x
     → Opening IsScope (header_mark h Passed k.span) x w r (passing h k rest tail (counts x)) (grown (counts x) h rest)
     → Passes n (with_entries n (with_item (out-Branch n).entries (vec_len (out-Branch n).entries - 1) w)) r (through (counts n) h k rest tail) (grown_through (counts n) h rest)
@@ -348,7 +348,7 @@ pass-vec h k tail rest n x w r some many is placed =
     (ap (λ (b : Branch-F Branch). length b.entries.items) (out-roll _) ∙ length-set (entries n) m w)
     placed
 
-pub pass-again : (h : Head) (k : Part) (tail : Claims) (rest : List Part) (n new : Branch) (r : Result (Unit {0}) Halt) → (rest ≡ [] → ⊥) → entries n ≡ []
+pub pass-again : (h : Head) (k : SimpleKey) (tail : Claims) (rest : List SimpleKey) (n new : Branch) (r : Result (Unit {0}) Halt) → (rest ≡ [] → ⊥) → entries n ≡ []
     → Opening IsScope (header_mark h Passed k.span) (with_entries n (out-Branch n).entries) new r
     (passing h k rest tail (counts (with_entries n (out-Branch n).entries))) (grown (counts (with_entries n (out-Branch n).entries)) h rest)
     → Passes n new r (through (counts n) h k rest tail) (grown_through (counts n) h rest)
@@ -357,6 +357,6 @@ pass-again h k tail rest n new r some none placed =
     (subst (λ a. Opening IsScope (header_mark h Passed k.span) a new r (passing h k rest tail (counts a)) (grown (counts a) h rest)) (roll-out n) placed)
 
 -- the node behind a loan
-pub pass-lent : (h : Head) (k : Part) (tail : Claims) (rest : List Part) (lent n new : Branch) (r : Result (Unit {0}) Halt) → lent ≡ n
+pub pass-lent : (h : Head) (k : SimpleKey) (tail : Claims) (rest : List SimpleKey) (lent n new : Branch) (r : Result (Unit {0}) Halt) → lent ≡ n
     → Passes lent new r (through (counts lent) h k rest tail) (grown_through (counts lent) h rest) → Passes n new r (through (counts n) h k rest tail) (grown_through (counts n) h rest)
 pass-lent h k tail rest lent n new r same placed = subst (λ a. Passes a new r (through (counts a) h k rest tail) (grown_through (counts a) h rest)) same placed

@@ -5,7 +5,7 @@ use Rattle.std.specs.List.{list_any}
 use Rattle.std.proofs.lemmas.Bool.{cases_Bool, eqb-true, false≢true}
 use Rattle.std.proofs.lemmas.Option.{none-some}
 use Rattle.toml_span_claims.specs.declared.claims.Sort.{Sort}
-use Rattle.toml_span_claims.specs.declared.claims.Sort.TheVariants.{Passed, Section, ArrayOfTables, Entry, Dotted, Assigned}
+use Rattle.toml_span_claims.specs.declared.claims.Sort.TheVariants.{Passed, StandardTable, ArrayOfTables, TableElement, Dotted, Assigned}
 use Rattle.toml_span_claims.specs.declared.claims.Blame.{Blame}
 use Rattle.toml_span_claims.specs.declared.claims.Mark.{Mark}
 use Rattle.toml_span_claims.specs.declared.claims.Meeting.{Meeting}
@@ -20,15 +20,15 @@ use Rattle.toml_span_assembly.proofs.Shown.{show_all-marks}
 
 sort_of : ℕ → Sort
 sort_of n =
-    cond (nat_eq n 0) Passed (cond (nat_eq n 1) Section (cond (nat_eq n 2) ArrayOfTables
-    (cond (nat_eq n 3) Entry (cond (nat_eq n 4) Dotted Assigned))))
+    cond (nat_eq n 0) Passed (cond (nat_eq n 1) StandardTable (cond (nat_eq n 2) ArrayOfTables
+    (cond (nat_eq n 3) TableElement (cond (nat_eq n 4) Dotted Assigned))))
 
 sort_back : (s : Sort) → sort_of (sort_number s) ≡ s
 unfolding sort_of
 sort_back Passed = refl
-sort_back Section = refl
+sort_back StandardTable = refl
 sort_back ArrayOfTables = refl
-sort_back Entry = refl
+sort_back TableElement = refl
 sort_back Dotted = refl
 sort_back Assigned = refl
 

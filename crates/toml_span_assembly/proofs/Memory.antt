@@ -11,21 +11,21 @@ use Rattle.toml_span_read.specs.declared.fault.Fault.{Fault}
 use Rattle.toml_span_tree.specs.declared.error.Error.{Error}
 use Rattle.toml_span_tree.specs.declared.value.Value.{Value}
 use Rattle.toml_span_read.specs.declared.section.Section.{Section}
-use Rattle.toml_span_read.specs.Data.{Event, Block, block}
+use Rattle.toml_span_read.specs.Data.{KeyValue, Block, block}
 use Rattle.toml_span_read.specs.Gaps.{MaximalGap}
-use Rattle.toml_span_read.specs.Keys.{Part, Dotted}
-use Rattle.toml_span_read.specs.Grammar.{first_block, Opens, SpellsDocument, SpellsEvents, SpellsSection, SpellsSections}
+use Rattle.toml_span_read.specs.Keys.{SimpleKey, SpellsKey}
+use Rattle.toml_span_read.specs.Grammar.{first_block, OpensHeader, SpellsDocument, SpellsKeyValues, SpellsSection, SpellsSections}
 use Rattle.toml_span_read.specs.Stuck.{HoldsForm, KeepsForm}
 use Rattle.toml_span_read.proofs.InsideLemmas.{ascend_forward}
 use Rattle.toml_span_read.proofs.KeyOrder.{dotted_ascend}
 
 -- a key stands before the end of the text
-key-before : (ps : List Part) (text : List ℕ) (i j : ℕ) → Dotted ps text i j → i < length text
+key-before : (ps : List SimpleKey) (text : List ℕ) (i j : ℕ) → SpellsKey ps text i j → i < length text
 key-before [] text i j h = absurd h
 key-before (p ∷ ps) text i j h =
     let a = dotted_ascend (p ∷ ps) text i j h in omega (arith, a.0.0, a.0.1, ascend_forward ps p.span.end j a.0.2, a.1)
 
-opens-forward : (array : Bool) (text : List ℕ) (i j : ℕ) → Opens array text i j → i ≤ j
+opens-forward : (array : Bool) (text : List ℕ) (i j : ℕ) → OpensHeader array text i j → i ≤ j
 opens-forward false text i j h = omega (arith, h.2)
 opens-forward true text i j h = omega (arith, h.2)
 
@@ -35,7 +35,7 @@ section-before b text limit i j h =
     omega (arith, opens-forward b.array text i front.inside front.opens, front.before.forward, key-before b.header text front.start front.end front.key)
 
 -- where a section is spelled, more than blank lines stand
-sections-hold : (es : List Event) (bs : List Block) (text : List ℕ) (limit start k j : ℕ) → MaximalGap text start k → SpellsEvents es [] text limit k j → SpellsSections bs text limit j
+sections-hold : (es : List KeyValue) (bs : List Block) (text : List ℕ) (limit start k j : ℕ) → MaximalGap text start k → SpellsKeyValues es [] text limit k j → SpellsSections bs text limit j
     → (first_block es ++ bs ≡ [] → ⊥) → HoldsForm text start
 sections-hold [] [] text limit start k j gap h rest some = absurd (some refl)
 sections-hold [] (b ∷ bs) text limit start k j gap h (e, here, rest) some = (k, gap, omega (arith, section-before b text limit j e here, h))

@@ -6,11 +6,11 @@ use Rattle.toml_span_lex.specs.declared.stop.Stop.TheVariants as stops
 use Rattle.toml_span_tree.specs.declared.error.Error.{Error}
 use Rattle.toml_span_tree.specs.declared.value.Value.{Value}
 use Rattle.toml_span_read.specs.declared.fault.Fault.{Fault}
-use Rattle.toml_span_tree.specs.Error.{fault_of}
-use Rattle.toml_span_read.specs.Data.{Event, Block}
+use Rattle.toml_span_tree.specs.Error.{content_of}
+use Rattle.toml_span_read.specs.Data.{KeyValue, Block}
 use Rattle.toml_span_read.specs.code.Faults.{IsPlacedStop}
 use Rattle.toml_span_read.specs.Faults.{Tells}
-use Rattle.toml_span_read.specs.Keys.{Part, Dotted}
+use Rattle.toml_span_read.specs.Keys.{SimpleKey, SpellsKey}
 use Rattle.toml_span_read.specs.Grammar.{SpellsDocument, SpellsSections, first_block}
 use Rattle.toml_span_claims.specs.declared.claims.Clash.{Clash}
 use Rattle.toml_span_claims.specs.declared.claims.Halt.{Halt}
@@ -24,13 +24,13 @@ use Rattle.toml_span_claims.specs.code.Placing.{AreSections, Assembles}
 
 -- a fault of reading is told as an error
 pub refusal-fault : (text : List ℕ) (limit : ℕ) (stop : Stop Fault) (fault : Fault) (error : Error) → stop ≡ stops.Fault fault → GrownGives text limit (Err stop) → IsPlacedStop text stop
-    → Tells text fault (fault_of error) → IsRefusal text limit (stops.Fault error)
+    → Tells text fault (content_of error) → IsRefusal text limit (stops.Fault error)
 refusal-fault text limit stop fault error is stuck placed tells = inl (fault, (rw is at stuck), (rw is at placed), tells)
 
 -- ---- the sections that a text spells
 
 -- a dotted key has a part
-pub some_part : (array : Bool) (text : List ℕ) (i j : ℕ) (ps : List Part) → Dotted ps text i j → ps ≡ [] → array ≡ false
+pub some_part : (array : Bool) (text : List ℕ) (i j : ℕ) (ps : List SimpleKey) → SpellsKey ps text i j → ps ≡ [] → array ≡ false
 some_part array text i j ps key none = absurd (rw none at key)
 
 sections-headed : (bs : List Block) (text : List ℕ) (limit i : ℕ) → SpellsSections bs text limit i → AreSections bs
@@ -38,7 +38,7 @@ sections-headed [] text limit i h = tt
 sections-headed (b ∷ bs) text limit i (j, here, rest) =
     (some_part b.array text _ _ b.header here.header.front.key, sections-headed bs text limit j rest)
 
-pub first-headed : (evs : List Event) (bs : List Block) → AreSections bs → AreSections (first_block evs ++ bs)
+pub first-headed : (evs : List KeyValue) (bs : List Block) → AreSections bs → AreSections (first_block evs ++ bs)
 first-headed [] bs h = h
 first-headed (ev ∷ evs) bs h = (λ none. refl, h)
 

@@ -3,12 +3,12 @@ use Rattle.std.proofs.Common.{◌≡◌, ℕ, suc, Bool, true, false, List, [], 
 use Rattle.std.specs.Prelude.{⊤}
 use Rattle.std.proofs.lemmas.Bool.{cases_Bool}
 use Rattle.toml_span_tree.specs.Path.{Path, Step, Place}
-use Rattle.toml_span_read.specs.Data.{Node as Read, node, Inner, scalar, array, inline, Items, no_items, item, Pairs, no_pairs, pair, Event}
-use Rattle.toml_span_read.specs.Keys.{Part}
+use Rattle.toml_span_read.specs.Data.{ParsedValue as Read, parsed, ParsedInner, scalar, array, inline, ParsedItems, no_items, item, ParsedPairs, no_pairs, pair, KeyValue}
+use Rattle.toml_span_read.specs.Keys.{SimpleKey}
 use Rattle.toml_span_claims.specs.Paths.{same_path, with_key, with_position}
-use Rattle.toml_span_claims.specs.Claims.{Claim, Claims, no_claims, claimed, scope, followed, key_claims, value_claims, inner_claims, item_claims, pair_claims, event_claims}
+use Rattle.toml_span_claims.specs.Claims.{Claim, Claims, no_claims, claimed, scope, followed, key_claims, value_claims, inner_claims, item_claims, pair_claims, key_value_claims}
 use Rattle.toml_span_claims.specs.Clashes.{or_else}
-use Rattle.toml_span_claims.specs.Flat.{all_claims, claims_at, first_by_header, decides, flat, by_header}
+use Rattle.toml_span_claims.specs.Flat.{all_claims, claims_at, first_claim_by_header, deciding_claim, flat, by_header}
 use Rattle.toml_span_claims.specs.code.Machine.{Cell, State, Decided, nothing, decide, decided, with_claim, with_inner, change, show_all, put_all}
 use Rattle.toml_span_claims.specs.code.Placing.{place_shown}
 
@@ -100,7 +100,7 @@ no_header-followed no_claims ys h k = k
 no_header-followed (claimed c xs) ys h k = (h.0, no_header-followed xs ys h.1 k)
 no_header-followed (scope inner xs) ys h k = (h.0, no_header-followed xs ys h.1 k)
 
-no_header-keys : (p : Path) (parts : List Part) (v : Read) (inside : Path → Claims) → ((q : Path) → NoHeader (inside q)) → NoHeader (key_claims p parts v inside)
+no_header-keys : (p : Path) (parts : List SimpleKey) (v : Read) (inside : Path → Claims) → ((q : Path) → NoHeader (inside q)) → NoHeader (key_claims p parts v inside)
 unfolding key_claims
 no_header-keys p [] v inside h = tt
 no_header-keys p (k ∷ []) v inside h = (refl, h (with_key p k))
@@ -110,28 +110,28 @@ mutual
   unfolding value_claims inner_claims item_claims pair_claims
 
   pub value-no_header : (v : Read) (p : Path) → NoHeader (value_claims v p)
-  value-no_header (node k span) p = inner-no_header k p
+  value-no_header (parsed k span) p = inner-no_header k p
 
-  inner-no_header : (k : Inner) (p : Path) → NoHeader (inner_claims k p)
+  inner-no_header : (k : ParsedInner) (p : Path) → NoHeader (inner_claims k p)
   inner-no_header (scalar s) p = tt
   inner-no_header (array vs) p = (items-no_header vs 0 p, tt)
   inner-no_header (inline ps) p = (pairs-no_header ps p, tt)
 
-  pub items-no_header : (vs : Items) (i : ℕ) (p : Path) → NoHeader (item_claims vs i p)
+  pub items-no_header : (vs : ParsedItems) (i : ℕ) (p : Path) → NoHeader (item_claims vs i p)
   items-no_header no_items i p = tt
   items-no_header (item v vs) i p = (refl, no_header-followed (value_claims v (with_position p i)) _ (value-no_header v (with_position p i)) (items-no_header vs (suc i) p))
 
-  pub pairs-no_header : (ps : Pairs) (p : Path) → NoHeader (pair_claims ps p)
+  pub pairs-no_header : (ps : ParsedPairs) (p : Path) → NoHeader (pair_claims ps p)
   pairs-no_header no_pairs p = tt
   pairs-no_header (pair parts v extent rest) p =
       no_header-followed (key_claims p parts v (value_claims v)) _ (no_header-keys p parts v (value_claims v) (λ q. value-no_header v q)) (pairs-no_header rest p)
 
-pub events-no_header : (es : List Event) (p : Path) → NoHeader (event_claims es p)
-unfolding event_claims
-events-no_header [] p = tt
-events-no_header (e ∷ es) p =
+pub key_values-no_header : (es : List KeyValue) (p : Path) → NoHeader (key_value_claims es p)
+unfolding key_value_claims
+key_values-no_header [] p = tt
+key_values-no_header (e ∷ es) p =
     no_header-followed (key_claims p e.parts e.value (value_claims e.value)) _
-    (no_header-keys p e.parts e.value (value_claims e.value) (λ q. value-no_header e.value q)) (events-no_header es p)
+    (no_header-keys p e.parts e.value (value_claims e.value) (λ q. value-no_header e.value q)) (key_values-no_header es p)
 
 abbrev IsPlain : Option Decided → Type 0
 IsPlain None = ⊤
@@ -169,8 +169,8 @@ shown_by-header place [] = refl
 shown_by-header place (c ∷ cs) = shown_by-header place cs
 
 -- behind an assignment the first header still decides
-shown_by-plain : (place : Place) (cs : List Claim) → shown_by (by_some false place) cs ≡ or_else (option_map decided (first_by_header cs)) (by_some false place)
-unfolding shown_by first_by_header
+shown_by-plain : (place : Place) (cs : List Claim) → shown_by (by_some false place) cs ≡ or_else (option_map decided (first_claim_by_header cs)) (by_some false place)
+unfolding shown_by first_claim_by_header
 shown_by-plain place [] = refl
 shown_by-plain place (c ∷ cs) =
     elim (cases_Bool (by_header c.mark.sort)) [
@@ -182,13 +182,13 @@ first_or : (c : Claim) (o : Option Claim) → by_header c.mark.sort ≡ false �
 first_or c None h = rw h
 first_or c (Some x) h = refl
 
-shown_by-none : (cs : List Claim) → shown_by None cs ≡ option_map decided (decides cs)
-unfolding shown_by first_by_header
+shown_by-none : (cs : List Claim) → shown_by None cs ≡ option_map decided (deciding_claim cs)
+unfolding shown_by first_claim_by_header
 shown_by-none [] = refl
 shown_by-none (c ∷ cs) =
     elim (cases_Bool (by_header c.mark.sort)) [
       | inl header ↦ rw header (shown_by-header c.place cs ∙ ap (λ b. by_some b c.place) (sym header))
-      | inr other ↦ rw other (shown_by-plain c.place cs ∙ first_or c (first_by_header cs) other)
+      | inr other ↦ rw other (shown_by-plain c.place cs ∙ first_or c (first_claim_by_header cs) other)
     ]
 
 place-decided : (o : Option Claim) → option_map (λ d. d.place) (option_map decided o) ≡ option_map (λ c. c.place) o
@@ -200,4 +200,4 @@ pub shown-flat : (length : ℕ) (cs : Claims) (s : Step) (p : Path) → place_sh
 unfolding flat
 shown-flat length cs s p =
     ap (option_map (λ d. d.place)) (put_all-is nothing cs (s ∷ p) ∙ shown_by-none (on_path (s ∷ p) cs))
-    ∙ place-decided (decides (on_path (s ∷ p) cs))
+    ∙ place-decided (deciding_claim (on_path (s ∷ p) cs))

@@ -16,8 +16,8 @@ use Rattle.toml_span_tree.specs.declared.value.Value.{Value}
 use Rattle.toml_span_tree.specs.declared.value.ValueInner.{ValueInner, the_lemmas as tree_lemmas}
 use Rattle.toml_span_tree.specs.declared.value.ValueInner.TheVariants as inners
 use Rattle.toml_span_tree.proofs.Values.{inner_view-Array, inner_view-Table}
-use Rattle.toml_span_read.specs.Data.{Node as Read, node, Inner, scalar, array, inline, Items, no_items, item, Pairs, no_pairs, pair, onto, pairs_onto, view as view_read, kind_view, event}
-use Rattle.toml_span_read.specs.Keys.{Part}
+use Rattle.toml_span_read.specs.Data.{ParsedValue as Read, parsed, ParsedInner, scalar, array, inline, ParsedItems, no_items, item, ParsedPairs, no_pairs, pair, onto, pairs_onto, view as view_read, kind_view, key_value}
+use Rattle.toml_span_read.specs.Keys.{SimpleKey}
 use Rattle.toml_span_read.specs.declared.value.Assignment.{Assignment}
 use Rattle.toml_span_read.specs.declared.value.Val.{Val}
 use Rattle.toml_span_read.specs.declared.value.ValKind.{the_lemmas as read_lemmas}
@@ -26,13 +26,13 @@ use Rattle.toml_span_read.proofs.Views.{view_is, kind_view-Array, kind_view-Inli
 use Rattle.toml_span_claims.specs.declared.claims.Halt.{Halt}
 use Rattle.toml_span_claims.specs.declared.claims.Halt.TheVariants.{Memory, Clash}
 use Rattle.toml_span_claims.specs.Paths.{same_step, same_path, with_key, with_position}
-use Rattle.toml_span_claims.specs.Claims.{Claims, no_claims, claimed, scope, followed, key_claims, value_claims, inner_claims, item_claims, pair_claims, event_claims, element, value_shape}
+use Rattle.toml_span_claims.specs.Claims.{Claims, no_claims, claimed, scope, followed, key_claims, value_claims, inner_claims, item_claims, pair_claims, key_value_claims, element, value_shape}
 use Rattle.toml_span_claims.specs.Clashes.{or_else, NamedClash}
 use Rattle.toml_span_claims.specs.code.Machine.{State, nothing, no_cell, change, with_claim, with_inner, show_all, put_all, first_clash, clash_told, graft}
 use Rattle.toml_span_claims.specs.Ordered.{HoldsOrdered, AreOrdered}
 use Rattle.toml_span_claims.specs.code.Placing.{IsFinished, ValueGives, ShowsPlain, ScopeGives}
 use Rattle.toml_span_claims.specs.code.Tree.{value_shows, plain}
-use Rattle.toml_span_assembly.proofs.Absolute.{value_claims-under, pairs-events}
+use Rattle.toml_span_assembly.proofs.Absolute.{value_claims-under, pairs-key_values}
 use Rattle.toml_span_claims.proofs.Grafts.{same_step-self, sub-graft, show_all-under, show_all-followed, told-followed, told-under, or_else-none}
 use Rattle.toml_span_assembly.proofs.Shown.{show_all-marks}
 
@@ -54,7 +54,7 @@ followed_below no_claims ys h g = g
 followed_below (claimed c cs) ys h g = (h.0, followed_below cs ys h.1 g)
 followed_below (scope inner cs) ys h g = (h.0, followed_below cs ys h.1 g)
 
-key_below : (p : Path) (parts : List Part) (v : Read) (inside : Path → Claims) → ((q : Path) → IsBelow (inside q)) → IsBelow (key_claims p parts v inside)
+key_below : (p : Path) (parts : List SimpleKey) (v : Read) (inside : Path → Claims) → ((q : Path) → IsBelow (inside q)) → IsBelow (key_claims p parts v inside)
 unfolding key_claims
 key_below p [] v inside h = tt
 key_below p (k ∷ []) v inside h = (not_here p (key k.name), h (with_key p k))
@@ -64,19 +64,19 @@ mutual
   unfolding value_claims inner_claims item_claims pair_claims
 
   value_below : (v : Read) (p : Path) → IsBelow (value_claims v p)
-  value_below (node k span) p = inner_below k p
+  value_below (parsed k span) p = inner_below k p
 
-  inner_below : (k : Inner) (p : Path) → IsBelow (inner_claims k p)
+  inner_below : (k : ParsedInner) (p : Path) → IsBelow (inner_claims k p)
   inner_below (scalar s) p = tt
   inner_below (array vs) p = (items_below vs 0 p, tt)
   inner_below (inline ps) p = (pairs_below ps p, tt)
 
-  items_below : (vs : Items) (i : ℕ) (p : Path) → IsBelow (item_claims vs i p)
+  items_below : (vs : ParsedItems) (i : ℕ) (p : Path) → IsBelow (item_claims vs i p)
   items_below no_items i p = tt
   items_below (item v vs) i p =
       (not_here p (position i), followed_below (value_claims v (with_position p i)) (item_claims vs (suc i) p) (value_below v (with_position p i)) (items_below vs (suc i) p))
 
-  pairs_below : (ps : Pairs) (p : Path) → IsBelow (pair_claims ps p)
+  pairs_below : (ps : ParsedPairs) (p : Path) → IsBelow (pair_claims ps p)
   pairs_below no_pairs p = tt
   pairs_below (pair parts v extent rest) p =
       followed_below (key_claims p parts v (value_claims v)) (pair_claims rest p) (key_below p parts v (value_claims v) (value_below v)) (pairs_below rest p)
@@ -100,15 +100,15 @@ show_all-local f g (scope inner cs) p same =
 
 told-value : (st : State) (v : Read) (p : Path) → first_clash st (value_claims v p) ≡ first_clash nothing (value_claims v p)
 unfolding first_clash value_claims inner_claims
-told-value st (node (scalar s) span) p = refl
-told-value st (node (array vs) span) p = refl
-told-value st (node (inline ps) span) p = refl
+told-value st (parsed (scalar s) span) p = refl
+told-value st (parsed (array vs) span) p = refl
+told-value st (parsed (inline ps) span) p = refl
 
 put_all-value : (st : State) (v : Read) (p : Path) → put_all st (value_claims v p) ≡ show_all st (value_claims v p)
 unfolding put_all show_all value_claims inner_claims
-put_all-value st (node (scalar s) span) p = refl
-put_all-value st (node (array vs) span) p = refl
-put_all-value st (node (inline ps) span) p = refl
+put_all-value st (parsed (scalar s) span) p = refl
+put_all-value st (parsed (array vs) span) p = refl
+put_all-value st (parsed (inline ps) span) p = refl
 
 told-moved : (st : State) (v : Read) (s : Step) → first_clash st (value_claims v (s ∷ [])) ≡ first_clash nothing (value_claims v [])
 told-moved st v s = told-value st v (s ∷ []) ∙ ap (first_clash nothing) (value_claims-under v s []) ∙ told-under s nothing (value_claims v [])
@@ -137,7 +137,7 @@ IsClear i st = (l : ℕ) (p : Path) → i ≤ l → st (position l ∷ p) ≡ no
 apart : (i l : ℕ) → i < l → same_step (position i) (position l) ≡ false
 apart i l h = ne_eqb i l (λ same. absurd (omega (arith, same)))
 
-told-item : (st : State) (i : ℕ) (v : Read) (vs : Items) → (st (step_to i)).marks ≡ []
+told-item : (st : State) (i : ℕ) (v : Read) (vs : ParsedItems) → (st (step_to i)).marks ≡ []
     → first_clash st (item_claims (item v vs) i []) ≡ or_else (first_clash nothing (value_claims v [])) (first_clash (behind st i v) (item_claims vs (suc i) []))
 unfolding first_clash item_claims
 told-item st i v vs none =
@@ -201,12 +201,12 @@ shown-apart st i v s p other =
     ∙ ap (λ f. f (s ∷ p)) (show_all-under (position i) next (value_claims v []))
     ∙ rw other
 
-show_all-item : (st : State) (i : ℕ) (v : Read) (vs : Items) → show_all st (item_claims (item v vs) i []) ≡ show_all (shown_behind st i v) (item_claims vs (suc i) [])
+show_all-item : (st : State) (i : ℕ) (v : Read) (vs : ParsedItems) → show_all st (item_claims (item v vs) i []) ≡ show_all (shown_behind st i v) (item_claims vs (suc i) [])
 unfolding show_all item_claims
 show_all-item st i v vs = show_all-followed (change st (step_to i) (with_inner (element (step_to i) v))) (value_claims v (step_to i)) (item_claims vs (suc i) [])
 
 -- elements from i on change nothing elsewhere
-items-apart : (vs : Items) (i : ℕ) (st : State) (s : Step) (p : Path) → ((l : ℕ) → i ≤ l → same_step (position l) s ≡ false) → show_all st (item_claims vs i []) (s ∷ p) ≡ st (s ∷ p)
+items-apart : (vs : ParsedItems) (i : ℕ) (st : State) (s : Step) (p : Path) → ((l : ℕ) → i ≤ l → same_step (position l) s ≡ false) → show_all st (item_claims vs i []) (s ∷ p) ≡ st (s ∷ p)
 unfolding show_all item_claims
 items-apart no_items i st s p other = refl
 items-apart (item v vs) i st s p other =
@@ -316,11 +316,11 @@ elements-none rest all xs none inv =
 
 -- ---- what was read of a kind
 
-value-gives : (v : Val) (k : Inner) (i : tree.Inner) (x : Value) → kind_view v.kind ≡ k → view x ≡ tree.node i v.span → tree_shape i ≡ value_shape k
+value-gives : (v : Val) (k : ParsedInner) (i : tree.Inner) (x : Value) → kind_view v.kind ≡ k → view x ≡ tree.node i v.span → tree_shape i ≡ value_shape k
     → first_clash nothing (inner_claims k []) ≡ None → ShowsPlain i (show_all nothing (inner_claims k [])) → HoldsOrdered i → ValueGives (Ok x) (view_read v)
 unfolding value_claims
 value-gives v k i x kind seen shape clear shows ordered =
-    let is : view_read v ≡ node k v.span = view_is v ∙ ap (λ k. node k v.span) kind in
+    let is : view_read v ≡ parsed k v.span = view_is v ∙ ap (λ k. parsed k v.span) kind in
     rw (is, seen) (clear, (λ span. ap (λ (s : Shape). record { shape = s; key_span = span; span = v.span }) shape, shows, ordered))
 
 scalar-shows : (x : Scalar) → ShowsPlain (tree.scalar x) nothing
@@ -376,17 +376,17 @@ scope-shown : (cs : Claims) → show_all nothing (scope cs no_claims) ≡ show_a
 unfolding show_all
 scope-shown cs = refl
 
-scope-gives : (v : Val) (k : Inner) (cs : Claims) (i : tree.Inner) (x : Value) → kind_view v.kind ≡ k → inner_claims k [] ≡ scope cs no_claims → view x ≡ tree.node i v.span → tree_shape i ≡ value_shape k
+scope-gives : (v : Val) (k : ParsedInner) (cs : Claims) (i : tree.Inner) (x : Value) → kind_view v.kind ≡ k → inner_claims k [] ≡ scope cs no_claims → view x ≡ tree.node i v.span → tree_shape i ≡ value_shape k
     → first_clash nothing cs ≡ None → ShowsPlain i (show_all nothing cs) × HoldsOrdered i → ValueGives (Ok x) (view_read v)
 scope-gives v k cs i x kind claims seen shape clear whole =
     value-gives v k i x kind seen shape (ap (first_clash nothing) claims ∙ scope-told cs ∙ clear)
     (λ s p. whole.0 s p ∙ ap (λ f. (f (s ∷ p)).shown) (sym (scope-shown cs) ∙ ap (show_all nothing) (sym claims))) whole.1
 
-scope-err : {A : Type 0} (v : Val) (k : Inner) (cs : Claims) (seen : A → tree.Inner) (q : Result Value Halt) (e : Halt) → kind_view v.kind ≡ k → inner_claims k [] ≡ scope cs no_claims → q ≡ Err e
+scope-err : {A : Type 0} (v : Val) (k : ParsedInner) (cs : Claims) (seen : A → tree.Inner) (q : Result Value Halt) (e : Halt) → kind_view v.kind ≡ k → inner_claims k [] ≡ scope cs no_claims → q ≡ Err e
     → ScopeGives (Err e) seen cs → ValueGives q (view_read v)
 unfolding value_claims
 scope-err v k cs seen q (Clash c) kind claims same gives =
-    let is : view_read v ≡ node k v.span = view_is v ∙ ap (λ k. node k v.span) kind in
+    let is : view_read v ≡ parsed k v.span = view_is v ∙ ap (λ k. parsed k v.span) kind in
     rw (same, is) (ap (first_clash nothing) claims ∙ scope-told cs ∙ gives)
 scope-err v k cs seen q (Memory e) kind claims same gives = rw same tt
 
@@ -396,15 +396,15 @@ abbrev pub element_claims : Vec Val Global → Claims
 element_claims vs = item_claims (onto (map view_read vs.items) no_items) 0 []
 
 abbrev pub inline_claims : Vec Assignment Global → Claims
-inline_claims ps = event_claims (map event ps.items) []
+inline_claims ps = key_value_claims (map key_value ps.items) []
 
 array-claims : (vs : Vec Val Global) → inner_claims (array (onto (map view_read vs.items) no_items)) [] ≡ scope (element_claims vs) no_claims
 unfolding inner_claims
 array-claims vs = refl
 
-inline-claims : (ps : Vec Assignment Global) → inner_claims (inline (pairs_onto (map event ps.items) no_pairs)) [] ≡ scope (inline_claims ps) no_claims
+inline-claims : (ps : Vec Assignment Global) → inner_claims (inline (pairs_onto (map key_value ps.items) no_pairs)) [] ≡ scope (inline_claims ps) no_claims
 unfolding inner_claims
-inline-claims ps = ap (λ cs. scope cs no_claims) (pairs-events (map event ps.items) [])
+inline-claims ps = ap (λ cs. scope cs no_claims) (pairs-key_values (map key_value ps.items) [])
 
 pub array-gives : (v : Val) (vs : Vec Val Global) (xs : Vec Value Global) (inner : ValueInner) (x : Value) → v.kind ≡ kinds.Array vs → inner ≡ inners.Array xs → view x ≡ tree.node (inner_view inner) v.span
     → ScopeGives (Ok xs) (λ xs. inner_view (inners.Array xs)) (element_claims vs) → ValueGives (Ok x) (view_read v)
@@ -421,11 +421,11 @@ array-err v vs q e kind same gives =
 pub inline-gives : (v : Val) (ps : Vec Assignment Global) (t : BTreeMap Key Value) (inner : ValueInner) (x : Value) → v.kind ≡ kinds.Inline ps → inner ≡ inners.Table t → view x ≡ tree.node (inner_view inner) v.span
     → ScopeGives (Ok t) (λ t. inner_view (inners.Table t)) (inline_claims ps) → ValueGives (Ok x) (view_read v)
 inline-gives v ps t inner x kind is seen gives =
-    scope-gives v (inline (pairs_onto (map event ps.items) no_pairs)) (inline_claims ps) (inner_view (inners.Table t)) x (ap kind_view kind ∙ kind_view-Inline ps) (inline-claims ps)
+    scope-gives v (inline (pairs_onto (map key_value ps.items) no_pairs)) (inline_claims ps) (inner_view (inners.Table t)) x (ap kind_view kind ∙ kind_view-Inline ps) (inline-claims ps)
     (seen ∙ ap (λ i. tree.node (inner_view i) v.span) is) (ap tree_shape (inner_view-Table t)) gives.0 gives.1
 
 pub inline-err : (v : Val) (ps : Vec Assignment Global) (q : Result Value Halt) (e : Halt) → v.kind ≡ kinds.Inline ps → q ≡ Err e
     → ScopeGives (Err e) (λ (t : BTreeMap Key Value). inner_view (inners.Table t)) (inline_claims ps) → ValueGives q (view_read v)
 inline-err v ps q e kind same gives =
-    scope-err v (inline (pairs_onto (map event ps.items) no_pairs)) (inline_claims ps) (λ (t : BTreeMap Key Value). inner_view (inners.Table t)) q e
+    scope-err v (inline (pairs_onto (map key_value ps.items) no_pairs)) (inline_claims ps) (λ (t : BTreeMap Key Value). inner_view (inners.Table t)) q e
     (ap kind_view kind ∙ kind_view-Inline ps) (inline-claims ps) same gives

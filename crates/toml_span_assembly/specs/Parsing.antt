@@ -6,17 +6,17 @@ use Rattle.toml_span_tree.specs.declared.value.Value.{Value}
 use Rattle.toml_span_tree.specs.Value.{view}
 use Rattle.toml_span_tree.specs.Node.{Members, node, table}
 use Rattle.toml_span_tree.specs.declared.error.Error.{Error}
-use Rattle.toml_span_tree.specs.Error.{fault_of}
+use Rattle.toml_span_tree.specs.Error.{content_of}
 use Rattle.toml_span_read.specs.Data.{Block, block}
 use Rattle.toml_span_read.specs.Grammar.{SpellsDocument}
 use Rattle.toml_span_read.specs.declared.section.Section.{Section}
 use Rattle.toml_span_read.specs.Borrowed.{sections_written}
 use Rattle.toml_span_read.specs.declared.fault.Fault.{Fault}
-use Rattle.toml_span_read.specs.Places.{IsPlaced, IsLineInfo}
+use Rattle.toml_span_read.specs.Places.{StartsInside, IsLineInfo}
 use Rattle.toml_span_read.specs.Faults.{Tells}
 use Rattle.toml_span_read.specs.Stuck.{StuckDocument}
 use Rattle.toml_span_claims.specs.Claims.{claims}
-use Rattle.toml_span_claims.specs.Clashes.{Resolves, NamedClash, TellsFirst, fault_of_clash}
+use Rattle.toml_span_claims.specs.Clashes.{Resolves, NamedClash, TellsFirst, content_of_clash}
 use Rattle.toml_span_claims.specs.Flat.{flat, Shows}
 use Rattle.toml_span_claims.specs.Borrowed.{AreRight, keys_of, value_standing}
 
@@ -48,7 +48,7 @@ IsBorrowedTree text limit root =
 -- the text is stuck at a fault, which has a place in the text, and the error tells that fault
 abbrev pub IsFault : List ℕ → ℕ → Error → Type 0
 IsFault text limit error =
-    (fault : Fault) × StuckDocument text limit fault × IsPlaced text fault × Tells text fault (fault_of error)
+    (fault : Fault) × StuckDocument text limit fault × StartsInside text fault × Tells text fault (content_of error)
 
 -- The error tells the first clash of the sections' claims, at a place in the text, with its line and its column.
 pub record IsClashOf (blocks : List Block) (text : List ℕ) (error : Error) : Type 0 where
@@ -56,7 +56,7 @@ pub record IsClashOf (blocks : List Block) (text : List ℕ) (error : Error) : T
   pub line : ℕ
   pub column : ℕ
   pub first : TellsFirst [] (claims blocks) clash
-  pub tells : fault_of error ≡ fault_of_clash clash.meeting clash.name (line, column)
+  pub tells : content_of error ≡ content_of_clash clash.meeting clash.name (line, column)
   pub within : clash.meeting.place.start ≤ length text
   pub forward : clash.meeting.place.start ≤ clash.meeting.place.end
   pub place : IsLineInfo text clash.meeting.place.start line column

@@ -2,9 +2,10 @@
 ghost use Rattle.std.specs.Prelude.{◌≡◌, ◌≤◌, ℕ, List, true, IfOk, IfErr, IsOk, length};
 ghost use Rattle.toml_span_lex.specs.Tokenizer.{FirstPlace};
 ghost use Rattle.toml_span_read.specs.code.Faults.{IsPlacedStop};
-ghost use Rattle.toml_span_read.specs.Keys.{Part};
+ghost use Rattle.toml_span_read.specs.Keys.{SimpleKey};
 ghost use Rattle.toml_span_read.specs.Data.{Block};
 ghost use Rattle.toml_span_read.specs.Stuck.{KeepsForm};
+ghost use Rattle.toml_span_read.specs.Limits.{depth_limit};
 ghost use Rattle.toml_span_tree.specs.Value.{is_whole, view};
 ghost use Rattle.toml_span_claims.specs.Borrowed.{AreRight, value_standing};
 ghost use Rattle.toml_span_claims.specs.Ordered.{IsOrdered};
@@ -26,7 +27,7 @@ const LIMIT: usize = 128;
 /// What the sections of a text make, or its fault. Each section is placed as it is read.
 fn grown_of<'de>(alloc: Global, text: &'de str, limit: usize) -> Result<Grown<'de>, Stop<Fault>>
     requires some { 1 ≤ limit }
-    requires small { limit ≤ 128 }
+    requires small { limit ≤ depth_limit }
     ensures placed { IfErr result (IsPlacedStop text.now) }
     ensures gives { GrownGives text.now limit result }
     ensures memory { (start : ℕ) × FirstPlace text.now start × KeepsForm text.now start result }
@@ -54,7 +55,7 @@ fn tree_of<'de>(grown: Grown<'de>, text: &'de str) -> Result<Value<'de>, Stop<Er
     ensures root { IfOk result (IsRoot (length text.now)) }
     ensures ordered { (bs : List Block) → Grows bs grown.entry → IfOk result (λ root. IsOrdered (view root)) }
     ensures whole { (bs : List Block) → Grows bs grown.entry → IfOk result (λ root. is_whole (view root) ≡ true) }
-    ensures borrows { (ps : List Part) → GrownRight text.now ps grown.entry
+    ensures borrows { (ps : List SimpleKey) → GrownRight text.now ps grown.entry
         → IfOk result (λ root. AreRight text.now ps (value_standing root)) }
     ensures refused { (bs : List Block) → Grows bs grown.entry → IfErr result (IsClashStop bs text.now) }
     ensures bare { IsBare grown.entry → IsOk result }
@@ -74,12 +75,12 @@ fn tree_of<'de>(grown: Grown<'de>, text: &'de str) -> Result<Value<'de>, Stop<Er
 /// The error is the first fault of reading or, where the text is read, the first clash of two claims on
 /// one path; or `Stop::Memory`, where a request for memory was refused. There is no tree then.
 pub fn parse<'de>(alloc: Global, s: &'de str) -> Result<Value<'de>, Stop<Error<'de>>>
-    ensures tree { IfOk result (IsTree s.now 128) }
+    ensures tree { IfOk result (IsTree s.now depth_limit) }
     ensures root { IfOk result (IsRoot (length s.now)) }
     ensures ordered { IfOk result (λ root. IsOrdered (view root)) }
     ensures whole { IfOk result (λ root. is_whole (view root) ≡ true) }
-    ensures borrows { IfOk result (IsBorrowedTree s.now 128) }
-    ensures refused { IfErr result (IsRefusal s.now 128) }
+    ensures borrows { IfOk result (IsBorrowedTree s.now depth_limit) }
+    ensures refused { IfErr result (IsRefusal s.now depth_limit) }
     // Memory is wanted only where more than comments and blank lines stand in the text.
     ensures memory { (start : ℕ) × FirstPlace s.now start × KeepsForm s.now start result }
 {
@@ -95,7 +96,7 @@ pub fn parse_with_limit<'de>(
     limit: usize,
 ) -> Result<Value<'de>, Stop<Error<'de>>>
     requires some { 1 ≤ limit }
-    requires small { limit ≤ 128 }
+    requires small { limit ≤ depth_limit }
     ensures tree { IfOk result (IsTree s.now limit) }
     ensures root { IfOk result (IsRoot (length s.now)) }
     ensures ordered { IfOk result (λ root. IsOrdered (view root)) }

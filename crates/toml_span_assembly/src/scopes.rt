@@ -6,14 +6,14 @@ ghost use Rattle.toml_span_tree.specs.Node as tree;
 ghost use Rattle.toml_span_tree.specs.declared.value.ValueInner.TheVariants as inners;
 ghost use Rattle.toml_span_read.specs.Borrowed.{assignment_written, assignments_written, joined, key_written};
 ghost use Rattle.toml_span_read.specs.Borrowed.{keys_written, written};
-ghost use Rattle.toml_span_read.specs.Data.{event, view, onto, no_items, Node as Read, span_of};
-ghost use Rattle.toml_span_read.specs.Places.{IsInside, PartsInside, EventInside, EventsInside, KeysInside};
+ghost use Rattle.toml_span_read.specs.Data.{key_value, view, onto, no_items, ParsedValue as Read, parsed_span};
+ghost use Rattle.toml_span_read.specs.Places.{IsInside, PartsInside, KeyValueInside, KeyValuesInside, KeysInside};
 ghost use Rattle.toml_span_read.specs.Places.{ItemKeysInside};
-ghost use Rattle.toml_span_read.specs.Keys.{Part, part as part_of};
+ghost use Rattle.toml_span_read.specs.Keys.{SimpleKey, simple_key as part_of};
 ghost use Rattle.toml_span_claims.specs.code.Borrowed.{AreFrom, IsFrom, Keeps, ValueRight, array_standing};
 ghost use Rattle.toml_span_claims.specs.code.Borrowed.{table_standing};
 ghost use Rattle.toml_span_claims.specs.Borrowed.{AreRight};
-ghost use Rattle.toml_span_claims.specs.Claims.{assignment_claims, event_claims, item_claims};
+ghost use Rattle.toml_span_claims.specs.Claims.{assignment_claims, key_value_claims, item_claims};
 ghost use Rattle.toml_span_claims.specs.code.Machine.{Gives, met};
 ghost use Rattle.toml_span_claims.specs.code.Placing.{Places, Passes, ValueGives, ScopeGives};
 ghost use Rattle.toml_span_claims.specs.code.Marks.{IsMarkInside, IsHaltInside};
@@ -85,7 +85,7 @@ fn admit_beside_table<'de>(
     }
 }
 
-/// Assigns a value to a name of a node.
+/// Assigns a value to a name of a branch.
 fn assign<'de>(
     alloc: Global,
     node: &mut Branch<'de>,
@@ -93,11 +93,11 @@ fn assign<'de>(
     value: Result<Value<'de>, Halt>,
     span: Span,
 ) -> Result<(), Halt>
-    ensures gives { (v : Read) → ValueGives value.entry v → span ≡ span_of v
+    ensures gives { (v : Read) → ValueGives value.entry v → span ≡ parsed_span v
         → Places node.old node.new result (pair_at [] (part_of key.entry) v) (counts node.old) }
     ensures placed { (n : ℕ) → IsInside n key.entry.span → IfErr value.entry (IsHaltInside n)
         → IfErr result (IsHaltInside n) }
-    ensures borrows { (text : List ℕ) → (ps : List Part) → IsFrom text ps (key_written key.entry)
+    ensures borrows { (text : List ℕ) → (ps : List SimpleKey) → IsFrom text ps (key_written key.entry)
         → ValueRight text ps value.entry → Keeps text ps node.old node.new result }
 {
     let mark = pair_mark(Sort::Assigned, &key, span);
@@ -119,7 +119,7 @@ fn assign<'de>(
     }
 }
 
-/// Places an assignment below a node, inner part by inner part. `span` is the value's.
+/// Places an assignment below a branch, inner part by inner part. `span` is the value's.
 #[cycle(place_pair)]
 fn place_pair<'de>(
     alloc: Global,
@@ -129,11 +129,11 @@ fn place_pair<'de>(
     value: Result<Value<'de>, Halt>,
     span: Span,
 ) -> Result<(), Halt>
-    ensures gives { (v : Read) → ValueGives value.entry v → span ≡ span_of v
+    ensures gives { (v : Read) → ValueGives value.entry v → span ≡ parsed_span v
         → Places node.old node.new result (pair_at (map part_of inner.now) (part_of last.entry) v) (counts node.old) }
     ensures placed { (n : ℕ) → PartsInside n (map part_of inner.now) → IsInside n last.entry.span
         → IfErr value.entry (IsHaltInside n) → IfErr result (IsHaltInside n) }
-    ensures borrows { (text : List ℕ) → (ps : List Part) → AreFrom text ps (keys_written inner.now)
+    ensures borrows { (text : List ℕ) → (ps : List SimpleKey) → AreFrom text ps (keys_written inner.now)
         → IsFrom text ps (key_written last.entry)
         → ValueRight text ps value.entry → Keeps text ps node.old node.new result }
 {
@@ -158,7 +158,7 @@ fn place_pair<'de>(
     }
 }
 
-/// From the node of an inner part on, which stands already.
+/// From the branch of an inner part on, which stands already.
 #[cycle(place_pair)]
 fn pass_child<'de>(
     alloc: Global,
@@ -169,19 +169,19 @@ fn pass_child<'de>(
     value: Result<Value<'de>, Halt>,
     span: Span,
 ) -> Result<(), Halt>
-    ensures gives { (v : Read) → ValueGives value.entry v → span ≡ span_of v
+    ensures gives { (v : Read) → ValueGives value.entry v → span ≡ parsed_span v
         → Passes child.old.value child.new.value result (through_pair (part_of part.now) (map part_of rest.now)
         (part_of last.entry) v) (counts child.old.value) }
     ensures placed { (n : ℕ) → IsInside n part.now.span → PartsInside n (map part_of rest.now)
         → IsInside n last.entry.span → IfErr value.entry (IsHaltInside n) → IfErr result (IsHaltInside n) }
-    ensures borrows { (text : List ℕ) → (ps : List Part) → IsFrom text ps (key_written part.now)
+    ensures borrows { (text : List ℕ) → (ps : List SimpleKey) → IsFrom text ps (key_written part.now)
         → AreFrom text ps (keys_written rest.now) → IsFrom text ps (key_written last.entry)
         → ValueRight text ps value.entry → Keeps text ps child.old.value child.new.value result }
 {
     pass_pair(alloc, child.as_mut(), part, rest, last, value, span)
 }
 
-/// Claims the node of an inner part, and places the rest below it.
+/// Claims the branch of an inner part, and places the rest below it.
 #[cycle(place_pair)]
 fn pass_pair<'de>(
     alloc: Global,
@@ -192,12 +192,12 @@ fn pass_pair<'de>(
     value: Result<Value<'de>, Halt>,
     span: Span,
 ) -> Result<(), Halt>
-    ensures gives { (v : Read) → ValueGives value.entry v → span ≡ span_of v
+    ensures gives { (v : Read) → ValueGives value.entry v → span ≡ parsed_span v
         → Passes node.old node.new result (through_pair (part_of part.now) (map part_of rest.now)
         (part_of last.entry) v) (counts node.old) }
     ensures placed { (n : ℕ) → IsInside n part.now.span → PartsInside n (map part_of rest.now)
         → IsInside n last.entry.span → IfErr value.entry (IsHaltInside n) → IfErr result (IsHaltInside n) }
-    ensures borrows { (text : List ℕ) → (ps : List Part) → IsFrom text ps (key_written part.now)
+    ensures borrows { (text : List ℕ) → (ps : List SimpleKey) → IsFrom text ps (key_written part.now)
         → AreFrom text ps (keys_written rest.now) → IsFrom text ps (key_written last.entry)
         → ValueRight text ps value.entry → Keeps text ps node.old node.new result }
 {
@@ -210,12 +210,12 @@ fn pass_pair<'de>(
     place_pair(alloc, node, rest, last, value, span)
 }
 
-/// Places an assignment below a node.
+/// Places an assignment below a branch.
 #[cycle(value_of)]
 fn place_one<'de>(alloc: Global, pair: Assignment<'de>, node: &mut Branch<'de>) -> Result<(), Halt>
-    ensures gives { Places node.old node.new result (assignment_claims (event pair.entry) []) (counts node.old) }
-    ensures placed { (n : ℕ) → EventInside n (event pair.entry) → IfErr result (IsHaltInside n) }
-    ensures borrows { (text : List ℕ) → (ps : List Part) → AreFrom text ps (assignment_written pair.entry)
+    ensures gives { Places node.old node.new result (assignment_claims (key_value pair.entry) []) (counts node.old) }
+    ensures placed { (n : ℕ) → KeyValueInside n (key_value pair.entry) → IfErr result (IsHaltInside n) }
+    ensures borrows { (text : List ℕ) → (ps : List SimpleKey) → AreFrom text ps (assignment_written pair.entry)
         → Keeps text ps node.old node.new result }
 {
     let Assignment {
@@ -228,7 +228,7 @@ fn place_one<'de>(alloc: Global, pair: Assignment<'de>, node: &mut Branch<'de>) 
     place_pair(alloc, node, inner.as_slice(), last, value, span)
 }
 
-/// Places assignments below a node.
+/// Places assignments below a branch.
 ///
 /// An inline table is a scope of its own. What clashes in it is told behind the clashes of the key to
 /// which it is assigned, since it stands behind that key.
@@ -238,9 +238,10 @@ fn place_pairs<'de>(
     pairs: Vec<Assignment<'de>>,
     node: &mut Branch<'de>,
 ) -> Result<(), Halt>
-    ensures gives { Places node.old node.new result (event_claims (map event pairs.entry.items) []) (counts node.old) }
-    ensures placed { (n : ℕ) → EventsInside n (map event pairs.entry.items) → IfErr result (IsHaltInside n) }
-    ensures borrows { (text : List ℕ) → (ps : List Part) → AreFrom text ps (assignments_written pairs.entry.items)
+    ensures gives { Places node.old node.new result (key_value_claims (map key_value pairs.entry.items) [])
+        (counts node.old) }
+    ensures placed { (n : ℕ) → KeyValuesInside n (map key_value pairs.entry.items) → IfErr result (IsHaltInside n) }
+    ensures borrows { (text : List ℕ) → (ps : List SimpleKey) → AreFrom text ps (assignments_written pairs.entry.items)
         → Keeps text ps node.old node.new result }
 {
     for pair in pairs {
@@ -249,15 +250,16 @@ fn place_pairs<'de>(
     Ok(())
 }
 
-/// Places the assignments of a section below its node.
+/// Places the assignments of a section below its branch.
 pub(crate) fn place_all<'de>(
     alloc: Global,
     pairs: Vec<Assignment<'de>>,
     node: &mut Branch<'de>,
 ) -> Result<(), Halt>
-    ensures gives { Places node.old node.new result (event_claims (map event pairs.entry.items) []) (counts node.old) }
-    ensures placed { (n : ℕ) → EventsInside n (map event pairs.entry.items) → IfErr result (IsHaltInside n) }
-    ensures borrows { (text : List ℕ) → (ps : List Part) → AreFrom text ps (assignments_written pairs.entry.items)
+    ensures gives { Places node.old node.new result (key_value_claims (map key_value pairs.entry.items) [])
+        (counts node.old) }
+    ensures placed { (n : ℕ) → KeyValuesInside n (map key_value pairs.entry.items) → IfErr result (IsHaltInside n) }
+    ensures borrows { (text : List ℕ) → (ps : List SimpleKey) → AreFrom text ps (assignments_written pairs.entry.items)
         → Keeps text ps node.old node.new result }
 {
     if pairs.len() <= FEW {
@@ -273,9 +275,9 @@ pub(crate) fn place_all<'de>(
 #[cycle(value_of)]
 fn table_of<'de>(alloc: Global, pairs: Vec<Assignment<'de>>) -> Result<Table<'de>, Halt>
     ensures gives { ScopeGives result (λ t. inner_view (inners.Table t))
-        (event_claims (map event pairs.entry.items) []) }
-    ensures placed { (n : ℕ) → EventsInside n (map event pairs.entry.items) → IfErr result (IsHaltInside n) }
-    ensures borrows { (text : List ℕ) → (ps : List Part) → AreFrom text ps (assignments_written pairs.entry.items)
+        (key_value_claims (map key_value pairs.entry.items) []) }
+    ensures placed { (n : ℕ) → KeyValuesInside n (map key_value pairs.entry.items) → IfErr result (IsHaltInside n) }
+    ensures borrows { (text : List ℕ) → (ps : List SimpleKey) → AreFrom text ps (assignments_written pairs.entry.items)
         → IfOk result (λ table. AreRight text ps (table_standing table.entries)) }
 {
     let mut scope = Branch::new(alloc);
@@ -290,7 +292,8 @@ fn array_of<'de>(alloc: Global, elements: Vec<Val<'de>>) -> Result<Array<'de>, H
         (item_claims (onto (map view elements.entry.items) no_items) 0 []) }
     ensures placed { (n : ℕ) → ItemKeysInside n (onto (map view elements.entry.items) no_items)
         → IfErr result (IsHaltInside n) }
-    ensures borrows { (text : List ℕ) → (ps : List Part) → AreFrom text ps (joined (map written elements.entry.items))
+    ensures borrows { (text : List ℕ) → (ps : List SimpleKey)
+        → AreFrom text ps (joined (map written elements.entry.items))
         → IfOk result (λ array. AreRight text ps (array_standing array.items)) }
 {
     let mut array = Vec::with_capacity(alloc, elements.len())?;
@@ -305,7 +308,7 @@ fn array_of<'de>(alloc: Global, elements: Vec<Val<'de>>) -> Result<Array<'de>, H
 fn value_of<'de>(alloc: Global, val: Val<'de>) -> Result<Value<'de>, Halt>
     ensures gives { ValueGives result (view val.entry) }
     ensures placed { (n : ℕ) → KeysInside n (view val.entry) → IfErr result (IsHaltInside n) }
-    ensures borrows { (text : List ℕ) → (ps : List Part) → AreFrom text ps (written val.entry)
+    ensures borrows { (text : List ℕ) → (ps : List SimpleKey) → AreFrom text ps (written val.entry)
         → ValueRight text ps result }
 {
     let Val { kind, span } = val;

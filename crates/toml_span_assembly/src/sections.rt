@@ -1,14 +1,14 @@
 //! Sections placed one by one into a tree.
 ghost use Rattle.std.specs.Prelude.{◌≡◌, ℕ, List, map, [], ◌∷◌, ◌++◌, IfOk, IfErr, IfSome, IsOk, IsOkAnd, None, OnOk};
 ghost use Rattle.toml_span_read.specs.Borrowed.{assignments_written, key_written, keys_written, section_written};
-ghost use Rattle.toml_span_read.specs.Data.{event, Block, block};
-ghost use Rattle.toml_span_read.specs.Places.{IsInside, PartsInside, EventsInside, SectionInside};
-ghost use Rattle.toml_span_read.specs.Keys.{Part, part as part_of};
+ghost use Rattle.toml_span_read.specs.Data.{key_value, Block, block};
+ghost use Rattle.toml_span_read.specs.Places.{IsInside, PartsInside, KeyValuesInside, SectionInside};
+ghost use Rattle.toml_span_read.specs.Keys.{SimpleKey, simple_key as part_of};
 ghost use Rattle.toml_span_read.specs.code.Sections.{first_blocks};
 ghost use Rattle.toml_span_claims.specs.declared.claims.Sort.TheVariants.{Passed};
 ghost use Rattle.toml_span_claims.specs.code.Borrowed.{AreFrom, IsFrom, Keeps, ValueRight};
 ghost use Rattle.toml_span_claims.specs.Claims as claims;
-ghost use Rattle.toml_span_claims.specs.Claims.{event_claims};
+ghost use Rattle.toml_span_claims.specs.Claims.{key_value_claims};
 ghost use Rattle.toml_span_claims.specs.code.Marks.{IsHaltInside};
 ghost use Rattle.toml_span_claims.specs.code.Placing.{AreSections, Assembles, Opening, Opens, Passes, Places, Reaches};
 ghost use Rattle.toml_span_claims.specs.code.Relative.{adding, ending, grown, grown_here, grown_through, one_more};
@@ -47,11 +47,11 @@ fn sort_of(head: Head, rest: &[Key<'_>]) -> Sort
     } else if head.array {
         Sort::ArrayOfTables
     } else {
-        Sort::Section
+        Sort::StandardTable
     }
 }
 
-/// Places a section below a node, part by part of its header.
+/// Places a section below a branch, part by part of its header.
 #[cycle(place_section)]
 fn place_section<'de>(
     alloc: Global,
@@ -61,10 +61,11 @@ fn place_section<'de>(
     pairs: Vec<Assignment<'de>>,
 ) -> Result<(), Halt>
     ensures gives { Places node.old node.new result (section_at (counts node.old) head (map part_of parts.now)
-        (event_claims (map event pairs.entry.items) [])) (grown (counts node.old) head (map part_of parts.now)) }
+        (key_value_claims (map key_value pairs.entry.items) []))
+        (grown (counts node.old) head (map part_of parts.now)) }
     ensures placed { (n : ℕ) → PartsInside n (map part_of parts.now) → IsInside n head.line
-        → EventsInside n (map event pairs.entry.items) → IfErr result (IsHaltInside n) }
-    ensures borrows { (text : List ℕ) → (ps : List Part) → AreFrom text ps (keys_written parts.now)
+        → KeyValuesInside n (map key_value pairs.entry.items) → IfErr result (IsHaltInside n) }
+    ensures borrows { (text : List ℕ) → (ps : List SimpleKey) → AreFrom text ps (keys_written parts.now)
         → AreFrom text ps (assignments_written pairs.entry.items)
         → Keeps text ps node.old node.new result }
 {
@@ -85,7 +86,7 @@ fn place_section<'de>(
     }
 }
 
-/// From the node of a part on, in its block.
+/// From the branch of a part on, in its block.
 #[cycle(place_section)]
 fn pass_child<'de>(
     alloc: Global,
@@ -97,18 +98,18 @@ fn pass_child<'de>(
 ) -> Result<(), Halt>
     ensures gives { Passes child.old.value child.new.value result
         (through (counts child.old.value) head (part_of part.now) (map part_of rest.now)
-        (event_claims (map event pairs.entry.items) [])) (grown_through (counts child.old.value) head
+        (key_value_claims (map key_value pairs.entry.items) [])) (grown_through (counts child.old.value) head
         (map part_of rest.now)) }
     ensures placed { (n : ℕ) → IsInside n part.now.span → PartsInside n (map part_of rest.now) → IsInside n head.line
-        → EventsInside n (map event pairs.entry.items) → IfErr result (IsHaltInside n) }
-    ensures borrows { (text : List ℕ) → (ps : List Part) → IsFrom text ps (key_written part.now)
+        → KeyValuesInside n (map key_value pairs.entry.items) → IfErr result (IsHaltInside n) }
+    ensures borrows { (text : List ℕ) → (ps : List SimpleKey) → IsFrom text ps (key_written part.now)
         → AreFrom text ps (keys_written rest.now) → AreFrom text ps (assignments_written pairs.entry.items)
         → Keeps text ps child.old.value child.new.value result }
 {
     pass_header(alloc, child.as_mut(), part, rest, head, pairs)
 }
 
-/// From the node of a part on: into the latest entry where it is an array.
+/// From the branch of a part on: into the latest entry where it is an array.
 #[cycle(place_section)]
 fn pass_header<'de>(
     alloc: Global,
@@ -119,11 +120,11 @@ fn pass_header<'de>(
     pairs: Vec<Assignment<'de>>,
 ) -> Result<(), Halt>
     ensures gives { Passes node.old node.new result (through (counts node.old) head (part_of part.now)
-        (map part_of rest.now) (event_claims (map event pairs.entry.items) []))
+        (map part_of rest.now) (key_value_claims (map key_value pairs.entry.items) []))
         (grown_through (counts node.old) head (map part_of rest.now)) }
     ensures placed { (n : ℕ) → IsInside n part.now.span → PartsInside n (map part_of rest.now) → IsInside n head.line
-        → EventsInside n (map event pairs.entry.items) → IfErr result (IsHaltInside n) }
-    ensures borrows { (text : List ℕ) → (ps : List Part) → IsFrom text ps (key_written part.now)
+        → KeyValuesInside n (map key_value pairs.entry.items) → IfErr result (IsHaltInside n) }
+    ensures borrows { (text : List ℕ) → (ps : List SimpleKey) → IsFrom text ps (key_written part.now)
         → AreFrom text ps (keys_written rest.now) → AreFrom text ps (assignments_written pairs.entry.items)
         → Keeps text ps node.old node.new result }
 {
@@ -136,7 +137,7 @@ fn pass_header<'de>(
     }
 }
 
-/// Passes through a node.
+/// Passes through a branch.
 #[cycle(place_section)]
 fn descend<'de>(
     alloc: Global,
@@ -147,11 +148,11 @@ fn descend<'de>(
     pairs: Vec<Assignment<'de>>,
 ) -> Result<(), Halt>
     ensures gives { Opening IsScope (claims.header_mark head Passed part.now.span) node.old node.new result
-        (passing head (part_of part.now) (map part_of rest.now) (event_claims (map event pairs.entry.items) [])
+        (passing head (part_of part.now) (map part_of rest.now) (key_value_claims (map key_value pairs.entry.items) [])
         (counts node.old)) (grown (counts node.old) head (map part_of rest.now)) }
     ensures placed { (n : ℕ) → IsInside n part.now.span → PartsInside n (map part_of rest.now) → IsInside n head.line
-        → EventsInside n (map event pairs.entry.items) → IfErr result (IsHaltInside n) }
-    ensures borrows { (text : List ℕ) → (ps : List Part) → IsFrom text ps (key_written part.now)
+        → KeyValuesInside n (map key_value pairs.entry.items) → IfErr result (IsHaltInside n) }
+    ensures borrows { (text : List ℕ) → (ps : List SimpleKey) → IsFrom text ps (key_written part.now)
         → AreFrom text ps (keys_written rest.now) → AreFrom text ps (assignments_written pairs.entry.items)
         → Keeps text ps node.old node.new result }
 {
@@ -164,7 +165,7 @@ fn descend<'de>(
     place_section(alloc, node, rest, head, pairs)
 }
 
-/// Claims a node for a section or an entry, and places the assignments below it.
+/// Claims a branch for a section or an entry, and places the assignments below it.
 fn open_table<'de>(
     alloc: Global,
     node: &mut Branch<'de>,
@@ -174,10 +175,11 @@ fn open_table<'de>(
     pairs: Vec<Assignment<'de>>,
 ) -> Result<(), Halt>
     ensures gives { Opening (Opens sort) (claims.header_mark head sort part.now.span) node.old node.new result
-        (opening head sort (part_of part.now) (event_claims (map event pairs.entry.items) [])) (counts node.old) }
+        (opening head sort (part_of part.now) (key_value_claims (map key_value pairs.entry.items) []))
+        (counts node.old) }
     ensures placed { (n : ℕ) → IsInside n part.now.span → IsInside n head.line
-        → EventsInside n (map event pairs.entry.items) → IfErr result (IsHaltInside n) }
-    ensures borrows { (text : List ℕ) → (ps : List Part) → AreFrom text ps (assignments_written pairs.entry.items)
+        → KeyValuesInside n (map key_value pairs.entry.items) → IfErr result (IsHaltInside n) }
+    ensures borrows { (text : List ℕ) → (ps : List SimpleKey) → AreFrom text ps (assignments_written pairs.entry.items)
         → Keeps text ps node.old node.new result }
 {
     claim(alloc, &mut node.marks, header_mark(head, sort, part), part)?;
@@ -193,20 +195,20 @@ fn add_entry<'de>(
     pairs: Vec<Assignment<'de>>,
 ) -> Result<(), Halt>
     ensures gives { Reaches IsOpen IsHeld node.old node.new result
-        (adding head (part_of part.now) (event_claims (map event pairs.entry.items) []) (counts node.old []))
+        (adding head (part_of part.now) (key_value_claims (map key_value pairs.entry.items) []) (counts node.old []))
         (one_more (counts node.old)) }
     ensures placed { (n : ℕ) → IsInside n part.now.span → IsInside n head.line
-        → EventsInside n (map event pairs.entry.items) → IfErr result (IsHaltInside n) }
-    ensures borrows { (text : List ℕ) → (ps : List Part) → AreFrom text ps (assignments_written pairs.entry.items)
+        → KeyValuesInside n (map key_value pairs.entry.items) → IfErr result (IsHaltInside n) }
+    ensures borrows { (text : List ℕ) → (ps : List SimpleKey) → AreFrom text ps (assignments_written pairs.entry.items)
         → Keeps text ps node.old node.new result }
 {
     let mut entry = Branch::new(alloc);
-    open_table(alloc, &mut entry, Sort::Entry, part, head, pairs)?;
+    open_table(alloc, &mut entry, Sort::TableElement, part, head, pairs)?;
     node.entries.push(entry)?;
     Ok(())
 }
 
-/// Claims the node at the end of a header, and places the assignments there.
+/// Claims the branch at the end of a header, and places the assignments there.
 fn end_header<'de>(
     alloc: Global,
     node: &mut Branch<'de>,
@@ -215,14 +217,15 @@ fn end_header<'de>(
     pairs: Vec<Assignment<'de>>,
 ) -> Result<(), Halt>
     ensures gives { Passes node.old node.new result (ending head (part_of part.now)
-        (event_claims (map event pairs.entry.items) []) (counts node.old [])) (grown_here (counts node.old) head) }
+        (key_value_claims (map key_value pairs.entry.items) []) (counts node.old []))
+        (grown_here (counts node.old) head) }
     ensures placed { (n : ℕ) → IsInside n part.now.span → IsInside n head.line
-        → EventsInside n (map event pairs.entry.items) → IfErr result (IsHaltInside n) }
-    ensures borrows { (text : List ℕ) → (ps : List Part) → AreFrom text ps (assignments_written pairs.entry.items)
+        → KeyValuesInside n (map key_value pairs.entry.items) → IfErr result (IsHaltInside n) }
+    ensures borrows { (text : List ℕ) → (ps : List SimpleKey) → AreFrom text ps (assignments_written pairs.entry.items)
         → Keeps text ps node.old node.new result }
 {
     if !head.array {
-        return open_table(alloc, node, Sort::Section, part, head, pairs);
+        return open_table(alloc, node, Sort::StandardTable, part, head, pairs);
     }
     if node.entries.is_empty() {
         let mark = header_mark(head, Sort::ArrayOfTables, part);
@@ -235,7 +238,7 @@ fn end_header<'de>(
 fn place<'de>(alloc: Global, root: &mut Branch<'de>, section: Section<'de>) -> Result<(), Halt>
     ensures gives { Placed (block section.entry) root.old root.new result }
     ensures placed { (n : ℕ) → SectionInside n section.entry → IfErr result (IsHaltInside n) }
-    ensures borrows { (text : List ℕ) → (ps : List Part) → AreFrom text ps (section_written section.entry)
+    ensures borrows { (text : List ℕ) → (ps : List SimpleKey) → AreFrom text ps (section_written section.entry)
         → Keeps text ps root.old root.new result }
 {
     let Section {
@@ -267,7 +270,7 @@ impl<'de> Grown<'de> {
     pub(crate) fn new(alloc: Global) -> Self
         ensures grows { Grows [] result }
         ensures inside { (n : ℕ) → IsGrownInside n result }
-        ensures borrows { (text : List ℕ) → (ps : List Part) → GrownRight text ps result }
+        ensures borrows { (text : List ℕ) → (ps : List SimpleKey) → GrownRight text ps result }
         ensures bare { IsBare result }
     {
         Self {
@@ -287,7 +290,7 @@ pub(crate) fn grow<'de>(
         → OnOk result (Grows (bs ++ (block section.entry ∷ [])) grown.new) }
     ensures inside { (n : ℕ) → SectionInside n section.entry → IsGrownInside n grown.old
         → OnOk result (IsGrownInside n grown.new) }
-    ensures borrows { (text : List ℕ) → (ps : List Part) → AreFrom text ps (section_written section.entry)
+    ensures borrows { (text : List ℕ) → (ps : List SimpleKey) → AreFrom text ps (section_written section.entry)
         → GrownRight text ps grown.old → OnOk result (GrownRight text ps grown.new) }
 {
     if grown.clash.is_some() {
@@ -311,7 +314,7 @@ pub(crate) fn begin<'de>(
 ) -> Result<Grown<'de>, AllocError>
     ensures grows { AreSections (first_blocks first.entry) → IfOk result (Grows (first_blocks first.entry)) }
     ensures inside { (n : ℕ) → IfSome first.entry (SectionInside n) → IfOk result (IsGrownInside n) }
-    ensures borrows { (text : List ℕ) → (ps : List Part)
+    ensures borrows { (text : List ℕ) → (ps : List SimpleKey)
         → IfSome first.entry (λ section. AreFrom text ps (section_written section))
         → IfOk result (GrownRight text ps) }
     ensures bare { first.entry ≡ None → IsOkAnd result IsBare }
@@ -331,7 +334,8 @@ pub(crate) fn finish<'de>(grown: Grown<'de>, length: usize) -> Result<Value<'de>
     ensures gives { (bs : List Block) → Grows bs grown.entry → Assembles bs length result }
     ensures root { IfOk result (IsRoot length) }
     ensures placed { (n : ℕ) → IsGrownInside n grown.entry → IfErr result (IsHaltInside n) }
-    ensures borrows { (text : List ℕ) → (ps : List Part) → GrownRight text ps grown.entry → ValueRight text ps result }
+    ensures borrows { (text : List ℕ) → (ps : List SimpleKey) → GrownRight text ps grown.entry
+        → ValueRight text ps result }
     ensures bare { IsBare grown.entry → IsOk result }
 {
     let Grown { root, clash } = grown;

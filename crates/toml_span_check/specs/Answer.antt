@@ -18,6 +18,7 @@ use Rattle.toml_span_check.specs.declared.answer.Task.TheVariants.{Check, Show}
 use Rattle.toml_span_check.specs.declared.answer.Form.{Form}
 use Rattle.toml_span_check.specs.declared.answer.Form.TheVariants.{Plain, Tagged, Items}
 use Rattle.toml_span_lines.specs.Lines.{tree_lines}
+use Rattle.toml_span_read.specs.Limits.{depth_limit}
 
 -- the most bytes that a document may have
 abbrev pub bound : ℕ
@@ -51,8 +52,8 @@ error_text format error name text =
 -- a document, and what it gives; or none, and status 1 with the fault or the first clash
 abbrev pub IsRead : Format → Task → List ℕ → List ℕ → List ℕ → ℕ × List ℕ → Type 0
 IsRead format task pointer name text answer =
-    ((root : Value) × IsTree text 128 root × (answer ≡ given format task pointer name (view root)))
-    ⊎ ((error : Error) × (IsFault text 128 error ⊎ IsClash text 128 error)
+    ((root : Value) × IsTree text depth_limit root × (answer ≡ given format task pointer name (view root)))
+    ⊎ ((error : Error) × (IsFault text depth_limit error ⊎ IsClash text depth_limit error)
     × (answer ≡ (1, error_text format error name text)))
 
 abbrev pub too_long : Format → List ℕ → ℕ × List ℕ

@@ -12,7 +12,7 @@ use Rattle.toml_span_lex.specs.declared.span.Span.{Span}
 use Rattle.toml_span_tree.specs.declared.value.Value.{Value}
 use Rattle.toml_span_tree.specs.declared.value.ValueInner.{ValueInner, the_lemmas}
 use Rattle.toml_span_tree.specs.declared.value.ValueInner.TheVariants as inners
-use Rattle.toml_span_read.specs.Keys.{Part}
+use Rattle.toml_span_read.specs.Keys.{SimpleKey}
 use Rattle.toml_span_read.proofs.EarlierTree.{key_cmp}
 use Rattle.toml_span_read.proofs.BorrowLemmas.{all_append, all_front, all_behind}
 use Rattle.toml_span_claims.specs.declared.branch.Branch.{Branch}
@@ -51,7 +51,7 @@ standing_is n = ap standing (sym (roll-out n)) ∙ standing-roll (out-Branch n)
 
 -- ---- parts and wholes
 
-module _ (text : List ℕ) (ps : List Part) where
+module _ (text : List ℕ) (ps : List SimpleKey) where
   abbrev Right : Standing → Type 0
   Right = IsRight text ps
 
@@ -124,7 +124,7 @@ module _ (text : List ℕ) (ps : List Part) where
     ]
   ]
 
-  -- ---- nodes by name
+  -- ---- branches by name
 
   pub box_found : (test : Key → Bool) (x : Box Branch) (es : List (Key × Box Branch)) → lookup test es ≡ Some x → AreRight text ps (boxes_standing es) → AreRight text ps (standing (box_value x))
   box_found test x [] found h = absurd (none-some x found)
@@ -197,6 +197,6 @@ module _ (text : List ℕ) (ps : List Part) where
       let e : held v ≡ (false, array_standing a.items) = kept_held v (inners.Array a) span k ∙ held-Array a span in
       (ap (λ x. x.0) e, subst (λ (x : Held). AreRight text ps x.1) (sym e) h)
 
--- a fresh node
+-- a fresh branch
 pub fresh_standing : (n : Branch) → (out-Branch n).values.entries ≡ [] → (out-Branch n).tables.entries ≡ [] → (out-Branch n).entries.items ≡ [] → standing n ≡ []
 fresh_standing n values tables entries = standing_is n ∙ rw (values, tables, entries) refl

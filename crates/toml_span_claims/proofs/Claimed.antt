@@ -1,4 +1,4 @@
--- A node with one more claim.
+-- A branch with one more claim.
 use Rattle.std.proofs.Common.{◌≡◌, ℕ, zero, suc, Bool, true, false, if◌then◌else◌, not, ◌||◌, List, [], ◌∷◌, ◌++◌, length, Option, Some, None, option_map, Result, Ok, Err, refl, sym, ap, ◌∙◌, subst, inl, inr, ◌⊎◌}
 use Rattle.std.specs.BTreeMap.{BTreeMap}
 use Rattle.std.specs.Box.{box_value}
@@ -9,9 +9,9 @@ use Rattle.std.proofs.lemmas.Bool.{cases_Bool, eqb-true, or_cases, true≢false,
 use Rattle.std.proofs.lemmas.Option.{none-some}
 use Rattle.toml_span_tree.specs.Path.{Path, key, position}
 use Rattle.toml_span_lex.specs.declared.key.Key.{Key}
-use Rattle.toml_span_read.specs.Keys.{Part}
+use Rattle.toml_span_read.specs.Keys.{SimpleKey}
 use Rattle.toml_span_claims.specs.declared.claims.Sort.{Sort}
-use Rattle.toml_span_claims.specs.declared.claims.Sort.TheVariants.{Passed, Section, ArrayOfTables, Entry, Dotted, Assigned}
+use Rattle.toml_span_claims.specs.declared.claims.Sort.TheVariants.{Passed, StandardTable, ArrayOfTables, TableElement, Dotted, Assigned}
 use Rattle.toml_span_claims.specs.declared.claims.Mark.{Mark}
 use Rattle.toml_span_claims.specs.declared.claims.Halt.{Halt}
 use Rattle.toml_span_claims.specs.declared.claims.Halt.TheVariants.{Memory, Clash}
@@ -33,18 +33,18 @@ use Rattle.toml_span_claims.proofs.Placed.{reaches-then, out-roll}
 
 sort_at : ℕ → Sort
 sort_at zero = Passed
-sort_at (suc zero) = Section
+sort_at (suc zero) = StandardTable
 sort_at (suc (suc zero)) = ArrayOfTables
-sort_at (suc (suc (suc zero))) = Entry
+sort_at (suc (suc (suc zero))) = TableElement
 sort_at (suc (suc (suc (suc zero)))) = Dotted
 sort_at (suc (suc (suc (suc (suc n))))) = Assigned
 
 sort_at-number : (a : Sort) → sort_at (sort_number a) ≡ a
 unfolding sort_at
 sort_at-number Passed = refl
-sort_at-number Section = refl
+sort_at-number StandardTable = refl
 sort_at-number ArrayOfTables = refl
-sort_at-number Entry = refl
+sort_at-number TableElement = refl
 sort_at-number Dotted = refl
 sort_at-number Assigned = refl
 
@@ -89,7 +89,7 @@ named-append : (ms : List Mark) (m : Mark) → is_entry_sort m.sort ≡ false �
 named-append [] m other h = (other, tt)
 named-append (x ∷ ms) m other h = (h.0, no_entry-append ms m other h.1)
 
--- a claimed node stands at a name
+-- a claimed branch stands at a name
 pub named-fresh : (ms : List Mark) (m : Mark) → is_entry_sort m.sort ≡ false → ms ≡ [] → IsNamed (remember ms m)
 named-fresh ms m other none = rw none (other, tt)
 
@@ -184,9 +184,9 @@ deciding-remember ms m =
           ∙ decide-new (first_by_header ms) (first ms) m (headed ms) (unheaded ms)
     ]
 
--- ---- the node
+-- ---- the branch
 
--- the same node, with one more claim
+-- the same branch, with one more claim
 pub record Marked (m : Mark) (old new : Branch) : Type 0 where
   pub claims : marks new ≡ remember (marks old) m
   pub values : (out-Branch new).values ≡ (out-Branch old).values
@@ -202,7 +202,7 @@ marked-roll m old b claims values tables added = record {
   added = ap (λ (n : Branch-F Branch). n.entries.items) (out-roll b) ∙ added;
 }
 
--- what is the same below two nodes
+-- what is the same below two branches
 pub child-same : (old new : Branch) (k : List ℕ) → (out-Branch new).tables ≡ (out-Branch old).tables → child k new ≡ child k old
 child-same old new k h = ap (λ (t : BTreeMap Key (Box Branch)). option_map box_value (lookup (is_named k) t.entries)) h
 
@@ -227,7 +227,7 @@ pub counts-position : (old new : Branch) (i : ℕ) (p : Path) → item i (entrie
 unfolding count_at
 counts-position old new i p same = ap (λ o. or_zero (option_map (count_at p) o)) same
 
-pub cells-marked : (k : Part) (m : Mark) (old new : Branch) → Marked m old new → cells new ≡ change (cells old) [] (with_claim (table_claim [] k m))
+pub cells-marked : (k : SimpleKey) (m : Mark) (old new : Branch) → Marked m old new → cells new ≡ change (cells old) [] (with_claim (table_claim [] k m))
 unfolding cell_at change same_path
 cells-marked k m old new h = fun_ext at
   where
@@ -299,21 +299,21 @@ scope-marked m old new other h before =
 
 -- ---- the claim is placed
 
-pub reaches-claim : (A B : Branch → Type 0) (k : Part) (m : Mark) (old new : Branch) → met (marks old) m k.name ≡ None → Marked m old new → (A old → B new)
+pub reaches-claim : (A B : Branch → Type 0) (k : SimpleKey) (m : Mark) (old new : Branch) → met (marks old) m k.name ≡ None → Marked m old new → (A old → B new)
     → Reaches A B old new (Ok tt) (claimed (table_claim [] k m) no_claims) (counts old)
 unfolding first_clash put_all cell_at
 reaches-claim A B k m old new free h after = λ before.
     (ap (λ o. or_else o None) free, (cells-marked k m old new h, counts-marked m old new h, after before))
 
 -- before further claims
-pub reaches-claimed : (A B C : Branch → Type 0) (k : Part) (m : Mark) (old mid new : Branch) (r : Result (Unit {0}) Halt) (cs : Claims) (d : Path → ℕ)
+pub reaches-claimed : (A B C : Branch → Type 0) (k : SimpleKey) (m : Mark) (old mid new : Branch) (r : Result (Unit {0}) Halt) (cs : Claims) (d : Path → ℕ)
     → met (marks old) m k.name ≡ None → Marked m old mid → (A old → B mid) → Reaches B C mid new r cs d → Reaches A C old new r (claimed (table_claim [] k m) cs) d
 unfolding followed
 reaches-claimed A B C k m old mid new r cs d free h after more =
     reaches-then A B C old mid new r (claimed (table_claim [] k m) no_claims) cs (counts old) d (reaches-claim A B k m old mid free h after) more
 
 -- the claim clashes
-pub reaches-claim-err : (A C : Branch → Type 0) (k : Part) (m : Mark) (old new : Branch) (q : Result (Unit {0}) Halt) (e : Halt) (P : Unit {0} → Type 0) (cs : Claims) (d : Path → ℕ)
+pub reaches-claim-err : (A C : Branch → Type 0) (k : SimpleKey) (m : Mark) (old new : Branch) (q : Result (Unit {0}) Halt) (e : Halt) (P : Unit {0} → Type 0) (cs : Claims) (d : Path → ℕ)
     → q ≡ Err e → Gives (Err e) (met (marks old) m k.name) P → Reaches A C old new q (claimed (table_claim [] k m) cs) d
 unfolding first_clash cell_at
 reaches-claim-err A C k m old new q e P cs d same h = subst (λ r. Reaches A C old new r (claimed (table_claim [] k m) cs) d) (sym same) (go e h)

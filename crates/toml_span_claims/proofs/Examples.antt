@@ -3,20 +3,20 @@ use Rattle.std.specs.Prelude.{◌≡◌, refl, ⊤, ℕ, ◌+◌, Bool, true, fa
 use Rattle.toml_span_lex.specs.declared.span.Span.{Span}
 use Rattle.toml_span_tree.specs.Node.{text, integer}
 use Rattle.toml_span_tree.specs.Path.{key, position, Shape, shape_scalar, shape_array, shape_table, Place}
-use Rattle.toml_span_read.specs.Data.{Node, node, scalar, array, inline, no_items, item, no_pairs, pair, Event, Block}
-use Rattle.toml_span_read.specs.Keys.{Part}
+use Rattle.toml_span_read.specs.Data.{ParsedValue, parsed, scalar, array, inline, no_items, item, no_pairs, pair, KeyValue, Block}
+use Rattle.toml_span_read.specs.Keys.{SimpleKey}
 use Rattle.toml_span_read.specs.Grammar.{first_block, last_end}
 use Rattle.toml_span_claims.specs.declared.claims.Blame.{Blame}
 use Rattle.toml_span_claims.specs.declared.claims.Blame.TheVariants.{DuplicateTable, DuplicateKey, RedefineAsArray}
 use Rattle.toml_span_claims.specs.Paths.{same_path, enter, target, opened_by}
-use Rattle.toml_span_claims.specs.Claims.{followed, key_claims, value_claims, inner_claims, item_claims, pair_claims, event_claims, end_claims, header_claims, section_claims, claims_behind, claims}
+use Rattle.toml_span_claims.specs.Claims.{followed, key_claims, value_claims, inner_claims, item_claims, pair_claims, key_value_claims, end_claims, header_claims, section_claims, claims_behind, claims}
 use Rattle.toml_span_claims.specs.Clashes.{NamedClash}
-use Rattle.toml_span_claims.specs.Flat.{all_claims, claims_at, first_by_header, flat}
+use Rattle.toml_span_claims.specs.Flat.{all_claims, claims_at, first_claim_by_header, flat}
 use Rattle.toml_span_claims.specs.code.Machine.{nothing, change, show_all, first_clash}
 
 -- what the examples evaluate
 computed : ⊤
-unfolding same_path enter target opened_by followed key_claims value_claims inner_claims item_claims pair_claims event_claims end_claims header_claims section_claims claims_behind change show_all first_clash all_claims claims_at first_by_header flat
+unfolding same_path enter target opened_by followed key_claims value_claims inner_claims item_claims pair_claims key_value_claims end_claims header_claims section_claims claims_behind change show_all first_clash all_claims claims_at first_claim_by_header flat
 computed = tt
 
 -- ---- how documents are written
@@ -25,29 +25,29 @@ abbrev at : ℕ → ℕ → Span
 at i j = record { start = i; end = j }
 
 -- a bare key at i
-abbrev part : List ℕ → ℕ → Part
+abbrev part : List ℕ → ℕ → SimpleKey
 part name i = record { name = name; span = at i (i + length name) }
 
 -- an integer of one digit at i
-abbrev digit : ℕ → ℕ → Node
-digit n i = node (scalar (integer (pos n))) (at i (i + 1))
+abbrev digit : ℕ → ℕ → ParsedValue
+digit n i = parsed (scalar (integer (pos n))) (at i (i + 1))
 
 -- a text without escapes, which begins at i, behind its quote
-abbrev quoted : List ℕ → ℕ → Node
-quoted s i = node (scalar (text s)) (at i (i + length s))
+abbrev quoted : List ℕ → ℕ → ParsedValue
+quoted s i = parsed (scalar (text s)) (at i (i + length s))
 
 -- an assignment from i to j
-abbrev event : ℕ → ℕ → List Part → Node → Event
-event i j parts v = record { parts = parts; value = v; extent = at i j }
+abbrev key_value : ℕ → ℕ → List SimpleKey → ParsedValue → KeyValue
+key_value i j parts v = record { parts = parts; value = v; extent = at i j }
 
 -- a header whose line is from i to j, in double brackets or not, and the assignments behind it
-abbrev header : Bool → ℕ → ℕ → List Part → List Event → Block
-header double i j parts events = record { header = parts; array = double; header_span = at i j; extent = at i (last_end j events); events = events }
+abbrev header : Bool → ℕ → ℕ → List SimpleKey → List KeyValue → Block
+header double i j parts key_values = record { header = parts; array = double; header_span = at i j; extent = at i (last_end j key_values); key_values = key_values }
 
-abbrev headed : ℕ → ℕ → List Part → List Event → Block
+abbrev headed : ℕ → ℕ → List SimpleKey → List KeyValue → Block
 headed = header false
 
-abbrev entry : ℕ → ℕ → List Part → List Event → Block
+abbrev entry : ℕ → ℕ → List SimpleKey → List KeyValue → Block
 entry = header true
 
 -- ---- how answers are written
@@ -111,7 +111,7 @@ zz = codes "zz"
 
 -- `t = {a = 1,` LF ` b.c = 2, # x` LF `}`
 abbrev inline_table : List Block
-inline_table = first_block (event 0 27 (part t 0 ∷ []) (node (inline (pair (part a 5 ∷ []) (digit 1 9) (at 5 10) (pair (part b 13 ∷ part c 15 ∷ []) (digit 2 19) (at 13 20) no_pairs))) (at 4 27)) ∷ [])
+inline_table = first_block (key_value 0 27 (part t 0 ∷ []) (parsed (inline (pair (part a 5 ∷ []) (digit 1 9) (at 5 10) (pair (part b 13 ∷ part c 15 ∷ []) (digit 2 19) (at 13 20) no_pairs))) (at 4 27)) ∷ [])
 
 inline_table-told : first_clash nothing (claims inline_table) ≡ None
 unfolding computed
@@ -145,9 +145,9 @@ inline_table-at-t-c = refl
 abbrev two_entries : List Block
 two_entries =
     entry 0 6 (part a 2 ∷ []) []
-    ∷ headed 6 12 (part a 7 ∷ part b 9 ∷ []) (event 12 17 (part x 12 ∷ []) (digit 1 16) ∷ [])
+    ∷ headed 6 12 (part a 7 ∷ part b 9 ∷ []) (key_value 12 17 (part x 12 ∷ []) (digit 1 16) ∷ [])
     ∷ entry 18 24 (part a 20 ∷ []) []
-    ∷ headed 24 30 (part a 25 ∷ part b 27 ∷ []) (event 30 35 (part x 30 ∷ []) (digit 2 34) ∷ [])
+    ∷ headed 24 30 (part a 25 ∷ part b 27 ∷ []) (key_value 30 35 (part x 30 ∷ []) (digit 2 34) ∷ [])
     ∷ []
 
 two_entries-told : first_clash nothing (claims two_entries) ≡ None
@@ -194,7 +194,7 @@ two_entries-at-a-b = refl
 abbrev passed_then_section : List Block
 passed_then_section =
     headed 0 8 (part a 1 ∷ part b 3 ∷ part c 5 ∷ []) []
-    ∷ headed 8 12 (part a 9 ∷ []) (event 12 19 (part b 12 ∷ part d 14 ∷ []) (digit 1 18) ∷ [])
+    ∷ headed 8 12 (part a 9 ∷ []) (key_value 12 19 (part b 12 ∷ part d 14 ∷ []) (digit 1 18) ∷ [])
     ∷ []
 
 passed_then_section-told : first_clash nothing (claims passed_then_section) ≡ None
@@ -220,9 +220,9 @@ passed_then_section-at-a-b-d = refl
 -- `a.b.x = 1` LF `[a.c]` LF `[a]` LF `b.y = 2` LF
 abbrev dotted_then_section : List Block
 dotted_then_section =
-    first_block (event 0 9 (part a 0 ∷ part b 2 ∷ part x 4 ∷ []) (digit 1 8) ∷ [])
+    first_block (key_value 0 9 (part a 0 ∷ part b 2 ∷ part x 4 ∷ []) (digit 1 8) ∷ [])
     ++ headed 10 16 (part a 11 ∷ part c 13 ∷ []) []
-    ∷ headed 16 20 (part a 17 ∷ []) (event 20 27 (part b 20 ∷ part y 22 ∷ []) (digit 2 26) ∷ [])
+    ∷ headed 16 20 (part a 17 ∷ []) (key_value 20 27 (part b 20 ∷ part y 22 ∷ []) (digit 2 26) ∷ [])
     ∷ []
 
 dotted_then_section-told : first_clash nothing (claims dotted_then_section) ≡ tells DuplicateKey a (at 0 1) (at 17 18)
@@ -231,7 +231,7 @@ dotted_then_section-told = refl
 
 -- `a.b = 1` LF `a = 2` LF
 abbrev dotted_then_assigned : List Block
-dotted_then_assigned = first_block (event 0 7 (part a 0 ∷ part b 2 ∷ []) (digit 1 6) ∷ event 8 13 (part a 8 ∷ []) (digit 2 12) ∷ [])
+dotted_then_assigned = first_block (key_value 0 7 (part a 0 ∷ part b 2 ∷ []) (digit 1 6) ∷ key_value 8 13 (part a 8 ∷ []) (digit 2 12) ∷ [])
 
 dotted_then_assigned-told : first_clash nothing (claims dotted_then_assigned) ≡ tells DuplicateKey a (at 0 1) (at 8 9)
 unfolding computed
@@ -255,7 +255,7 @@ array_then_section-told = refl
 
 -- `a = 1` LF `[a.b]` LF
 abbrev assigned_then_passed : List Block
-assigned_then_passed = first_block (event 0 5 (part a 0 ∷ []) (digit 1 4) ∷ []) ++ headed 6 12 (part a 7 ∷ part b 9 ∷ []) [] ∷ []
+assigned_then_passed = first_block (key_value 0 5 (part a 0 ∷ []) (digit 1 4) ∷ []) ++ headed 6 12 (part a 7 ∷ part b 9 ∷ []) [] ∷ []
 
 assigned_then_passed-told : first_clash nothing (claims assigned_then_passed) ≡ tells DuplicateKey a (at 0 1) (at 7 8)
 unfolding computed
@@ -263,7 +263,7 @@ assigned_then_passed-told = refl
 
 -- `[a.b]` LF `[a]` LF `b = 1` LF
 abbrev section_then_assigned : List Block
-section_then_assigned = headed 0 6 (part a 1 ∷ part b 3 ∷ []) [] ∷ headed 6 10 (part a 7 ∷ []) (event 10 15 (part b 10 ∷ []) (digit 1 14) ∷ []) ∷ []
+section_then_assigned = headed 0 6 (part a 1 ∷ part b 3 ∷ []) [] ∷ headed 6 10 (part a 7 ∷ []) (key_value 10 15 (part b 10 ∷ []) (digit 1 14) ∷ []) ∷ []
 
 section_then_assigned-told : first_clash nothing (claims section_then_assigned) ≡ tells DuplicateKey b (at 3 4) (at 10 11)
 unfolding computed
@@ -273,7 +273,7 @@ section_then_assigned-told = refl
 abbrev dotted_beside_array : List Block
 dotted_beside_array =
     entry 0 10 (part x 2 ∷ part a 4 ∷ part c 6 ∷ []) []
-    ∷ headed 10 14 (part x 11 ∷ []) (event 14 21 (part a 14 ∷ part b 16 ∷ []) (digit 1 20) ∷ [])
+    ∷ headed 10 14 (part x 11 ∷ []) (key_value 14 21 (part a 14 ∷ part b 16 ∷ []) (digit 1 20) ∷ [])
     ∷ []
 
 dotted_beside_array-told : first_clash nothing (claims dotted_beside_array) ≡ None
@@ -302,7 +302,7 @@ dotted_beside_array-at-x-a-c-0 = refl
 
 -- `apple.color = "red"` LF, and then a header
 abbrev apple_and : Block → List Block
-apple_and next = first_block (event 0 19 (part apple 0 ∷ part color 6 ∷ []) (quoted red 15) ∷ []) ++ next ∷ []
+apple_and next = first_block (key_value 0 19 (part apple 0 ∷ part color 6 ∷ []) (quoted red 15) ∷ []) ++ next ∷ []
 
 -- `[apple]` LF
 abbrev apple_section : List Block
@@ -334,7 +334,7 @@ apple_passed-at-apple-texture = refl
 
 -- `a = {b = 1, b = 2}`
 abbrev twice_inline : List Block
-twice_inline = first_block (event 0 18 (part a 0 ∷ []) (node (inline (pair (part b 5 ∷ []) (digit 1 9) (at 5 10) (pair (part b 12 ∷ []) (digit 2 16) (at 12 17) no_pairs))) (at 4 18)) ∷ [])
+twice_inline = first_block (key_value 0 18 (part a 0 ∷ []) (parsed (inline (pair (part b 5 ∷ []) (digit 1 9) (at 5 10) (pair (part b 12 ∷ []) (digit 2 16) (at 12 17) no_pairs))) (at 4 18)) ∷ [])
 
 twice_inline-told : first_clash nothing (claims twice_inline) ≡ tells DuplicateKey b (at 5 6) (at 12 13)
 unfolding computed
@@ -342,7 +342,7 @@ twice_inline-told = refl
 
 -- `[x]` LF `y = ['z', 'zz']`
 abbrev array_of_texts : List Block
-array_of_texts = headed 0 4 (part x 1 ∷ []) (event 4 19 (part y 4 ∷ []) (node (array (item (quoted z 10) (item (quoted zz 15) no_items))) (at 8 19)) ∷ []) ∷ []
+array_of_texts = headed 0 4 (part x 1 ∷ []) (key_value 4 19 (part y 4 ∷ []) (parsed (array (item (quoted z 10) (item (quoted zz 15) no_items))) (at 8 19)) ∷ []) ∷ []
 
 array_of_texts-told : first_clash nothing (claims array_of_texts) ≡ None
 unfolding computed

@@ -1,4 +1,4 @@
--- What the nodes have become.
+-- What the branches have become.
 use Rattle.std.proofs.Common.{◌≡◌, ℕ, zero, suc, List, [], ◌∷◌, ◌++◌, Option, Some, None, option_map, option_and_then, true, false, cond, Ok, Less, is_eq, nat_cmp, inl, inr, refl, sym, ap, subst, ◌∙◌, ◌==◌, append_assoc, arith, length, vec_len}
 use Rattle.std.specs.Prelude.{IfSome}
 use Rattle.std.specs.BTreeMap.{BTreeMap, insert_entry}
@@ -25,10 +25,10 @@ use Rattle.toml_span_tree.proofs.Values.{inner_view-Table, inner_view-Array, ent
 use Rattle.toml_span_read.proofs.EarlierTree.{key_cmp, same_name}
 use Rattle.toml_span_claims.specs.declared.claims.Mark.{Mark}
 use Rattle.toml_span_claims.specs.declared.claims.Sort.{Sort}
-use Rattle.toml_span_claims.specs.declared.claims.Sort.TheVariants.{Passed, Section, ArrayOfTables, Entry, Dotted, Assigned}
+use Rattle.toml_span_claims.specs.declared.claims.Sort.TheVariants.{Passed, StandardTable, ArrayOfTables, TableElement, Dotted, Assigned}
 use Rattle.toml_span_claims.specs.declared.branch.Branch.{Branch}
 use Rattle.toml_span_claims.specs.declared.branch.Branch.TheViews.{out-Branch}
-use Rattle.toml_span_claims.specs.Claims.{shape_of, key_span_of}
+use Rattle.toml_span_claims.specs.Claims.{shape_claimed, key_span_of}
 use Rattle.toml_span_claims.specs.Clashes.{or_else}
 use Rattle.toml_span_claims.specs.Flat.{by_header}
 use Rattle.toml_span_claims.specs.code.Marks.{first_by_header, deciding}
@@ -39,19 +39,19 @@ use Rattle.toml_span_claims.proofs.Claimed.{sound-shape, sound-named, sound-entr
 use Rattle.toml_span_claims.proofs.KeyMaps.{cases_ordering}
 use Rattle.toml_span_claims.proofs.Ordered.{members-ordered}
 
--- ---- values and nodes by name
+-- ---- values and branches by name
 
--- what stands at a name: the original value, or what the node of the name has become
+-- what stands at a name: the original value, or what the branch of the name has become
 abbrev pub Stands : Option (Box Branch) → Option (Key × Value) → Option (Key × Value) → Type 0
 Stands None old new = new ≡ old
 Stands (Some b) old new = old ≡ None → (e : Key × Value) × (new ≡ Some e) × Becomes (box_value b) (Ok (e.0.span, e.1))
 
--- the same, where the node of the name may be left to be finished
+-- the same, where the branch of the name may be left to be finished
 abbrev pub StandsSoFar : Option (Box Branch) → Option (Box Branch) → Option (Key × Value) → Option (Key × Value) → Type 0
 StandsSoFar node None old new = Stands node old new
 StandsSoFar node (Some b) old new = (node ≡ Some b) × (new ≡ old)
 
--- the values, where all nodes but those that are left are finished
+-- the values, where all branches but those that are left are finished
 pub record Filled (tables left : List (Key × Box Branch)) (old new : List (Key × Value)) : Type 0 where
   pub sorted : IsStrictlySortedBy key_cmp (keys_of left)
   pub stands : (name : List ℕ) → StandsSoFar (lookup (is_named name) tables) (lookup (is_named name) left) (lookup_entry (is_named name) old) (lookup_entry (is_named name) new)
@@ -103,7 +103,7 @@ none-behind : {X : Type 0} (k : Key) (es : List (Key × X)) → AllByRecursion (
 none-behind k [] h = refl
 none-behind k (e ∷ es) h = rw (h.0) (none-behind k es h.1)
 
--- at a name, once the next node is finished
+-- at a name, once the next branch is finished
 finished-one : (name : List ℕ) (tables : Option (Box Branch)) (k made : Key) (b : Box Branch) (left : List (Key × Box Branch)) (old : Option (Key × Value)) (new : List (Key × Value)) (v : Value)
     → cow_str_bytes made.name ≡ cow_str_bytes k.name → Becomes (box_value b) (Ok (made.span, v)) → AllByRecursion (λ q. key_cmp k q ≡ Less) (keys_of left)
     → StandsSoFar tables (lookup (is_named name) ((k, b) ∷ left)) old (lookup_entry (is_named name) new)
@@ -118,7 +118,7 @@ finished-one name tables k made b left old new v named become behind h =
       | inr off ↦ rw (entry-others name made v new (same ∙ off)) (rw off at h)
     ]
 
--- one node more is finished
+-- one branch more is finished
 pub filled-more : (tables : List (Key × Box Branch)) (k made : Key) (b : Box Branch) (left : List (Key × Box Branch)) (old new : List (Key × Value)) (v : Value)
     → made.name ≡ k.name → Becomes (box_value b) (Ok (made.span, v)) → Filled tables ((k, b) ∷ left) old new → Filled tables left old (insert_entry key_cmp new made v)
 filled-more tables k made b left old new v named become h = record {
@@ -183,25 +183,25 @@ no_entry-all : (ms : List Mark) → NoEntry ms → AllByRecursion (λ m. is_entr
 no_entry-all [] h = tt
 no_entry-all (m ∷ ms) h = (h.0, no_entry-all ms h.1)
 
--- a node at a name stands at its key
+-- a branch at a name stands at its key
 named_key : (sort : Sort) (at : Span) → is_entry_sort sort ≡ false → key_span_of sort at ≡ Some at
 named_key Passed at h = refl
-named_key Section at h = refl
+named_key StandardTable at h = refl
 named_key ArrayOfTables at h = refl
-named_key Entry at h = absurd (false≢true (sym h))
+named_key TableElement at h = absurd (false≢true (sym h))
 named_key Dotted at h = refl
 named_key Assigned at h = refl
 
 -- what is no array is a table
-table_shape : (sort : Sort) → is_array_sort sort ≡ false → shape_of sort ≡ shape_table
+table_shape : (sort : Sort) → is_array_sort sort ≡ false → shape_claimed sort ≡ shape_table
 table_shape Passed h = refl
-table_shape Section h = refl
+table_shape StandardTable h = refl
 table_shape ArrayOfTables h = absurd (false≢true (sym h))
-table_shape Entry h = refl
+table_shape TableElement h = refl
 table_shape Dotted h = refl
 table_shape Assigned h = refl
 
--- the mark that decides on a node at a name, and on an entry
+-- the mark that decides on a branch at a name, and on an entry
 named-decides : (ms : List Mark) → IsNamed ms → (m : Mark) × (deciding ms ≡ Some m) × (key_span_of m.sort m.key ≡ Some m.key)
 named-decides [] h = absurd h
 named-decides (x ∷ ms) h =
@@ -221,7 +221,7 @@ array-decides x m array is =
 
 -- ---- what is shown
 
--- what a node has become shows what the node keeps, at the key's span that the deciding mark gives
+-- what a branch has become shows what the branch keeps, at the key's span that the deciding mark gives
 became-shows : (c : Branch) (at : Span) (v : Value) (o : Option Span) → Becomes c (Ok (at, v)) → Sound c
     → (m : Mark) × (deciding (marks c) ≡ Some m) × (key_span_of m.sort m.key ≡ o) → (p : Path)
     → option_map tree_place (reached p (o, view v)) ≡ place_shown (cell_at p c)
@@ -231,7 +231,7 @@ became-shows c at v o become good d [] =
     rw (e, d.1, d.2)
 became-shows c at v o become good d (s ∷ p) = (become good).1 s p
 
--- a node at a name
+-- a branch at a name
 named-shows : (c : Branch) (at : Span) (v : Value) → Becomes c (Ok (at, v)) → Sound c → IsNamed (marks c) → (p : Path)
     → option_map tree_place (reached p (Some at, view v)) ≡ place_shown (cell_at p c)
 named-shows c at v become good named p =
@@ -266,11 +266,11 @@ finished : (tables left : List (Key × Box Branch)) (old new : List (Key × Valu
     → Stands (lookup (is_named name) tables) (lookup_entry (is_named name) old) (lookup_entry (is_named name) new)
 finished tables left old new name none h = rw none at (h.stands name)
 
--- a node at a name, and its name among the values
+-- a branch at a name, and its name among the values
 node-named : (n : Branch) → Sound n → (name : List ℕ) (c : Branch) → child name n ≡ Some c → (closed name n ≡ None) × IsNamed (marks c) × Sound c
 node-named n good name c is = let named = sound-named n good name c is in (named.0, named.1, sound-below n good name c is)
 
--- a finished table shows below it what the node's cells show
+-- a finished table shows below it what the branch's cells show
 finished-shows : (t : Table) (left : List (Key × Box Branch)) (n : Branch) → left ≡ [] → Filled (out-Branch n).tables.entries left (out-Branch n).values.entries t.entries → Sound n → entries n ≡ []
     → ShowsBelow (inner_view (table_inner t)) (cells n)
 unfolding cell_at
@@ -296,7 +296,7 @@ finished-ordered t left n none h ascend good =
     rw (inner_view-Table t) (members-ordered t.entries ascend
     (λ name e is. name-ordered _ _ _ e (finished _ _ _ _ name none h) (node-named n good name) (sound-ordered n good name) is))
 
--- where all nodes are finished
+-- where all branches are finished
 pub filled-finishes : (tables : BTreeMap Key (Box Branch)) (values t : Table) (left : List (Key × Box Branch)) → left ≡ [] → Filled tables.entries left values.entries t.entries → NamesAscend t
     → Finishes tables values (Ok t)
 filled-finishes tables values t left none h ascend n sameTables sameValues scope =
@@ -305,24 +305,24 @@ filled-finishes tables values t left none h ascend n sameTables sameValues scope
 
 -- ---- tables and arrays of tables
 
--- what has become of a node, whose shape and whose places below it are told apart
+-- what has become of a branch, whose shape and whose places below it are told apart
 pub became : (n : Branch) (i : ValueInner) (spans : Span × Span) (v : Value) → IfSome (deciding (marks n)) (λ m. spans ≡ (m.key, m.extent)) → view v ≡ tree.node (inner_view i) spans.1
-    → (Sound n → ((m : Mark) → deciding (marks n) ≡ Some m → tree_shape (inner_view i) ≡ shape_of m.sort) × ShowsBelow (inner_view i) (cells n) × HoldsOrdered (inner_view i))
+    → (Sound n → ((m : Mark) → deciding (marks n) ≡ Some m → tree_shape (inner_view i) ≡ shape_claimed m.sort) × ShowsBelow (inner_view i) (cells n) × HoldsOrdered (inner_view i))
     → Becomes n (Ok (spans.0, v))
 became n i spans v placed seen h good = (place, rw seen ((h good).1), rw seen ((h good).2))
   where
     place : (m : Mark) (at : Option Span) → deciding (marks n) ≡ Some m
-        → (spans.0 ≡ m.key) × (tree_place (at, view v) ≡ record { shape = shape_of m.sort; key_span = at; span = m.extent })
+        → (spans.0 ≡ m.key) × (tree_place (at, view v) ≡ record { shape = shape_claimed m.sort; key_span = at; span = m.extent })
     place m at is =
         let stands : spans ≡ (m.key, m.extent) = rw is at placed in
         (ap (λ w. w.0) stands, rw (seen, (h good).0 m is, stands))
 
--- a node without entries becomes a table
+-- a branch without entries becomes a table
 pub became-table : (n : Branch) (t : Table) (spans : Span × Span) (v : Value) → IfSome (deciding (marks n)) (λ m. spans ≡ (m.key, m.extent)) → view v ≡ tree.node (inner_view (table_inner t)) spans.1
     → entries n ≡ [] → Finishes (out-Branch n).tables (out-Branch n).values (Ok t) → Becomes n (Ok (spans.0, v))
 became-table n t spans v placed seen none made = became n (table_inner t) spans v placed seen (λ good. let whole = made n refl refl (good, none) in (shape good, whole.0, whole.1))
   where
-    shape : Sound n → (m : Mark) → deciding (marks n) ≡ Some m → tree_shape (inner_view (table_inner t)) ≡ shape_of m.sort
+    shape : Sound n → (m : Mark) → deciding (marks n) ≡ Some m → tree_shape (inner_view (table_inner t)) ≡ shape_claimed m.sort
     shape good m is =
         let plain : NoArray (marks n) = rw none at (sound-shape n good) in
         rw (inner_view-Table t) (sym (table_shape m.sort (deciding-all (λ m. is_array_sort m.sort ≡ false) (marks n) m (no_array-all (marks n) plain) is)))
@@ -352,7 +352,7 @@ no_entries n h = let v = (out-Branch n).entries in nil_from_length v.items (omeg
 pub some_entries : (n : Branch) → false ≡ (vec_len (out-Branch n).entries == 0) → entries n ≡ [] → ⊥
 some_entries n h none = let v = (out-Branch n).entries in eqb-false (vec_len v) 0 (sym h) (omega (arith, v.ok.0, ap length none))
 
--- a sound node with entries is an array of tables
+-- a sound branch with entries is an array of tables
 array-of : (n : Branch) (ns : List Branch) → entries n ≡ ns → (ns ≡ [] → ⊥) → IsTableOrArray n ns → IsArray n
 array-of n [] is some h = absurd (some refl)
 array-of n (x ∷ xs) is some h = h
@@ -369,14 +369,14 @@ array-shows n a made good arr (position i) p =
 array-ordered : (n : Branch) (a : Array) → EachBecomes (entries n) (Ok a) → Sound n → HoldsOrdered (inner_view (array_inner a))
 array-ordered n a made good = rw (inner_view-Array a) (elements-ordered (entries n) a.items made (sound-inside n good))
 
--- a node with entries becomes an array
+-- a branch with entries becomes an array
 pub became-array : (n : Branch) (a : Array) (spans : Span × Span) (v : Value) → IfSome (deciding (marks n)) (λ m. spans ≡ (m.key, m.extent)) → view v ≡ tree.node (inner_view (array_inner a)) spans.1
     → (entries n ≡ [] → ⊥) → EachBecomes (entries n) (Ok a) → Becomes n (Ok (spans.0, v))
 became-array n a spans v placed seen some made =
     became n (array_inner a) spans v placed seen
     (λ good. let arr = array-of n (entries n) refl some (sound-shape n good) in (shape arr, array-shows n a made good arr, array-ordered n a made good))
   where
-    shape : IsArray n → (m : Mark) → deciding (marks n) ≡ Some m → tree_shape (inner_view (array_inner a)) ≡ shape_of m.sort
+    shape : IsArray n → (m : Mark) → deciding (marks n) ≡ Some m → tree_shape (inner_view (array_inner a)) ≡ shape_claimed m.sort
     shape arr m is =
         let claim : arr.claim ≡ m = array-decides arr.claim m arr.array (rw arr.only at is) in
         rw (inner_view-Array a, ← claim, arr.array)

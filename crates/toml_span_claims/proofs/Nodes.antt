@@ -1,4 +1,4 @@
--- What a node keeps and how many entries there are, level by level.
+-- What a branch keeps and how many entries there are, level by level.
 use Rattle.std.proofs.Common.{◌≡◌, ℕ, List, [], ◌∷◌, length, Some, None, option_map, refl, sym, ap, ◌∙◌}
 use Rattle.std.specs.Map.{lookup, lookup_entry}
 use Rattle.std.specs.Box.{box_value}
@@ -42,7 +42,7 @@ pub counts-unopened : (n : Branch) (i : ℕ) → item i (entries n) ≡ None →
 unfolding count_at
 counts-unopened n i h = fun_ext (λ p. ap (λ o. or_zero (option_map (count_at p) o)) h)
 
--- ---- the node itself
+-- ---- the branch itself
 
 pub cells-here : (n : Branch) → cells n [] ≡ own_cell (marks n)
 unfolding cell_at
@@ -52,7 +52,7 @@ pub counts-here : (n : Branch) → counts n [] ≡ length (entries n)
 unfolding count_at
 counts-here n = refl
 
--- ---- fresh nodes
+-- ---- fresh branches
 
 pub no-child : (n : Branch) (k : List ℕ) → (out-Branch n).tables.entries ≡ [] → child k n ≡ None
 no-child n k h = ap (λ es. option_map box_value (lookup (is_named k) es)) h

@@ -5,7 +5,7 @@ use Rattle.std.proofs.lemmas.Bool.{false≢true}
 use Rattle.toml_span_lex.specs.declared.span.Span.{Span}
 use Rattle.toml_span_read.specs.Places.{IsInside}
 use Rattle.toml_span_claims.specs.declared.claims.Sort.{Sort}
-use Rattle.toml_span_claims.specs.declared.claims.Sort.TheVariants.{Passed, Section, ArrayOfTables, Entry, Dotted, Assigned}
+use Rattle.toml_span_claims.specs.declared.claims.Sort.TheVariants.{Passed, StandardTable, ArrayOfTables, TableElement, Dotted, Assigned}
 use Rattle.toml_span_claims.specs.declared.claims.Blame.{Blame}
 use Rattle.toml_span_claims.specs.declared.claims.Blame.TheVariants as blames
 use Rattle.toml_span_claims.specs.declared.claims.Mark.{Mark}
@@ -25,39 +25,39 @@ IsTold sort blames.RedefineAsArray = by_header sort ≡ true
 
 blame_told : (earlier later : Sort) → IfSome (blame earlier later) (IsTold later)
 blame_told Passed Passed = tt
-blame_told Passed Section = tt
+blame_told Passed StandardTable = tt
 blame_told Passed ArrayOfTables = refl
-blame_told Passed Entry = tt
+blame_told Passed TableElement = tt
 blame_told Passed Dotted = tt
 blame_told Passed Assigned = tt
-blame_told Section Passed = tt
-blame_told Section Section = refl
-blame_told Section ArrayOfTables = refl
-blame_told Section Entry = tt
-blame_told Section Dotted = tt
-blame_told Section Assigned = tt
+blame_told StandardTable Passed = tt
+blame_told StandardTable StandardTable = refl
+blame_told StandardTable ArrayOfTables = refl
+blame_told StandardTable TableElement = tt
+blame_told StandardTable Dotted = tt
+blame_told StandardTable Assigned = tt
 blame_told ArrayOfTables Passed = tt
-blame_told ArrayOfTables Section = refl
+blame_told ArrayOfTables StandardTable = refl
 blame_told ArrayOfTables ArrayOfTables = tt
-blame_told ArrayOfTables Entry = tt
+blame_told ArrayOfTables TableElement = tt
 blame_told ArrayOfTables Dotted = tt
 blame_told ArrayOfTables Assigned = tt
-blame_told Entry Passed = tt
-blame_told Entry Section = tt
-blame_told Entry ArrayOfTables = tt
-blame_told Entry Entry = tt
-blame_told Entry Dotted = tt
-blame_told Entry Assigned = tt
+blame_told TableElement Passed = tt
+blame_told TableElement StandardTable = tt
+blame_told TableElement ArrayOfTables = tt
+blame_told TableElement TableElement = tt
+blame_told TableElement Dotted = tt
+blame_told TableElement Assigned = tt
 blame_told Dotted Passed = tt
-blame_told Dotted Section = tt
+blame_told Dotted StandardTable = tt
 blame_told Dotted ArrayOfTables = tt
-blame_told Dotted Entry = tt
+blame_told Dotted TableElement = tt
 blame_told Dotted Dotted = tt
 blame_told Dotted Assigned = tt
 blame_told Assigned Passed = tt
-blame_told Assigned Section = tt
+blame_told Assigned StandardTable = tt
 blame_told Assigned ArrayOfTables = tt
-blame_told Assigned Entry = tt
+blame_told Assigned TableElement = tt
 blame_told Assigned Dotted = tt
 blame_told Assigned Assigned = tt
 

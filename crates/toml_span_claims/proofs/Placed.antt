@@ -21,7 +21,7 @@ use Rattle.toml_span_claims.specs.declared.claims.Blame.{Blame}
 use Rattle.toml_span_claims.specs.declared.claims.Mark.{Mark}
 use Rattle.toml_span_claims.specs.declared.claims.Meeting.{Meeting}
 use Rattle.toml_span_claims.specs.declared.claims.Sort.{Sort}
-use Rattle.toml_span_claims.specs.declared.claims.Sort.TheVariants.{Passed, Section, ArrayOfTables, Entry, Dotted, Assigned}
+use Rattle.toml_span_claims.specs.declared.claims.Sort.TheVariants.{Passed, StandardTable, ArrayOfTables, TableElement, Dotted, Assigned}
 use Rattle.toml_span_claims.specs.declared.claims.Halt.{Halt}
 use Rattle.toml_span_claims.specs.declared.claims.Halt.TheVariants.{Memory, Clash}
 use Rattle.toml_span_claims.specs.declared.branch.Branch.{Branch, the_lemmas}
@@ -73,9 +73,9 @@ reaches-err A B C old mid new q e xs ys c d same h before =
     (λ t clash. told-followed (cells old) xs ys ∙ ap (λ o. or_else o (first_clash (put_all (cells old) xs) ys)) clash)
     (h before)
 
--- ---- another node at a name
+-- ---- another branch at a name
 
--- the same node, with w as the node of the name k
+-- the same branch, with w as the branch of the name k
 pub record SetsChild (k : List ℕ) (w n new : Branch) : Type 0 where
   pub claims : marks new ≡ marks n
   pub added : entries new ≡ entries n
@@ -88,7 +88,7 @@ roll-out n = search (rules, the_lemmas)
 pub out-roll : (n : Branch-F Branch) → out-Branch (roll-Branch n) ≡ n
 out-roll n = search (rules, the_lemmas)
 
--- what a node map holds under a name
+-- what a branch map holds under a name
 child-put : (k name : List ℕ) (w : Box Branch) (o : Option (Box Branch)) → option_map box_value (cond (same k name) (Some w) o) ≡ cond (bytes_eq k name) (Some (box_value w)) (option_map box_value o)
 child-put k name w o = rw (is_eq-slice_cmp k name) (go (bytes_eq k name))
   where
@@ -168,7 +168,7 @@ counts-set n new w k sets = fun_ext at
     at (key name ∷ p) = ap (λ o. or_zero (option_map (count_at p) o)) (sets.child_is name) ∙ below (bytes_eq k name) name p
     at (position i ∷ p) = ap (λ xs. or_zero (option_map (count_at p) (item i xs))) sets.added
 
--- whichever of two nodes is found
+-- whichever of two branches is found
 chosen : (b : Bool) (w c : Branch) (o : Option Branch) → cond b (Some w) o ≡ Some c → ((b ≡ true) × (w ≡ c)) ⊎ (o ≡ Some c)
 chosen true w c o h = inl (refl, cc)
 chosen false w c o h = inr h
@@ -207,7 +207,7 @@ scope-set n new w k sets free held (sound m table names items ordered below insi
       | inr other ↦ below name c other
     ]
 
--- what is placed in the node of a name, which may be a fresh one
+-- what is placed in the branch of a name, which may be a fresh one
 places-below : (n new x w : Branch) (k : List ℕ) (r : Result (Unit {0}) Halt) (cs : (Path → ℕ) → Claims) (c : (Path → ℕ) → Path → ℕ)
     → (λ p. cells n (key k ∷ p)) ≡ cells x → (λ p. counts n (key k ∷ p)) ≡ counts x → (IsScope n → closed k n ≡ None) → (IsScope n → IsChild x)
     → SetsChild k w n new → Passes x w r (cs (counts x)) (c (counts x))
@@ -224,7 +224,7 @@ places-below n new x w k r cs c at count free start sets h =
     ))
     (h (start before)))
 
--- the node of a name in a scope
+-- the branch of a name in a scope
 pub held-child : (n x : Branch) (k : List ℕ) → child k n ≡ Some x → IsScope n → (closed k n ≡ None) × IsHeld x
 held-child n x k found (sound m table names items ordered below inside, none) = ((names k x found).0, (below k x found, (names k x found).1))
 
@@ -273,9 +273,9 @@ places-beside n new k q e c cs P d missing here same h before =
 
 closed-clashes : (s : Sort) (f : Blame → Meeting) (g : Meeting → NamedClash) → option_map g (or_else (option_map f (blame Assigned s)) None) ≡ None → is_entry_sort s ≡ false → ⊥
 closed-clashes Passed f g h e = none-some _ (sym h)
-closed-clashes Section f g h e = none-some _ (sym h)
+closed-clashes StandardTable f g h e = none-some _ (sym h)
 closed-clashes ArrayOfTables f g h e = none-some _ (sym h)
-closed-clashes Entry f g h e = false≢true (sym e)
+closed-clashes TableElement f g h e = false≢true (sym e)
 closed-clashes Dotted f g h e = none-some _ (sym h)
 closed-clashes Assigned f g h e = none-some _ (sym h)
 

@@ -12,7 +12,7 @@ use Rattle.toml_span_lex.specs.Strings.{BorrowsWhereSame}
 use Rattle.toml_span_tree.specs.declared.value.ValueInner.TheOpen.{ValueInner-F, Value-F}
 use Rattle.toml_span_tree.specs.declared.value.Value.{Value}
 use Rattle.toml_span_tree.specs.declared.value.ValueInner.TheFolds.{fold-Value}
-use Rattle.toml_span_read.specs.Keys.{Part}
+use Rattle.toml_span_read.specs.Keys.{SimpleKey}
 use Rattle.toml_span_read.specs.Borrowed.{Written, string as string_written, name as name_written}
 
 -- ---- what stands in a tree
@@ -65,27 +65,27 @@ value_standing v = (held v).1
 
 -- ---- what is borrowed
 
-abbrev pub IsKeyOf : Part → List Part → Type 0
+abbrev pub IsKeyOf : SimpleKey → List SimpleKey → Type 0
 IsKeyOf p [] = ⊥
 IsKeyOf p (q ∷ qs) = (p ≡ q) ⊎ IsKeyOf p qs
 
 -- where one of these keys stands that has the name: borrowed exactly where the name equals the text there
-abbrev pub IsNamedBy : List ℕ → List Part → CowStr Global → Type 0
+abbrev pub IsNamedBy : List ℕ → List SimpleKey → CowStr Global → Type 0
 IsNamedBy text ps s =
     (at : Span) × IsKeyOf (record { name = cow_str_bytes s; span = at }) ps × BorrowsWhereSame text at s
 
 -- in a tree whose keys are of these
-abbrev pub IsRight : List ℕ → List Part → Standing → Type 0
+abbrev pub IsRight : List ℕ → List SimpleKey → Standing → Type 0
 IsRight text ps (string s span) = BorrowsWhereSame text span s
 IsRight text ps (key s span) =
     BorrowsWhereSame text span s × IsKeyOf (record { name = cow_str_bytes s; span = span }) ps
 IsRight text ps (title s) = IsNamedBy text ps s
 
-abbrev pub AreRight : List ℕ → List Part → List Standing → Type 0
+abbrev pub AreRight : List ℕ → List SimpleKey → List Standing → Type 0
 AreRight text ps xs = AllByRecursion (IsRight text ps) xs
 
 -- the keys of what was read
-abbrev pub keys_of : List Written → List Part
+abbrev pub keys_of : List Written → List SimpleKey
 keys_of [] = []
 keys_of (string_written s span ∷ ws) = keys_of ws
 keys_of (name_written s span ∷ ws) = record { name = cow_str_bytes s; span = span } ∷ keys_of ws

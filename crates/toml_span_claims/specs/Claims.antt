@@ -2,14 +2,16 @@
 use Rattle.std.specs.Prelude.{ℕ, zero, suc, if◌then◌else◌, List, [], ◌∷◌, Option, Some, None}
 use Rattle.toml_span_lex.specs.declared.span.Span.{Span}
 use Rattle.toml_span_tree.specs.Path.{Path, Place, Shape, shape_array, shape_table, shape_scalar}
-use Rattle.toml_span_read.specs.Keys.{Part}
-use Rattle.toml_span_read.specs.Data.{Inner, scalar, array, inline, Node, node, span_of, Items, no_items, item, Pairs}
-use Rattle.toml_span_read.specs.Data.{no_pairs, pair, Event, Block}
+use Rattle.toml_span_read.specs.Keys.{SimpleKey}
+use Rattle.toml_span_read.specs.Data.{ParsedInner, scalar, array, inline, ParsedValue, parsed, parsed_span, ParsedItems}
+use Rattle.toml_span_read.specs.Data.{no_items, item, ParsedPairs}
+use Rattle.toml_span_read.specs.Data.{no_pairs, pair, KeyValue, Block}
 use Rattle.toml_span_claims.specs.declared.claims.Mark.{Mark}
 use Rattle.toml_span_claims.specs.declared.claims.Sort.{Sort}
-use Rattle.toml_span_claims.specs.declared.claims.Sort.TheVariants.{ArrayOfTables, Entry, Dotted, Assigned, Section}
+use Rattle.toml_span_claims.specs.declared.claims.Sort.TheVariants.{ArrayOfTables, TableElement, Dotted, Assigned}
+use Rattle.toml_span_claims.specs.declared.claims.Sort.TheVariants.{StandardTable}
 use Rattle.toml_span_claims.specs.declared.claims.Sort.TheVariants.{Passed}
-use Rattle.toml_span_claims.specs.Paths.{with_key, with_position, enter, section_path, entries_at, opened_by}
+use Rattle.toml_span_claims.specs.Paths.{with_key, with_position, enter, section_path, elements_added, opened_by}
 use Rattle.toml_span_claims.specs.declared.claims.Head.{Head}
 
 -- A path is claimed by a key of this name. The mark says in which way, and the place is what stands there if this claim
@@ -36,60 +38,60 @@ followed (scope inner cs) rest = scope inner (followed cs rest)
 -- ---- tables
 
 -- what headers and dotted keys make
-abbrev pub shape_of : Sort → Shape
-shape_of ArrayOfTables = shape_array
-shape_of _ = shape_table
+abbrev pub shape_claimed : Sort → Shape
+shape_claimed ArrayOfTables = shape_array
+shape_claimed _ = shape_table
 
--- an entry of an array stands at no key
+-- an element of an array of tables stands at no key
 abbrev pub key_span_of : Sort → Span → Option Span
-key_span_of Entry key = None
+key_span_of TableElement key = None
 key_span_of _ key = Some key
 
 -- What stands where a claim of a table, or of an array of tables, decides. That of a header which passes through an
--- entry never does: the entry's own claim is earlier.
-abbrev pub place_of : Mark → Place
-place_of m = record { shape = shape_of m.sort; key_span = key_span_of m.sort m.key; span = m.extent }
+-- element never does: the element's own claim is earlier.
+abbrev pub place_claimed : Mark → Place
+place_claimed m = record { shape = shape_claimed m.sort; key_span = key_span_of m.sort m.key; span = m.extent }
 
-abbrev pub table_claim : Path → Part → Mark → Claim
-table_claim p k m = record { path = p; name = k.name; mark = m; place = place_of m }
+abbrev pub table_claim : Path → SimpleKey → Mark → Claim
+table_claim p k m = record { path = p; name = k.name; mark = m; place = place_claimed m }
 
 -- ---- assignments
 
-abbrev pub value_shape : Inner → Shape
+abbrev pub value_shape : ParsedInner → Shape
 value_shape (scalar s) = shape_scalar s
 value_shape (array vs) = shape_array
 value_shape (inline ps) = shape_table
 
-abbrev pub inner_of : Node → Inner
-inner_of (node k span) = k
+abbrev pub parsed_inner : ParsedValue → ParsedInner
+parsed_inner (parsed k span) = k
 
 abbrev pub pair_mark : Sort → Span → Span → Mark
 pair_mark sort key span = record { sort = sort; key = key; line = span; extent = span }
 
 -- an inner part of a dotted key claims a table that stands where the value stands
-abbrev pub dotted : Path → Part → Node → Claim
-dotted p k v = table_claim p k (pair_mark Dotted k.span (span_of v))
+abbrev pub dotted : Path → SimpleKey → ParsedValue → Claim
+dotted p k v = table_claim p k (pair_mark Dotted k.span (parsed_span v))
 
 -- its last part claims the value
-abbrev pub assigned : Path → Part → Node → Claim
+abbrev pub assigned : Path → SimpleKey → ParsedValue → Claim
 assigned p k v = record {
   path = p;
   name = k.name;
-  mark = pair_mark Assigned k.span (span_of v);
-  place = record { shape = value_shape (inner_of v); key_span = Some k.span; span = span_of v };
+  mark = pair_mark Assigned k.span (parsed_span v);
+  place = record { shape = value_shape (parsed_inner v); key_span = Some k.span; span = parsed_span v };
 }
 
 -- an element of an array is assigned to its position
-abbrev pub element : Path → Node → Claim
+abbrev pub element : Path → ParsedValue → Claim
 element p v = record {
   path = p;
   name = [];
-  mark = pair_mark Assigned (span_of v) (span_of v);
-  place = record { shape = value_shape (inner_of v); key_span = None; span = span_of v };
+  mark = pair_mark Assigned (parsed_span v) (parsed_span v);
+  place = record { shape = value_shape (parsed_inner v); key_span = None; span = parsed_span v };
 }
 
 -- the claims of a key below p, which has at least one part, and those inside the value
-unfoldable pub key_claims : Path → List Part → Node → (Path → Claims) → Claims
+unfoldable pub key_claims : Path → List SimpleKey → ParsedValue → (Path → Claims) → Claims
 key_claims p [] v inside = no_claims
 key_claims p (k ∷ []) v inside = claimed (assigned (with_key p k) k v) (inside (with_key p k))
 key_claims p (k ∷ l ∷ more) v inside =
@@ -98,30 +100,30 @@ key_claims p (k ∷ l ∷ more) v inside =
 
 unfoldable mutual
   -- what a value at p claims below p
-  pub value_claims : Node → Path → Claims
-  value_claims (node k span) p = inner_claims k p
+  pub value_claims : ParsedValue → Path → Claims
+  value_claims (parsed k span) p = inner_claims k p
 
-  pub inner_claims : Inner → Path → Claims
+  pub inner_claims : ParsedInner → Path → Claims
   inner_claims (scalar s) p = no_claims
   inner_claims (array vs) p = scope (item_claims vs 0 p) no_claims
   inner_claims (inline ps) p = scope (pair_claims ps p) no_claims
 
-  pub item_claims : Items → ℕ → Path → Claims
+  pub item_claims : ParsedItems → ℕ → Path → Claims
   item_claims no_items i p = no_claims
   item_claims (item v vs) i p =
       claimed (element (with_position p i) v) (followed (value_claims v (with_position p i)) (item_claims vs (suc i) p))
 
-  pub pair_claims : Pairs → Path → Claims
+  pub pair_claims : ParsedPairs → Path → Claims
   pair_claims no_pairs p = no_claims
   pair_claims (pair parts v extent rest) p = followed (key_claims p parts v (value_claims v)) (pair_claims rest p)
 
 -- what an assignment claims below p, and what several do
-abbrev pub assignment_claims : Event → Path → Claims
+abbrev pub assignment_claims : KeyValue → Path → Claims
 assignment_claims e p = key_claims p e.parts e.value (value_claims e.value)
 
-unfoldable pub event_claims : List Event → Path → Claims
-event_claims [] p = no_claims
-event_claims (e ∷ es) p = followed (assignment_claims e p) (event_claims es p)
+unfoldable pub key_value_claims : List KeyValue → Path → Claims
+key_value_claims [] p = no_claims
+key_value_claims (e ∷ es) p = followed (assignment_claims e p) (key_value_claims es p)
 
 -- ---- sections
 
@@ -131,39 +133,39 @@ head_of b = record { array = b.array; line = b.header_span; extent = b.extent }
 abbrev pub header_mark : Head → Sort → Span → Mark
 header_mark h sort key = record { sort = sort; key = key; line = h.line; extent = h.extent }
 
-abbrev pub header_claim : Head → Sort → Path → Part → Claim
+abbrev pub header_claim : Head → Sort → Path → SimpleKey → Claim
 header_claim h sort p k = table_claim p k (header_mark h sort k.span)
 
--- the array itself is claimed with its first entry
-abbrev pub array_claims : Head → Path → Part → ℕ → Claims → Claims
+-- the array itself is claimed with its first element
+abbrev pub array_claims : Head → Path → SimpleKey → ℕ → Claims → Claims
 array_claims h p k zero rest = claimed (header_claim h ArrayOfTables p k) rest
 array_claims h p k (suc n) rest = rest
 
--- at the end of a header, where n entries were added at p: a table, or the next entry of an array of tables
-unfoldable pub end_claims : Head → Path → Part → ℕ → Claims
+-- at the end of a header, where n elements were added at p: a table, or the next element of an array of tables
+unfoldable pub end_claims : Head → Path → SimpleKey → ℕ → Claims
 end_claims h p k n =
     if h.array
-    then array_claims h p k n (claimed (header_claim h Entry (with_position p n) k) no_claims)
-    else claimed (header_claim h Section p k) no_claims
+    then array_claims h p k n (claimed (header_claim h TableElement (with_position p n) k) no_claims)
+    else claimed (header_claim h StandardTable p k) no_claims
 
--- Each part but the last passes through a table: the latest entry, where an array of tables stands there.
-unfoldable pub header_claims : (Path → ℕ) → Head → Path → List Part → Claims
-header_claims entries h p [] = no_claims
-header_claims entries h p (k ∷ []) = end_claims h (with_key p k) k (entries (with_key p k))
-header_claims entries h p (k ∷ l ∷ more) =
-    let q = enter (entries (with_key p k)) (with_key p k) in
-    claimed (header_claim h Passed q k) (header_claims entries h q (l ∷ more))
+-- Each part but the last passes through a table: the latest element, where an array of tables stands there.
+unfoldable pub header_claims : (Path → ℕ) → Head → Path → List SimpleKey → Claims
+header_claims counts h p [] = no_claims
+header_claims counts h p (k ∷ []) = end_claims h (with_key p k) k (counts (with_key p k))
+header_claims counts h p (k ∷ l ∷ more) =
+    let q = enter (counts (with_key p k)) (with_key p k) in
+    claimed (header_claim h Passed q k) (header_claims counts h q (l ∷ more))
 
--- what a section claims, where `entries` counts the entries of each array before it
+-- what a section claims, where `counts` counts the elements of each array of tables before it
 unfoldable pub section_claims : (Path → ℕ) → Block → Claims
-section_claims entries b =
-    followed (header_claims entries (head_of b) [] b.header) (event_claims b.events (section_path entries b))
+section_claims counts b =
+    followed (header_claims counts (head_of b) [] b.header) (key_value_claims b.key_values (section_path counts b))
 
 -- what sections claim behind these earlier ones, the nearest first
 unfoldable pub claims_behind : List Block → List Block → Claims
 claims_behind earlier [] = no_claims
 claims_behind earlier (b ∷ bs) =
-    followed (section_claims (entries_at (opened_by earlier)) b) (claims_behind (b ∷ earlier) bs)
+    followed (section_claims (elements_added (opened_by earlier)) b) (claims_behind (b ∷ earlier) bs)
 
 -- what a document claims
 abbrev pub claims : List Block → Claims

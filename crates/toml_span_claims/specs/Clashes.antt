@@ -1,8 +1,9 @@
 -- Which claims clash, and what is told of two that do.
 use Rattle.std.specs.Prelude.{◌≡◌, ⊤, ℕ, if◌then◌else◌, List, [], ◌∷◌, ◌++◌, Option, Some, None, option_map}
-use Rattle.toml_span_tree.specs.Error.{Kind, duplicate_table, duplicate_key, redefine_as_array, Fault}
+use Rattle.toml_span_tree.specs.Error.{Kind, duplicate_table, duplicate_key, redefine_as_array, ErrorContent}
 use Rattle.toml_span_claims.specs.declared.claims.Sort.{Sort}
-use Rattle.toml_span_claims.specs.declared.claims.Sort.TheVariants.{Passed, Section, ArrayOfTables, Dotted, Assigned}
+use Rattle.toml_span_claims.specs.declared.claims.Sort.TheVariants.{Passed, StandardTable, ArrayOfTables, Dotted}
+use Rattle.toml_span_claims.specs.declared.claims.Sort.TheVariants.{Assigned}
 use Rattle.toml_span_claims.specs.declared.claims.Blame.{Blame}
 use Rattle.toml_span_claims.specs.declared.claims.Blame.TheVariants.{DuplicateTable, DuplicateKey, RedefineAsArray}
 use Rattle.toml_span_claims.specs.declared.claims.Mark.{Mark}
@@ -12,23 +13,23 @@ use Rattle.toml_span_claims.specs.Claims.{Claim, Claims, no_claims, claimed, sco
 
 -- What is told where an earlier claim has the first sort, and a later one on the same path the second. A table may be
 -- passed through again and again, and opened once. An array of tables is claimed once, and then entered through its
--- entries; an entry is claimed once, and then passed through. A value and then a dotted key of one section or inline
+-- elements; an element is claimed once, and then passed through. A value and then a dotted key of one section or inline
 -- table is a fault of reading; elsewhere another clash comes before it.
 abbrev pub blame : Sort → Sort → Option Blame
 blame Passed ArrayOfTables = Some RedefineAsArray
 blame Passed Assigned = Some DuplicateKey
-blame Section Section = Some DuplicateTable
-blame Section ArrayOfTables = Some DuplicateTable
-blame Section Dotted = Some DuplicateKey
-blame Section Assigned = Some DuplicateKey
-blame ArrayOfTables Section = Some DuplicateTable
+blame StandardTable StandardTable = Some DuplicateTable
+blame StandardTable ArrayOfTables = Some DuplicateTable
+blame StandardTable Dotted = Some DuplicateKey
+blame StandardTable Assigned = Some DuplicateKey
+blame ArrayOfTables StandardTable = Some DuplicateTable
 blame ArrayOfTables Dotted = Some DuplicateKey
 blame ArrayOfTables Assigned = Some DuplicateKey
-blame Dotted Section = Some DuplicateKey
+blame Dotted StandardTable = Some DuplicateKey
 blame Dotted ArrayOfTables = Some DuplicateKey
 blame Dotted Assigned = Some DuplicateKey
 blame Assigned Passed = Some DuplicateKey
-blame Assigned Section = Some DuplicateKey
+blame Assigned StandardTable = Some DuplicateKey
 blame Assigned ArrayOfTables = Some DuplicateKey
 blame Assigned Dotted = Some DuplicateKey
 blame Assigned Assigned = Some DuplicateKey
@@ -97,6 +98,6 @@ kind_of_clash DuplicateTable name m = duplicate_table name m.first
 kind_of_clash DuplicateKey name m = duplicate_key name m.first
 kind_of_clash RedefineAsArray name m = redefine_as_array
 
-abbrev pub fault_of_clash : Meeting → List ℕ → ℕ × ℕ → Fault
-fault_of_clash m name line_info =
+abbrev pub content_of_clash : Meeting → List ℕ → ℕ × ℕ → ErrorContent
+content_of_clash m name line_info =
     record { kind = kind_of_clash m.blame name m; span = m.place; line_info = Some line_info }

@@ -25,24 +25,24 @@ by_header Dotted = false
 by_header Assigned = false
 by_header _ = true
 
-unfoldable pub first_by_header : List Claim → Option Claim
-first_by_header [] = None
-first_by_header (c ∷ cs) = if by_header c.mark.sort then Some c else first_by_header cs
+unfoldable pub first_claim_by_header : List Claim → Option Claim
+first_claim_by_header [] = None
+first_claim_by_header (c ∷ cs) = if by_header c.mark.sort then Some c else first_claim_by_header cs
 
-abbrev pub first : List Claim → Option Claim
-first [] = None
-first (c ∷ cs) = Some c
+abbrev pub first_claim : List Claim → Option Claim
+first_claim [] = None
+first_claim (c ∷ cs) = Some c
 
 -- The first header that reaches or passes through the path decides, or else the first assignment through it. (Where the
 -- claims resolve those of a path are of one scope.)
-abbrev pub decides : List Claim → Option Claim
-decides cs = or_else (first_by_header cs) (first cs)
+abbrev pub deciding_claim : List Claim → Option Claim
+deciding_claim cs = or_else (first_claim_by_header cs) (first_claim cs)
 
 -- What stands at each path of a document that is so many bytes long: at the empty path the root, at another one what is
 -- claimed there.
 unfoldable pub flat : ℕ → Claims → Path → Option Place
 flat length cs [] = Some (record { shape = shape_table; key_span = None; span = record { start = 0; end = length } })
-flat length cs (s ∷ p) = option_map (λ c. c.place) (decides (claims_at (s ∷ p) (all_claims cs)))
+flat length cs (s ∷ p) = option_map (λ c. c.place) (deciding_claim (claims_at (s ∷ p) (all_claims cs)))
 
 -- the tree has just these nodes
 abbrev pub Shows : Node → (Path → Option Place) → Type 0

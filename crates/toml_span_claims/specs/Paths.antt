@@ -3,7 +3,7 @@ use Rattle.std.specs.Prelude.{ℕ, zero, suc, Bool, true, false, ◌&&◌, nat_e
 use Rattle.std.specs.Prelude.{length}
 use Rattle.std.specs.Str.{bytes_eq}
 use Rattle.toml_span_tree.specs.Path.{Step, key, position, Path}
-use Rattle.toml_span_read.specs.Keys.{Part}
+use Rattle.toml_span_read.specs.Keys.{SimpleKey}
 use Rattle.toml_span_read.specs.Data.{Block}
 
 abbrev pub same_step : Step → Step → Bool
@@ -19,38 +19,38 @@ same_path (s ∷ p) [] = false
 same_path (s ∷ p) (t ∷ q) = same_step s t && same_path p q
 
 -- the path with one more key
-abbrev pub with_key : Path → Part → Path
+abbrev pub with_key : Path → SimpleKey → Path
 with_key p k = p ++ (key k.name ∷ [])
 
 -- the path with one more position
 abbrev pub with_position : Path → ℕ → Path
 with_position p i = p ++ (position i ∷ [])
 
--- how many of the entries opened so far are of the array at p
-abbrev pub entries_at : List Path → Path → ℕ
-entries_at opened p = length (filter (λ q. same_path q p) opened)
+-- how many elements of the array of tables at p were added so far
+abbrev pub elements_added : List Path → Path → ℕ
+elements_added opened p = length (filter (λ q. same_path q p) opened)
 
--- into the latest of so many entries, where there are any
+-- into the latest of so many elements, where there are any
 unfoldable pub enter : ℕ → Path → Path
 enter zero p = p
 enter (suc latest) p = with_position p latest
 
--- The path of a header from p on, without the position of its own entry. `entries` counts the entries of each array so
--- far.
-unfoldable pub target : (Path → ℕ) → Path → List Part → Path
-target entries p [] = p
-target entries p (k ∷ []) = with_key p k
-target entries p (k ∷ l ∷ more) = target entries (enter (entries (with_key p k)) (with_key p k)) (l ∷ more)
+-- The path of a header from p on, without the position of the element that it adds itself. `counts` counts the elements
+-- of each array of tables so far.
+unfoldable pub target : (Path → ℕ) → Path → List SimpleKey → Path
+target counts p [] = p
+target counts p (k ∷ []) = with_key p k
+target counts p (k ∷ l ∷ more) = target counts (enter (counts (with_key p k)) (with_key p k)) (l ∷ more)
 
--- the arrays to which these sections, the nearest first, added an entry each
+-- the arrays to which these sections, the nearest first, added an element each
 unfoldable pub opened_by : List Block → List Path
 opened_by [] = []
 opened_by (b ∷ earlier) =
     let before = opened_by earlier in
-    if b.array then target (entries_at before) [] b.header ∷ before else before
+    if b.array then target (elements_added before) [] b.header ∷ before else before
 
--- The path below which a section assigns: that of its header and, in double brackets, the position of its own entry.
+-- The path below which a section assigns: that of its header and, in double brackets, the position of its own element.
 abbrev pub section_path : (Path → ℕ) → Block → Path
-section_path entries b =
-    let p = target entries [] b.header in
-    if b.array then with_position p (entries p) else p
+section_path counts b =
+    let p = target counts [] b.header in
+    if b.array then with_position p (counts p) else p

@@ -1,6 +1,6 @@
 //! The tree under construction.
 ghost use Rattle.std.specs.Prelude.{◌≡◌, ℕ, List, [], false, IfOk, IfSome, IsOk};
-ghost use Rattle.toml_span_read.specs.Keys.{Part};
+ghost use Rattle.toml_span_read.specs.Keys.{SimpleKey};
 ghost use Rattle.toml_span_claims.specs.Flat as kept;
 ghost use Rattle.toml_span_claims.specs.code.Marks as code;
 ghost use Rattle.toml_span_claims.specs.Borrowed.{AreRight, held, value_standing};
@@ -26,7 +26,7 @@ pub type Branches<'de> = BTreeMap<Key<'de>, Box<Branch<'de>>>;
 /// that is kept of its claim. No name stands both in `values` and in `tables`.
 #[derive(Drop)]
 pub struct Branch<'de> {
-    /// The claims on the node.
+    /// The claims on the branch.
     pub marks: Marks,
     /// The assigned values.
     pub values: Table<'de>,
@@ -58,7 +58,7 @@ fn by_header(sort: Sort) -> bool
     !matches!(sort, Sort::Dotted | Sort::Assigned)
 }
 
-/// The claim that says where a node stands: that of the first header, or else the first one.
+/// The claim that says where a branch stands: that of the first header, or else the first one.
 fn deciding(marks: &[Mark]) -> Option<Mark>
     ensures { result ≡ code.deciding marks.now }
 {
@@ -70,7 +70,7 @@ fn deciding(marks: &[Mark]) -> Option<Mark>
     marks.first().copied()
 }
 
-/// The key's span and the span of the node with these claims.
+/// The key's span and the span of the branch with these claims.
 fn spans(marks: &[Mark]) -> (Span, Span)
     ensures { IfSome (code.deciding marks.now) (λ m. result ≡ (m.key, m.extent)) }
 {
@@ -88,17 +88,17 @@ fn in_order(table: &Table<'_>)
     let _ = table.len();
 }
 
-/// The table of what these nodes have become, and of these values.
+/// The table of what these branches have become, and of these values.
 #[cycle(finish)]
 pub fn into_table<'de>(
     tables: Branches<'de>,
     mut values: Table<'de>,
 ) -> Result<Table<'de>, AllocError>
     ensures finishes { Finishes tables.entry values.entry result }
-    ensures borrows { (text : List ℕ) → (ps : List Part) → AreRight text ps (boxes_standing tables.entry.entries)
+    ensures borrows { (text : List ℕ) → (ps : List SimpleKey) → AreRight text ps (boxes_standing tables.entry.entries)
         → AreRight text ps (table_standing values.entry.entries)
         → IfOk result (λ table. AreRight text ps (table_standing table.entries)) }
-    // Where there are no nodes, no memory is wanted.
+    // Where there are no branches, no memory is wanted.
     ensures bare { tables.entry.entries ≡ [] → IsOk result }
 {
     for (key, child) in tables {
@@ -113,11 +113,11 @@ pub fn into_table<'de>(
     Ok(values)
 }
 
-/// The value that a node has become, and the span of its key.
+/// The value that a branch has become, and the span of its key.
 #[cycle(finish)]
 fn into_value<'de>(node: Branch<'de>) -> Result<(Span, Value<'de>), AllocError>
     ensures becomes { Becomes node.entry result }
-    ensures borrows { (text : List ℕ) → (ps : List Part) → AreRight text ps (standing node.entry)
+    ensures borrows { (text : List ℕ) → (ps : List SimpleKey) → AreRight text ps (standing node.entry)
         → IfOk result (λ found. ((held found.1).0 ≡ false) × AreRight text ps (value_standing found.1)) }
 {
     let Branch {
@@ -142,7 +142,7 @@ fn into_value<'de>(node: Branch<'de>) -> Result<(Span, Value<'de>), AllocError>
 #[cycle(finish)]
 fn into_array<'de>(entries: Vec<Branch<'de>>) -> Result<Array<'de>, AllocError>
     ensures becomes { EachBecomes entries.entry.items result }
-    ensures borrows { (text : List ℕ) → (ps : List Part) → AreRight text ps (entries_of entries.entry.items)
+    ensures borrows { (text : List ℕ) → (ps : List SimpleKey) → AreRight text ps (entries_of entries.entry.items)
         → IfOk result (λ array. AreRight text ps (array_standing array.items)) }
 {
     let mut array = Vec::with_capacity(*entries.allocator(), entries.len())?;

@@ -2,7 +2,7 @@
 ghost use Rattle.std.specs.Prelude.{◌≡◌, ⊤, ℕ, string_bytes, IfErr};
 ghost use Rattle.std.specs.List.{list_any};
 ghost use Rattle.std.specs.Cow.{cow_str_bytes};
-ghost use Rattle.toml_span_tree.specs.Error.{fault_of};
+ghost use Rattle.toml_span_tree.specs.Error.{content_of};
 ghost use Rattle.toml_span_claims.specs.Clashes as clashes;
 ghost use Rattle.toml_span_claims.specs.code.Machine.{Gives, met, clash_told};
 ghost use Rattle.toml_span_claims.specs.code.Marks as kept;
@@ -21,18 +21,18 @@ pub enum Sort {
     #[default]
     Passed,
     /// As the table that a header in single brackets opens.
-    Section,
-    /// As the array to which a header in double brackets adds an entry.
+    StandardTable,
+    /// As the array to which a header in double brackets adds a table.
     ArrayOfTables,
-    /// As an entry of an array of tables.
-    Entry,
+    /// As a table that is an element of an array of tables.
+    TableElement,
     /// As a table that a dotted key passes through: `a` in `a.b = 1`.
     Dotted,
     /// As a value that is assigned.
     Assigned,
 }
 
-/// What a node keeps of a claim on it.
+/// What a branch keeps of a claim on it.
 #[derive(Clone, Copy, Default)]
 pub struct Mark {
     pub sort: Sort,
@@ -40,7 +40,7 @@ pub struct Mark {
     pub key: Span,
     /// The header's line. Of an assignment its value.
     pub line: Span,
-    /// Where the node stands if this claim decides: the header's section, or the assigned value.
+    /// Where the branch stands if this claim decides: the header's section, or the assigned value.
     pub extent: Span,
 }
 
@@ -72,11 +72,11 @@ fn blame_of(earlier: Sort, later: Sort) -> Option<Blame>
 {
     match (earlier, later) {
         (Sort::Passed, Sort::ArrayOfTables) => Some(Blame::RedefineAsArray),
-        (Sort::Section, Sort::Section | Sort::ArrayOfTables) => Some(Blame::DuplicateTable),
-        (Sort::ArrayOfTables, Sort::Section) => Some(Blame::DuplicateTable),
-        (Sort::Dotted, Sort::Section | Sort::ArrayOfTables) => Some(Blame::DuplicateKey),
-        (Sort::Section | Sort::ArrayOfTables, Sort::Dotted) => Some(Blame::DuplicateKey),
-        (Sort::Assigned, Sort::Entry) | (Sort::Entry, Sort::Assigned) => None,
+        (Sort::StandardTable, Sort::StandardTable | Sort::ArrayOfTables) => Some(Blame::DuplicateTable),
+        (Sort::ArrayOfTables, Sort::StandardTable) => Some(Blame::DuplicateTable),
+        (Sort::Dotted, Sort::StandardTable | Sort::ArrayOfTables) => Some(Blame::DuplicateKey),
+        (Sort::StandardTable | Sort::ArrayOfTables, Sort::Dotted) => Some(Blame::DuplicateKey),
+        (Sort::Assigned, Sort::TableElement) | (Sort::TableElement, Sort::Assigned) => None,
         (Sort::Assigned, _) | (_, Sort::Assigned) => Some(Blame::DuplicateKey),
         _ => None,
     }
@@ -129,7 +129,7 @@ pub struct Clash {
 impl Clash {
     /// The error that tells of the clash, in a text where its place has this line and column.
     pub fn into_error<'s>(self, line_info: (usize, usize)) -> Error<'s>
-        ensures { fault_of result ≡ clashes.fault_of_clash self.meeting (string_bytes self.name) line_info }
+        ensures { content_of result ≡ clashes.content_of_clash self.meeting (string_bytes self.name) line_info }
     {
         let Clash { meeting, name } = self;
         let kind = match meeting.blame {
@@ -174,7 +174,7 @@ impl<T: Drop> From<AllocFailed<T>> for Halt {
     }
 }
 
-/// The first claim of each sort on a node, in the order of the text: whether two claims clash depends
+/// The first claim of each sort on a branch, in the order of the text: whether two claims clash depends
 /// on their sorts alone.
 pub type Marks = SmallVec<Mark, 1>;
 
@@ -223,7 +223,7 @@ pub fn admit(alloc: Global, marks: &[Mark], mark: Mark, key: &Key<'_>) -> Result
     }
 }
 
-/// Keeps a claim on a node, unless it clashes with an earlier one. Of each sort the first one is kept.
+/// Keeps a claim on a branch, unless it clashes with an earlier one. Of each sort the first one is kept.
 pub fn claim(alloc: Global, marks: &mut Marks, mark: Mark, key: &Key<'_>) -> Result<(), Halt>
     ensures gives { Gives result (met marks.old.items mark (cow_str_bytes key.now.name))
         (λ _. marks.new.items ≡ kept.remember marks.old.items mark) }

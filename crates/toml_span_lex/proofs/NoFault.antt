@@ -14,7 +14,7 @@ use Rattle.toml_span_lex.specs.Escapes.{simple_escape, hex_len, is_hex, IsEscape
 use Rattle.toml_span_lex.specs.Pieces.{is_ws_or_newline, IsDropped, IsPiece, IsClose, IsContentFault}
 use Rattle.toml_span_lex.specs.Strings.{Cut, IsString, IsNoString}
 use Rattle.toml_span_lex.specs.declared.span.Span.{Span}
-use Rattle.toml_span_lex.specs.Tokens.{Lexeme, whitespace, newline, comment, sign, keylike, string, is_sign, begins_token, begins_alone, Stands, IsUnexpected, IsFault}
+use Rattle.toml_span_lex.specs.Tokens.{Lexeme, whitespace, newline, comment, punctuator, keylike, string, is_punctuator, begins_token, begins_alone, Stands, IsUnexpected, IsNoToken}
 use Rattle.toml_span_lex.proofs.OneToken.{from_unique, tag_of, token_tag, same_token_tag}
 use Rattle.toml_span_lex.proofs.Unique.{close_byte, no_close, piece_unique, or_true}
 use Rattle.toml_span_lex.proofs.Runs.{keylike_ascii, crlf_first, read_within, neither_line, unprinted_ascii}
@@ -189,7 +189,7 @@ zero_not (suc d) h = omega arith
 keylike_begins : (d : ℕ) → is_keylike d ≡ true → (d < 128) × (0 < d) × (begins_token d ≡ true)
 keylike_begins d h = (keylike_ascii d h, zero_not d h, rw (h, or_true (begins_alone d)) refl)
 
-pub sign_begins : (d : ℕ) → is_sign d ≡ true → (d < 128) × (0 < d) × (begins_token d ≡ true)
+pub sign_begins : (d : ℕ) → is_punctuator d ≡ true → (d < 128) × (0 < d) × (begins_token d ≡ true)
 sign_begins d h = (grind (arith, nat_tests), grind (arith, nat_tests), rw (h, or_true (is_blank d)) refl)
 
 pub one_begins : (k d : ℕ) → k < 128 → 0 < k → begins_token k ≡ true → (d == k) ≡ true → (d < 128) × (0 < d) × (begins_token d ≡ true)
@@ -204,7 +204,7 @@ token_expected text i j k c s newline (inl h, e) (inr at) n =
     let is : c ≡ 10 = char_from_byte (drop i text) (drop k text) c at.2 (omega (arith, same, h.0)) (omega (arith, length-drop i text, read_within text i (omega (arith, h.0)))) ∙ (same ∙ h.0) in
     false≢true (sym (rw is at n))
 token_expected text i j k c s (comment x) h at n = clash (λ b. b == 35) text i c k refl refl (λ d. one_begins 35 d (omega arith) (omega arith) refl) (literal 35 (get_or text i 0) h.0.0) at n
-token_expected text i j k c s (sign b) h at n = clash is_sign text i c k refl refl sign_begins (rw h.0.1.0 h.0.0) at n
+token_expected text i j k c s (punctuator b) h at n = clash is_punctuator text i c k refl refl sign_begins (rw h.0.1.0 h.0.0) at n
 token_expected text i j k c s (keylike x) h at n = clash is_keylike text i c k refl refl keylike_begins (h.0.1.passes i (omega arith) h.0.0) at n
 token_expected text i j k c s (string src v m) h at n = elim h.quote [
   | inl e ↦ clash (λ b. b == 34) text i c k refl refl (λ d. one_begins 34 d (omega arith) (omega arith) refl) (literal 34 (get_or text i 0) e) at n
@@ -214,7 +214,7 @@ token_expected text i j k c s (string src v m) h at n = elim h.quote [
 pub keylike_printed : (b : ℕ) → is_keylike b ≡ true → is_printed b ≡ true
 keylike_printed b h = grind (arith, nat_tests)
 
-sign_printed : (b : ℕ) → is_sign b ≡ true → is_printed b ≡ true
+sign_printed : (b : ℕ) → is_punctuator b ≡ true → is_printed b ≡ true
 sign_printed b h = grind (arith, nat_tests)
 
 blank_printed : (b : ℕ) → is_blank b ≡ true → is_printed b ≡ true
@@ -265,6 +265,6 @@ no_fault text i j k s l (errors.NewlineInString b) a f = f
 no_fault text i j k s l (errors.MultilineStringKey b c) a f = f
 no_fault text i j k s l (errors.Wanted b x y) a f = f
 
-pub token_or_fault : (text : List ℕ) (i j k : ℕ) (s : Span) (l : Lexeme) (e : Error) → Stands text i j s l → IsFault text i k e → ⊥
+pub token_or_fault : (text : List ℕ) (i j k : ℕ) (s : Span) (l : Lexeme) (e : Error) → Stands text i j s l → IsNoToken text i k e → ⊥
 token_or_fault text i j k s l e a (inl f) = no_fault text i j k s l e a f
 token_or_fault text i j k s l e a (inr f) = no_string_fault text i j k s l e a (same_token_tag text i j s l a ∙ quote_token (get_or text i 0) f.quote) f

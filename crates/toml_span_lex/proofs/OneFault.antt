@@ -11,7 +11,7 @@ use Rattle.toml_span_lex.specs.Text.{CharAt, LineEnd}
 use Rattle.toml_span_lex.specs.Escapes.{hex_len, hex_value, is_hex, HexRun, IsHexFault, IsEscapeFault, opens_escape}
 use Rattle.toml_span_lex.specs.Pieces.{IsContentFault}
 use Rattle.toml_span_lex.specs.Strings.{Cut, IsNoString}
-use Rattle.toml_span_lex.specs.Tokens.{begins_token, IsUnexpected, IsFault}
+use Rattle.toml_span_lex.specs.Tokens.{begins_token, IsUnexpected, IsNoToken}
 use Rattle.toml_span_lex.proofs.OneToken.{from_unique}
 use Rattle.toml_span_lex.proofs.Unique.{run_unique, line_unique, piece_unique}
 use Rattle.toml_span_lex.proofs.Runs.{read_within, crlf_first}
@@ -193,7 +193,7 @@ quote_begins : (text : List ℕ) (i c j : ℕ) → (get_or text i 0 ≡ 34) ⊎ 
 quote_begins text i c j (inl e) at n = clash (λ b. b == 34) text i c j refl refl (λ d. one_begins 34 d (omega arith) (omega arith) refl) (literal 34 (get_or text i 0) e) at n
 quote_begins text i c j (inr e) at n = clash (λ b. b == 39) text i c j refl refl (λ d. one_begins 39 d (omega arith) (omega arith) refl) (literal 39 (get_or text i 0) e) at n
 
-pub fault_unique : (text : List ℕ) (i j k : ℕ) (e f : Error) → IsFault text i j e → IsFault text i k f → (j ≡ k) × (e ≡ f)
+pub fault_unique : (text : List ℕ) (i j k : ℕ) (e f : Error) → IsNoToken text i j e → IsNoToken text i k f → (j ≡ k) × (e ≡ f)
 fault_unique text i j k e f (inl a) (inl b) =
     let s = stray text i j e a in
     let t = stray text i k f b in

@@ -6,7 +6,7 @@ use Rattle.toml_span_lex.specs.declared.span.Span.{Span}
 use Rattle.toml_span_lex.specs.Bytes.{is_blank, is_keylike, is_printed}
 use Rattle.toml_span_lex.specs.Text.{LineEnd, NoLineEnd}
 use Rattle.toml_span_lex.specs.Strings.{ContentFrom, IsString}
-use Rattle.toml_span_lex.specs.Tokens.{Lexeme, whitespace, newline, comment, sign, keylike, string, is_sign, Stands}
+use Rattle.toml_span_lex.specs.Tokens.{Lexeme, whitespace, newline, comment, punctuator, keylike, string, is_punctuator, Stands}
 use Rattle.toml_span_lex.proofs.Runs.{crlf_first}
 use Rattle.toml_span_lex.proofs.Unique.{run_unique, line_unique, content_unique, is_false, same_true}
 use Rattle.toml_span_lex.proofs.PieceLemmas.{same_byte}
@@ -17,7 +17,7 @@ tag_of b =
     else if b == 10 then 1
     else if b == 13 then 1
     else if b == 35 then 2
-    else if is_sign b then 3
+    else if is_punctuator b then 3
     else if b == 34 then 5
     else if b == 39 then 5
     else 4
@@ -26,7 +26,7 @@ unfoldable pub token_tag : Lexeme → ℕ
 token_tag (whitespace s) = 0
 token_tag newline = 1
 token_tag (comment s) = 2
-token_tag (sign c) = 3
+token_tag (punctuator c) = 3
 token_tag (keylike s) = 4
 token_tag (string src val multi) = 5
 
@@ -34,11 +34,11 @@ token_tag (string src val multi) = 5
 pub differs : (p : ℕ → Bool) (b k : ℕ) → p b ≡ true → p k ≡ false → (b == k) ≡ false
 differs p b k h n = is_false (b == k) (λ e. (let s : b ≡ k = same_byte k b e in false≢true (sym n ∙ (rw s at h))))
 
-sign_tag : (b : ℕ) → is_sign b ≡ true → tag_of b ≡ 3
+sign_tag : (b : ℕ) → is_punctuator b ≡ true → tag_of b ≡ 3
 unfolding tag_of
-sign_tag b h = simp (differs is_sign b 32 h refl, differs is_sign b 9 h refl, differs is_sign b 10 h refl, differs is_sign b 13 h refl, differs is_sign b 35 h refl) (rw h refl)
+sign_tag b h = simp (differs is_punctuator b 32 h refl, differs is_punctuator b 9 h refl, differs is_punctuator b 10 h refl, differs is_punctuator b 13 h refl, differs is_punctuator b 35 h refl) (rw h refl)
 
-keylike_no_sign : (b : ℕ) → is_keylike b ≡ true → is_sign b ≡ false
+keylike_no_sign : (b : ℕ) → is_keylike b ≡ true → is_punctuator b ≡ false
 keylike_no_sign b h = simp (differs is_keylike b 61 h refl, differs is_keylike b 46 h refl, differs is_keylike b 44 h refl, differs is_keylike b 58 h refl, differs is_keylike b 43 h refl, differs is_keylike b 123 h refl, differs is_keylike b 125 h refl, differs is_keylike b 91 h refl, differs is_keylike b 93 h refl)
 
 keylike_tag : (b : ℕ) → is_keylike b ≡ true → tag_of b ≡ 4
@@ -51,7 +51,7 @@ same_token_tag text i j span (whitespace s) h = rw (h.0.1.passes i (omega arith)
 same_token_tag text i j span newline (inl h, e) = rw h.0 refl
 same_token_tag text i j span newline (inr h, e) = rw (crlf_first text i h.0) refl
 same_token_tag text i j span (comment s) h = rw h.0.0 refl
-same_token_tag text i j span (sign c) h = rw h.0.1.0 (sym (sign_tag c h.0.0))
+same_token_tag text i j span (punctuator c) h = rw h.0.1.0 (sym (sign_tag c h.0.0))
 same_token_tag text i j span (keylike s) h = sym (keylike_tag (get_or text i 0) (h.0.1.passes i (omega arith) h.0.0))
 same_token_tag text i j span (string src val multi) h = elim h.quote [ inl e ↦ rw e refl | inr e ↦ rw e refl ]
 
@@ -86,8 +86,8 @@ both text i j k s t (whitespace x) (whitespace y) a b e =
 both text i j k s t newline newline a b e = let u = line_unique text i j k a.0 b.0 in (u, parts i j k s t u a.1 b.1, refl)
 both text i j k s t (comment x) (comment y) a b e =
     let u = run_unique is_printed text i j k a.0.1.1 b.0.1.1 in (u, parts i j k s t u a.1 b.1, ap (λ z. comment z) (a.0.1.2 ∙ (rw u (sym b.0.1.2))))
-both text i j k s t (sign c) (sign d) a b e =
-    let u : j ≡ k = omega (arith, a.0.1, b.0.1) in (u, parts i j k s t u a.1 b.1, ap (λ z. sign z) (sym a.0.1.0 ∙ b.0.1.0))
+both text i j k s t (punctuator c) (punctuator d) a b e =
+    let u : j ≡ k = omega (arith, a.0.1, b.0.1) in (u, parts i j k s t u a.1 b.1, ap (λ z. punctuator z) (sym a.0.1.0 ∙ b.0.1.0))
 both text i j k s t (keylike x) (keylike y) a b e =
     let u = run_unique is_keylike text i j k a.0.1 b.0.1 in (u, parts i j k s t u a.1 b.1, ap (λ z. keylike z) (a.0.2 ∙ (rw u (sym b.0.2))))
 both text i j k s t (string x v m) (string y w n) a b e = string_unique text i j k s t x y v w m n a b

@@ -5,7 +5,7 @@ use Rattle.toml_span_lex.specs.declared.tokens.Token.{Token}
 use Rattle.toml_span_lex.specs.declared.tokens.Error.{Error}
 use Rattle.toml_span_lex.specs.Strings.{opens_multi}
 use Rattle.toml_span_lex.specs.code.Strings.{ScanGives}
-use Rattle.toml_span_lex.specs.Tokens.{Lexeme, whitespace, newline, comment, sign, keylike, string, lexeme, IsToken, Stands}
+use Rattle.toml_span_lex.specs.Tokens.{Lexeme, whitespace, newline, comment, punctuator, keylike, string, lexeme, IsToken, Stands}
 use Rattle.toml_span_lex.specs.code.Tokens.{Finds}
 use Rattle.toml_span_lex.specs.Laws.{SomethingStands}
 
@@ -14,7 +14,7 @@ with_span : (text : List ℕ) (i j : ℕ) (l : Lexeme) → IsToken text i j l �
 with_span text i j (whitespace x) h = (record { start = i; end = j }, (h, refl))
 with_span text i j newline h = (record { start = i; end = j }, (h, refl))
 with_span text i j (comment x) h = (record { start = i; end = j }, (h, refl))
-with_span text i j (sign c) h = (record { start = i; end = j }, (h, refl))
+with_span text i j (punctuator c) h = (record { start = i; end = j }, (h, refl))
 with_span text i j (keylike x) h = (record { start = i; end = j }, (h, refl))
 with_span text i j (string src v m) h = absurd h
 

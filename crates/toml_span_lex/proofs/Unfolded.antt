@@ -13,7 +13,7 @@ use Rattle.toml_span_lex.specs.Text.{is_crlf, CharAt, LineEnd, KeepsLineEnd}
 use Rattle.toml_span_lex.specs.Escapes.{hex_len, is_hex, IsEscapeFault}
 use Rattle.toml_span_lex.specs.Pieces.{IsContentFault}
 use Rattle.toml_span_lex.specs.Strings.{IsString}
-use Rattle.toml_span_lex.specs.Tokens.{Lexeme, whitespace, newline, comment, sign, keylike, string, is_sign, Stands, IsFault}
+use Rattle.toml_span_lex.specs.Tokens.{Lexeme, whitespace, newline, comment, punctuator, keylike, string, is_punctuator, Stands, IsNoToken}
 use Rattle.toml_span_lex.proofs.OneToken.{differs}
 use Rattle.toml_span_lex.proofs.OneFault.{HexCase, ends, other, value, hex_case, stray}
 use Rattle.toml_span_lex.proofs.Folded.{second}
@@ -98,7 +98,7 @@ after_content q m start text i j e (inr (inr (inr (inl a)))) = after_escape star
 after_content q m start text i j e (inr (inr (inr (inr a)))) = λ k at.
     no_return text k (differs is_blank (get_or text k 0) 13 (a.4.passes k (omega (arith, a.3)) (omega arith)) refl)
 
-pub after_fault : (text : List ℕ) (i j : ℕ) (e : Error) → IsFault text i j e → KeepsLineEnd text j
+pub after_fault : (text : List ℕ) (i j : ℕ) (e : Error) → IsNoToken text i j e → KeepsLineEnd text j
 after_fault text i j e (inl a) = let s = stray text i j e a in after_char text i s.c j s.char
 after_fault text i j e (inr a) = let f = a.fault in after_content (get_or text i 0) _ i text f.at j e f.fault
 
@@ -117,7 +117,7 @@ pub after_token : (text : List ℕ) (i j : ℕ) (s : Span) (l : Lexeme) → Keep
 after_token text i j s (whitespace x) b h = after_run is_blank text i j refl b h.0.1
 after_token text i j s newline b h = after_line text i j h.0
 after_token text i j s (comment x) b h = after_run is_printed text i j refl b h.0.1.1
-after_token text i j s (sign c) b h = after_byte text i j h.0.1.1 (rw h.0.1.0 (differs is_sign c 13 h.0.0 refl))
+after_token text i j s (punctuator c) b h = after_byte text i j h.0.1.1 (rw h.0.1.0 (differs is_punctuator c 13 h.0.0 refl))
 after_token text i j s (keylike x) b h = after_run is_keylike text i j refl b h.0.1
 after_token text i j s (string src v m) b h = after_string text i j s src v m h
 

@@ -3,7 +3,7 @@ use Rattle.std.proofs.Common.{◌≡◌, ℕ, ◌+◌, ◌<◌, ◌≤◌, Bool,
 use Rattle.toml_span_lex.specs.declared.span.Span.{Span}
 use Rattle.toml_span_lex.specs.Text.{LineEnd, CharAt}
 use Rattle.toml_span_lex.specs.Strings.{IsString}
-use Rattle.toml_span_lex.specs.Tokens.{Lexeme, whitespace, newline, comment, sign, keylike, string, is_sign, Stands, IsFault}
+use Rattle.toml_span_lex.specs.Tokens.{Lexeme, whitespace, newline, comment, punctuator, keylike, string, is_punctuator, Stands, IsNoToken}
 use Rattle.toml_span_lex.proofs.Copies.{content_fits}
 use Rattle.toml_span_lex.proofs.Folded.{second}
 use Rattle.toml_span_lex.proofs.MadeStrings.{content_from_after}
@@ -26,14 +26,14 @@ string_within text i j s src v m h =
     let f = content_fits (get_or text i 0) m text v h.from h.to j h.content_is in
     (omega (arith, f.0, f.1, content_from_after m text i h.from h.begins), f.2)
 
-sign_within : (text : List ℕ) (i j c : ℕ) → is_sign c ≡ true → get_or text i 0 ≡ c → j ≡ i + 1 → (i < j) × (j ≤ length text)
+sign_within : (text : List ℕ) (i j c : ℕ) → is_punctuator c ≡ true → get_or text i 0 ≡ c → j ≡ i + 1 → (i < j) × (j ≤ length text)
 sign_within text i j c is e at = let b = sign_begins c is in (omega arith, omega (arith, at, read_within text i (omega (arith, b.1, e))))
 
 pub token_within : (text : List ℕ) (i j : ℕ) (s : Span) (l : Lexeme) → Stands text i j s l → (i < j) × (j ≤ length text)
 token_within text i j s (whitespace x) h = (h.0.0, h.0.1.within)
 token_within text i j s newline h = line_within text i j h.0
 token_within text i j s (comment x) h = (h.0.1.0, h.0.1.1.within)
-token_within text i j s (sign c) h = sign_within text i j c h.0.0 h.0.1.0 h.0.1.1
+token_within text i j s (punctuator c) h = sign_within text i j c h.0.0 h.0.1.0 h.0.1.1
 token_within text i j s (keylike x) h = (h.0.0, h.0.1.within)
 token_within text i j s (string src v m) h = string_within text i j s src v m h
 
@@ -66,7 +66,7 @@ content_forward q m start text i j e (inr (inr (inr (inl a)))) =
     let f = escape_forward start text (i + 1) j e (omega arith) a.3 in (omega (arith, f.0), f.1)
 content_forward q m start text i j e (inr (inr (inr (inr a)))) = (omega (arith, a.3), a.4.within)
 
-pub fault_within : (text : List ℕ) (i j : ℕ) (e : Error) → IsFault text i j e → (i < j) × (j ≤ length text)
+pub fault_within : (text : List ℕ) (i j : ℕ) (e : Error) → IsNoToken text i j e → (i < j) × (j ≤ length text)
 fault_within text i j e (inl a) = let s = stray text i j e a in char_forward text i s.c j s.char
 fault_within text i j e (inr a) =
     let f = a.fault in

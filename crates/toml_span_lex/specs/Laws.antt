@@ -12,7 +12,7 @@ use Rattle.toml_span_lex.specs.declared.tokens.Error.{Error}
 use Rattle.toml_span_lex.specs.declared.tokens.Token.{Token}
 use Rattle.toml_span_lex.specs.Text.{CharAt, KeepsLineEnd, folded}
 use Rattle.toml_span_lex.specs.Strings.{IsQuote, IsContent, HasChange, NeedsMemory}
-use Rattle.toml_span_lex.specs.Tokens.{Lexeme, keylike, string, lexeme, Stands, IsFault}
+use Rattle.toml_span_lex.specs.Tokens.{Lexeme, keylike, string, lexeme, Stands, IsNoToken}
 
 -- ---- one thing at a place
 
@@ -23,25 +23,25 @@ OneToken = (text : List ℕ) (i j k : ℕ) (s t : Span) (l r : Lexeme) → Stand
 
 -- At most one fault stands at a place.
 abbrev pub OneFault : Type 0
-OneFault = (text : List ℕ) (i j k : ℕ) (e f : Error) → IsFault text i j e → IsFault text i k f → (j ≡ k) × (e ≡ f)
+OneFault = (text : List ℕ) (i j k : ℕ) (e f : Error) → IsNoToken text i j e → IsNoToken text i k f → (j ≡ k) × (e ≡ f)
 
 -- Where a token begins, no fault stands.
 abbrev pub TokenOrFault : Type 0
 TokenOrFault =
-    (text : List ℕ) (i j k : ℕ) (s : Span) (l : Lexeme) (e : Error) → Stands text i j s l → IsFault text i k e → ⊥
+    (text : List ℕ) (i j k : ℕ) (s : Span) (l : Lexeme) (e : Error) → Stands text i j s l → IsNoToken text i k e → ⊥
 
 -- A token has at least one byte and ends within the text, and so does what a fault names. At the end neither stands.
 abbrev pub TokensWithin : Type 0
 TokensWithin = (text : List ℕ) (i j : ℕ) (s : Span) (l : Lexeme) → Stands text i j s l → (i < j) × (j ≤ length text)
 
 abbrev pub FaultsWithin : Type 0
-FaultsWithin = (text : List ℕ) (i j : ℕ) (e : Error) → IsFault text i j e → (i < j) × (j ≤ length text)
+FaultsWithin = (text : List ℕ) (i j : ℕ) (e : Error) → IsNoToken text i j e → (i < j) × (j ≤ length text)
 
 -- a token, a fault, or the end of the text is at i
 abbrev pub SomethingStands : List ℕ → ℕ → Type 0
 SomethingStands text i =
     (i ≡ length text)
-    ⊎ (((j : ℕ) × (s : Span) × (l : Lexeme) × Stands text i j s l) ⊎ ((j : ℕ) × (e : Error) × IsFault text i j e))
+    ⊎ (((j : ℕ) × (s : Span) × (l : Lexeme) × Stands text i j s l) ⊎ ((j : ℕ) × (e : Error) × IsNoToken text i j e))
 
 -- The content of a string has one value and one end.
 abbrev pub OneContent : Type 0
@@ -61,7 +61,7 @@ TokensUnfolded =
     (text : List ℕ) (i j : ℕ) (s : Span) (l : Lexeme) → KeepsLineEnd text i → Stands text i j s l → KeepsLineEnd text j
 
 abbrev pub FaultsUnfolded : Type 0
-FaultsUnfolded = (text : List ℕ) (i j : ℕ) (e : Error) → IsFault text i j e → KeepsLineEnd text j
+FaultsUnfolded = (text : List ℕ) (i j : ℕ) (e : Error) → IsNoToken text i j e → KeepsLineEnd text j
 
 -- ---- memory
 

@@ -6,7 +6,7 @@ use Rattle.toml_span_lex.specs.Bytes.{hash, byte_order_mark}
 use Rattle.toml_span_lex.specs.Text.{LineEnd, NoLineEnd, CharAt}
 use Rattle.toml_span_lex.specs.Strings.{NeedsMemory, Borrows}
 use Rattle.toml_span_lex.specs.Tokens.{Lexeme, newline, comment, keylike, string, lexeme, words, Stands, IsUnexpected}
-use Rattle.toml_span_lex.specs.Tokens.{IsFault}
+use Rattle.toml_span_lex.specs.Tokens.{IsNoToken}
 use Rattle.toml_span_lex.specs.declared.span.Span.{Span}
 use Rattle.toml_span_lex.specs.declared.key.Key.{Key}
 use Rattle.toml_span_lex.specs.declared.tokens.Token.{Token}
@@ -33,7 +33,7 @@ FirstPlace text at =
 -- names.
 abbrev pub Fails : List ℕ → ℕ → Stop Error → ℕ → Type 0
 Fails text i (stops.Memory e) j = (j ≡ i) × NeedsMemory text i
-Fails text i (stops.Fault e) j = IsFault text i j e
+Fails text i (stops.Fault e) j = IsNoToken text i j e
 
 -- the error that at a place one thing was due, and another was found
 abbrev pub TellsWanted : Error → ℕ → List ℕ → List ℕ → Type 0
@@ -82,7 +82,7 @@ Eats old (Err stop) expected new = (new ≡ old) × ((j : ℕ) × Fails old.text
 abbrev pub RefusesOther : (Lexeme → Type 0) → List ℕ → List ℕ → ℕ → Stop Error → ℕ → Type 0
 RefusesOther MayStand due text i (stops.Memory e) j = Fails text i (stops.Memory e) j
 RefusesOther MayStand due text i (stops.Fault e) j =
-    IsFault text i j e ⊎ (IsOther MayStand due text i j e ⊎ IsEndOf due text i j e)
+    IsNoToken text i j e ⊎ (IsOther MayStand due text i j e ⊎ IsEndOf due text i j e)
 
 abbrev pub ExpectsSpanned : List ℕ → ℕ → Result Span (Stop Error) → Lexeme → ℕ → Type 0
 ExpectsSpanned text i (Ok span) expected j = Stands text i j span expected
@@ -119,7 +119,7 @@ abbrev pub TableKeyGives : List ℕ → ℕ → Result Key (Stop Error) → ℕ 
 TableKeyGives text i (Ok key) j = IsSimpleKey text i j key
 TableKeyGives text i (Err (stops.Memory e)) j = Fails text i (stops.Memory e) j
 TableKeyGives text i (Err (stops.Fault e)) j =
-    (IsFault text i j e ⊎ IsMultilineKey text i j e)
+    (IsNoToken text i j e ⊎ IsMultilineKey text i j e)
     ⊎ (IsOther MayBeKey (codes "a table key") text i j e ⊎ IsEndOf (codes "a table key") text i j e)
 
 -- ---- line ends
@@ -131,7 +131,8 @@ EndsLine text i j = LineEnd text i j ⊎ ((i ≡ length text) × (j ≡ i))
 abbrev pub LineEndDue : List ℕ → ℕ → Result Unit (Stop Error) → ℕ → Type 0
 LineEndDue text i (Ok u) j = EndsLine text i j
 LineEndDue text i (Err (stops.Memory e)) j = Fails text i (stops.Memory e) j
-LineEndDue text i (Err (stops.Fault e)) j = IsFault text i j e ⊎ IsOther (λ l. l ≡ newline) (codes "newline") text i j e
+LineEndDue text i (Err (stops.Fault e)) j =
+    IsNoToken text i j e ⊎ IsOther (λ l. l ≡ newline) (codes "newline") text i j e
 
 -- `comment = comment-start-symbol *non-eol`, and the line end or the end of the text behind it; or no comment, or a
 -- character that can't follow it

@@ -14,8 +14,8 @@ use Rattle.toml_span_lex.specs.declared.tokens.Error.{Error}
 use Rattle.toml_span_lex.specs.declared.tokens.Error.TheVariants as errors
 
 -- = . , : + { } [ ]
-abbrev pub is_sign : ℕ → Bool
-is_sign c =
+abbrev pub is_punctuator : ℕ → Bool
+is_punctuator c =
     c == equals || c == period || c == comma || c == colon || c == plus
     || c == left_brace || c == right_brace || c == left_bracket || c == right_bracket
 
@@ -26,7 +26,7 @@ pub data Lexeme : Type 0 where
   newline : Lexeme
   comment : List ℕ → Lexeme
   -- one of nine bytes that are a token each
-  sign : ℕ → Lexeme
+  punctuator : ℕ → Lexeme
   keylike : List ℕ → Lexeme
   -- the source with its quotes, the value, and whether there are three quotes
   string : List ℕ → List ℕ → Bool → Lexeme
@@ -35,21 +35,21 @@ abbrev pub lexeme : Token → Lexeme
 lexeme (tokens.Whitespace s) = whitespace s.now
 lexeme tokens.Newline = newline
 lexeme (tokens.Comment s) = comment s.now
-lexeme tokens.Equals = sign equals
-lexeme tokens.Period = sign period
-lexeme tokens.Comma = sign comma
-lexeme tokens.Colon = sign colon
-lexeme tokens.Plus = sign plus
-lexeme tokens.LeftBrace = sign left_brace
-lexeme tokens.RightBrace = sign right_brace
-lexeme tokens.LeftBracket = sign left_bracket
-lexeme tokens.RightBracket = sign right_bracket
+lexeme tokens.Equals = punctuator equals
+lexeme tokens.Period = punctuator period
+lexeme tokens.Comma = punctuator comma
+lexeme tokens.Colon = punctuator colon
+lexeme tokens.Plus = punctuator plus
+lexeme tokens.LeftBrace = punctuator left_brace
+lexeme tokens.RightBrace = punctuator right_brace
+lexeme tokens.LeftBracket = punctuator left_bracket
+lexeme tokens.RightBracket = punctuator right_bracket
 lexeme (tokens.Keylike s) = keylike s.now
 lexeme (tokens.String src val multiline) = string src.now (cow_str_bytes val) multiline
 
--- a sign in the words of an error
-abbrev pub sign_words : ℕ → List ℕ
-sign_words c =
+-- a punctuator in the words of an error
+abbrev pub punctuator_words : ℕ → List ℕ
+punctuator_words c =
     if c == equals then codes "an equals"
     else if c == period then codes "a period"
     else if c == comma then codes "a comma"
@@ -65,7 +65,7 @@ abbrev pub words : Lexeme → List ℕ
 words (whitespace s) = codes "whitespace"
 words newline = codes "a newline"
 words (comment s) = codes "a comment"
-words (sign c) = sign_words c
+words (punctuator c) = punctuator_words c
 words (keylike s) = codes "an identifier"
 words (string src value true) = codes "a multiline string"
 words (string src value false) = codes "a string"
@@ -76,8 +76,8 @@ words (string src value false) = codes "a string"
 abbrev pub RunAt : (ℕ → Bool) → List ℕ → ℕ → ℕ → List ℕ → Type 0
 RunAt p text i j part = (i < j) × MaximalRun p text i j × (part ≡ slice_range text i j)
 
-abbrev pub SignAt : ℕ → List ℕ → ℕ → ℕ → Type 0
-SignAt c text i j = (slice_index text i ≡ c) × (j ≡ i + 1)
+abbrev pub PunctuatorAt : ℕ → List ℕ → ℕ → ℕ → Type 0
+PunctuatorAt c text i j = (slice_index text i ≡ c) × (j ≡ i + 1)
 
 -- The text from i to j is this token, which is no string:
 -- `ws = *wschar`, of one character at least
@@ -88,7 +88,7 @@ abbrev pub IsToken : List ℕ → ℕ → ℕ → Lexeme → Type 0
 IsToken text i j (whitespace s) = RunAt is_blank text i j s
 IsToken text i j newline = LineEnd text i j
 IsToken text i j (comment s) = (slice_index text i ≡ hash) × RunAt is_printed text i j s
-IsToken text i j (sign c) = (is_sign c ≡ true) × SignAt c text i j
+IsToken text i j (punctuator c) = (is_punctuator c ≡ true) × PunctuatorAt c text i j
 IsToken text i j (keylike s) = RunAt is_keylike text i j s
 IsToken text i j (string src value multi) = ⊥
 
@@ -98,9 +98,9 @@ abbrev pub Stands : List ℕ → ℕ → ℕ → Span → Lexeme → Type 0
 Stands text i j span (string src value multi) = IsString text i j span src value multi
 Stands text i j span l = IsToken text i j l × (span ≡ record { start = i; end = j })
 
--- the characters that begin a token: a blank, a sign, a line feed or a hash
+-- the characters that begin a token: a blank, a punctuator, a line feed or a hash
 abbrev pub begins_alone : ℕ → Bool
-begins_alone c = is_blank c || is_sign c || c == line_feed || c == hash
+begins_alone c = is_blank c || is_punctuator c || c == line_feed || c == hash
 
 -- or one of a bare key, or a quote
 abbrev pub begins_token : ℕ → Bool
@@ -112,5 +112,5 @@ IsUnexpected text i j (errors.Unexpected at c) = (at ≡ i) × CharAt text i c j
 IsUnexpected text i j _ = ⊥
 
 -- No token stands at i: this fault does, and j is behind the character that it names, or the end of the text.
-abbrev pub IsFault : List ℕ → ℕ → ℕ → Error → Type 0
-IsFault text i j e = IsUnexpected text i j e ⊎ IsNoString text i j e
+abbrev pub IsNoToken : List ℕ → ℕ → ℕ → Error → Type 0
+IsNoToken text i j e = IsUnexpected text i j e ⊎ IsNoString text i j e

@@ -8,21 +8,21 @@ use Rattle.toml_span_tree.specs.Node.{Node, node, Inner, taken, scalar, array, t
 use Rattle.toml_span_tree.specs.Path.{Step, key, position}
 use Rattle.toml_span_tree.specs.Value.{is_whole, all_whole, all_members_whole, kind_name}
 use Rattle.toml_span_lines.specs.Lines.{line, node_lines, items_lines, members_lines, position_segment, key_segment}
-use Rattle.toml_span_lines.specs.Shown.{Entry, segment, shape_name, entry_line}
+use Rattle.toml_span_lines.specs.Shown.{PlaceAt, segment, shape_name, entry_line}
 use Rattle.toml_span_lines.proofs.Entries.{under, node_entries, items_entries, members_entries}
 
 -- the line of an entry below a path
-abbrev line_below : List ℕ → Entry → List ℕ
+abbrev line_below : List ℕ → PlaceAt → List ℕ
 line_below path e = line (path ++ flat_map segment e.0) (shape_name e.1.shape) e.1.span.start e.1.span.end
 
-lines-under : (path : List ℕ) (s : Step) (es : List Entry) → flat_map (line_below (path ++ segment s)) es ≡ flat_map (line_below path) (under s es)
+lines-under : (path : List ℕ) (s : Step) (es : List PlaceAt) → flat_map (line_below (path ++ segment s)) es ≡ flat_map (line_below path) (under s es)
 lines-under path s [] = refl
 lines-under path s (e ∷ es) =
     ap (λ p. line p (shape_name e.1.shape) e.1.span.start e.1.span.end ++ flat_map (line_below (path ++ segment s)) es) (append_assoc path (segment s) (flat_map segment e.0))
     ∙ ap (λ l. line_below path (s ∷ e.0, e.1) ++ l) (lines-under path s es)
 
 -- the lines below a step, and then others
-joined : (path lines more : List ℕ) (s : Step) (es fs : List Entry) → lines ≡ flat_map (line_below (path ++ segment s)) es → more ≡ flat_map (line_below path) fs →
+joined : (path lines more : List ℕ) (s : Step) (es fs : List PlaceAt) → lines ≡ flat_map (line_below (path ++ segment s)) es → more ≡ flat_map (line_below path) fs →
     lines ++ more ≡ flat_map (line_below path) (under s es ++ fs)
 joined path lines more s es fs h g =
     ap (λ l. l ++ more) (h ∙ lines-under path s es) ∙ ap (λ l. flat_map (line_below path) (under s es) ++ l) g

@@ -5,22 +5,22 @@ use Rattle.toml_span_lex.specs.declared.span.Span.{Span}
 use Rattle.toml_span_tree.specs.Node.{Node, node, Inner, taken, scalar, array, table, Items, no_items, item, Members, no_members, member}
 use Rattle.toml_span_tree.specs.Path.{Path, Step, key, position}
 use Rattle.toml_span_claims.specs.Ordered.{EachName, IsOrdered, HoldsOrdered, AreOrdered, MembersOrdered}
-use Rattle.toml_span_lines.specs.Shown.{Entry, Ascends, IsPathBefore, IsStepBefore}
+use Rattle.toml_span_lines.specs.Shown.{PlaceAt, PathsAscend, IsPathBefore, IsStepBefore}
 use Rattle.toml_span_lines.proofs.Entries.{under, node_entries, inner_entries, items_entries, members_entries}
 
 -- P holds of the path of each entry
-abbrev pub Each : (Path → Type 0) → List Entry → Type 0
+abbrev pub Each : (Path → Type 0) → List PlaceAt → Type 0
 Each P es = AllByRecursion (λ e. P e.0) es
 
-each-append : (P : Path → Type 0) (es fs : List Entry) → Each P es → Each P fs → Each P (es ++ fs)
+each-append : (P : Path → Type 0) (es fs : List PlaceAt) → Each P es → Each P fs → Each P (es ++ fs)
 each-append P [] fs h g = g
 each-append P (e ∷ es) fs h g = (h.0, each-append P es fs h.1 g)
 
-each-more : (P Q : Path → Type 0) (es : List Entry) → ((p : Path) → P p → Q p) → Each P es → Each Q es
+each-more : (P Q : Path → Type 0) (es : List PlaceAt) → ((p : Path) → P p → Q p) → Each P es → Each Q es
 each-more P Q [] f h = tt
 each-more P Q (e ∷ es) f h = (f e.0 h.0, each-more P Q es f h.1)
 
-each-under : (P : Path → Type 0) (s : Step) (es : List Entry) → ((p : Path) → P (s ∷ p)) → Each P (under s es)
+each-under : (P : Path → Type 0) (s : Step) (es : List PlaceAt) → ((p : Path) → P (s ∷ p)) → Each P (under s es)
 each-under P s [] f = tt
 each-under P s (e ∷ es) f = (f e.0, each-under P s es f)
 
@@ -49,7 +49,7 @@ root-first (scalar s) = tt
 root-first (array ns) = each-item (λ p. IsPathBefore [] p) 0 ns (λ k p h. tt)
 root-first (table ms) = each-member (λ p. IsPathBefore [] p) (λ name. Unit {0}) ms (any-name ms) (λ name p h. tt)
 
-before-under : (s : Step) (p : Path) (es : List Entry) → Each (λ q. IsPathBefore p q) es → Each (λ q. IsPathBefore (s ∷ p) q) (under s es)
+before-under : (s : Step) (p : Path) (es : List PlaceAt) → Each (λ q. IsPathBefore p q) es → Each (λ q. IsPathBefore (s ∷ p) q) (under s es)
 before-under s p [] h = tt
 before-under s p (e ∷ es) h = (inr (refl, h.0), before-under s p es h.1)
 
@@ -63,7 +63,7 @@ before-behind s p [] h = h
 before-behind s p (t ∷ q) h = inl h
 
 -- entries below a step, and then entries behind it
-ascends-behind : (s : Step) (es fs : List Entry) → Ascends es → Each (λ q. StartsBehind s q) fs → Ascends fs → Ascends (under s es ++ fs)
+ascends-behind : (s : Step) (es fs : List PlaceAt) → PathsAscend es → Each (λ q. StartsBehind s q) fs → PathsAscend fs → PathsAscend (under s es ++ fs)
 ascends-behind s [] fs h b g = g
 ascends-behind s (e ∷ es) fs h b g = (
   each-append (λ q. IsPathBefore (s ∷ e.0) q) (under s es) fs (before-under s e.0 es h.0)
@@ -72,22 +72,22 @@ ascends-behind s (e ∷ es) fs h b g = (
 )
 
 mutual
-  pub node-ascends : (at : Option Span) (n : Node) → IsOrdered n → Ascends (node_entries at n)
+  pub node-ascends : (at : Option Span) (n : Node) → IsOrdered n → PathsAscend (node_entries at n)
   node-ascends at (node i span) h = (root-first i, inner-ascends i h)
 
-  inner-ascends : (i : Inner) → HoldsOrdered i → Ascends (inner_entries i)
+  inner-ascends : (i : Inner) → HoldsOrdered i → PathsAscend (inner_entries i)
   inner-ascends taken h = tt
   inner-ascends (scalar s) h = tt
   inner-ascends (array ns) h = items-ascend 0 ns h
   inner-ascends (table ms) h = members-ascend ms h
 
-  items-ascend : (i : ℕ) (ns : Items) → AreOrdered ns → Ascends (items_entries i ns)
+  items-ascend : (i : ℕ) (ns : Items) → AreOrdered ns → PathsAscend (items_entries i ns)
   items-ascend i no_items h = tt
   items-ascend i (item n ns) h =
       ascends-behind (position i) (node_entries None n) (items_entries (suc i) ns) (node-ascends None n h.0)
       (each-item (λ q. StartsBehind (position i) q) (suc i) ns (λ k p g. omega arith)) (items-ascend (suc i) ns h.1)
 
-  members-ascend : (ms : Members) → MembersOrdered ms → Ascends (members_entries ms)
+  members-ascend : (ms : Members) → MembersOrdered ms → PathsAscend (members_entries ms)
   members-ascend no_members h = tt
   members-ascend (member name at n ms) h =
       ascends-behind (key name) (node_entries (Some at) n) (members_entries ms) (node-ascends (Some at) n h.1)

@@ -11,32 +11,32 @@ use Rattle.toml_span_tree.specs.Path.{Path, Step, key, position, Place, at_step,
 use Rattle.toml_span_tree.proofs.Paths.{bytes_same}
 use Rattle.toml_span_claims.specs.Ordered.{IsNameBefore, EachName, IsOrdered, HoldsOrdered, AreOrdered, MembersOrdered}
 use Rattle.toml_span_claims.proofs.Ordered.{not-before}
-use Rattle.toml_span_lines.specs.Shown.{Entry, HasPlaces, IsIn}
+use Rattle.toml_span_lines.specs.Shown.{PlaceAt, HasPlaces, IsIn}
 use Rattle.toml_span_lines.proofs.Entries.{under, node_entries, inner_entries, items_entries, members_entries}
 
 -- ---- lists of entries
 
-in-left : (e : Entry) (es fs : List Entry) → IsIn e es → IsIn e (es ++ fs)
+in-left : (e : PlaceAt) (es fs : List PlaceAt) → IsIn e es → IsIn e (es ++ fs)
 in-left e [] fs h = absurd h
 in-left e (f ∷ es) fs (inl is) = inl is
 in-left e (f ∷ es) fs (inr h) = inr (in-left e es fs h)
 
-in-right : (e : Entry) (es fs : List Entry) → IsIn e fs → IsIn e (es ++ fs)
+in-right : (e : PlaceAt) (es fs : List PlaceAt) → IsIn e fs → IsIn e (es ++ fs)
 in-right e [] fs h = h
 in-right e (f ∷ es) fs h = inr (in-right e es fs h)
 
-in-either : (e : Entry) (es fs : List Entry) → IsIn e (es ++ fs) → IsIn e es ⊎ IsIn e fs
+in-either : (e : PlaceAt) (es fs : List PlaceAt) → IsIn e (es ++ fs) → IsIn e es ⊎ IsIn e fs
 in-either e [] fs h = inr h
 in-either e (f ∷ es) fs (inl is) = inl (inl is)
 in-either e (f ∷ es) fs (inr h) = elim (in-either e es fs h) [ inl g ↦ inl (inr g) | inr g ↦ inr g ]
 
-in-under : (s : Step) (p : Path) (x : Place) (es : List Entry) → IsIn (p, x) es → IsIn (s ∷ p, x) (under s es)
+in-under : (s : Step) (p : Path) (x : Place) (es : List PlaceAt) → IsIn (p, x) es → IsIn (s ∷ p, x) (under s es)
 in-under s p x [] h = h
 in-under s p x (e ∷ es) (inl is) = inl (ap (λ f. (s ∷ f.0, f.1)) is)
 in-under s p x (e ∷ es) (inr h) = inr (in-under s p x es h)
 
 -- what is below a step begins with it
-from-under : (s : Step) (q : Path) (x : Place) (es : List Entry) → IsIn (q, x) (under s es) → (p : Path) × (q ≡ s ∷ p) × IsIn (p, x) es
+from-under : (s : Step) (q : Path) (x : Place) (es : List PlaceAt) → IsIn (q, x) (under s es) → (p : Path) × (q ≡ s ∷ p) × IsIn (p, x) es
 from-under s q x [] h = absurd h
 from-under s q x (e ∷ es) (inl is) = (e.0, ap (λ f. f.0) is, inl (ap (λ f. (e.0, f.1)) is))
 from-under s q x (e ∷ es) (inr h) = let found = from-under s q x es h in (found.0, found.1, inr found.2)
@@ -115,8 +115,8 @@ each-found P (member other at n ms) name p x e h = elim (cases_Bool (bytes_eq na
   | inr off ↦ each-found P ms name p x e.1 (sym (ap (λ (b : Bool). found p (cond b (Some (Some at, n)) (entry_at name ms))) off) ∙ h)
 ]
 
-from-own : (at : Option Span) (n : Node) (p : Path) (x : Place) → ◌≡◌ {A = Entry} (p, x) ([], place_of (at, n)) → option_map place_of (reached p (at, n)) ≡ Some x
-from-own at n p x is = subst (λ (e : Entry). option_map place_of (reached e.0 (at, n)) ≡ Some e.1) (sym is) refl
+from-own : (at : Option Span) (n : Node) (p : Path) (x : Place) → ◌≡◌ {A = PlaceAt} (p, x) ([], place_of (at, n)) → option_map place_of (reached p (at, n)) ≡ Some x
+from-own at n p x is = subst (λ (e : PlaceAt). option_map place_of (reached e.0 (at, n)) ≡ Some e.1) (sym is) refl
 
 from-held : (at : Option Span) (i : Inner) (span : Span) (p : Path) (x : Place) → found_in p i ≡ Some x → option_map place_of (reached p (at, node i span)) ≡ Some x
 from-held at i span [] x h = absurd (none-some x h)

@@ -1,11 +1,11 @@
 -- Bytes are a document or are refused, and one text shows it or tells why.
-use Rattle.std.proofs.Common.{◌≡◌, ℕ, ◌+◌, ◌<◌, ◌≤◌, ◌⊎◌, Bool, true, false, nat_lt, List, [], ◌++◌, Option, Some, None, take, refl, sym, ap, subst, ◌∙◌, inl, inr, length}
+use Rattle.std.proofs.Common.{◌≡◌, ℕ, ◌+◌, ◌≤◌, ◌⊎◌, Bool, true, false, nat_lt, List, [], ◌++◌, Option, Some, None, take, refl, sym, ap, subst, ◌∙◌, inl, inr, length}
 use Rattle.std.proofs.lemmas.Bool.{cases_lt, false≢true}
 use Rattle.std.proofs.lemmas.List.{append-nil, take_all, take_at}
 use Rattle.std.proofs.lemmas.Str.{IsUtf8-from_is_utf8, is_utf8-from_IsUtf8}
 use Rattle.std.specs.Io.KnownBytes.{Appends, Consumes, IsAtEnd}
 use Rattle.std.specs.Str.{IsUtf8, is_utf8}
-use Rattle.toml_span_tree.specs.Error.{fault_of}
+use Rattle.toml_span_tree.specs.Error.{content_of}
 use Rattle.toml_span_tree.specs.declared.error.Error.{Error}
 use Rattle.toml_span_claims.specs.Claims.{claims}
 use Rattle.toml_span_claims.specs.Clashes.{TellsFirst}
@@ -14,25 +14,25 @@ use Rattle.toml_span_assembly.specs.Parsing.{IsClash}
 use Rattle.toml_span.proofs.Answered.{never-stuck, none-first, one-clash, one-document, one-refusal, stuck-or-clash}
 use Rattle.toml_span_lines.specs.Lines.{error_line}
 use Rattle.toml_span_lines.specs.Run.{bound, IsShown, IsAnswer, Runs}
-use Rattle.toml_span_lines.specs.Shown.{IsDocument, IsRefused, ShowsPlaces}
+use Rattle.toml_span_lines.specs.Shown.{ShowsDocument, ShowsRefusal, ShowsPlaces}
 use Rattle.toml_span_lines.proofs.OneText.{one-text}
 
-pub one-shown : (bytes : List ℕ) (limit : ℕ) (text other : List ℕ) → IsDocument bytes limit text → IsDocument bytes limit other → text ≡ other
+pub one-shown : (bytes : List ℕ) (limit : ℕ) (text other : List ℕ) → ShowsDocument bytes limit text → ShowsDocument bytes limit other → text ≡ other
 one-shown bytes limit text other d e =
     let same = one-document bytes limit e.blocks d.blocks e.spelled d.spelled in
     one-text (flat (length bytes) (claims d.blocks)) text other d.shown (subst (λ l. ShowsPlaces (flat (length bytes) (claims l)) other) same e.shown)
 
-pub not-refused : (bytes : List ℕ) (limit : ℕ) (text other : List ℕ) → IsDocument bytes limit text → IsRefused bytes limit other → ⊥
+pub not-refused : (bytes : List ℕ) (limit : ℕ) (text other : List ℕ) → ShowsDocument bytes limit text → ShowsRefusal bytes limit other → ⊥
 not-refused bytes limit text other d (error, inl (fault, stuck, placed, tells), is) = never-stuck bytes limit d.blocks fault d.spelled stuck
 not-refused bytes limit text other d (error, inr (cs, spelled, clash), is) =
     none-first (claims d.blocks) clash.clash d.resolves
     (subst (λ l. TellsFirst [] (claims l) clash.clash) (one-document bytes limit cs d.blocks spelled d.spelled) clash.first)
 
-pub one-told : (bytes : List ℕ) (limit : ℕ) (error : Error) (text : List ℕ) → IsClash bytes limit error → IsRefused bytes limit text → text ≡ error_line (fault_of error)
+pub one-told : (bytes : List ℕ) (limit : ℕ) (error : Error) (text : List ℕ) → IsClash bytes limit error → ShowsRefusal bytes limit text → text ≡ error_line (content_of error)
 one-told bytes limit error text c (other, inl fault, is) = absurd (stuck-or-clash bytes limit other error fault c)
 one-told bytes limit error text c (other, inr clash, is) = is ∙ ap (λ f. error_line f) (one-clash bytes limit other error clash c)
 
-pub one-refused : (bytes : List ℕ) (limit : ℕ) (text other : List ℕ) → IsRefused bytes limit text → IsRefused bytes limit other → text ≡ other
+pub one-refused : (bytes : List ℕ) (limit : ℕ) (text other : List ℕ) → ShowsRefusal bytes limit text → ShowsRefusal bytes limit other → text ≡ other
 one-refused bytes limit text other (e, a, is) (f, b, at) = is ∙ ap (λ x. error_line x) (one-refusal bytes limit e f a b) ∙ sym at
 
 -- ---- one output

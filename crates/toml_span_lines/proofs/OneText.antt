@@ -3,7 +3,7 @@ use Rattle.std.proofs.Common.{◌≡◌, ◌<◌, ℕ, List, [], ◌∷◌, Opti
 use Rattle.std.specs.List.{AllByRecursion}
 use Rattle.toml_span_tree.specs.Path.{Path, key, position, Place}
 use Rattle.toml_span_claims.specs.Ordered.{IsBefore}
-use Rattle.toml_span_lines.specs.Shown.{Entry, entry_line, Ascends, HasPlaces, IsIn, IsPathBefore, IsStepBefore, ShowsPlaces}
+use Rattle.toml_span_lines.specs.Shown.{PlaceAt, entry_line, PathsAscend, HasPlaces, IsIn, IsPathBefore, IsStepBefore, ShowsPlaces}
 
 -- ---- two that are before each other
 
@@ -31,38 +31,38 @@ path-one-way p q h g = one-way IsStepBefore step-one-way p q h g
 -- ---- lists that have the same entries
 
 -- what all later entries are behind
-at-entry : (p : Path) (es : List Entry) (e : Entry) → AllByRecursion (λ f. IsPathBefore p f.0) es → IsIn e es → IsPathBefore p e.0
+at-entry : (p : Path) (es : List PlaceAt) (e : PlaceAt) → AllByRecursion (λ f. IsPathBefore p f.0) es → IsIn e es → IsPathBefore p e.0
 at-entry p [] e h i = absurd i
-at-entry p (f ∷ es) e h (inl is) = subst (λ (x : Entry). IsPathBefore p x.0) (sym is) h.0
+at-entry p (f ∷ es) e h (inl is) = subst (λ (x : PlaceAt). IsPathBefore p x.0) (sym is) h.0
 at-entry p (f ∷ es) e h (inr i) = at-entry p es e h.1 i
 
-abbrev HasAll : List Entry → List Entry → Type 0
-HasAll es fs = (e : Entry) → IsIn e es → IsIn e fs
+abbrev HasAll : List PlaceAt → List PlaceAt → Type 0
+HasAll es fs = (e : PlaceAt) → IsIn e es → IsIn e fs
 
 -- both begin with the same entry
-same-first : (e f : Entry) (es fs : List Entry) → Ascends (e ∷ es) → Ascends (f ∷ fs) → IsIn e (f ∷ fs) → IsIn f (e ∷ es) → e ≡ f
+same-first : (e f : PlaceAt) (es fs : List PlaceAt) → PathsAscend (e ∷ es) → PathsAscend (f ∷ fs) → IsIn e (f ∷ fs) → IsIn f (e ∷ es) → e ≡ f
 same-first e f es fs a b (inl is) j = is
 same-first e f es fs a b (inr i) (inl is) = sym is
 same-first e f es fs a b (inr i) (inr j) = absurd (path-one-way f.0 e.0 (at-entry f.0 fs e b.0 i) (at-entry e.0 es f a.0 j))
 
-later : (e f : Entry) (es fs : List Entry) → Ascends (e ∷ es) → e ≡ f → HasAll (e ∷ es) (f ∷ fs) → HasAll es fs
+later : (e f : PlaceAt) (es fs : List PlaceAt) → PathsAscend (e ∷ es) → e ≡ f → HasAll (e ∷ es) (f ∷ fs) → HasAll es fs
 later e f es fs a same h x i = elim (h x (inr i)) [
   | inl is ↦
       let here : x ≡ e = is ∙ sym same in
-      let behind = subst (λ (y : Entry). IsPathBefore e.0 y.0) here (at-entry e.0 es x a.0 i) in
+      let behind = subst (λ (y : PlaceAt). IsPathBefore e.0 y.0) here (at-entry e.0 es x a.0 i) in
       absurd (path-one-way e.0 e.0 behind behind)
   | inr j ↦ j
 ]
 
-same-entries : (es fs : List Entry) → Ascends es → Ascends fs → HasAll es fs → HasAll fs es → es ≡ fs
+same-entries : (es fs : List PlaceAt) → PathsAscend es → PathsAscend fs → HasAll es fs → HasAll fs es → es ≡ fs
 same-entries [] [] a b h g = refl
 same-entries [] (f ∷ fs) a b h g = absurd (g f (inl refl))
 same-entries (e ∷ es) [] a b h g = absurd (h e (inl refl))
 same-entries (e ∷ es) (f ∷ fs) a b h g =
     let first = same-first e f es fs a b (h e (inl refl)) (g f (inl refl)) in
-    ap (λ (x : Entry). x ∷ es) first ∙ ap (λ l. f ∷ l) (same-entries es fs a.1 b.1 (later e f es fs a first h) (later f e fs es b (sym first) g))
+    ap (λ (x : PlaceAt). x ∷ es) first ∙ ap (λ l. f ∷ l) (same-entries es fs a.1 b.1 (later e f es fs a first h) (later f e fs es b (sym first) g))
 
-same-places : (places : Path → Option Place) (es fs : List Entry) → HasPlaces places es → HasPlaces places fs → HasAll es fs
+same-places : (places : Path → Option Place) (es fs : List PlaceAt) → HasPlaces places es → HasPlaces places fs → HasAll es fs
 same-places places es fs h g e i = (g e.0 e.1).0 ((h e.0 e.1).1 i)
 
 pub one-text : (places : Path → Option Place) (text other : List ℕ) → ShowsPlaces places text → ShowsPlaces places other → text ≡ other

@@ -9,7 +9,7 @@ use Rattle.toml_span_claims.specs.Flat.{flat, Shows}
 use Rattle.toml_span_claims.specs.Ordered.{IsOrdered}
 use Rattle.toml_span_assembly.specs.Parsing.{IsTree}
 use Rattle.toml_span_lines.specs.Lines.{tree_lines}
-use Rattle.toml_span_lines.specs.Shown.{IsDocument, ShowsPlaces}
+use Rattle.toml_span_lines.specs.Shown.{ShowsDocument, ShowsPlaces}
 use Rattle.toml_span_lines.proofs.Entries.{node_entries}
 use Rattle.toml_span_lines.proofs.EntryLines.{tree-lines}
 use Rattle.toml_span_lines.proofs.EntryOrder.{node-ascends}
@@ -26,7 +26,7 @@ tree-shown n length blocks ordered whole shows =
     )
 
 -- the lines of a text's tree are those of its document
-pub tree-document : (bytes : List ℕ) (limit : ℕ) (root : Value) (text : List ℕ) → IsTree bytes limit root → IsOrdered (view root) → is_whole (view root) ≡ true → text ≡ tree_lines (view root) → IsDocument bytes limit text
+pub tree-document : (bytes : List ℕ) (limit : ℕ) (root : Value) (text : List ℕ) → IsTree bytes limit root → IsOrdered (view root) → is_whole (view root) ≡ true → text ≡ tree_lines (view root) → ShowsDocument bytes limit text
 tree-document bytes limit root text tree ordered whole lines =
     let blocks = tree.0 in
     let shown = tree-shown (view root) (length bytes) blocks ordered whole tree.2.shows in

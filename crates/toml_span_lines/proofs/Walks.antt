@@ -1,5 +1,5 @@
 -- One more node of a walk down a tree.
-use Rattle.std.proofs.Common.{ℕ, suc, ◌+◌, ◌≤◌, ◌<◌, ◌≡◌, refl, List, ◌∷◌, ◌++◌, arith, drop, take, length, get_or, sym, ap, ◌∙◌, append_assoc, true, false, add-one}
+use Rattle.std.proofs.Common.{ℕ, suc, ◌+◌, ◌<◌, ◌≡◌, refl, List, ◌∷◌, ◌++◌, drop, take, length, get_or, sym, ap, ◌∙◌, append_assoc, true, false, add-one}
 use Rattle.std.proofs.lemmas.List.{drop_more, append-nil}
 use Rattle.std.proofs.Math.Seq.{take-append_seam}
 use Rattle.std.specs.Cow.{cow_str_bytes}

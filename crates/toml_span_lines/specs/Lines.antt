@@ -3,22 +3,22 @@ use Rattle.std.specs.Prelude.{ℕ, suc, ◌+◌, ◌/◌, ◌%◌, ◌&&◌, Boo
 use Rattle.std.specs.Prelude.{if◌then◌else◌, codes, unwrap_or}
 use Rattle.std.specs.List.{flat_map}
 use Rattle.std.specs.Fmt.{decimal}
-use Rattle.toml_span_tree.specs.Error.{Fault}
+use Rattle.toml_span_tree.specs.Error.{ErrorContent}
 use Rattle.toml_span_tree.specs.Message.{code_of}
 use Rattle.toml_span_tree.specs.Node.{Node, node, Inner, taken, scalar, array, table, Items, no_items, item, Members}
 use Rattle.toml_span_tree.specs.Node.{no_members, member}
 use Rattle.toml_span_tree.specs.Value.{holds_nothing, kind_name}
 
 -- printed, and neither a slash nor a percent sign
-abbrev pub is_plain : ℕ → Bool
-is_plain byte = (nat_le 33 byte && nat_le byte 126) && (not (nat_eq byte 47) && not (nat_eq byte 37))
+abbrev pub stands_for_itself : ℕ → Bool
+stands_for_itself byte = (nat_le 33 byte && nat_le byte 126) && (not (nat_eq byte 47) && not (nat_eq byte 37))
 
 abbrev pub hex_digit : ℕ → ℕ
 hex_digit n = if nat_lt n 10 then 48 + n else 55 + n
 
 -- a byte of a segment: itself, or a percent sign and two digits
 abbrev pub shown_byte : ℕ → List ℕ
-shown_byte byte = if is_plain byte then byte ∷ [] else 37 ∷ hex_digit (byte / 16) ∷ hex_digit (byte % 16) ∷ []
+shown_byte byte = if stands_for_itself byte then byte ∷ [] else 37 ∷ hex_digit (byte / 16) ∷ hex_digit (byte % 16) ∷ []
 
 -- a segment: a slash, and then a key or a position
 abbrev pub key_segment : List ℕ → List ℕ
@@ -67,6 +67,6 @@ abbrev pub shown_place : ℕ × ℕ → List ℕ
 shown_place place = decimal place.0 ++ codes ":" ++ decimal place.1
 
 -- the line of an error
-abbrev pub error_line : Fault → List ℕ
+abbrev pub error_line : ErrorContent → List ℕ
 error_line f = codes "error " ++ code_of f.kind ++ codes " " ++ shown_span f.span.start f.span.end ++ codes " "
     ++ shown_place (unwrap_or f.line_info (0, 0)) ++ codes "\n"

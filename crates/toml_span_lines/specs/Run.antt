@@ -3,7 +3,7 @@ use Rattle.std.specs.Prelude.{◌≡◌, ◌↔◌, ◌<◌, ℕ, ◌+◌, ◌�
 use Rattle.std.specs.Prelude.{List, length, take, Option, codes, ◌⊎◌}
 use Rattle.toml_span_lines.specs.declared.run.Cut.{Cut}
 use Rattle.toml_span_lines.specs.declared.run.Cut.TheVariants.{Failed, Memory}
-use Rattle.toml_span_lines.specs.Shown.{IsDocument, IsRefused}
+use Rattle.toml_span_lines.specs.Shown.{ShowsDocument, ShowsRefusal}
 use Rattle.std.specs.Io.KnownBytes.{Appends, Consumes, IsAtEnd, Keeps}
 
 -- the most bytes that a document may have
@@ -13,7 +13,7 @@ bound = 16777216
 -- the lines of a document, or the line of an error
 abbrev pub IsShown : List ℕ → ℕ → ℕ → List ℕ → Type 0
 IsShown bytes limit status text =
-    ((status ≡ 0) × IsDocument bytes limit text) ⊎ ((status ≡ 1) × IsRefused bytes limit text)
+    ((status ≡ 0) × ShowsDocument bytes limit text) ⊎ ((status ≡ 1) × ShowsRefusal bytes limit text)
 
 -- The status and the text for the bytes of an input: more than the bound, no text, or a document or none within the
 -- limit.

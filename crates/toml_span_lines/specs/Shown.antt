@@ -3,7 +3,7 @@
 use Rattle.std.specs.Prelude.{◌≡◌, ◌<◌, ◌↔◌, ◌⊎◌, ⊤, ℕ, List, [], ◌∷◌, length, Option, Some, codes}
 use Rattle.std.specs.List.{flat_map, AllByRecursion}
 use Rattle.toml_span_tree.specs.declared.error.Error.{Error}
-use Rattle.toml_span_tree.specs.Error.{fault_of}
+use Rattle.toml_span_tree.specs.Error.{content_of}
 use Rattle.toml_span_tree.specs.Path.{Path, Step, key, position, Shape, shape_taken, shape_scalar, shape_array}
 use Rattle.toml_span_tree.specs.Path.{shape_table, Place}
 use Rattle.toml_span_tree.specs.Value.{scalar_kind}
@@ -31,20 +31,20 @@ IsPathBefore p q = IsBefore IsStepBefore p q
 -- ---- places
 
 -- a path, and what stands there
-abbrev pub Entry : Type 0
-Entry = Path × Place
+abbrev pub PlaceAt : Type 0
+PlaceAt = Path × Place
 
-abbrev pub IsIn : Entry → List Entry → Type 0
+abbrev pub IsIn : PlaceAt → List PlaceAt → Type 0
 IsIn e [] = ⊥
 IsIn e (f ∷ fs) = (e ≡ f) ⊎ IsIn e fs
 
 -- each path is before those of all later entries
-abbrev pub Ascends : List Entry → Type 0
-Ascends [] = ⊤
-Ascends (e ∷ es) = AllByRecursion (λ f. IsPathBefore e.0 f.0) es × Ascends es
+abbrev pub PathsAscend : List PlaceAt → Type 0
+PathsAscend [] = ⊤
+PathsAscend (e ∷ es) = AllByRecursion (λ f. IsPathBefore e.0 f.0) es × PathsAscend es
 
 -- at each path stands what the list has there, and nothing where it has nothing
-abbrev pub HasPlaces : (Path → Option Place) → List Entry → Type 0
+abbrev pub HasPlaces : (Path → Option Place) → List PlaceAt → Type 0
 HasPlaces places es = (p : Path) (x : Place) → (places p ≡ Some x) ↔ IsIn (p, x) es
 
 -- ---- lines
@@ -61,17 +61,17 @@ shape_name shape_array = codes "array"
 shape_name shape_table = codes "table"
 
 -- the path, the kind and the span
-abbrev pub entry_line : Entry → List ℕ
+abbrev pub entry_line : PlaceAt → List ℕ
 entry_line e = line (flat_map segment e.0) (shape_name e.1.shape) e.1.span.start e.1.span.end
 
 -- The text is a line for each place, in the order of the paths.
 abbrev pub ShowsPlaces : (Path → Option Place) → List ℕ → Type 0
-ShowsPlaces places text = (es : List Entry) × Ascends es × HasPlaces places es × (text ≡ flat_map entry_line es)
+ShowsPlaces places text = (es : List PlaceAt) × PathsAscend es × HasPlaces places es × (text ≡ flat_map entry_line es)
 
 -- ---- texts
 
 -- The bytes spell sections within the limit, no two of their claims clash, and the text shows their flat document.
-pub record IsDocument (bytes : List ℕ) (limit : ℕ) (text : List ℕ) : Type 0 where
+pub record ShowsDocument (bytes : List ℕ) (limit : ℕ) (text : List ℕ) : Type 0 where
   pub blocks : List Block
   pub spelled : SpellsDocument blocks bytes limit
   pub resolves : Resolves [] (claims blocks)
@@ -79,6 +79,6 @@ pub record IsDocument (bytes : List ℕ) (limit : ℕ) (text : List ℕ) : Type 
 
 -- The bytes are stuck at a fault or, where they spell sections within the limit, two claims clash. The text is the line
 -- of such a fault, or of the first clash.
-abbrev pub IsRefused : List ℕ → ℕ → List ℕ → Type 0
-IsRefused bytes limit text =
-    (error : Error) × (IsFault bytes limit error ⊎ IsClash bytes limit error) × (text ≡ error_line (fault_of error))
+abbrev pub ShowsRefusal : List ℕ → ℕ → List ℕ → Type 0
+ShowsRefusal bytes limit text =
+    (error : Error) × (IsFault bytes limit error ⊎ IsClash bytes limit error) × (text ≡ error_line (content_of error))

@@ -1,12 +1,12 @@
 //! Laws of what is shown.
 ghost use Rattle.std.specs.Prelude.{◌≡◌, ℕ, Bool, true, nat_lt, List, Option, Some};
-ghost use Rattle.toml_span_tree.specs.Error.{fault_of};
+ghost use Rattle.toml_span_tree.specs.Error.{content_of};
 ghost use Rattle.toml_span_tree.specs.Path.{Path, Place};
 ghost use Rattle.toml_span_tree.specs.declared.error.Error.{Error};
 ghost use Rattle.toml_span_assembly.specs.Parsing.{IsClash};
 ghost use Rattle.toml_span_lines.specs.Lines.{error_line};
 ghost use Rattle.toml_span_lines.specs.Run.{IsAnswer, Runs};
-ghost use Rattle.toml_span_lines.specs.Shown.{IsDocument, IsRefused, ShowsPlaces};
+ghost use Rattle.toml_span_lines.specs.Shown.{ShowsDocument, ShowsRefusal, ShowsPlaces};
 
 /// One text shows some places.
 pub fn one_text()
@@ -17,14 +17,14 @@ pub fn one_text()
 /// Bytes that are a document are shown by one text, and are not refused. Where two claims clash, one text
 /// tells it, and so it is with whatever the bytes are refused for.
 pub fn one_answer()
-    ensures document { (bytes : List ℕ) (limit : ℕ) (text other : List ℕ) → IsDocument bytes limit text
-        → IsDocument bytes limit other → text ≡ other }
-    ensures refused { (bytes : List ℕ) (limit : ℕ) (text other : List ℕ) → IsDocument bytes limit text
-        → IsRefused bytes limit other → ⊥ }
+    ensures document { (bytes : List ℕ) (limit : ℕ) (text other : List ℕ) → ShowsDocument bytes limit text
+        → ShowsDocument bytes limit other → text ≡ other }
+    ensures refused { (bytes : List ℕ) (limit : ℕ) (text other : List ℕ) → ShowsDocument bytes limit text
+        → ShowsRefusal bytes limit other → ⊥ }
     ensures clash { (bytes : List ℕ) (limit : ℕ) (error : Error) (text : List ℕ) → IsClash bytes limit error
-        → IsRefused bytes limit text → text ≡ error_line (fault_of error) }
-    ensures told { (bytes : List ℕ) (limit : ℕ) (text other : List ℕ) → IsRefused bytes limit text
-        → IsRefused bytes limit other → text ≡ other }
+        → ShowsRefusal bytes limit text → text ≡ error_line (content_of error) }
+    ensures told { (bytes : List ℕ) (limit : ℕ) (text other : List ℕ) → ShowsRefusal bytes limit text
+        → ShowsRefusal bytes limit other → text ≡ other }
 {}
 
 /// The bytes that are read decide the status and the text, want of memory and failing ends aside: bytes have

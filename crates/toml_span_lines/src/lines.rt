@@ -2,7 +2,7 @@
 ghost use Rattle.std.specs.Prelude.{◌≡◌, ◌<◌, ◌++◌, OnOk, IfOk};
 ghost use Rattle.std.specs.Fmt.{decimal};
 ghost use Rattle.toml_span_tree.specs.Value.{view, items_view, members_view};
-ghost use Rattle.toml_span_tree.specs.Error.{fault_of};
+ghost use Rattle.toml_span_tree.specs.Error.{content_of};
 ghost use Rattle.toml_span_lines.specs.Lines as spec;
 
 use std::alloc::{AllocError, Global};
@@ -40,7 +40,7 @@ fn push_place(out: &mut Vec<u8>, place: (usize, usize)) -> Result<(), AllocError
 
 /// Whether a byte stands for itself in a path: it is printed, and neither a slash nor a percent sign.
 fn is_plain(byte: u8) -> bool
-    ensures { result ≡ spec.is_plain byte }
+    ensures { result ≡ spec.stands_for_itself byte }
 {
     0x21 <= byte && byte <= 0x7e && byte != b'/' && byte != b'%'
 }
@@ -187,7 +187,7 @@ pub fn tree_lines(alloc: Global, root: &Value<'_>) -> Result<Vec<u8>, AllocError
 
 /// The line of an error.
 pub(crate) fn error_line(alloc: Global, error: &Error<'_>) -> Result<Vec<u8>, AllocError>
-    ensures { IfOk result (λ out. out.items ≡ spec.error_line (fault_of error.now)) }
+    ensures { IfOk result (λ out. out.items ≡ spec.error_line (content_of error.now)) }
 {
     let mut out = Vec::from_slice(alloc, b"error ")?;
     let code = error.kind.to_string(alloc)?;

@@ -1,6 +1,7 @@
 //! The run of the program.
 ghost use Rattle.std.specs.Prelude.{◌≡◌, ◌≤◌, IfOk, IfErr, false};
 ghost use Rattle.toml_span_lines.specs.Run.{HasReadAll, HasCut, Runs, WritesOut, IsAnswer, IsShown};
+ghost use Rattle.toml_span_read.specs.Limits.{depth_limit};
 
 use crate::lines::{error_line, tree_lines};
 use crate::sink::Sink;
@@ -65,7 +66,7 @@ pub fn write_bytes<W: Sink>(writer: &mut W, text: &[u8]) -> bool
 /// The status and the text for a document: 0 and its tree, or 1 and its error.
 fn answer_text(alloc: Global, text: &str, limit: usize) -> Result<(u8, Vec<u8>), AllocError>
     requires some { 1 ≤ limit }
-    requires small { limit ≤ 128 }
+    requires small { limit ≤ depth_limit }
     ensures { IfOk result (λ a. IsShown text.now limit a.0 a.1.items) }
 {
     match parse_with_limit(alloc, text, limit) {
@@ -78,7 +79,7 @@ fn answer_text(alloc: Global, text: &str, limit: usize) -> Result<(u8, Vec<u8>),
 /// The status and the text for the bytes of an input.
 fn answer(alloc: Global, bytes: &[u8], limit: usize) -> Result<(u8, Vec<u8>), AllocError>
     requires some { 1 ≤ limit }
-    requires small { limit ≤ 128 }
+    requires small { limit ≤ depth_limit }
     ensures { IfOk result (λ a. IsAnswer bytes.now limit a.0 a.1.items) }
 {
     if bytes.len() > BOUND {
@@ -101,7 +102,7 @@ pub fn run_with_limit<R: Source, W: Sink>(
     writer: &mut W,
 ) -> u8
     requires some { 1 ≤ limit }
-    requires small { limit ≤ 128 }
+    requires small { limit ≤ depth_limit }
     requires reader { R.failed reader.old ≡ false }
     requires writer { W.failed writer.old ≡ false }
     ensures { Runs limit (R.remaining reader.old) (R.remaining reader.new) (R.failed reader.new)
@@ -126,7 +127,7 @@ pub fn run_with_limit<R: Source, W: Sink>(
 pub fn run<R: Source, W: Sink>(alloc: Global, reader: &mut R, writer: &mut W) -> u8
     requires reader { R.failed reader.old ≡ false }
     requires writer { W.failed writer.old ≡ false }
-    ensures { Runs 128 (R.remaining reader.old) (R.remaining reader.new) (R.failed reader.new)
+    ensures { Runs depth_limit (R.remaining reader.old) (R.remaining reader.new) (R.failed reader.new)
         (W.contents writer.old) (W.contents writer.new) (W.failed writer.new) result }
 {
     run_with_limit(alloc, LIMIT, reader, writer)

@@ -1,5 +1,5 @@
 -- What is put together is borrowed as its parts are.
-use Rattle.std.proofs.Common.{◌≡◌, ℕ, ◌+◌, Bool, true, false, List, [], ◌∷◌, ◌++◌, map, get_or, rules, inl, inr, sym, ap, ◌∙◌, Global, Bor, Ok}
+use Rattle.std.proofs.Common.{◌≡◌, ℕ, Bool, true, false, List, [], ◌∷◌, ◌++◌, map, get_or, rules, inl, inr, sym, ap, ◌∙◌, Global, Bor, Ok}
 use Rattle.std.specs.Prelude.{slice_range}
 use Rattle.std.proofs.lemmas.Bool.{false≢true}
 use Rattle.std.specs.Cow.{cow_str_bytes, IsBorrowedStr}
@@ -19,8 +19,8 @@ use Rattle.toml_span_read.specs.declared.value.ValKind.TheOpen.{ValKind-F}
 use Rattle.toml_span_read.specs.declared.value.ValKind.TheViews.{out-ValKind, roll-ValKind}
 use Rattle.toml_span_read.specs.declared.value.Assignment.{Assignment}
 use Rattle.toml_span_read.specs.declared.value.DottedKey.{DottedKey}
-use Rattle.toml_span_read.specs.Borrowed.{Written, IsRight, AreRight, joined, key_written, keys_written, dotted_written, written, kind_written, assignment_written, assignments_written, section_written, sections_written}
-use Rattle.toml_span_read.specs.Data.{Inner, scalar, kind_view}
+use Rattle.toml_span_read.specs.Borrowed.{Written, IsWrittenRight, AreWrittenRight, joined, key_written, keys_written, dotted_written, written, kind_written, assignment_written, assignments_written, section_written, sections_written}
+use Rattle.toml_span_read.specs.Data.{ParsedInner, scalar, kind_view}
 use Rattle.toml_span_read.specs.code.Values.{is_scalar, BareGives}
 use Rattle.toml_span_read.specs.Grammar.{from_to, IsScalar}
 use Rattle.toml_span_read.specs.Faults.{begins_bare}
@@ -79,7 +79,7 @@ not_text v text s span i j b e h =
       | inr q ↦ (let c : begins_bare 39 ≡ true = rw q at b in search (rules))
     ]
 
-no_array : (k : Inner) (s : Scalar) → is_scalar k ≡ false → k ≡ scalar s → ⊥
+no_array : (k : ParsedInner) (s : Scalar) → is_scalar k ≡ false → k ≡ scalar s → ⊥
 no_array k s a e = false≢true (sym a ∙ ap is_scalar e)
 
 rolled : (kind : ValKind) → kind ≡ roll-ValKind (out-ValKind kind)
@@ -106,17 +106,17 @@ plain_written kind s span e other = go (out-ValKind kind) (rolled kind)
         absurd (no_array _ s seen e)
 
 -- a number, a truth value or a date has none
-pub scalar_right : (ws : List Written) (kind : ValKind) (span : Span) (text : List ℕ) (i j : ℕ) → begins_bare (get_or text i 0) ≡ true → BareGives text i (Ok (kind, j)) → ws ≡ kind_written kind span → AreRight text ws
+pub scalar_right : (ws : List Written) (kind : ValKind) (span : Span) (text : List ℕ) (i j : ℕ) → begins_bare (get_or text i 0) ≡ true → BareGives text i (Ok (kind, j)) → ws ≡ kind_written kind span → AreWrittenRight text ws
 scalar_right ws kind span text i j b (s, e, h) is = rw (is, plain_written kind s span e (λ v same. not_text v text s (from_to i j) i j b same h)) tt
 
 -- ---- sections
 
-pub section_right : (text : List ℕ) (s : Section) (keys : List Key) (found : List Assignment) → section_written s ≡ keys_written keys ++ assignments_written found → AreRight text (keys_written keys) → AreRight text (assignments_written found)
-    → AreRight text (section_written s)
-section_right text s keys found e h k = rw e (all_append (IsRight text) (keys_written keys) (assignments_written found) h k)
+pub section_right : (text : List ℕ) (s : Section) (keys : List Key) (found : List Assignment) → section_written s ≡ keys_written keys ++ assignments_written found → AreWrittenRight text (keys_written keys) → AreWrittenRight text (assignments_written found)
+    → AreWrittenRight text (section_written s)
+section_right text s keys found e h k = rw e (all_append (IsWrittenRight text) (keys_written keys) (assignments_written found) h k)
 
-pub assignment_right : (text : List ℕ) (ws : List Written) (key : DottedKey) (value : Val) → ws ≡ dotted_written key ++ written value → AreRight text (dotted_written key) → AreRight text (written value) → AreRight text ws
-assignment_right text ws key value e h k = rw e (all_append (IsRight text) (dotted_written key) (written value) h k)
+pub assignment_right : (text : List ℕ) (ws : List Written) (key : DottedKey) (value : Val) → ws ≡ dotted_written key ++ written value → AreWrittenRight text (dotted_written key) → AreWrittenRight text (written value) → AreWrittenRight text ws
+assignment_right text ws key value e h k = rw e (all_append (IsWrittenRight text) (dotted_written key) (written value) h k)
 
-pub sections_more : (text : List ℕ) (xs ys : List Section) (s : Section) → ys ≡ xs ++ (s ∷ []) → AreRight text (sections_written xs) → AreRight text (section_written s) → AreRight text (sections_written ys)
-sections_more text xs ys s e h k = joined_more (IsRight text) section_written xs ys s e h k
+pub sections_more : (text : List ℕ) (xs ys : List Section) (s : Section) → ys ≡ xs ++ (s ∷ []) → AreWrittenRight text (sections_written xs) → AreWrittenRight text (section_written s) → AreWrittenRight text (sections_written ys)
+sections_more text xs ys s e h k = joined_more (IsWrittenRight text) section_written xs ys s e h k

@@ -1,8 +1,8 @@
 -- Where dates end.
-use Rattle.std.proofs.Common.{◌≡◌, ℕ, ◌+◌, ◌<◌, ◌≤◌, ◌⊎◌, Bool, true, false, List, length, get_or, arith, inl, inr, refl}
+use Rattle.std.proofs.Common.{◌≡◌, ℕ, ◌<◌, ◌⊎◌, Bool, true, false, List, get_or, arith, inl, inr, refl}
 use Rattle.std.specs.Prelude.{◌&&◌, ◌||◌, ◌==◌}
 use Rattle.std.proofs.lemmas.Bool.Decides.{nat_tests}
-use Rattle.toml_span_lex.specs.Bytes.{is_keylike, MaximalRun}
+use Rattle.toml_span_lex.specs.Bytes.{is_keylike}
 use Rattle.std.specs.Char.{is_ascii_digit}
 use Rattle.toml_span_read.specs.Dates.{is_date_byte, begins_date, IsCandidate}
 use Rattle.toml_span_read.proofs.Places.{run_some}

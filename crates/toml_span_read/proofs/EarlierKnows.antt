@@ -6,10 +6,10 @@ use Rattle.std.proofs.lemmas.Bool.{cases_Bool, false≢true}
 use Rattle.toml_span_lex.specs.declared.span.Span.{Span}
 use Rattle.toml_span_read.specs.declared.earlier.Earlier.{Earlier}
 use Rattle.toml_span_read.specs.declared.fault.FaultKind.TheVariants as kinds
-use Rattle.toml_span_read.specs.Data.{Event, event, span_of}
+use Rattle.toml_span_read.specs.Data.{KeyValue, key_value, parsed_span}
 use Rattle.toml_span_lex.specs.declared.key.Key.{Key}
 use Rattle.toml_span_read.specs.declared.value.Assignment.{Assignment}
-use Rattle.toml_span_read.specs.Keys.{Part, part}
+use Rattle.toml_span_read.specs.Keys.{SimpleKey, simple_key}
 use Rattle.toml_span_read.specs.Earlier.{path, NoneAt, EarliestAt, NoneThrough, Clear, Crossing}
 use Rattle.toml_span_read.specs.code.Earlier.{Holds, holds, Puts, HoldsNone, FindsOutermost, TellsEarliest, EachLonger, Knows}
 use Rattle.toml_span_read.proofs.EarlierLemmas.{clear_of}
@@ -40,12 +40,12 @@ same_path (x ∷ xs) (y ∷ ys) = decided x y (name x y) xs ys (same_path xs ys)
 
 -- ---- one more assignment
 
-none_more : (names : Path) (events : List Event) (e : Event) → NoneAt names events → (path e.parts ≡ names → ⊥) → NoneAt names (events ++ (e ∷ []))
+none_more : (names : Path) (key_values : List KeyValue) (e : KeyValue) → NoneAt names key_values → (path e.parts ≡ names → ⊥) → NoneAt names (key_values ++ (e ∷ []))
 none_more names [] e h apart = (apart, tt)
 none_more names (x ∷ xs) e h apart = (h.0, none_more names xs e h.1 apart)
 
-earliest_more : (names : Path) (events : List Event) (e : Event) (first : Span) → EarliestAt names events first → EarliestAt names (events ++ (e ∷ [])) first
-earliest_more names events e first h = record {
+earliest_more : (names : Path) (key_values : List KeyValue) (e : KeyValue) (first : Span) → EarliestAt names key_values first → EarliestAt names (key_values ++ (e ∷ [])) first
+earliest_more names key_values e first h = record {
   before = h.before;
   found = h.found;
   behind = h.behind ++ (e ∷ []);
@@ -58,14 +58,14 @@ earliest_more names events e first h = record {
   span = h.span;
 }
 
-tells_other : (names : Path) (events : List Event) (e : Event) (o : Option Span) → (path e.parts ≡ names → ⊥) → TellsEarliest names events o → TellsEarliest names (events ++ (e ∷ [])) o
-tells_other names events e None apart h = none_more names events e h apart
-tells_other names events e (Some first) apart h = earliest_more names events e first h
+tells_other : (names : Path) (key_values : List KeyValue) (e : KeyValue) (o : Option Span) → (path e.parts ≡ names → ⊥) → TellsEarliest names key_values o → TellsEarliest names (key_values ++ (e ∷ [])) o
+tells_other names key_values e None apart h = none_more names key_values e h apart
+tells_other names key_values e (Some first) apart h = earliest_more names key_values e first h
 
-tells_same : (names : Path) (events : List Event) (e : Event) (inner : List Part) (last : Part) (o : Option Span) → path e.parts ≡ names → e.parts ≡ inner ++ (last ∷ [])
-    → TellsEarliest names events o → TellsEarliest names (events ++ (e ∷ [])) (Some (unwrap_or o last.span))
-tells_same names events e inner last None same key h = record {
-  before = events;
+tells_same : (names : Path) (key_values : List KeyValue) (e : KeyValue) (inner : List SimpleKey) (last : SimpleKey) (o : Option Span) → path e.parts ≡ names → e.parts ≡ inner ++ (last ∷ [])
+    → TellsEarliest names key_values o → TellsEarliest names (key_values ++ (e ∷ [])) (Some (unwrap_or o last.span))
+tells_same names key_values e inner last None same key h = record {
+  before = key_values;
   found = e;
   behind = [];
   inner = inner;
@@ -76,59 +76,59 @@ tells_same names events e inner last None same key h = record {
   key = key;
   span = refl;
 }
-tells_same names events e inner last (Some first) same key h = earliest_more names events e first h
+tells_same names key_values e inner last (Some first) same key h = earliest_more names key_values e first h
 
 -- what the tree tells, once an assignment more is put in
-pub tells_more : (events : List Event) (e : Event) (inner : List Part) (last : Part) (f g : Holds) → e.parts ≡ inner ++ (last ∷ [])
-    → ((names : Path) → TellsEarliest names events (f names)) → Puts (path (inner ++ (last ∷ []))) last.span f g → (names : Path) → TellsEarliest names (events ++ (e ∷ [])) (g names)
-tells_more events e inner last f g key tells puts names = go (same_path (path e.parts) names)
+pub tells_more : (key_values : List KeyValue) (e : KeyValue) (inner : List SimpleKey) (last : SimpleKey) (f g : Holds) → e.parts ≡ inner ++ (last ∷ [])
+    → ((names : Path) → TellsEarliest names key_values (f names)) → Puts (path (inner ++ (last ∷ []))) last.span f g → (names : Path) → TellsEarliest names (key_values ++ (e ∷ [])) (g names)
+tells_more key_values e inner last f g key tells puts names = go (same_path (path e.parts) names)
   where
     is : path e.parts ≡ path (inner ++ (last ∷ []))
     is = ap path key
 
-    go : ((path e.parts ≡ names) ⊎ (path e.parts ≡ names → ⊥)) → TellsEarliest names (events ++ (e ∷ [])) (g names)
+    go : ((path e.parts ≡ names) ⊎ (path e.parts ≡ names → ⊥)) → TellsEarliest names (key_values ++ (e ∷ [])) (g names)
     go (inl same) =
         let at : path (inner ++ (last ∷ [])) ≡ names = sym is ∙ same in
-        subst (λ (o : Option Span). TellsEarliest names (events ++ (e ∷ [])) o)
+        subst (λ (o : Option Span). TellsEarliest names (key_values ++ (e ∷ [])) o)
         (sym (subst (λ (q : Path). g q ≡ Some (unwrap_or (f q) last.span)) at puts.0))
-        (tells_same names events e inner last (f names) same key (tells names))
+        (tells_same names key_values e inner last (f names) same key (tells names))
     go (inr apart) =
-        subst (λ (o : Option Span). TellsEarliest names (events ++ (e ∷ [])) o)
+        subst (λ (o : Option Span). TellsEarliest names (key_values ++ (e ∷ [])) o)
         (sym (puts.1 names (λ e. apart (is ∙ sym e))))
-        (tells_other names events e (f names) apart (tells names))
+        (tells_other names key_values e (f names) apart (tells names))
 
 -- ---- short keys
 
-length_path : (ps : List Part) → length (path ps) ≡ length ps
+length_path : (ps : List SimpleKey) → length (path ps) ≡ length ps
 length_path [] = refl
 length_path (p ∷ ps) = ap suc (length_path ps)
 
-length_push : (ps : List Part) (p : Part) → length (ps ++ (p ∷ [])) ≡ length ps + 1
+length_push : (ps : List SimpleKey) (p : SimpleKey) → length (ps ++ (p ∷ [])) ≡ length ps + 1
 length_push [] p = refl
 length_push (q ∷ ps) p = let h = length_push ps p in omega arith
 
-none_shorter : (n : ℕ) (names : Path) (events : List Event) → EachLonger n events → length names ≤ n → NoneAt names events
+none_shorter : (n : ℕ) (names : Path) (key_values : List KeyValue) → EachLonger n key_values → length names ≤ n → NoneAt names key_values
 none_shorter n names [] h short = tt
 none_shorter n names (e ∷ es) h short =
     let long = length_path e.parts in
     ((λ is. let l = ap length is in omega (arith, h.0, long, l)), none_shorter n names es h.1 short)
 
-outer_shorter : (outer : List Part) (p : Part) (rest : List Part) → length (path (outer ++ (p ∷ []))) ≤ length (outer ++ (p ∷ rest))
+outer_shorter : (outer : List SimpleKey) (p : SimpleKey) (rest : List SimpleKey) → length (path (outer ++ (p ∷ []))) ≤ length (outer ++ (p ∷ rest))
 outer_shorter [] p rest = omega arith
 outer_shorter (q ∷ outer) p rest = let h = outer_shorter outer p rest in omega arith
 
 -- a key that has no more inner parts than each of the others is clear of them
-pub clear_short : (events : List Event) (next : Event) (inner : List Part) (last : Part) (n : ℕ) → next.parts ≡ inner ++ (last ∷ []) → EachLonger n events → length inner ≤ n → Clear events next
-clear_short events next inner last n key long short =
-    clear_of events next inner last key
-    (λ outer p rest split. none_shorter n (path (outer ++ (p ∷ []))) events long
+pub clear_short : (key_values : List KeyValue) (next : KeyValue) (inner : List SimpleKey) (last : SimpleKey) (n : ℕ) → next.parts ≡ inner ++ (last ∷ []) → EachLonger n key_values → length inner ≤ n → Clear key_values next
+clear_short key_values next inner last n key long short =
+    clear_of key_values next inner last key
+    (λ outer p rest split. none_shorter n (path (outer ++ (p ∷ []))) key_values long
     (let h = outer_shorter outer p rest in let l = ap length split in omega (arith, h, l, short)))
 
-longer_more : (n : ℕ) (events : List Event) (e : Event) → EachLonger n events → n < length e.parts → EachLonger n (events ++ (e ∷ []))
+longer_more : (n : ℕ) (key_values : List KeyValue) (e : KeyValue) → EachLonger n key_values → n < length e.parts → EachLonger n (key_values ++ (e ∷ []))
 longer_more n [] e h long = (long, tt)
 longer_more n (x ∷ xs) e h long = (h.0, longer_more n xs e h.1 long)
 
-longer_than : (n m : ℕ) (events : List Event) → m ≤ n → EachLonger n events → EachLonger m events
+longer_than : (n m : ℕ) (key_values : List KeyValue) → m ≤ n → EachLonger n key_values → EachLonger m key_values
 longer_than n m [] le h = tt
 longer_than n m (x ∷ xs) le h = (omega (arith, h.0), longer_than n m xs le h.1)
 
@@ -142,49 +142,49 @@ knows_nothing new none nothing = record {
 }
 
 -- one more key is counted
-pub knows_more : (old new : Earlier) (events : List Event) (next : Event) (inner : List Part) (last : Part) → next.parts ≡ inner ++ (last ∷ [])
-    → Knows old events → new.known ≡ old.known → holds new.tree ≡ holds old.tree → new.fewest ≤ old.fewest → new.fewest ≤ length inner → Knows new (events ++ (next ∷ []))
-knows_more old new events next inner last key h known tree fewer short = record {
-  fewest = longer_more new.fewest events next (longer_than old.fewest new.fewest events fewer h.fewest)
+pub knows_more : (old new : Earlier) (key_values : List KeyValue) (next : KeyValue) (inner : List SimpleKey) (last : SimpleKey) → next.parts ≡ inner ++ (last ∷ [])
+    → Knows old key_values → new.known ≡ old.known → holds new.tree ≡ holds old.tree → new.fewest ≤ old.fewest → new.fewest ≤ length inner → Knows new (key_values ++ (next ∷ []))
+knows_more old new key_values next inner last key h known tree fewer short = record {
+  fewest = longer_more new.fewest key_values next (longer_than old.fewest new.fewest key_values fewer h.fewest)
       (let l = ap length key in let m = length_push inner last in omega (arith, l, m, short));
-  within = let l = length_more events next in omega (arith, l, h.within, known);
+  within = let l = length_more key_values next in omega (arith, l, h.within, known);
   tree = λ names.
-      let same : take new.known (events ++ (next ∷ [])) ≡ take old.known events = ap (λ n. take n (events ++ (next ∷ []))) known ∙ take-append-le old.known events (next ∷ []) h.within in
-      subst (λ (es : List Event). TellsEarliest names es (holds new.tree names)) (sym same) (subst (λ (f : Holds). TellsEarliest names (take old.known events) (f names)) (sym tree) (h.tree names));
+      let same : take new.known (key_values ++ (next ∷ [])) ≡ take old.known key_values = ap (λ n. take n (key_values ++ (next ∷ []))) known ∙ take-append-le old.known key_values (next ∷ []) h.within in
+      subst (λ (es : List KeyValue). TellsEarliest names es (holds new.tree names)) (sym same) (subst (λ (f : Holds). TellsEarliest names (take old.known key_values) (f names)) (sym tree) (h.tree names));
 }
   where
-    length_more : (es : List Event) (e : Event) → length es ≤ length (es ++ (e ∷ []))
+    length_more : (es : List KeyValue) (e : KeyValue) → length es ≤ length (es ++ (e ∷ []))
     length_more [] e = omega arith
     length_more (x ∷ es) e = let h = length_more es e in omega arith
 
 -- all of them are in the tree
-pub knows_all : (old new : Earlier) (events : List Event) → Knows old events → new.fewest ≡ old.fewest → new.known ≡ length events → ((names : Path) → TellsEarliest names events (holds new.tree names)) → Knows new events
-knows_all old new events h fewest known tells = record {
-  fewest = subst (λ (n : ℕ). EachLonger n events) (sym fewest) h.fewest;
+pub knows_all : (old new : Earlier) (key_values : List KeyValue) → Knows old key_values → new.fewest ≡ old.fewest → new.known ≡ length key_values → ((names : Path) → TellsEarliest names key_values (holds new.tree names)) → Knows new key_values
+knows_all old new key_values h fewest known tells = record {
+  fewest = subst (λ (n : ℕ). EachLonger n key_values) (sym fewest) h.fewest;
   within = omega (arith, known);
-  tree = λ names. subst (λ (es : List Event). TellsEarliest names es (holds new.tree names)) (sym (take_all new.known events (omega (arith, known)))) (tells names);
+  tree = λ names. subst (λ (es : List KeyValue). TellsEarliest names es (holds new.tree names)) (sym (take_all new.known key_values (omega (arith, known)))) (tells names);
 }
 
 -- ---- the verdict
 
-none_told : (names : Path) (events : List Event) (o : Option Span) → o ≡ None → TellsEarliest names events o → NoneAt names events
-none_told names events o is h = subst (λ (o : Option Span). TellsEarliest names events o) is h
+none_told : (names : Path) (key_values : List KeyValue) (o : Option Span) → o ≡ None → TellsEarliest names key_values o → NoneAt names key_values
+none_told names key_values o is h = subst (λ (o : Option Span). TellsEarliest names key_values o) is h
 
-none_through : (events : List Event) (f : Holds) (parts : List Part) → ((names : Path) → TellsEarliest names events (f names)) → HoldsNone f parts → NoneThrough parts events
-none_through events f parts tells none outer p rest split = none_told _ events (f (path (outer ++ (p ∷ [])))) (none outer p rest split) (tells (path (outer ++ (p ∷ []))))
+none_through : (key_values : List KeyValue) (f : Holds) (parts : List SimpleKey) → ((names : Path) → TellsEarliest names key_values (f names)) → HoldsNone f parts → NoneThrough parts key_values
+none_through key_values f parts tells none outer p rest split = none_told _ key_values (f (path (outer ++ (p ∷ [])))) (none outer p rest split) (tells (path (outer ++ (p ∷ []))))
 
-pub clear_found : (events : List Event) (next : Event) (inner : List Part) (last : Part) (f : Holds) → next.parts ≡ inner ++ (last ∷ [])
-    → ((names : Path) → TellsEarliest names events (f names)) → FindsOutermost f inner None → Clear events next
-clear_found events next inner last f key tells none = clear_of events next inner last key (none_through events f inner tells none)
+pub clear_found : (key_values : List KeyValue) (next : KeyValue) (inner : List SimpleKey) (last : SimpleKey) (f : Holds) → next.parts ≡ inner ++ (last ∷ [])
+    → ((names : Path) → TellsEarliest names key_values (f names)) → FindsOutermost f inner None → Clear key_values next
+clear_found key_values next inner last f key tells none = clear_of key_values next inner last key (none_through key_values f inner tells none)
 
-pub behind_part : (rest : List Part) (last : Part) → (more : Part) × (others : List Part) × (rest ++ (last ∷ []) ≡ more ∷ others)
+pub behind_part : (rest : List SimpleKey) (last : SimpleKey) → (more : SimpleKey) × (others : List SimpleKey) × (rest ++ (last ∷ []) ≡ more ∷ others)
 behind_part [] last = (last, [], refl)
 behind_part (q ∷ qs) last = (q, qs ++ (last ∷ []), refl)
 
-pub crossing_found : (events : List Event) (next : Event) (inner : List Part) (last : Part) (f : Holds) (start : ℕ) (first : Span) (end : ℕ) → next.parts ≡ inner ++ (last ∷ [])
-    → ((names : Path) → TellsEarliest names events (f names)) → FindsOutermost f inner (Some (start, first)) → end ≡ (span_of next.value).end
-    → Crossing events next (record { kind = kinds.DottedKeyInvalidType first; span = record { start = start; end = end } })
-crossing_found events next inner last f start first end key tells (outer, p, rest, split, none, at, begins) ending =
+pub crossing_found : (key_values : List KeyValue) (next : KeyValue) (inner : List SimpleKey) (last : SimpleKey) (f : Holds) (start : ℕ) (first : Span) (end : ℕ) → next.parts ≡ inner ++ (last ∷ [])
+    → ((names : Path) → TellsEarliest names key_values (f names)) → FindsOutermost f inner (Some (start, first)) → end ≡ (parsed_span next.value).end
+    → Crossing key_values next (record { kind = kinds.DottedKeyInvalidType first; span = record { start = start; end = end } })
+crossing_found key_values next inner last f start first end key tells (outer, p, rest, split, none, at, begins) ending =
     let more = behind_part rest last in
     record {
       outer = outer;
@@ -193,48 +193,48 @@ crossing_found events next inner last f start first end key tells (outer, p, res
       rest = more.1;
       first = first;
       key = key ∙ ap (λ ps. ps ++ (last ∷ [])) split ∙ append_assoc outer (p ∷ rest) (last ∷ []) ∙ ap (λ ps. outer ++ (p ∷ ps)) more.2;
-      outermost = none_through events f outer tells none;
-      met = subst (λ (o : Option Span). TellsEarliest (path (outer ++ (p ∷ []))) events o) at (tells (path (outer ++ (p ∷ []))));
+      outermost = none_through key_values f outer tells none;
+      met = subst (λ (o : Option Span). TellsEarliest (path (outer ++ (p ∷ []))) key_values o) at (tells (path (outer ++ (p ∷ []))));
       fault_is = let a = begins in let b = ending in cc;
     }
 
 -- ---- the loop over the assignments
 
-pub length_parts : (keys : List Key) → length (map part keys) ≡ length keys
+pub length_parts : (keys : List Key) → length (map simple_key keys) ≡ length keys
 length_parts [] = refl
 length_parts (k ∷ keys) = ap suc (length_parts keys)
 
-length_events : (values : List Assignment) → length (map event values) ≡ length values
-length_events [] = refl
-length_events (v ∷ values) = ap suc (length_events values)
+length_key_values : (values : List Assignment) → length (map key_value values) ≡ length values
+length_key_values [] = refl
+length_key_values (v ∷ values) = ap suc (length_key_values values)
 
-pub tells_init : (old : Earlier) (values : List Assignment) → Knows old (map event values) → (names : Path) → TellsEarliest names (map event (take old.known values)) (holds old.tree names)
-tells_init old values h names = subst (λ (es : List Event). TellsEarliest names es (holds old.tree names)) (take-map event old.known values) (h.tree names)
+pub tells_init : (old : Earlier) (values : List Assignment) → Knows old (map key_value values) → (names : Path) → TellsEarliest names (map key_value (take old.known values)) (holds old.tree names)
+tells_init old values h names = subst (λ (es : List KeyValue). TellsEarliest names es (holds old.tree names)) (take-map key_value old.known values) (h.tree names)
 
 pub tells_next : (values : List Assignment) (i : ℕ) (v : Assignment) (inner keys : List Key) (last : Key) (f g : Holds) → i < length values → v ≡ get_or values i v → inner ≡ keys
-    → map part inner ++ (part last ∷ []) ≡ (event v).parts
-    → ((names : Path) → TellsEarliest names (map event (take i values)) (f names)) → Puts (path (map part keys ++ (part last ∷ []))) last.span f g
-    → (names : Path) → TellsEarliest names (map event (take (i + 1) values)) (g names)
+    → map simple_key inner ++ (simple_key last ∷ []) ≡ (key_value v).parts
+    → ((names : Path) → TellsEarliest names (map key_value (take i values)) (f names)) → Puts (path (map simple_key keys ++ (simple_key last ∷ []))) last.span f g
+    → (names : Path) → TellsEarliest names (map key_value (take (i + 1) values)) (g names)
 tells_next values i v inner keys last f g below at same key tells puts names =
-    let more : map event (take (i + 1) values) ≡ map event (take i values) ++ (event v ∷ []) =
-    map_more event values i v below ∙ ap (λ x. map event (take i values) ++ (event x ∷ [])) (sym at) in
-    subst (λ (es : List Event). TellsEarliest names es (g names)) (sym more)
-    (tells_more (map event (take i values)) (event v) (map part inner) (part last) f g (sym key) tells (subst (λ (ks : List Key). Puts (path (map part ks ++ (part last ∷ []))) last.span f g) (sym same) puts) names)
+    let more : map key_value (take (i + 1) values) ≡ map key_value (take i values) ++ (key_value v ∷ []) =
+    map_more key_value values i v below ∙ ap (λ x. map key_value (take i values) ++ (key_value x ∷ [])) (sym at) in
+    subst (λ (es : List KeyValue). TellsEarliest names es (g names)) (sym more)
+    (tells_more (map key_value (take i values)) (key_value v) (map simple_key inner) (simple_key last) f g (sym key) tells (subst (λ (ks : List Key). Puts (path (map simple_key ks ++ (simple_key last ∷ []))) last.span f g) (sym same) puts) names)
 
-pub knows_caught : (old new : Earlier) (values : List Assignment) (i : ℕ) → Knows old (map event values) → new.fewest ≡ old.fewest → new.known ≡ length values → length values ≤ i
-    → ((names : Path) → TellsEarliest names (map event (take i values)) (holds new.tree names)) → Knows new (map event values)
+pub knows_caught : (old new : Earlier) (values : List Assignment) (i : ℕ) → Knows old (map key_value values) → new.fewest ≡ old.fewest → new.known ≡ length values → length values ≤ i
+    → ((names : Path) → TellsEarliest names (map key_value (take i values)) (holds new.tree names)) → Knows new (map key_value values)
 knows_caught old new values i h fewest known all tells =
-    knows_all old new (map event values) h fewest (known ∙ sym (length_events values))
-    (λ names. subst (λ (vs : List Assignment). TellsEarliest names (map event vs) (holds new.tree names)) (take_all i values all) (tells names))
+    knows_all old new (map key_value values) h fewest (known ∙ sym (length_key_values values))
+    (λ names. subst (λ (vs : List Assignment). TellsEarliest names (map key_value vs) (holds new.tree names)) (take_all i values all) (tells names))
 
 -- where all are in the tree, it tells of all of them
-pub tells_all : (new : Earlier) (values : List Assignment) → Knows new (map event values) → new.known ≡ length values → (names : Path) → TellsEarliest names (map event values) (holds new.tree names)
+pub tells_all : (new : Earlier) (values : List Assignment) → Knows new (map key_value values) → new.known ≡ length values → (names : Path) → TellsEarliest names (map key_value values) (holds new.tree names)
 tells_all new values h known names =
-    let l = length_events values in
-    subst (λ (es : List Event). TellsEarliest names es (holds new.tree names)) (take_all new.known (map event values) (omega (arith, l, known))) (h.tree names)
+    let l = length_key_values values in
+    subst (λ (es : List KeyValue). TellsEarliest names es (holds new.tree names)) (take_all new.known (map key_value values) (omega (arith, l, known))) (h.tree names)
 
-pub finds_same : (f : Holds) (xs ys : List Key) (r s : Option (ℕ × Span)) → xs ≡ ys → r ≡ s → FindsOutermost f (map part xs) r → FindsOutermost f (map part ys) s
-finds_same f xs ys r s same is h = subst (λ (o : Option (ℕ × Span)). FindsOutermost f (map part ys) o) is (subst (λ (ks : List Key). FindsOutermost f (map part ks) r) same h)
+pub finds_same : (f : Holds) (xs ys : List Key) (r s : Option (ℕ × Span)) → xs ≡ ys → r ≡ s → FindsOutermost f (map simple_key xs) r → FindsOutermost f (map simple_key ys) s
+finds_same f xs ys r s same is h = subst (λ (o : Option (ℕ × Span)). FindsOutermost f (map simple_key ys) o) is (subst (λ (ks : List Key). FindsOutermost f (map simple_key ks) r) same h)
 
-pub map_push : (values : List Assignment) (v : Assignment) → map event (values ++ (v ∷ [])) ≡ map event values ++ (event v ∷ [])
-map_push values v = map-append event values (v ∷ [])
+pub map_push : (values : List Assignment) (v : Assignment) → map key_value (values ++ (v ∷ [])) ≡ map key_value values ++ (key_value v ∷ [])
+map_push values v = map-append key_value values (v ∷ [])

@@ -1,25 +1,25 @@
 -- Paths of earlier values.
 use Rattle.std.proofs.Common.{◌≡◌, ℕ, List, [], ◌∷◌, ◌++◌, refl, sym, subst, ◌∙◌}
-use Rattle.toml_span_read.specs.Keys.{Part}
-use Rattle.toml_span_read.specs.Data.{Event}
+use Rattle.toml_span_read.specs.Keys.{SimpleKey}
+use Rattle.toml_span_read.specs.Data.{KeyValue}
 use Rattle.toml_span_read.specs.Earlier.{path, NoneThrough, Clear}
 
 -- whichever of the parts is taken, the path that ends with it has the property
-abbrev pub Through : (List (List ℕ) → Type 0) → List Part → Type 0
-Through P parts = (outer : List Part) (p : Part) (rest : List Part) → parts ≡ outer ++ (p ∷ rest) → P (path (outer ++ (p ∷ [])))
+abbrev pub Through : (List (List ℕ) → Type 0) → List SimpleKey → Type 0
+Through P parts = (outer : List SimpleKey) (p : SimpleKey) (rest : List SimpleKey) → parts ≡ outer ++ (p ∷ rest) → P (path (outer ++ (p ∷ [])))
 
 pub through_none : (P : List (List ℕ) → Type 0) → Through P []
 through_none P [] p rest e = absurd (cc)
 through_none P (x ∷ outer) p rest e = absurd (cc)
 
-pub through_more : (P : List (List ℕ) → Type 0) (x : Part) (xs : List Part) → P (x.name ∷ []) → Through (λ names. P (x.name ∷ names)) xs → Through P (x ∷ xs)
+pub through_more : (P : List (List ℕ) → Type 0) (x : SimpleKey) (xs : List SimpleKey) → P (x.name ∷ []) → Through (λ names. P (x.name ∷ names)) xs → Through P (x ∷ xs)
 through_more P x xs here on [] p rest e =
     let same : x ≡ p = cc in
-    subst (λ (q : Part). P (q.name ∷ [])) same here
+    subst (λ (q : SimpleKey). P (q.name ∷ [])) same here
 through_more P x xs here on (y ∷ outer) p rest e =
     let same : x ≡ y = cc in
     let more : xs ≡ outer ++ (p ∷ rest) = cc in
-    subst (λ (q : Part). P (q.name ∷ path (outer ++ (p ∷ [])))) same (on outer p rest more)
+    subst (λ (q : SimpleKey). P (q.name ∷ path (outer ++ (p ∷ [])))) same (on outer p rest more)
 
 -- the front and the last of a list
 pub snoc_same : {A : Type 0} (xs ys : List A) (x y : A) → xs ++ (x ∷ []) ≡ ys ++ (y ∷ []) → (xs ≡ ys) × (x ≡ y)
@@ -33,6 +33,6 @@ snoc_same (a ∷ xs) (b ∷ ys) x y e =
     (cc, more.1)
 
 -- the parts of a key but for the last
-pub clear_of : (events : List Event) (next : Event) (inner : List Part) (last : Part) → next.parts ≡ inner ++ (last ∷ []) → NoneThrough inner events → Clear events next
-clear_of events next inner last key none front end is =
-    subst (λ (ps : List Part). NoneThrough ps events) (snoc_same inner front last end (sym key ∙ is)).0 none
+pub clear_of : (key_values : List KeyValue) (next : KeyValue) (inner : List SimpleKey) (last : SimpleKey) → next.parts ≡ inner ++ (last ∷ []) → NoneThrough inner key_values → Clear key_values next
+clear_of key_values next inner last key none front end is =
+    subst (λ (ps : List SimpleKey). NoneThrough ps key_values) (snoc_same inner front last end (sym key ∙ is)).0 none

@@ -1,7 +1,7 @@
 -- The tree of the earlier values, level by level.
-use Rattle.std.proofs.Common.{◌≡◌, ℕ, ◌-◌, ◌<◌, ◌≤◌, suc, ◌++◌, length, take, take_all, drop, get_or, Result, Ok, Err, arith, Bool, true, false, cond, List, [], ◌∷◌, map, Option, Some, None, option_map, is_some, BTreeMap, Ordering, Less, Equal, Greater, is_eq, nat_cmp, refl, sym, ap, subst, MutBor, ◌∙◌, inl, inr, ◌⊎◌, rules}
+use Rattle.std.proofs.Common.{◌≡◌, ℕ, ◌-◌, ◌≤◌, suc, ◌++◌, length, take, take_all, drop, get_or, Result, Ok, Err, arith, Bool, true, false, cond, List, [], ◌∷◌, map, Option, Some, None, option_map, is_some, BTreeMap, Ordering, Less, Equal, Greater, is_eq, nat_cmp, refl, sym, ap, subst, MutBor, ◌∙◌, inl, inr, ◌⊎◌, rules}
 use Rattle.std.specs.Prelude.{unwrap_or, OnOk}
-use Rattle.toml_span_read.specs.Keys.{Part, part}
+use Rattle.toml_span_read.specs.Keys.{SimpleKey, simple_key}
 use Rattle.toml_span_read.proofs.EarlierLemmas.{through_none, through_more}
 use Rattle.std.specs.Cow.{cow_str_bytes}
 use Rattle.std.specs.Cmp.{tied_itself}
@@ -221,14 +221,14 @@ puts-full x first (Some s) is h = puts-again x first s (holds-value x ∙ is)
 
 -- the parts of a key, the first of which is at hand
 pub parts-front : (xs : List Key) (key d last : Key) → 1 ≤ length xs → key ≡ get_or xs 0 d
-    → path (map part xs ++ (part last ∷ [])) ≡ cow_str_bytes key.name ∷ path (map part (take (length xs - 1) (drop 1 xs)) ++ (part last ∷ []))
+    → path (map simple_key xs ++ (simple_key last ∷ [])) ≡ cow_str_bytes key.name ∷ path (map simple_key (take (length xs - 1) (drop 1 xs)) ++ (simple_key last ∷ []))
 parts-front [] key d last some same = absurd (omega arith)
 parts-front (x ∷ xs) key d last some same =
     let all : take (suc (length xs) - 1) xs ≡ xs = take_all _ xs (omega arith) in
     rw (same, all)
 
 pub parts-first : (xs : List Key) (key d : Key) → 1 ≤ length xs → key ≡ get_or xs 0 d
-    → map part xs ≡ part key ∷ map part (take (length xs - 1) (drop 1 xs))
+    → map simple_key xs ≡ simple_key key ∷ map simple_key (take (length xs - 1) (drop 1 xs))
 parts-first [] key d some same = absurd (omega arith)
 parts-first (x ∷ xs) key d some same =
     let all : take (suc (length xs) - 1) xs ≡ xs = take_all _ xs (omega arith) in
@@ -244,23 +244,23 @@ then-puts (Err e) names first f g more f' g' h k = tt
 holds-under : (n : Tree) (k : List ℕ) (names : List (List ℕ)) (o : Option Tree) → child k (out-Node n).below.entries ≡ o → holds n (k ∷ names) ≡ below (option_map holds o) names
 holds-under n k names o is = ap (λ m. holds m (k ∷ names)) (sym (roll-out n)) ∙ holds-below (out-Node n) k names ∙ ap (λ o. below (option_map holds o) names) is
 
-pub finds-missing : (n : Tree) (p : Part) (ps : List Part) → child p.name (out-Node n).below.entries ≡ None → FindsOutermost (holds n) (p ∷ ps) None
+pub finds-missing : (n : Tree) (p : SimpleKey) (ps : List SimpleKey) → child p.name (out-Node n).below.entries ≡ None → FindsOutermost (holds n) (p ∷ ps) None
 finds-missing n p ps missing =
     through_more (λ names. holds n names ≡ None) p ps (holds-under n p.name [] None missing)
     (λ outer q rest e. holds-under n p.name (path (outer ++ (q ∷ []))) None missing)
 
-pub finds-here : (n : Tree) (p : Part) (ps : List Part) (x : Tree) (first : Span) → child p.name (out-Node n).below.entries ≡ Some x → (out-Node x).value ≡ Some first
+pub finds-here : (n : Tree) (p : SimpleKey) (ps : List SimpleKey) (x : Tree) (first : Span) → child p.name (out-Node n).below.entries ≡ Some x → (out-Node x).value ≡ Some first
     → FindsOutermost (holds n) (p ∷ ps) (Some (p.span.start, first))
 finds-here n p ps x first found value =
     ([], p, ps, refl, through_none (λ names. holds n names ≡ None), holds-under n p.name [] (Some x) found ∙ holds-value x ∙ value, refl)
 
-none-under : (n : Tree) (p : Part) (ps : List Part) (x : Tree) → child p.name (out-Node n).below.entries ≡ Some x → (out-Node x).value ≡ None
+none-under : (n : Tree) (p : SimpleKey) (ps : List SimpleKey) (x : Tree) → child p.name (out-Node n).below.entries ≡ Some x → (out-Node x).value ≡ None
     → HoldsNone (holds x) ps → HoldsNone (holds n) (p ∷ ps)
 none-under n p ps x found value h =
     through_more (λ names. holds n names ≡ None) p ps (holds-under n p.name [] (Some x) found ∙ holds-value x ∙ value)
     (λ outer q rest e. holds-under n p.name (path (outer ++ (q ∷ []))) (Some x) found ∙ h outer q rest e)
 
-pub finds-below : (n : Tree) (p : Part) (ps : List Part) (x : Tree) (r : Option (ℕ × Span)) → child p.name (out-Node n).below.entries ≡ Some x → (out-Node x).value ≡ None
+pub finds-below : (n : Tree) (p : SimpleKey) (ps : List SimpleKey) (x : Tree) (r : Option (ℕ × Span)) → child p.name (out-Node n).below.entries ≡ Some x → (out-Node x).value ≡ None
     → FindsOutermost (holds x) ps r → FindsOutermost (holds n) (p ∷ ps) r
 finds-below n p ps x None found value h = none-under n p ps x found value h
 finds-below n p ps x (Some s) found value (outer, q, rest, key, none, at, start) =

@@ -1,5 +1,5 @@
 -- Where the faults of tokens are.
-use Rattle.std.proofs.Common.{◌≡◌, ℕ, ◌+◌, ◌<◌, ◌≤◌, ◌⊎◌, Bool, true, false, List, length, get_or, arith, inl, inr, refl}
+use Rattle.std.proofs.Common.{◌≡◌, ℕ, ◌+◌, ◌<◌, ◌≤◌, Bool, true, false, List, length, get_or, arith, inl, inr}
 use Rattle.std.specs.Prelude.{◌==◌, if◌then◌else◌}
 use Rattle.toml_span_lex.specs.declared.tokens.Error.{Error}
 use Rattle.toml_span_lex.specs.declared.tokens.Error.TheVariants as errors
@@ -8,24 +8,22 @@ use Rattle.toml_span_lex.specs.Pieces.{IsContentFault}
 use Rattle.toml_span_lex.specs.Strings.{IsNoString}
 use Rattle.toml_span_lex.specs.Text.{LineEnd}
 use Rattle.toml_span_lex.proofs.Runs.{crlf_first}
-use Rattle.toml_span_lex.specs.Tokens.{IsUnexpected, IsFault, Lexeme, Stands}
-use Rattle.toml_span_lex.specs.declared.span.Span.{Span}
+use Rattle.toml_span_lex.specs.Tokens.{IsUnexpected, IsNoToken}
 use Rattle.toml_span_lex.proofs.OneFault.{char_within, HexCase, ends, other, value, hex_case}
 use Rattle.toml_span_lex.proofs.Within.{token_within}
-use Rattle.toml_span_read.specs.declared.fault.Due.{Due}
 use Rattle.toml_span_read.specs.declared.fault.Found.{Found}
 use Rattle.toml_span_read.specs.declared.fault.Fault.{Fault}
 use Rattle.toml_span_read.specs.declared.fault.FaultKind.{FaultKind}
-use Rattle.toml_span_read.specs.Faults.{fault_at, invalid_number, token_fault, found_words, IsFound, IsTokenFault, wanted_fault}
-use Rattle.toml_span_read.specs.Places.{IsPlaced}
+use Rattle.toml_span_read.specs.Faults.{fault_at, token_fault, IsFound, IsTokenFault}
+use Rattle.toml_span_read.specs.Places.{StartsInside}
 use Rattle.toml_span_read.proofs.Places.{read_within}
 
-pub placed_at : (text : List ℕ) (kind : FaultKind) (at : ℕ) → at ≤ length text → IsPlaced text (fault_at kind at)
+pub placed_at : (text : List ℕ) (kind : FaultKind) (at : ℕ) → at ≤ length text → StartsInside text (fault_at kind at)
 placed_at text kind at h = record { within = h; forward = omega arith }
 
 -- the fault of a refusal is placed
 abbrev Placed : List ℕ → Error → Type 0
-Placed text e = IsPlaced text (token_fault e)
+Placed text e = StartsInside text (token_fault e)
 
 same_place : (text : List ℕ) (e f : Error) → e ≡ f → Placed text f → Placed text e
 same_place text e f is h = rw is h
@@ -73,11 +71,11 @@ unexpected_placed text i j (errors.UnterminatedString a) h = absurd h
 unexpected_placed text i j (errors.MultilineStringKey a b) h = absurd h
 unexpected_placed text i j (errors.Wanted a x y) h = absurd h
 
-fault_placed : (text : List ℕ) (i j : ℕ) (e : Error) → IsFault text i j e → Placed text e
+fault_placed : (text : List ℕ) (i j : ℕ) (e : Error) → IsNoToken text i j e → Placed text e
 fault_placed text i j e (inl h) = unexpected_placed text i j e h
 fault_placed text i j e (inr h) = string_placed text i j e h
 
-pub token_placed : (text : List ℕ) (i : ℕ) (fault : Fault) → IsTokenFault text i fault → IsPlaced text fault
+pub token_placed : (text : List ℕ) (i : ℕ) (fault : Fault) → IsTokenFault text i fault → StartsInside text fault
 token_placed text i fault (j, e, h, is) = rw is (fault_placed text i j e h)
 
 -- what is found at a place ends there or further on

@@ -5,42 +5,42 @@ use Rattle.toml_span_lex.proofs.Runs.{read_within}
 use Rattle.toml_span_lex.proofs.Folded.{second}
 use Rattle.toml_span_lex.proofs.PieceLemmas.{line_forward}
 use Rattle.toml_span_read.specs.declared.section.Section.{Section}
-use Rattle.toml_span_read.specs.Data.{Node, node, scalar, array, inline, Items, no_items, item, Pairs, no_pairs, pair, Event, Block, block}
+use Rattle.toml_span_read.specs.Data.{ParsedValue, parsed, scalar, array, inline, ParsedItems, no_items, item, ParsedPairs, no_pairs, pair, KeyValue, Block, block}
 use Rattle.toml_span_read.specs.Gaps.{Skipped, Tail}
-use Rattle.toml_span_read.specs.Grammar.{Spells, SpellsItems, SpellsPairs, SpellsEvents, SpellsLines, Opens, Shuts, SpellsHeader, SpellsSection, first_block, SpellsSections, SpellsDocument}
-use Rattle.toml_span_read.specs.Keys.{Part, Dotted}
-use Rattle.toml_span_read.specs.Places.{Ascend, IsInside, PartsInside, KeysInside, ItemKeysInside, PairKeysInside, EventsInside, SectionInside, SectionsInside}
+use Rattle.toml_span_read.specs.Grammar.{Spells, SpellsItems, SpellsPairs, SpellsKeyValues, SpellsLines, OpensHeader, ClosesHeader, SpellsHeader, SpellsSection, first_block, SpellsSections, SpellsDocument}
+use Rattle.toml_span_read.specs.Keys.{SimpleKey, SpellsKey}
+use Rattle.toml_span_read.specs.Places.{Ascend, IsInside, PartsInside, KeysInside, ItemKeysInside, PairKeysInside, KeyValuesInside, SectionInside, SectionsInside}
 use Rattle.toml_span_read.specs.code.Sections.{first_blocks}
 use Rattle.toml_span_read.proofs.KeyOrder.{dotted_ascend}
 
 -- ---- keys
 
-pub ascend_forward : (ps : List Part) (i j : ℕ) → Ascend ps i j → i ≤ j
+pub ascend_forward : (ps : List SimpleKey) (i j : ℕ) → Ascend ps i j → i ≤ j
 ascend_forward [] i j h = h
 ascend_forward (p ∷ ps) i j (a, b, rest) = omega (arith, a, b, ascend_forward ps p.span.end j rest)
 
-ascend_inside : (ps : List Part) (n i j : ℕ) → j ≤ n → Ascend ps i j → PartsInside n ps
+ascend_inside : (ps : List SimpleKey) (n i j : ℕ) → j ≤ n → Ascend ps i j → PartsInside n ps
 ascend_inside [] n i j l h = tt
 ascend_inside (p ∷ ps) n i j l (a, b, rest) =
     ((omega (arith, b), omega (arith, l, ascend_forward ps p.span.end j rest)), ascend_inside ps n p.span.end j l rest)
 
-dotted_inside : (ps : List Part) (text : List ℕ) (i j : ℕ) → Dotted ps text i j → PartsInside (length text) ps
+dotted_inside : (ps : List SimpleKey) (text : List ℕ) (i j : ℕ) → SpellsKey ps text i j → PartsInside (length text) ps
 dotted_inside ps text i j h = let f = dotted_ascend ps text i j h in ascend_inside ps (length text) i j f.1 f.0
 
 -- ---- values
 
 mutual
-  value_keys : (v : Node) (text : List ℕ) (limit d i j : ℕ) → Spells v text limit d i j → KeysInside (length text) v
-  value_keys (node (scalar s) span) text limit d i j h = tt
-  value_keys (node (array vs) span) text limit d i j (l, (here, e, k, gap, items)) = items_keys vs text limit (d + 1) k j items
-  value_keys (node (inline ps) span) text limit d i j (l, (here, e, k, gap, pairs)) = pairs_keys ps [] text limit (d + 1) k j pairs
+  value_keys : (v : ParsedValue) (text : List ℕ) (limit d i j : ℕ) → Spells v text limit d i j → KeysInside (length text) v
+  value_keys (parsed (scalar s) span) text limit d i j h = tt
+  value_keys (parsed (array vs) span) text limit d i j (l, (here, e, k, gap, items)) = items_keys vs text limit (d + 1) k j items
+  value_keys (parsed (inline ps) span) text limit d i j (l, (here, e, k, gap, pairs)) = pairs_keys ps [] text limit (d + 1) k j pairs
 
-  items_keys : (vs : Items) (text : List ℕ) (limit d i j : ℕ) → SpellsItems vs text limit d i j → ItemKeysInside (length text) vs
+  items_keys : (vs : ParsedItems) (text : List ℕ) (limit d i j : ℕ) → SpellsItems vs text limit d i j → ItemKeysInside (length text) vs
   items_keys no_items text limit d i j h = tt
   items_keys (item v vs) text limit d i j (m, s, inl (e, close)) = (value_keys v text limit d i m s, rw e tt)
   items_keys (item v vs) text limit d i j (m, s, inr (p, sign, rest)) = (value_keys v text limit d i m s, items_keys vs text limit d p j rest)
 
-  pairs_keys : (ps : Pairs) (es : List Event) (text : List ℕ) (limit d i j : ℕ) → SpellsPairs ps es text limit d i j → PairKeysInside (length text) ps
+  pairs_keys : (ps : ParsedPairs) (es : List KeyValue) (text : List ℕ) (limit d i j : ℕ) → SpellsPairs ps es text limit d i j → PairKeysInside (length text) ps
   pairs_keys no_pairs es text limit d i j h = tt
   pairs_keys (pair ss v extent ps) es text limit d i j (m, (a, b, key, few, sign, s, e), clear, inl (none, close)) =
       (dotted_inside ss text i a key, value_keys v text limit (d + length ss) b m s, rw none tt)
@@ -49,29 +49,29 @@ mutual
 
 -- ---- assignments
 
-events_keys : (evs earlier : List Event) (text : List ℕ) (limit i j : ℕ) → SpellsEvents evs earlier text limit i j → EventsInside (length text) evs
-events_keys [] earlier text limit i j h = tt
-events_keys (ev ∷ evs) earlier text limit i j (m, n, k, s, tail, clear, gap, rest) =
-    ((dotted_inside ev.parts text i s.key_end s.key, value_keys ev.value text limit (length ev.parts) s.from m s.spelled), events_keys evs (earlier ++ (ev ∷ [])) text limit k j rest)
+key_values_keys : (evs earlier : List KeyValue) (text : List ℕ) (limit i j : ℕ) → SpellsKeyValues evs earlier text limit i j → KeyValuesInside (length text) evs
+key_values_keys [] earlier text limit i j h = tt
+key_values_keys (ev ∷ evs) earlier text limit i j (m, n, k, s, tail, clear, gap, rest) =
+    ((dotted_inside ev.parts text i s.key_end s.key, value_keys ev.value text limit (length ev.parts) s.from m s.spelled), key_values_keys evs (earlier ++ (ev ∷ [])) text limit k j rest)
 
-pub lines_keys : (evs : List Event) (text : List ℕ) (limit i j : ℕ) → SpellsLines evs text limit i j → EventsInside (length text) evs
-lines_keys evs text limit i j (k, gap, h) = events_keys evs [] text limit k j h
+pub lines_keys : (evs : List KeyValue) (text : List ℕ) (limit i j : ℕ) → SpellsLines evs text limit i j → KeyValuesInside (length text) evs
+lines_keys evs text limit i j (k, gap, h) = key_values_keys evs [] text limit k j h
 
 -- ---- sections
 
 -- a block's header with its parts, and the keys of its assignments
 abbrev BlockInside : ℕ → Block → Type 0
-BlockInside n b = IsInside n b.header_span × PartsInside n b.header × EventsInside n b.events
+BlockInside n b = IsInside n b.header_span × PartsInside n b.header × KeyValuesInside n b.key_values
 
 abbrev BlocksInside : ℕ → List Block → Type 0
 BlocksInside n [] = Unit {0}
 BlocksInside n (b ∷ bs) = BlockInside n b × BlocksInside n bs
 
-pub opens_on : (double : Bool) (text : List ℕ) (i j : ℕ) → Opens double text i j → i < j
+pub opens_on : (double : Bool) (text : List ℕ) (i j : ℕ) → OpensHeader double text i j → i < j
 opens_on false text i j h = omega (arith, h.2)
 opens_on true text i j h = omega (arith, h.2)
 
-pub shuts_on : (double : Bool) (text : List ℕ) (i j : ℕ) → Shuts double text i j → i < j
+pub shuts_on : (double : Bool) (text : List ℕ) (i j : ℕ) → ClosesHeader double text i j → i < j
 shuts_on false text i j h = omega (arith, h.1)
 shuts_on true text i j h = omega (arith, h.2)
 
@@ -86,7 +86,7 @@ pub tail_inside : (text : List ℕ) (i j : ℕ) → Tail text i j → (i ≤ j) 
 tail_inside text i j (k, skipped, inl line) = (omega (arith, skipped_on text i k skipped, line_forward text k j line), line_within text k j line)
 tail_inside text i j (k, skipped, inr (a, b)) = (omega (arith, skipped_on text i k skipped, b), omega (arith, a, b))
 
-header_inside : (ps : List Part) (double : Bool) (text : List ℕ) (limit i j : ℕ) → SpellsHeader ps double text limit i j → ((i ≤ j) × (j ≤ length text)) × PartsInside (length text) ps
+header_inside : (ps : List SimpleKey) (double : Bool) (text : List ℕ) (limit i j : ℕ) → SpellsHeader ps double text limit i j → ((i ≤ j) × (j ≤ length text)) × PartsInside (length text) ps
 header_inside ps double text limit i j h =
     let f = h.front in
     let rest = tail_inside text h.end j h.rest in
@@ -99,21 +99,21 @@ header_inside ps double text limit i j h =
 pub section_block : (b : Block) (text : List ℕ) (limit i j : ℕ) → SpellsSection b text limit i j → BlockInside (length text) b
 section_block b text limit i j h =
     let f = header_inside b.header b.array text limit i h.end h.header in
-    (rw h.header_span f.0, f.1, lines_keys b.events text limit h.end j h.lines)
+    (rw h.header_span f.0, f.1, lines_keys b.key_values text limit h.end j h.lines)
 
 sections_blocks : (bs : List Block) (text : List ℕ) (limit i : ℕ) → SpellsSections bs text limit i → BlocksInside (length text) bs
 sections_blocks [] text limit i h = tt
 sections_blocks (b ∷ bs) text limit i (j, s, rest) = (section_block b text limit i j s, sections_blocks bs text limit j rest)
 
-first_inside : (n : ℕ) (evs : List Event) (bs : List Block) → EventsInside n evs → BlocksInside n bs → BlocksInside n (first_block evs ++ bs)
+first_inside : (n : ℕ) (evs : List KeyValue) (bs : List Block) → KeyValuesInside n evs → BlocksInside n bs → BlocksInside n (first_block evs ++ bs)
 first_inside n [] bs h g = g
 first_inside n (ev ∷ evs) bs h g = (((omega arith, omega arith), tt, h), g)
 
-first_alone : (n : ℕ) (evs : List Event) → EventsInside n evs → BlocksInside n (first_block evs)
+first_alone : (n : ℕ) (evs : List KeyValue) → KeyValuesInside n evs → BlocksInside n (first_block evs)
 first_alone n [] h = tt
 first_alone n (ev ∷ evs) h = (((omega arith, omega arith), tt, h), tt)
 
-pub first_section_inside : (n : ℕ) (s : Section) (evs : List Event) → first_blocks (Some s) ≡ first_block evs → EventsInside n evs → SectionInside n s
+pub first_section_inside : (n : ℕ) (s : Section) (evs : List KeyValue) → first_blocks (Some s) ≡ first_block evs → KeyValuesInside n evs → SectionInside n s
 first_section_inside n s evs e h = let all : BlocksInside n (first_blocks (Some s)) = subst (BlocksInside n) (sym e) (first_alone n evs h) in all.0
 
 document_blocks : (bs : List Block) (text : List ℕ) (limit : ℕ) → SpellsDocument bs text limit → BlocksInside (length text) bs

@@ -1,9 +1,7 @@
 -- How dotted keys are put together.
-use Rattle.std.proofs.Common.{◌≡◌, ℕ, ◌+◌, ◌<◌, ◌≤◌, ◌⊎◌, Bool, true, false, List, [], ◌∷◌, ◌++◌, length, map, get_or, arith, inl, inr, sym, ◌∙◌, refl, ap, append_assoc, length-append, Result, Ok, Err}
+use Rattle.std.proofs.Common.{◌≡◌, ℕ, ◌+◌, ◌<◌, ◌≤◌, Bool, true, false, List, [], ◌∷◌, ◌++◌, length, map, get_or, arith, inl, inr, refl, ap, length-append, Result, Ok, Err}
 use Rattle.std.specs.Prelude.{not, ◌&&◌, ◌==◌, if◌then◌else◌}
 use Rattle.std.specs.Result.{IsErrAnd}
-use Rattle.std.specs.Global.{Global}
-use Rattle.smallvec.specs.SmallVec.{SmallVec}
 use Rattle.toml_span_lex.specs.declared.key.Key.{Key}
 use Rattle.toml_span_lex.specs.declared.stop.Stop.{Stop}
 use Rattle.toml_span_lex.specs.declared.stop.Stop.TheVariants as stops
@@ -12,13 +10,12 @@ use Rattle.toml_span_lex.specs.Strings.{IsString}
 use Rattle.toml_span_lex.proofs.Copies.{content_fits}
 use Rattle.toml_span_lex.proofs.MadeStrings.{content_from_after}
 use Rattle.toml_span_read.specs.declared.fault.FaultKind.{FaultKind}
-use Rattle.toml_span_read.specs.Places.{IsPlaced}
+use Rattle.toml_span_read.specs.Places.{StartsInside}
 use Rattle.toml_span_read.specs.declared.fault.Fault.{Fault}
-use Rattle.toml_span_read.specs.declared.value.DottedKey.{DottedKey}
 use Rattle.toml_span_read.specs.Gaps.{Dot}
-use Rattle.toml_span_read.specs.Keys.{Part, part, parts, IsKey, Onward, Dotted}
+use Rattle.toml_span_read.specs.Keys.{SimpleKey, simple_key, SpellsSimpleKey, Onward, SpellsKey}
 use Rattle.toml_span_read.specs.code.Keys.{KeyGives, DottedGives, HeaderKeyGives}
-use Rattle.toml_span_read.specs.Stuck.{StuckOnward, no_part, dotted_on, StuckDotted, no_first, onward, StuckHeaderKey, no_header_part}
+use Rattle.toml_span_read.specs.Stuck.{StuckOnward, part_here, StuckKey, no_first, onward, StuckHeaderKey, header_part_here}
 
 -- an error that `?` hands on
 pub handed_on : {T E : Type 0} (r : Result T E) (x : E) → IsErrAnd r (λ y. y ≡ x) → r ≡ Err x
@@ -38,30 +35,30 @@ pub first_fault : (stop : Stop Fault) (text : List ℕ) (limit i : ℕ) → KeyG
 first_fault (stops.Memory e) text limit i h = tt
 first_fault (stops.Fault e) text limit i h = no_first i e h
 
-pub part_fault : (stop : Stop Fault) (text : List ℕ) (limit i n m p : ℕ) → ((e : Fault) → StuckOnward text limit n m e → StuckDotted text limit i e)
+pub part_fault : (stop : Stop Fault) (text : List ℕ) (limit i n m p : ℕ) → ((e : Fault) → StuckOnward text limit n m e → StuckKey text limit i e)
     → Dot text m p → KeyGives text p (Err stop) → DottedGives text limit i (Err stop)
 part_fault (stops.Memory e) text limit i n m p stuck d h = tt
-part_fault (stops.Fault e) text limit i n m p stuck d h = stuck e (no_part n m p e d h)
+part_fault (stops.Fault e) text limit i n m p stuck d h = stuck e (part_here n m p e d (inl h))
 
-pub same_stuck : (e f : Fault) (text : List ℕ) (limit i : ℕ) → e ≡ f → StuckDotted text limit i f → StuckDotted text limit i e
+pub same_stuck : (e f : Fault) (text : List ℕ) (limit i : ℕ) → e ≡ f → StuckKey text limit i f → StuckKey text limit i e
 same_stuck e f text limit i is h = rw is h
 
 -- behind the first part
-pub dotted_first : (ps : List Key) (last : Key) (text : List ℕ) (limit i m : ℕ) → ps ≡ [] → IsKey (part last) text i m
+pub dotted_first : (ps : List Key) (last : Key) (text : List ℕ) (limit i m : ℕ) → ps ≡ [] → SpellsSimpleKey (simple_key last) text i m
     → (length ps ≡ 0)
-    × ((tail : List Part) (j : ℕ) → Onward tail text m j → Dotted (map part ps ++ (part last ∷ tail)) text i j)
-    × ((e : Fault) → StuckOnward text limit (length ps + 1) m e → StuckDotted text limit i e)
+    × ((tail : List SimpleKey) (j : ℕ) → Onward tail text m j → SpellsKey (map simple_key ps ++ (simple_key last ∷ tail)) text i j)
+    × ((e : Fault) → StuckOnward text limit (length ps + 1) m e → StuckKey text limit i e)
 dotted_first ps last text limit i m e k =
-    (rw e refl, (λ tail j h. rw e (m, k, h)), (λ x h. let s : StuckOnward text limit 1 m x = rw e at h in onward i m (part last) x k s))
+    (rw e refl, (λ tail j h. rw e (m, k, h)), (λ x h. let s : StuckOnward text limit 1 m x = rw e at h in onward i m (simple_key last) x k s))
 
 pub dotted_more : (ps qs : List Key) (last item key dest : Key) (text : List ℕ) (i m p q : ℕ) → qs ≡ ps ++ (item ∷ []) → item ≡ last → dest ≡ key
-    → ((tail : List Part) (j : ℕ) → Onward tail text m j → Dotted (map part ps ++ (part last ∷ tail)) text i j)
-    → Dot text m p → IsKey (part key) text p q
-    → (tail : List Part) (j : ℕ) → Onward tail text q j → Dotted (map part qs ++ (part dest ∷ tail)) text i j
+    → ((tail : List SimpleKey) (j : ℕ) → Onward tail text m j → SpellsKey (map simple_key ps ++ (simple_key last ∷ tail)) text i j)
+    → Dot text m p → SpellsSimpleKey (simple_key key) text p q
+    → (tail : List SimpleKey) (j : ℕ) → Onward tail text q j → SpellsKey (map simple_key qs ++ (simple_key dest ∷ tail)) text i j
 dotted_more ps qs last item key dest text i m p q e f g whole d k tail j rest =
-    rw (e, g, f, map_more part ps last (part key ∷ tail)) (whole (part key ∷ tail) j (p, q, d, k, rest))
+    rw (e, g, f, map_more simple_key ps last (simple_key key ∷ tail)) (whole (simple_key key ∷ tail) j (p, q, d, k, rest))
 
-pub parts_length : (inner : List Key) (last : Key) → length (map part inner ++ (part last ∷ [])) ≡ length inner + 1
+pub parts_length : (inner : List Key) (last : Key) → length (map simple_key inner ++ (simple_key last ∷ [])) ≡ length inner + 1
 parts_length [] last = refl
 parts_length (k ∷ ks) last = let h = parts_length ks last in omega arith
 
@@ -70,15 +67,15 @@ parts_length (k ∷ ks) last = let h = parts_length ks last in omega arith
 pub header_fault : (stop : Stop Fault) (text : List ℕ) (limit i n m : ℕ) → ((e : Fault) → StuckHeaderKey text limit n m e → StuckHeaderKey text limit 0 i e)
     → KeyGives text m (Err stop) → HeaderKeyGives text limit i (Err stop)
 header_fault (stops.Memory e) text limit i n m stuck h = tt
-header_fault (stops.Fault e) text limit i n m stuck h = stuck e (no_header_part n m e h)
+header_fault (stops.Fault e) text limit i n m stuck h = stuck e (header_part_here n m e (inl h))
 
 pub header_more : (ps qs : List Key) (key : Key) (text : List ℕ) (i m n p : ℕ) → qs ≡ ps ++ (key ∷ [])
-    → ((tail : List Part) (j : ℕ) → Dotted tail text m j → Dotted (map part ps ++ tail) text i j)
-    → IsKey (part key) text m n → Dot text n p
-    → (tail : List Part) (j : ℕ) → Dotted tail text p j → Dotted (map part qs ++ tail) text i j
+    → ((tail : List SimpleKey) (j : ℕ) → SpellsKey tail text m j → SpellsKey (map simple_key ps ++ tail) text i j)
+    → SpellsSimpleKey (simple_key key) text m n → Dot text n p
+    → (tail : List SimpleKey) (j : ℕ) → SpellsKey tail text p j → SpellsKey (map simple_key qs ++ tail) text i j
 header_more ps qs key text i m n p e whole k d [] j rest = absurd rest
 header_more ps qs key text i m n p e whole k d (t ∷ ts) j (q, first, rest) =
-    rw (e, map_more part ps key (t ∷ ts)) (whole (part key ∷ t ∷ ts) j (n, k, (p, q, d, first, rest)))
+    rw (e, map_more simple_key ps key (t ∷ ts)) (whole (simple_key key ∷ t ∷ ts) j (n, k, (p, q, d, first, rest)))
 
 -- ---- spans
 
@@ -95,7 +92,7 @@ string_span text v src i j s m h =
     let a = content_from_after m text i h.from h.begins in
     rw h.span_is (span_forward (not m && h.from == h.to) i h.from h.to text (omega (arith, f.0, f.1, f.2)) (omega (arith, f.0)) (omega (arith, f.1, f.2)))
 
-pub key_placed : (text : List ℕ) (i j : ℕ) (p : Part) (kind : FaultKind) → IsKey p text i j → IsPlaced text (record { kind = kind; span = p.span })
+pub key_placed : (text : List ℕ) (i j : ℕ) (p : SimpleKey) (kind : FaultKind) → SpellsSimpleKey p text i j → StartsInside text (record { kind = kind; span = p.span })
 key_placed text i j p kind (inl (run, e)) = record { within = rw e (omega (arith, run.0, run.1.within)); forward = rw e (omega (arith, run.0)) }
 key_placed text i j p kind (inr (src, h)) = let s = string_span text p.name src i j p.span false h in record { within = s.0; forward = s.1 }
 

@@ -1,7 +1,6 @@
 -- How lines, headers and sections are put together.
-use Rattle.std.proofs.Common.{◌≡◌, ℕ, ◌+◌, ◌<◌, ◌≤◌, ◌⊎◌, zero, suc, Bool, true, false, List, [], ◌∷◌, ◌++◌, length, map, get_or, arith, inl, inr, sym, ◌∙◌, refl, ap, append-nil, Result, Ok, Err, Option, Some, None}
+use Rattle.std.proofs.Common.{◌≡◌, ℕ, ◌+◌, ◌<◌, ◌≤◌, zero, suc, Bool, true, false, List, [], ◌∷◌, ◌++◌, length, map, get_or, arith, inl, inr, refl, ap, append-nil, Ok, Err}
 use Rattle.std.specs.Prelude.{◌==◌}
-use Rattle.toml_span_lex.specs.declared.span.Span.{Span}
 use Rattle.toml_span_lex.specs.declared.key.Key.{Key}
 use Rattle.toml_span_lex.specs.declared.stop.Stop.{Stop}
 use Rattle.toml_span_lex.specs.declared.stop.Stop.TheVariants as stops
@@ -12,94 +11,93 @@ use Rattle.toml_span_read.specs.declared.fault.Fault.{Fault}
 use Rattle.toml_span_read.specs.declared.value.Assignment.{Assignment}
 use Rattle.toml_span_read.specs.declared.section.Section.{Section}
 use Rattle.toml_span_read.specs.declared.sections.Header.{Header}
-use Rattle.toml_span_read.specs.Data.{Node, Event, event, Block, block}
-use Rattle.toml_span_read.specs.Earlier.{Clear, Crossing}
+use Rattle.toml_span_read.specs.Data.{ParsedValue, KeyValue, key_value, Block, block}
+use Rattle.toml_span_read.specs.Earlier.{Clear}
 use Rattle.toml_span_read.specs.code.Earlier.{AddsClear}
-use Rattle.toml_span_read.specs.Gaps.{MaximalGap, Equals, Tail, NoTail}
-use Rattle.toml_span_read.specs.Grammar.{Spells, SpellsEvent, SpellsEvents, SpellsLines, Opens, Shuts, HeaderFront, SpellsHeader, last_end, SpellsSection, first_block, SpellsSections, SpellsDocument}
-use Rattle.toml_span_read.specs.Keys.{Part, part, Dotted}
+use Rattle.toml_span_read.specs.Gaps.{MaximalGap, Equals, Tail}
+use Rattle.toml_span_read.specs.Grammar.{Spells, SpellsKeyValue, SpellsKeyValues, SpellsLines, OpensHeader, SpellsHeader, last_end, SpellsSection, first_block, SpellsSections, SpellsDocument}
+use Rattle.toml_span_read.specs.Keys.{SimpleKey, simple_key, SpellsKey}
 use Rattle.toml_span_read.specs.code.Keys.{DottedGives, HeaderKeyGives}
-use Rattle.toml_span_read.specs.Stuck.{StuckEvent, line_key, line_equals, line_value, StuckEvents, in_line, no_newline, crossing, line_on, StuckLines, StuckHeader, header_key, header_close, header_rest, StuckSections, in_header, in_section, section_on, StuckDocument, before_headers, behind_header}
-use Rattle.toml_span_read.specs.Faults.{StuckTail, NoShuts}
-use Rattle.toml_span_read.specs.code.Sections.{EventGives, LineGives, LinesGive, CloseGives, HeaderGives, block_of, first_blocks, SectionsGive}
+use Rattle.toml_span_read.specs.Stuck.{line_key, line_equals, line_value, StuckKeyValues, in_line, no_newline, crossing, line_on, StuckLines, header_key, header_close, header_rest, StuckSections, section_on, StuckDocument, behind_header}
+use Rattle.toml_span_read.specs.code.Sections.{KeyValueGives, LineGives, LinesGive, CloseGives, HeaderGives, block_of}
 use Rattle.toml_span_read.specs.code.Values.{ValueGives}
 use Rattle.toml_span_read.specs.code.Wanted.{WantedGives}
 use Rattle.toml_span_read.proofs.KeyLemmas.{map_more}
 
 -- ---- assignments
 
-pub end_is : (vs : List Assignment) (k n : ℕ) (a : Assignment) → k + 1 ≡ length vs → a ≡ get_or vs k a → (event a).extent.end ≡ last_end n (map event vs)
+pub end_is : (vs : List Assignment) (k n : ℕ) (a : Assignment) → k + 1 ≡ length vs → a ≡ get_or vs k a → (key_value a).extent.end ≡ last_end n (map key_value vs)
 end_is [] k n a l e = absurd (omega (arith, l))
-end_is (v ∷ []) zero n a l e = ap (λ z. (event z).extent.end) e
+end_is (v ∷ []) zero n a l e = ap (λ z. (key_value z).extent.end) e
 end_is (v ∷ []) (suc k) n a l e = absurd (omega (arith, l))
 end_is (v ∷ w ∷ ws) zero n a l e = absurd (omega (arith, l))
-end_is (v ∷ w ∷ ws) (suc k) n a l e = end_is (w ∷ ws) k (event v).extent.end a (omega (arith, l)) e
+end_is (v ∷ w ∷ ws) (suc k) n a l e = end_is (w ∷ ws) k (key_value v).extent.end a (omega (arith, l)) e
 
-pub line_key_fault : (stop : Stop Fault) (text : List ℕ) (limit i : ℕ) → DottedGives text limit i (Err stop) → EventGives text limit i (Err stop)
+pub line_key_fault : (stop : Stop Fault) (text : List ℕ) (limit i : ℕ) → DottedGives text limit i (Err stop) → KeyValueGives text limit i (Err stop)
 line_key_fault (stops.Memory e) text limit i h = tt
 line_key_fault (stops.Fault e) text limit i h = line_key i e h
 
-pub line_equals_fault : (stop : Stop Fault) (text : List ℕ) (limit i a n : ℕ) (ps : List Part) → Dotted ps text i a → length ps ≤ limit → MaximalRun is_blank text a n
-    → (get_or text n 0 == 61) ≡ false → WantedGives text n dues.Equals stop → EventGives text limit i (Err stop)
+pub line_equals_fault : (stop : Stop Fault) (text : List ℕ) (limit i a n : ℕ) (ps : List SimpleKey) → SpellsKey ps text i a → length ps ≤ limit → MaximalRun is_blank text a n
+    → (get_or text n 0 == 61) ≡ false → WantedGives text n dues.Equals stop → KeyValueGives text limit i (Err stop)
 line_equals_fault (stops.Memory e) text limit i a n ps key few run none h = tt
-line_equals_fault (stops.Fault e) text limit i a n ps key few run none h = line_equals i a n ps e key few run none h
+line_equals_fault (stops.Fault e) text limit i a n ps key few run none h = line_equals i a n ps e key few run (none, h)
 
-pub line_value_fault : (stop : Stop Fault) (text : List ℕ) (limit i a b r : ℕ) (ps : List Part) → Dotted ps text i a → length ps ≤ limit → Equals text a b → r ≡ length ps
-    → ValueGives text limit r b (Err stop) → EventGives text limit i (Err stop)
+pub line_value_fault : (stop : Stop Fault) (text : List ℕ) (limit i a b r : ℕ) (ps : List SimpleKey) → SpellsKey ps text i a → length ps ≤ limit → Equals text a b → r ≡ length ps
+    → ValueGives text limit r b (Err stop) → KeyValueGives text limit i (Err stop)
 line_value_fault (stops.Memory e) text limit i a b r ps key few sign u h = tt
 line_value_fault (stops.Fault e) text limit i a b r ps key few sign u h = line_value i a b ps e key few sign (rw u at h)
 
-pub event_made : (e : Event) (ps : List Part) (v : Node) (text : List ℕ) (limit r i k from j : ℕ) → e ≡ record { parts = ps; value = v; extent = record { start = i; end = j } }
-    → Dotted ps text i k → length ps ≤ limit → Equals text k from → r ≡ length ps → Spells v text limit r from j → SpellsEvent e text limit i j
-event_made e ps v text limit r i k from j is key few sign u h =
+pub key_value_made : (e : KeyValue) (ps : List SimpleKey) (v : ParsedValue) (text : List ℕ) (limit r i k from j : ℕ) → e ≡ record { parts = ps; value = v; extent = record { start = i; end = j } }
+    → SpellsKey ps text i k → length ps ≤ limit → Equals text k from → r ≡ length ps → Spells v text limit r from j → SpellsKeyValue e text limit i j
+key_value_made e ps v text limit r i k from j is key few sign u h =
     rw is (record { key_end = k; from = from; key = key; few = few; sign = sign; spelled = rw u at h; extent = refl })
 
 -- ---- lines
 
 -- whatever assignments follow, they and what is read are the lines
 abbrev pub WholeLines : List Assignment → List ℕ → ℕ → ℕ → ℕ → Type 0
-WholeLines vs text limit from at = (rest : List Event) (j : ℕ) → SpellsEvents rest (map event vs) text limit at j → SpellsLines (map event vs ++ rest) text limit from j
+WholeLines vs text limit from at = (rest : List KeyValue) (j : ℕ) → SpellsKeyValues rest (map key_value vs) text limit at j → SpellsLines (map key_value vs ++ rest) text limit from j
 
 -- whatever is stuck in the rest is stuck in the whole
 abbrev pub StuckOn : List Assignment → List ℕ → ℕ → ℕ → ℕ → Type 0
-StuckOn vs text limit from at = (e : Fault) → StuckEvents text limit (map event vs) at e → StuckLines text limit from e
+StuckOn vs text limit from at = (e : Fault) → StuckKeyValues text limit (map key_value vs) at e → StuckLines text limit from e
 
 pub lines_begin : (vs : List Assignment) (text : List ℕ) (limit from at : ℕ) → vs ≡ [] → MaximalGap text from at → WholeLines vs text limit from at × StuckOn vs text limit from at
 lines_begin vs text limit from at e g = ((λ rest j h. rw e (at, g, (rw e at h))), (λ x h. (at, g, (rw e at h))))
 
-map_end : (xs : List Assignment) (a : Assignment) → map event (xs ++ (a ∷ [])) ≡ map event xs ++ (event a ∷ [])
+map_end : (xs : List Assignment) (a : Assignment) → map key_value (xs ++ (a ∷ [])) ≡ map key_value xs ++ (key_value a ∷ [])
 map_end [] a = refl
-map_end (x ∷ xs) a = ap (λ z. event x ∷ z) (map_end xs a)
+map_end (x ∷ xs) a = ap (λ z. key_value x ∷ z) (map_end xs a)
 
 pub lines_more : (xs ys : List Assignment) (a : Assignment) (text : List ℕ) (limit from i m n k : ℕ) → ys ≡ xs ++ (a ∷ [])
-    → WholeLines xs text limit from i → SpellsEvent (event a) text limit i m → Tail text m n → Clear (map event xs) (event a) → MaximalGap text n k
+    → WholeLines xs text limit from i → SpellsKeyValue (key_value a) text limit i m → Tail text m n → Clear (map key_value xs) (key_value a) → MaximalGap text n k
     → WholeLines ys text limit from k
 lines_more xs ys a text limit from i m n k e whole s t c g rest j h =
-    rw (e, map_more event xs a rest) (whole (event a ∷ rest) j (m, n, k, s, t, c, g, (rw (e, map_end xs a) at h)))
+    rw (e, map_more key_value xs a rest) (whole (key_value a ∷ rest) j (m, n, k, s, t, c, g, (rw (e, map_end xs a) at h)))
 
 pub stuck_more : (xs ys : List Assignment) (a : Assignment) (text : List ℕ) (limit from i m n k : ℕ) → ys ≡ xs ++ (a ∷ [])
-    → StuckOn xs text limit from i → SpellsEvent (event a) text limit i m → Tail text m n → Clear (map event xs) (event a) → MaximalGap text n k
+    → StuckOn xs text limit from i → SpellsKeyValue (key_value a) text limit i m → Tail text m n → Clear (map key_value xs) (key_value a) → MaximalGap text n k
     → StuckOn ys text limit from k
 stuck_more xs ys a text limit from i m n k e stuck s t c g x h =
-    stuck x (line_on (map event xs) i m n k (event a) x s t c g (rw (e, map_end xs a) at h))
+    stuck x (line_on (map key_value xs) i m n k (key_value a) x s t c g (rw (e, map_end xs a) at h))
 
-pub lines_end : (vs : List Assignment) (text : List ℕ) (limit from at : ℕ) → WholeLines vs text limit from at → SpellsLines (map event vs) text limit from at
-lines_end vs text limit from at whole = rw (append-nil (map event vs)) at (whole [] at refl)
+pub lines_end : (vs : List Assignment) (text : List ℕ) (limit from at : ℕ) → WholeLines vs text limit from at → SpellsLines (map key_value vs) text limit from at
+lines_end vs text limit from at whole = rw (append-nil (map key_value vs)) at (whole [] at refl)
 
 pub in_line_fault : (stop : Stop Fault) (vs : List Assignment) (text : List ℕ) (limit from i : ℕ) → StuckOn vs text limit from i → i < length text → (get_or text i 0 == 91) ≡ false
-    → EventGives text limit i (Err stop) → LinesGive text limit from (Err stop)
+    → KeyValueGives text limit i (Err stop) → LinesGive text limit from (Err stop)
 in_line_fault (stops.Memory e) vs text limit from i stuck l none h = tt
-in_line_fault (stops.Fault e) vs text limit from i stuck l none h = stuck e (in_line (map event vs) i e l none h)
+in_line_fault (stops.Fault e) vs text limit from i stuck l none h = stuck e (in_line (map key_value vs) i e l none h)
 
-pub newline_fault : (stop : Stop Fault) (vs : List Assignment) (a : Assignment) (text : List ℕ) (limit from i m : ℕ) → StuckOn vs text limit from i → SpellsEvent (event a) text limit i m
+pub newline_fault : (stop : Stop Fault) (vs : List Assignment) (a : Assignment) (text : List ℕ) (limit from i m : ℕ) → StuckOn vs text limit from i → SpellsKeyValue (key_value a) text limit i m
     → LineGives text m (Err stop) → LinesGive text limit from (Err stop)
 newline_fault (stops.Memory e) vs a text limit from i m stuck s h = tt
-newline_fault (stops.Fault e) vs a text limit from i m stuck s h = stuck e (no_newline (map event vs) i m (event a) e s h)
+newline_fault (stops.Fault e) vs a text limit from i m stuck s h = stuck e (no_newline (map key_value vs) i m (key_value a) e s h)
 
-pub crossing_fault : (stop : Stop Fault) (vs new : List Assignment) (a : Assignment) (text : List ℕ) (limit from i m n : ℕ) → StuckOn vs text limit from i → SpellsEvent (event a) text limit i m
+pub crossing_fault : (stop : Stop Fault) (vs new : List Assignment) (a : Assignment) (text : List ℕ) (limit from i m n : ℕ) → StuckOn vs text limit from i → SpellsKeyValue (key_value a) text limit i m
     → Tail text m n → AddsClear vs new a (Err stop) → LinesGive text limit from (Err stop)
 crossing_fault (stops.Memory e) vs new a text limit from i m n stuck s t h = tt
-crossing_fault (stops.Fault e) vs new a text limit from i m n stuck s t h = stuck e (crossing (map event vs) i m n (event a) e s t h)
+crossing_fault (stops.Fault e) vs new a text limit from i m n stuck s t h = stuck e (crossing (map key_value vs) i m n (key_value a) e s t h)
 
 -- ---- headers
 
@@ -114,38 +112,38 @@ pub close_second : (array : Bool) (stop : Stop Fault) (text : List ℕ) (i k b :
 close_second array (stops.Memory e) text i k b a run here u none h = tt
 close_second array (stops.Fault e) text i k b a run here u none h = rw a (k, run, inr (here, ((rw u at none), (rw u at h))))
 
-pub header_key_fault : (stop : Stop Fault) (array : Bool) (text : List ℕ) (limit i m k : ℕ) → Opens array text i m → MaximalRun is_blank text m k → HeaderKeyGives text limit k (Err stop)
+pub header_key_fault : (stop : Stop Fault) (array : Bool) (text : List ℕ) (limit i m k : ℕ) → OpensHeader array text i m → MaximalRun is_blank text m k → HeaderKeyGives text limit k (Err stop)
     → HeaderGives text limit i (Err stop)
 header_key_fault (stops.Memory e) array text limit i m k opens run h = tt
 header_key_fault (stops.Fault e) array text limit i m k opens run h = header_key i m k array e opens run h
 
-pub header_close_fault : (stop : Stop Fault) (array : Bool) (ps : List Part) (text : List ℕ) (limit i m k a : ℕ) → Opens array text i m → MaximalRun is_blank text m k → Dotted ps text k a → length ps ≤ limit
+pub header_close_fault : (stop : Stop Fault) (array : Bool) (ps : List SimpleKey) (text : List ℕ) (limit i m k a : ℕ) → OpensHeader array text i m → MaximalRun is_blank text m k → SpellsKey ps text k a → length ps ≤ limit
     → CloseGives array text a (Err stop) → HeaderGives text limit i (Err stop)
 header_close_fault (stops.Memory e) array ps text limit i m k a opens run key few h = tt
 header_close_fault (stops.Fault e) array ps text limit i m k a opens run key few h =
     header_close i h.0 array ps e (record { inside = m; start = k; end = a; opens = opens; before = run; key = key; few = few; behind = h.1 }) h.2
 
-pub header_rest_fault : (stop : Stop Fault) (array : Bool) (ps : List Part) (text : List ℕ) (limit i m k a b : ℕ) → Opens array text i m → MaximalRun is_blank text m k → Dotted ps text k a → length ps ≤ limit
+pub header_rest_fault : (stop : Stop Fault) (array : Bool) (ps : List SimpleKey) (text : List ℕ) (limit i m k a b : ℕ) → OpensHeader array text i m → MaximalRun is_blank text m k → SpellsKey ps text k a → length ps ≤ limit
     → CloseGives array text a (Ok b) → LineGives text b (Err stop) → HeaderGives text limit i (Err stop)
 header_rest_fault (stops.Memory e) array ps text limit i m k a b opens run key few shut h = tt
 header_rest_fault (stops.Fault e) array ps text limit i m k a b opens run key few shut h =
     header_rest i shut.0 b array ps e (record { inside = m; start = k; end = a; opens = opens; before = run; key = key; few = few; behind = shut.1 }) shut.2 h
 
-map_length : (ks : List Key) → length (map part ks) ≡ length ks
+map_length : (ks : List Key) → length (map simple_key ks) ≡ length ks
 map_length [] = refl
 map_length (k ∷ ks) = let h = map_length ks in omega (arith, h)
 
-pub few_parts : (ks : List Key) (limit : ℕ) → length ks ≤ limit → length (map part ks) ≤ limit
+pub few_parts : (ks : List Key) (limit : ℕ) → length ks ≤ limit → length (map simple_key ks) ≤ limit
 few_parts ks limit h = omega (arith, map_length ks, h)
 
-pub header_made : (array : Bool) (ps : List Part) (text : List ℕ) (limit i m k a b j : ℕ) → Opens array text i m → MaximalRun is_blank text m k → Dotted ps text k a → length ps ≤ limit
+pub header_made : (array : Bool) (ps : List SimpleKey) (text : List ℕ) (limit i m k a b j : ℕ) → OpensHeader array text i m → MaximalRun is_blank text m k → SpellsKey ps text k a → length ps ≤ limit
     → CloseGives array text a (Ok b) → Tail text b j → SpellsHeader ps array text limit i j
 header_made array ps text limit i m k a b j opens run key few shut rest =
     record { close = shut.0; end = b; front = record { inside = m; start = k; end = a; opens = opens; before = run; key = key; few = few; behind = shut.1 }; shuts = shut.2; rest = rest }
 
 -- ---- sections
 
-pub section_made : (b : Block) (h : Header) (evs : List Event) (text : List ℕ) (limit i j : ℕ) → b ≡ block_of h evs → HeaderGives text limit i (Ok h) → SpellsLines evs text limit h.extent.end j
+pub section_made : (b : Block) (h : Header) (evs : List KeyValue) (text : List ℕ) (limit i j : ℕ) → b ≡ block_of h evs → HeaderGives text limit i (Ok h) → SpellsLines evs text limit h.extent.end j
     → SpellsSection b text limit i j
 section_made b h evs text limit i j is header lines =
     rw is (
@@ -165,7 +163,7 @@ WholeSections ss text limit at = (rest : List Block) → SpellsSections rest tex
 abbrev pub StuckFrom : List ℕ → ℕ → ℕ → Type 0
 StuckFrom text limit at = (e : Fault) → StuckSections text limit at e → StuckDocument text limit e
 
-pub sections_begin : (ss : List Section) (evs : List Event) (text : List ℕ) (limit i j : ℕ) → map block ss ≡ first_block evs → FirstPlace text i → SpellsLines evs text limit i j
+pub sections_begin : (ss : List Section) (evs : List KeyValue) (text : List ℕ) (limit i j : ℕ) → map block ss ≡ first_block evs → FirstPlace text i → SpellsLines evs text limit i j
     → WholeSections ss text limit j × StuckFrom text limit j
 sections_begin ss evs text limit i j e begins lines =
     ((λ rest h. record { start = i; end = j; first = evs; rest = rest; begins = begins; lines = lines; sections = h; all = ap (λ z. z ++ rest) e }), (λ x h. behind_header i j evs x begins lines h))

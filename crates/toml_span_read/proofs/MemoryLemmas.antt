@@ -1,13 +1,13 @@
 -- Memory is wanted only where there is something to keep.
-use Rattle.std.proofs.Common.{◌≡◌, ℕ, ◌+◌, ◌<◌, ◌≤◌, List, [], ◌∷◌, ◌++◌, length, arith, ap, Result, Ok, Err, Option, Some, None}
+use Rattle.std.proofs.Common.{◌≡◌, ℕ, ◌<◌, ◌≤◌, List, [], ◌∷◌, ◌++◌, length, arith, ap, Err, Some}
 use Rattle.toml_span_lex.specs.declared.stop.Stop.{Stop}
 use Rattle.toml_span_lex.specs.declared.stop.Stop.TheVariants as stops
 use Rattle.toml_span_lex.specs.Tokenizer.{FirstPlace}
 use Rattle.toml_span_read.specs.declared.section.Section.{Section}
-use Rattle.toml_span_read.specs.Data.{Event, block}
+use Rattle.toml_span_read.specs.Data.{KeyValue}
 use Rattle.toml_span_read.specs.Gaps.{MaximalGap}
-use Rattle.toml_span_read.specs.Keys.{Part, Dotted}
-use Rattle.toml_span_read.specs.Grammar.{SpellsEvent, SpellsEvents, SpellsLines, first_block}
+use Rattle.toml_span_read.specs.Keys.{SimpleKey, SpellsKey}
+use Rattle.toml_span_read.specs.Grammar.{SpellsKeyValue, SpellsKeyValues, SpellsLines, first_block}
 use Rattle.toml_span_read.specs.code.Sections.{first_blocks}
 use Rattle.toml_span_read.specs.Stuck.{HoldsForm, KeepsForm}
 use Rattle.toml_span_read.proofs.InsideLemmas.{ascend_forward, tail_inside}
@@ -15,28 +15,28 @@ use Rattle.toml_span_read.proofs.KeyOrder.{dotted_ascend}
 use Rattle.toml_span_read.proofs.SpanLaws.{value_lies}
 
 -- a key stands before the end of the text
-key_within : (ps : List Part) (text : List ℕ) (i j : ℕ) → Dotted ps text i j → (i < length text) × (i ≤ j)
+key_within : (ps : List SimpleKey) (text : List ℕ) (i j : ℕ) → SpellsKey ps text i j → (i < length text) × (i ≤ j)
 key_within [] text i j h = absurd h
 key_within (p ∷ ps) text i j h =
     let a = dotted_ascend (p ∷ ps) text i j h in
     let f = ascend_forward ps p.span.end j a.0.2 in
     (omega (arith, a.0.0, a.0.1, f, a.1), omega (arith, a.0.0, a.0.1, f))
 
-event_forward : (e : Event) (text : List ℕ) (limit i m : ℕ) → SpellsEvent e text limit i m → i ≤ m
-event_forward e text limit i m h =
+key_value_forward : (e : KeyValue) (text : List ℕ) (limit i m : ℕ) → SpellsKeyValue e text limit i m → i ≤ m
+key_value_forward e text limit i m h =
     omega (arith, (key_within e.parts text i h.key_end h.key).1, h.sign.before.forward, h.sign.behind.forward, (value_lies e.value text limit (length e.parts) h.from m h.spelled).1)
 
-events_forward : (es before : List Event) (text : List ℕ) (limit i j : ℕ) → SpellsEvents es before text limit i j → i ≤ j
-events_forward [] before text limit i j h = omega (arith, h)
-events_forward (e ∷ es) before text limit i j (m, n, k, h, t, c, g, r) =
-    omega (arith, event_forward e text limit i m h, (tail_inside text m n t).0, g.forward, events_forward es (before ++ (e ∷ [])) text limit k j r)
+key_values_forward : (es before : List KeyValue) (text : List ℕ) (limit i j : ℕ) → SpellsKeyValues es before text limit i j → i ≤ j
+key_values_forward [] before text limit i j h = omega (arith, h)
+key_values_forward (e ∷ es) before text limit i j (m, n, k, h, t, c, g, r) =
+    omega (arith, key_value_forward e text limit i m h, (tail_inside text m n t).0, g.forward, key_values_forward es (before ++ (e ∷ [])) text limit k j r)
 
 -- where a gap from the start of the text ends, at or before a place
 abbrev pub Begun : List ℕ → ℕ → Type 0
 Begun text at = (start k : ℕ) × FirstPlace text start × MaximalGap text start k × (k ≤ at)
 
-pub begun_by_lines : (es : List Event) (text : List ℕ) (limit start at : ℕ) → FirstPlace text start → SpellsLines es text limit start at → Begun text at
-begun_by_lines es text limit start at first (k, g, h) = (start, k, first, g, events_forward es [] text limit k at h)
+pub begun_by_lines : (es : List KeyValue) (text : List ℕ) (limit start at : ℕ) → FirstPlace text start → SpellsLines es text limit start at → Begun text at
+begun_by_lines es text limit start at first (k, g, h) = (start, k, first, g, key_values_forward es [] text limit k at h)
 
 pub begun_on : (text : List ℕ) (at next : ℕ) → Begun text at → at ≤ next → Begun text next
 begun_on text at next (start, k, first, g, l) on = (start, k, first, g, omega (arith, l, on))
@@ -47,7 +47,7 @@ keeps A E (stops.Memory e) text at (start, k, first, g, l) under = (start, first
 keeps A E (stops.Fault e) text at (start, k, first, g, l) under = (start, first, tt)
 
 -- assignments before the first header are something to keep
-pub lines_keep : (s : Section) (es : List Event) (text : List ℕ) (limit start at : ℕ) → first_blocks (Some s) ≡ first_block es → FirstPlace text start
+pub lines_keep : (s : Section) (es : List KeyValue) (text : List ℕ) (limit start at : ℕ) → first_blocks (Some s) ≡ first_block es → FirstPlace text start
     → SpellsLines es text limit start at → (i : ℕ) × FirstPlace text i × HoldsForm text i
 lines_keep s [] text limit start at is first h = let n : length (first_blocks (Some s)) ≡ 0 = ap (λ bs. length bs) is in absurd (omega (arith, n))
 lines_keep s (ev ∷ es) text limit start at is first (k, g, (m, n, q, h, t, c, gap, r)) = (start, first, (k, g, (key_within ev.parts text k h.key_end h.key).0))

@@ -6,12 +6,12 @@ use Rattle.toml_span_lex.specs.Strings.{IsString}
 use Rattle.toml_span_lex.proofs.Copies.{content_fits}
 use Rattle.toml_span_lex.proofs.MadeStrings.{content_from_after}
 use Rattle.toml_span_tree.specs.Node.{Scalar, text as text_scalar, integer, float, boolean, datetime, finite, infinite, not_a_number}
-use Rattle.toml_span_read.specs.Gaps.{Sign, Closes}
-use Rattle.toml_span_read.specs.Keys.{Part}
+use Rattle.toml_span_read.specs.Gaps.{Separator, Closes}
+use Rattle.toml_span_read.specs.Keys.{SimpleKey}
 use Rattle.toml_span_read.specs.Places.{Ascend, Inside, InsideItems, InsidePairs}
 use Rattle.toml_span_read.specs.Dates.{IsCandidate}
 use Rattle.toml_span_read.specs.Numbers.{IsNumber, behind_sign, UnsignedDecimal, Exponent, Fraction, FloatLiteral, SpecialFloat}
-use Rattle.toml_span_read.specs.Data.{Node, node, Inner, scalar, array, inline, Items, no_items, item, Pairs, no_pairs, pair, Event}
+use Rattle.toml_span_read.specs.Data.{ParsedValue, parsed, ParsedInner, scalar, array, inline, ParsedItems, no_items, item, ParsedPairs, no_pairs, pair, KeyValue}
 use Rattle.toml_span_read.specs.Grammar.{from_to, IsScalar, Spells, SpellsInner, SpellsItems, SpellsPairs}
 use Rattle.toml_span_read.proofs.Places.{read_within}
 use Rattle.toml_span_read.proofs.KeyOrder.{dotted_ascend}
@@ -93,7 +93,7 @@ scalar_lies (float x) span t i j (b, h, e) = whole t i j span e (number_on (floa
 
 -- ---- values
 
-sign_onward : (c : ℕ) (text : List ℕ) (i j : ℕ) → Sign c text i j → i ≤ j
+sign_onward : (c : ℕ) (text : List ℕ) (i j : ℕ) → Separator c text i j → i ≤ j
 sign_onward c text i j s = omega (arith, s.before.forward, s.behind.forward)
 
 closes_on : (c : ℕ) (text : List ℕ) (i j : ℕ) → 0 < c → Closes c text i j → (i ≤ j) × (j ≤ length text)
@@ -101,22 +101,22 @@ closes_on c text i j l s =
     let w : s.at < length text = read_within text s.at (omega (arith, s.here)) in (omega (arith, s.before.forward, s.ends), omega (arith, s.ends, w))
 
 -- a value that lies from i on lies from n on, before it
-nearer : (v : Node) (n i j : ℕ) → n ≤ i → Inside v i j → Inside v n j
-nearer (node k span) n i j l (begins, forward, ends, inner) = (omega arith, forward, ends, inner)
+nearer : (v : ParsedValue) (n i j : ℕ) → n ≤ i → Inside v i j → Inside v n j
+nearer (parsed k span) n i j l (begins, forward, ends, inner) = (omega arith, forward, ends, inner)
 
-ascend_nearer : (ps : List Part) (n i j : ℕ) → n ≤ i → Ascend ps i j → Ascend ps n j
+ascend_nearer : (ps : List SimpleKey) (n i j : ℕ) → n ≤ i → Ascend ps i j → Ascend ps n j
 ascend_nearer [] n i j l h = omega arith
 ascend_nearer (p ∷ ps) n i j l (begins, some, rest) = (omega arith, some, rest)
 
-ascend_forward : (ps : List Part) (i j : ℕ) → Ascend ps i j → i ≤ j
+ascend_forward : (ps : List SimpleKey) (i j : ℕ) → Ascend ps i j → i ≤ j
 ascend_forward [] i j h = h
 ascend_forward (p ∷ ps) i j (begins, some, rest) = let f = ascend_forward ps p.span.end j rest in omega arith
 
 mutual
-  pub value_lies : (v : Node) (text : List ℕ) (limit d i j : ℕ) → Spells v text limit d i j → Inside v i j × (i ≤ j) × (j ≤ length text)
-  value_lies (node x s) text limit d i j (few, h) = inner_lies x s text limit d i j h
+  pub value_lies : (v : ParsedValue) (text : List ℕ) (limit d i j : ℕ) → Spells v text limit d i j → Inside v i j × (i ≤ j) × (j ≤ length text)
+  value_lies (parsed x s) text limit d i j (few, h) = inner_lies x s text limit d i j h
 
-  inner_lies : (x : Inner) (s : Span) (text : List ℕ) (limit d i j : ℕ) → SpellsInner x s text limit d i j → Inside (node x s) i j × (i ≤ j) × (j ≤ length text)
+  inner_lies : (x : ParsedInner) (s : Span) (text : List ℕ) (limit d i j : ℕ) → SpellsInner x s text limit d i j → Inside (parsed x s) i j × (i ≤ j) × (j ≤ length text)
   inner_lies (scalar x) s text limit d i j h =
       let a = scalar_lies x s text i j h in ((a.begins, a.forward, a.ends, tt), omega (arith, a.begins, a.forward, a.ends), a.within)
   inner_lies (array vs) s text limit d i j (here, e, k, gap, h) =
@@ -124,7 +124,7 @@ mutual
   inner_lies (inline ps) s text limit d i j (here, e, k, gap, h) =
       let a = pairs_lie ps [] text limit (d + 1) i k j (omega (arith, gap.forward)) h in (rw e (omega arith, a.1, omega arith, a.0), a.1, a.2)
 
-  items_lie : (vs : Items) (text : List ℕ) (limit d n i j : ℕ) → n ≤ i → SpellsItems vs text limit d i j → InsideItems vs n j × (n ≤ j) × (j ≤ length text)
+  items_lie : (vs : ParsedItems) (text : List ℕ) (limit d n i j : ℕ) → n ≤ i → SpellsItems vs text limit d i j → InsideItems vs n j × (n ≤ j) × (j ≤ length text)
   items_lie no_items text limit d n i j l h = let w : i < length text = read_within text i (omega (arith, h.0)) in (omega (arith, h.1), omega (arith, h.1), omega (arith, h.1, w))
   items_lie (item v vs) text limit d n i j l (m, h, inl (e, close)) =
       let a = value_lies v text limit d i m h in
@@ -135,7 +135,7 @@ mutual
       let r = items_lie vs text limit d m p j (sign_onward 44 text m p sign) rest in
       ((m, nearer v n i m l a.0, r.0), omega (arith, l, a.1, r.1), r.2)
 
-  pairs_lie : (ps : Pairs) (es : List Event) (text : List ℕ) (limit d n i j : ℕ) → n ≤ i → SpellsPairs ps es text limit d i j → InsidePairs ps n j × (n ≤ j) × (j ≤ length text)
+  pairs_lie : (ps : ParsedPairs) (es : List KeyValue) (text : List ℕ) (limit d n i j : ℕ) → n ≤ i → SpellsPairs ps es text limit d i j → InsidePairs ps n j × (n ≤ j) × (j ≤ length text)
   pairs_lie no_pairs es text limit d n i j l h = let w : i < length text = read_within text i (omega (arith, h.0)) in (omega (arith, h.1), omega (arith, h.1), omega (arith, h.1, w))
   pairs_lie (pair ss v x ps) es text limit d n i j l (m, (a, b, key, few, sign, h, extent), clear, inl (e, close)) =
       let k = dotted_ascend ss text i a key in

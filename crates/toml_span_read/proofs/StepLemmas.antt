@@ -1,5 +1,5 @@
 -- What is read section by section.
-use Rattle.std.proofs.Common.{◌≡◌, ℕ, List, [], ◌∷◌, map, ◌++◌, length, refl, subst, Result, Ok, Err, Option, Some, None}
+use Rattle.std.proofs.Common.{◌≡◌, ℕ, List, [], ◌∷◌, map, ◌++◌, length, refl, subst, Ok, Err, Option, Some, None}
 use Rattle.std.specs.Prelude.{IfSome}
 use Rattle.toml_span_lex.specs.declared.stop.Stop.{Stop}
 use Rattle.toml_span_lex.specs.declared.stop.Stop.TheVariants as stops
@@ -8,10 +8,10 @@ use Rattle.toml_span_read.specs.declared.fault.Fault.{Fault}
 use Rattle.toml_span_read.specs.declared.section.Section.{Section}
 use Rattle.toml_span_read.specs.declared.sections.Header.{Header}
 use Rattle.toml_span_read.specs.declared.value.Assignment.{Assignment}
-use Rattle.toml_span_read.specs.Borrowed.{AreRight, IsRight, assignments_written, section_written, sections_written}
-use Rattle.toml_span_read.specs.Data.{Event}
-use Rattle.toml_span_read.specs.Places.{EventsInside}
-use Rattle.toml_span_read.specs.Keys.{part}
+use Rattle.toml_span_read.specs.Borrowed.{AreWrittenRight, IsWrittenRight, assignments_written, section_written, sections_written}
+use Rattle.toml_span_read.specs.Data.{KeyValue}
+use Rattle.toml_span_read.specs.Places.{KeyValuesInside}
+use Rattle.toml_span_read.specs.Keys.{simple_key}
 use Rattle.toml_span_read.specs.Limits.{WithinSection, WithinSections}
 use Rattle.toml_span_read.specs.code.Sections.{HeaderGives, LinesGive, first_blocks, IsReadFirst, FirstGives, SectionGives}
 use Rattle.toml_span_read.specs.Stuck.{HoldsForm, before_headers, in_header, in_section}
@@ -28,14 +28,14 @@ header_stuck (stops.Fault e) text limit i h = in_header i e h
 pub lines_stuck : (stop : Stop Fault) (h : Header) (text : List ℕ) (limit i : ℕ) → HeaderGives text limit i (Ok h) → LinesGive text limit h.extent.end (Err stop)
     → SectionGives text limit i (Err stop)
 lines_stuck (stops.Memory e) h text limit i header lines = tt
-lines_stuck (stops.Fault e) h text limit i header lines = in_section i h.extent.end h.array (map part h.parts.items) e header.0 lines
+lines_stuck (stops.Fault e) h text limit i header lines = in_section i h.extent.end h.array (map simple_key h.parts.items) e header.0 lines
 
 pub first_stuck : (stop : Stop Fault) (text : List ℕ) (limit i : ℕ) → FirstPlace text i → LinesGive text limit i (Err stop) → FirstGives text limit (Err stop)
 first_stuck (stops.Memory e) text limit i begins h = tt
 first_stuck (stops.Fault e) text limit i begins h = before_headers i e begins h
 
-pub first_read : (text : List ℕ) (limit : ℕ) (o : Option Section) (evs : List Event) (vs : List Assignment) → first_blocks o ≡ first_block evs → EventsInside (length text) evs
-    → IfSome o (λ s. WithinSection limit s) → IfSome o (λ s. section_written s ≡ assignments_written vs) → AreRight text (assignments_written vs) → IsReadFirst text limit o
+pub first_read : (text : List ℕ) (limit : ℕ) (o : Option Section) (evs : List KeyValue) (vs : List Assignment) → first_blocks o ≡ first_block evs → KeyValuesInside (length text) evs
+    → IfSome o (λ s. WithinSection limit s) → IfSome o (λ s. section_written s ≡ assignments_written vs) → AreWrittenRight text (assignments_written vs) → IsReadFirst text limit o
 first_read text limit None evs vs e inside within written right = tt
 first_read text limit (Some s) evs vs e inside within written right =
     record { within = within; inside = first_section_inside (length text) s evs e inside; borrows = rw written right }
@@ -49,7 +49,7 @@ listed (Some s) = s ∷ []
 -- a list of what stands before the first header
 pub record Begins (text : List ℕ) (limit at : ℕ) (found : List Section) : Type 0 where
   pub begun : Begun text at
-  pub borrows : AreRight text (sections_written found)
+  pub borrows : AreWrittenRight text (sections_written found)
   pub within : WithinSections limit found
   pub whole : WholeSections found text limit at
   pub stuck : StuckFrom text limit at
@@ -62,7 +62,7 @@ begins_with text limit at (Some s) read (start, evs, begins, lines, same) =
     let b = sections_begin (s ∷ []) evs text limit start at same begins lines in
     record {
       begun = begun_by_lines evs text limit start at begins lines;
-      borrows = all_append (IsRight text) (section_written s) [] read.borrows tt;
+      borrows = all_append (IsWrittenRight text) (section_written s) [] read.borrows tt;
       within = (read.within, tt);
       whole = b.0;
       stuck = b.1;

@@ -1,5 +1,5 @@
 -- What strings give.
-use Rattle.std.proofs.Common.{◌≡◌, ℕ, ◌+◌, ◌<◌, ◌≤◌, Bool, List, length, Bor, refl, inr}
+use Rattle.std.proofs.Common.{◌≡◌, ℕ, Bool, List, Bor, refl, inr}
 use Rattle.std.specs.Prelude.{Ok}
 use Rattle.std.specs.Cow.{cow_str_bytes}
 use Rattle.std.specs.Global.{Global}
@@ -9,7 +9,7 @@ use Rattle.toml_span_lex.specs.declared.tokens.Token.{Token}
 use Rattle.toml_span_lex.specs.declared.tokens.Token.TheVariants as tokens
 use Rattle.toml_span_lex.specs.Strings.{IsString, Borrows}
 use Rattle.toml_span_lex.specs.code.Strings.{StringGives}
-use Rattle.toml_span_lex.specs.Tokens.{Lexeme, whitespace, newline, comment, sign, keylike, string, IsToken, Stands}
+use Rattle.toml_span_lex.specs.Tokens.{Lexeme, whitespace, newline, comment, punctuator, keylike, string, IsToken, Stands}
 use Rattle.toml_span_read.specs.declared.fault.Found.{Found}
 use Rattle.toml_span_read.specs.Faults.{found_of, IsFound}
 
@@ -22,7 +22,7 @@ pub token_stands : (text : List ℕ) (i j : ℕ) (l : Lexeme) → IsToken text i
 token_stands text i j (whitespace s) h = (record { start = i; end = j }, (h, refl))
 token_stands text i j newline h = (record { start = i; end = j }, (h, refl))
 token_stands text i j (comment s) h = (record { start = i; end = j }, (h, refl))
-token_stands text i j (sign c) h = (record { start = i; end = j }, (h, refl))
+token_stands text i j (punctuator c) h = (record { start = i; end = j }, (h, refl))
 token_stands text i j (keylike s) h = (record { start = i; end = j }, (h, refl))
 token_stands text i j (string src v m) h = absurd h
 

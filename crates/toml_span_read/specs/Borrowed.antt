@@ -20,17 +20,17 @@ pub data Written : Type 0 where
   name : CowStr Global → Span → Written
 
 -- borrowed exactly where it equals the text at its span
-abbrev pub IsRight : List ℕ → Written → Type 0
-IsRight text (string s span) = BorrowsWhereSame text span s
-IsRight text (name s span) = BorrowsWhereSame text span s
+abbrev pub IsWrittenRight : List ℕ → Written → Type 0
+IsWrittenRight text (string s span) = BorrowsWhereSame text span s
+IsWrittenRight text (name s span) = BorrowsWhereSame text span s
 
-abbrev pub AreRight : List ℕ → List Written → Type 0
-AreRight text ws = AllByRecursion (IsRight text) ws
+abbrev pub AreWrittenRight : List ℕ → List Written → Type 0
+AreWrittenRight text ws = AllByRecursion (IsWrittenRight text) ws
 
 -- one list behind the other
-abbrev pub joined : List (List Written) → List Written
+abbrev pub joined : {A : Type 0} → List (List A) → List A
 joined [] = []
-joined (ws ∷ rest) = ws ++ joined rest
+joined (xs ∷ rest) = xs ++ joined rest
 
 abbrev pub key_written : Key → Written
 key_written key = name key.name key.span

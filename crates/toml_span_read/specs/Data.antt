@@ -4,7 +4,7 @@ use Rattle.std.specs.Cow.{cow_str_bytes}
 use Rattle.toml_span_lex.specs.declared.span.Span.{Span}
 use Rattle.toml_span_tree.specs.Node.{Scalar, text, integer, float, boolean, datetime}
 use Rattle.toml_span_tree.specs.Value.{float_value, date_bytes}
-use Rattle.toml_span_read.specs.Keys.{Part, parts, part}
+use Rattle.toml_span_read.specs.Keys.{SimpleKey, parts, simple_key}
 use Rattle.toml_span_read.specs.declared.value.ValKind.TheOpen.{ValKind-F, Val-F, Assignment-F}
 use Rattle.toml_span_read.specs.declared.value.Val.{Val}
 use Rattle.toml_span_read.specs.declared.value.ValKind.TheFolds.{fold-Val, fold-ValKind, fold-Assignment}
@@ -14,55 +14,55 @@ use Rattle.toml_span_read.specs.declared.section.Section.{Section}
 
 mutual
   -- a value, with its span
-  pub data Node : Type 0 where
-    node : Inner → Span → Node
+  pub data ParsedValue : Type 0 where
+    parsed : ParsedInner → Span → ParsedValue
 
-  pub data Inner : Type 0 where
-    scalar : Scalar → Inner
-    array : Items → Inner
-    inline : Pairs → Inner
+  pub data ParsedInner : Type 0 where
+    scalar : Scalar → ParsedInner
+    array : ParsedItems → ParsedInner
+    inline : ParsedPairs → ParsedInner
 
   -- the elements of an array, in order
-  pub data Items : Type 0 where
-    no_items : Items
-    item : Node → Items → Items
+  pub data ParsedItems : Type 0 where
+    no_items : ParsedItems
+    item : ParsedValue → ParsedItems → ParsedItems
 
   -- the pairs of an inline table, in order: the parts of the key, the value and the extent
-  pub data Pairs : Type 0 where
-    no_pairs : Pairs
-    pair : List Part → Node → Span → Pairs → Pairs
+  pub data ParsedPairs : Type 0 where
+    no_pairs : ParsedPairs
+    pair : List SimpleKey → ParsedValue → Span → ParsedPairs → ParsedPairs
 
 -- an assignment: the parts of its key, its value and its extent
-pub record Event : Type 0 where
-  pub parts : List Part
-  pub value : Node
+pub record KeyValue : Type 0 where
+  pub parts : List SimpleKey
+  pub value : ParsedValue
   pub extent : Span
 
 -- where a value stands
-abbrev pub span_of : Node → Span
-span_of (node inner span) = span
+abbrev pub parsed_span : ParsedValue → Span
+parsed_span (parsed inner span) = span
 
 -- a section as plain data
 pub record Block : Type 0 where
-  pub header : List Part
+  pub header : List SimpleKey
   pub array : Bool
   pub header_span : Span
   pub extent : Span
-  pub events : List Event
+  pub key_values : List KeyValue
 
 -- ---- what is read, seen so
 
 -- these values, and then those
-abbrev pub onto : List Node → Items → Items
+abbrev pub onto : List ParsedValue → ParsedItems → ParsedItems
 onto [] rest = rest
 onto (n ∷ ns) rest = item n (onto ns rest)
 
-abbrev pub pairs_onto : List Event → Pairs → Pairs
+abbrev pub pairs_onto : List KeyValue → ParsedPairs → ParsedPairs
 pairs_onto [] rest = rest
 pairs_onto (p ∷ ps) rest = pair p.parts p.value p.extent (pairs_onto ps rest)
 
 -- one level of each type, with each value inside already seen as its meaning
-abbrev pub kind_step : ValKind-F Inner Event Node → Inner
+abbrev pub kind_step : ValKind-F ParsedInner KeyValue ParsedValue → ParsedInner
 kind_step (ValKind-F.String s) = scalar (text (cow_str_bytes s))
 kind_step (ValKind-F.Integer n) = scalar (integer n)
 kind_step (ValKind-F.Float x) = scalar (float (float_value x))
@@ -71,26 +71,26 @@ kind_step (ValKind-F.Datetime d) = scalar (datetime (date_bytes d))
 kind_step (ValKind-F.Array v) = array (onto v.items no_items)
 kind_step (ValKind-F.Inline v) = inline (pairs_onto v.items no_pairs)
 
-abbrev pub val_step : Val-F Inner Event Node → Node
-val_step v = node v.kind v.span
+abbrev pub val_step : Val-F ParsedInner KeyValue ParsedValue → ParsedValue
+val_step v = parsed v.kind v.span
 
-abbrev pub assignment_step : Assignment-F Inner Event Node → Event
+abbrev pub assignment_step : Assignment-F ParsedInner KeyValue ParsedValue → KeyValue
 assignment_step a = record { parts = parts a.parts; value = a.value; extent = a.extent }
 
-abbrev pub view : Val → Node
-view = fold-Val Inner Event Node kind_step assignment_step val_step
+abbrev pub view : Val → ParsedValue
+view = fold-Val ParsedInner KeyValue ParsedValue kind_step assignment_step val_step
 
-abbrev pub kind_view : ValKind → Inner
-kind_view = fold-ValKind Inner Event Node kind_step assignment_step val_step
+abbrev pub kind_view : ValKind → ParsedInner
+kind_view = fold-ValKind ParsedInner KeyValue ParsedValue kind_step assignment_step val_step
 
-abbrev pub event : Assignment → Event
-event = fold-Assignment Inner Event Node kind_step assignment_step val_step
+abbrev pub key_value : Assignment → KeyValue
+key_value = fold-Assignment ParsedInner KeyValue ParsedValue kind_step assignment_step val_step
 
 abbrev pub block : Section → Block
 block s = record {
-  header = map part s.header.items;
+  header = map simple_key s.header.items;
   array = s.array;
   header_span = s.header_span;
   extent = s.extent;
-  events = map event s.assignments.items;
+  key_values = map key_value s.assignments.items;
 }

@@ -5,12 +5,13 @@ use Rattle.std.specs.Char.{is_ascii_digit}
 use Rattle.toml_span_lex.specs.Text.{NoLineEnd}
 use Rattle.toml_span_lex.specs.declared.tokens.Error.{Error}
 use Rattle.toml_span_lex.specs.declared.tokens.Error.TheVariants as tokens
-use Rattle.toml_span_lex.specs.Tokens.{IsFault, Lexeme, whitespace, newline, comment, sign, keylike, string, Stands}
+use Rattle.toml_span_lex.specs.Tokens.{IsNoToken, Lexeme, whitespace, newline, comment, punctuator, keylike, string}
+use Rattle.toml_span_lex.specs.Tokens.{Stands}
 use Rattle.toml_span_lex.specs.Tokens.{RunAt}
 use Rattle.toml_span_lex.specs.declared.span.Span.{Span}
 use Rattle.toml_span_lex.specs.Strings.{IsString}
 use Rattle.toml_span_lex.specs.Bytes.{is_keylike, MaximalRun, underscore, plus, period, dash, right_bracket, colon}
-use Rattle.toml_span_lex.specs.Bytes.{comma, equals, left_brace, left_bracket, line_feed, right_brace}
+use Rattle.toml_span_lex.specs.Bytes.{comma, digit_zero, equals, left_brace, left_bracket, line_feed, right_brace}
 use Rattle.toml_span_tree.specs.Error as tree
 use Rattle.toml_span_tree.specs.Date.{IsDateText}
 use Rattle.toml_span_read.specs.declared.fault.Due.{Due}
@@ -21,9 +22,9 @@ use Rattle.toml_span_read.specs.declared.fault.Fault.{Fault}
 use Rattle.toml_span_read.specs.declared.fault.FaultKind.{FaultKind}
 use Rattle.toml_span_read.specs.declared.fault.FaultKind.TheVariants as kinds
 use Rattle.toml_span_read.specs.Places.{IsLineInfo}
-use Rattle.toml_span_read.specs.Keys.{opens_string, Part, IsKey}
+use Rattle.toml_span_read.specs.Keys.{opens_string, SimpleKey, SpellsSimpleKey}
 use Rattle.toml_span_read.specs.Numbers.{is_digit, is_figure, Digits, behind_sign, is_exponent, magnitude, is_negative}
-use Rattle.toml_span_read.specs.Numbers.{UnsignedDecimal, radix_at, digit_zero}
+use Rattle.toml_span_read.specs.Numbers.{UnsignedDecimal, radix_at}
 use Rattle.toml_span_read.specs.Dates.{IsCandidate, begins_date}
 use Rattle.toml_span_read.specs.Grammar.{from_to}
 use Rattle.toml_span_read.specs.Gaps.{NoTail}
@@ -85,7 +86,7 @@ error_kind kinds.MultilineStringKey = tree.multiline_string_key
 error_kind (kinds.DottedKeyInvalidType first) = tree.dotted_key_invalid_type first
 
 -- the error tells this fault of this text
-abbrev pub Tells : List ℕ → Fault → tree.Fault → Type 0
+abbrev pub Tells : List ℕ → Fault → tree.ErrorContent → Type 0
 Tells text fault error =
     (line column : ℕ) × IsLineInfo text fault.span.start line column
     × (error ≡ record { kind = error_kind fault.kind; span = fault.span; line_info = Some (line, column) })
@@ -106,9 +107,11 @@ token_fault (tokens.MultilineStringKey start end) =
     record { kind = kinds.MultilineStringKey; span = record { start = start; end = end } }
 token_fault (tokens.Wanted at expected found) = fault_at kinds.UnexpectedEof at
 
--- no token stands at i: this fault does
+-- No token stands at i: this fault does. A quote opens a string that breaks one of its productions, such as
+-- `basic-char = basic-unescaped / escaped`, `escape-seq-char` or `literal-char`, or ends none; or the character at i
+-- begins no form of the standard at all.
 abbrev pub IsTokenFault : List ℕ → ℕ → Fault → Type 0
-IsTokenFault text i fault = (j : ℕ) × (e : Error) × IsFault text i j e × (fault ≡ token_fault e)
+IsTokenFault text i fault = (j : ℕ) × (e : Error) × IsNoToken text i j e × (fault ≡ token_fault e)
 
 -- ---- another token than the one that is due
 
@@ -119,7 +122,7 @@ found_of newline = founds.Newline
 found_of (comment s) = founds.Comment
 found_of (keylike s) = founds.Keylike
 found_of (string src value multi) = if multi then founds.MultilineString else founds.OneLineString
-found_of (sign c) =
+found_of (punctuator c) =
     if c == equals then founds.Equals
     else if c == period then founds.Period
     else if c == comma then founds.Comma
@@ -150,8 +153,8 @@ IsWanted text i expected fault =
 
 -- ---- where a key is due
 
--- a string of several lines stands where a key is due
-pub record IsMultilineKey (text : List ℕ) (i : ℕ) (fault : Fault) : Type 0 where
+-- a string of several lines stands where a key is due: `quoted-key = basic-string / literal-string` has none
+pub record IsMultilineKeyFault (text : List ℕ) (i : ℕ) (fault : Fault) : Type 0 where
   pub end : ℕ
   pub span : Span
   pub source : List ℕ
@@ -160,26 +163,36 @@ pub record IsMultilineKey (text : List ℕ) (i : ℕ) (fault : Fault) : Type 0 w
   pub fault_is : fault ≡ record { kind = kinds.MultilineStringKey; span = record { start = i; end = i + length value } }
 
 -- a key is due at i, and this fault stands there
-abbrev pub NoKey : List ℕ → ℕ → Fault → Type 0
-NoKey text i fault =
-    IsMultilineKey text i fault
+--
+-- broken: `simple-key = quoted-key / unquoted-key`
+abbrev pub NoSimpleKey : List ℕ → ℕ → Fault → Type 0
+NoSimpleKey text i fault =
+    IsMultilineKeyFault text i fault
     ⊎ ((opens_string (slice_index text i) ≡ true) × IsTokenFault text i fault)
     ⊎ (((is_keylike (slice_index text i) || opens_string (slice_index text i)) ≡ false)
     × IsWanted text i dues.TableKey fault)
 
 -- the part of a dotted key is due at i, behind n others: none stands there, or one too many
+--
+-- broken: `dotted-key = simple-key 1*( dot-sep simple-key )`; that there are too many is the limit's, not the
+-- standard's
 abbrev pub NoPart : List ℕ → ℕ → ℕ → ℕ → Fault → Type 0
 NoPart text limit n i e =
-    NoKey text i e ⊎ ((s : Part) × (j : ℕ) × IsKey s text i j × (limit ≤ n) × (e ≡ fault_at kinds.ExceededDepthLimit i))
+    NoSimpleKey text i e
+    ⊎ ((s : SimpleKey) × (j : ℕ) × SpellsSimpleKey s text i j × (limit ≤ n) × (e ≡ fault_at kinds.ExceededDepthLimit i))
 
--- the part of a header's key: of one too many the whole key is told
+-- the part of a header's key: of one too many the whole part is told
+--
+-- broken: the `key` of `std-table = std-table-open key std-table-close` or of `array-table`
 abbrev pub NoHeaderPart : List ℕ → ℕ → ℕ → ℕ → Fault → Type 0
 NoHeaderPart text limit n i e =
-    NoKey text i e
-    ⊎ ((s : Part) × (j : ℕ) × IsKey s text i j × (limit ≤ n)
+    NoSimpleKey text i e
+    ⊎ ((s : SimpleKey) × (j : ℕ) × SpellsSimpleKey s text i j × (limit ≤ n)
     × (e ≡ record { kind = kinds.ExceededDepthLimit; span = s.span }))
 
 -- behind a key stands no equals sign
+--
+-- broken: `keyval-sep = ws %x3D ws`
 abbrev pub NoEquals : List ℕ → ℕ → Fault → Type 0
 NoEquals text i e = ((slice_index text i == equals) ≡ false) × IsWanted text i dues.Equals e
 
@@ -191,6 +204,8 @@ pub record Run (text : List ℕ) (i j : ℕ) : Type 0 where
   pub run : MaximalRun is_keylike text i j
 
 -- No digits are read in a piece, which begins at `start` and ends with its run at `end`; its digits are due at `from`.
+--
+-- broken: `zero-prefixable-int = DIGIT *( DIGIT / underscore DIGIT )`, or the same of another radix
 pub data NoDigits (radix : ℕ) (text : List ℕ) (start from end : ℕ) : Fault → Type 0 where
   -- an underscore before any digit
   underscore_first : slice_index text from ≡ underscore → NoDigits radix text start from end (invalid_number from end)
@@ -204,6 +219,8 @@ pub data NoDigits (radix : ℕ) (text : List ℕ) (start from end : ℕ) : Fault
       → NoDigits radix text start from end (invalid_number start end)
 
 -- no integer part is read in the run that begins at `start`, behind its minus, if it has one, at `from`
+--
+-- broken: `unsigned-dec-int = DIGIT / digit1-9 1*( DIGIT / underscore DIGIT )`, which is `0` or begins with no 0
 pub data NoIntegerPart (text : List ℕ) (start from end : ℕ) : Fault → Type 0 where
   no_integer_digits : (fault : Fault) → NoDigits 10 text start from end fault → NoIntegerPart text start from end fault
   -- The digits stand as those of a literal do, and behind a leading 0 stands a digit, with an underscore between them
@@ -217,6 +234,8 @@ pub data NoIntegerPart (text : List ℕ) (start from end : ℕ) : Fault → Type
       → NoIntegerPart text start from end (invalid_number (from + 2) end)
 
 -- a piece of an exponent is not digits throughout; the integer part is the run from a to b
+--
+-- broken: `float-exp-part = [ minus / plus ] zero-prefixable-int`
 pub data NoExponentDigits (text : List ℕ) (a b start from end : ℕ) : Fault → Type 0 where
   no_exponent_digits : (fault : Fault) → NoDigits 10 text start from end fault
       → NoExponentDigits text a b start from end fault
@@ -225,6 +244,8 @@ pub data NoExponentDigits (text : List ℕ) (a b start from end : ℕ) : Fault �
 
 -- no exponent is read whose letter stands at `letter`, in a run that ends at `end`; the integer part is the run from a
 -- to b
+--
+-- broken: `exp = "e" float-exp-part`
 pub data NoExponent (text : List ℕ) (a b letter end : ℕ) : Fault → Type 0 where
   -- neither a run nor a plus and a run behind the letter
   letter_last : end ≡ letter + 1 → (slice_index text end == plus && is_keylike (slice_index text (end + 1))) ≡ false
@@ -236,6 +257,8 @@ pub data NoExponent (text : List ℕ) (a b letter end : ℕ) : Fault → Type 0 
       → NoExponentDigits text a b (end + 1) (end + 1) stop fault → NoExponent text a b letter end fault
 
 -- no fraction is read behind the dot at b; the number begins at i, its integer part is the run from a to b
+--
+-- broken: `frac = decimal-point zero-prefixable-int`
 pub data NoFraction (text : List ℕ) (i a b : ℕ) : Fault → Type 0 where
   dot_alone : is_keylike (slice_index text (b + 1)) ≡ false → NoFraction text i a b (invalid_number i (b + 1))
   no_fraction_digits : (end : ℕ) (fault : Fault) → Run text (b + 1) end → NoDigits 10 text (b + 1) (b + 1) end fault
@@ -258,6 +281,9 @@ IsOutside false m = 2 ^ 63 ≤ m
 IsOutside true m = 2 ^ 63 < m
 
 -- no number without a prefix is read, which begins at i; its integer part is the run from a to b
+--
+-- broken: `dec-int = [ minus / plus ] unsigned-dec-int`, `float = float-int-part ( exp / frac [ exp ] )` or
+-- `special-float = [ minus / plus ] ( inf / nan )`; or the integer is past 64 bits
 pub data NoDecimal (text : List ℕ) (i a b : ℕ) : Fault → Type 0 where
   no_integer_part : (fault : Fault) → (IsSpecial text a b → ⊥) → NoIntegerPart text a (behind_sign text a) b fault
       → NoDecimal text i a b fault
@@ -278,6 +304,8 @@ pub data NoDecimal (text : List ℕ) (i a b : ℕ) : Fault → Type 0 where
       → NoDecimal text i a b (invalid_number a b)
 
 -- no integer of this radix is read behind its prefix, in a run that ends at `end`
+--
+-- broken: `hex-int = hex-prefix HEXDIG *( HEXDIG / underscore HEXDIG )`, `oct-int` or `bin-int`; or it is past 64 bits
 pub data NoRadixInteger (radix : ℕ) (text : List ℕ) (start end : ℕ) : Fault → Type 0 where
   no_radix_digits : (fault : Fault) → NoDigits radix text start start end fault
       → NoRadixInteger radix text start end fault
@@ -287,6 +315,9 @@ pub data NoRadixInteger (radix : ℕ) (text : List ℕ) (start end : ℕ) : Faul
       → NoRadixInteger radix text start end (invalid_number start end)
 
 -- a number is due at i, none is read, and this is the fault
+--
+-- broken: `integer = dec-int / hex-int / oct-int / bin-int` and `float = float-int-part ( exp / frac [ exp ] )`,
+-- `float =/ special-float`: a sign stands before digits, inf or nan, and before no prefix
 pub data NoNumber (text : List ℕ) (i : ℕ) : Fault → Type 0 where
   plus_alone : slice_index text i ≡ plus → is_keylike (slice_index text (i + 1)) ≡ false
       → NoNumber text i (invalid_number (i + 1) (i + 1))
@@ -305,6 +336,8 @@ pub data NoNumber (text : List ℕ) (i : ℕ) : Fault → Type 0 where
 -- ---- where a value is due
 
 -- a date is due at i, and no date text stands there
+--
+-- broken: `date-time = offset-date-time / local-date-time / local-date / local-time`
 abbrev pub IsNoDate : List ℕ → ℕ → Fault → Type 0
 IsNoDate text i fault =
     (j : ℕ) × IsCandidate text i j × (IsDateText (slice_range text i j) → ⊥)
@@ -341,19 +374,21 @@ BeginsNumber text i =
     ⊎ ((j : ℕ) × (RunAt is_keylike text i j (codes "inf") ⊎ RunAt is_keylike text i j (codes "nan"))))
 
 -- neither a truth value nor a number of letters
-pub record IsOther (word : List ℕ) : Type 0 where
+pub record IsOtherWord (word : List ℕ) : Type 0 where
   pub no_true : word ≡ codes "true" → ⊥
   pub no_false : word ≡ codes "false" → ⊥
   pub no_infinity : word ≡ codes "inf" → ⊥
   pub no_nan : word ≡ codes "nan" → ⊥
 
 -- a run that is neither a truth value nor begins a number
+--
+-- broken: `val = string / boolean / array / inline-table / date-time / float / integer`
 pub record IsUnquoted (text : List ℕ) (i : ℕ) (fault : Fault) : Type 0 where
   pub end : ℕ
   pub word : List ℕ
   pub run : RunAt is_keylike text i end word
   pub no_number : begins_number (slice_index text i) ≡ false
-  pub other : IsOther word
+  pub other : IsOtherWord word
   pub fault_is : fault ≡ record { kind = kinds.UnquotedString; span = from_to i end }
 
 -- a bare value is due at i, and this fault stands there
@@ -364,6 +399,8 @@ NoBare text i fault =
     ⊎ IsUnquoted text i fault
 
 -- Where a value is due, the text ends at i, or a token from i to j stands there, or no token begins there.
+--
+-- broken: `val = string / boolean / array / inline-table / date-time / float / integer`
 abbrev pub IsNoValue : List ℕ → ℕ → Fault → Type 0
 IsNoValue text i fault =
     ((i ≡ length text) × (fault ≡ fault_at kinds.UnexpectedEof i))
@@ -382,6 +419,9 @@ NoValue text limit d i e =
 
 -- behind an element or a pair stands neither a comma nor this bracket; of an array the bracket is called for, of an
 -- inline table the comma
+--
+-- broken: `array = array-open [ array-values ] ws-comment-newline array-close`, or
+-- `inline-table = inline-table-open [ inline-table-keyvals ] ws-comment-newline inline-table-close`
 abbrev pub NoComma : ℕ → Due → List ℕ → ℕ → Fault → Type 0
 NoComma close expected text i e =
     ((slice_index text i == comma) ≡ false) × ((slice_index text i == close) ≡ false) × IsWanted text i expected e
@@ -389,18 +429,24 @@ NoComma close expected text i e =
 -- ---- where the rest of a line is due, or a header is to close
 
 -- a line is to end at i, and another token stands there
+--
+-- broken: `toml = expression *( newline expression )`
 abbrev pub NoNewline : List ℕ → ℕ → Fault → Type 0
 NoNewline text i e = (i < length text) × NoLineEnd text i × IsWanted text i dues.Newline e
 
 -- behind the form that ends at i the rest of its line is due, and this fault stands in its place
+--
+-- broken: `ws [ comment ]` of `expression`, with the `newline` of `toml` behind it
 abbrev pub StuckTail : List ℕ → ℕ → Fault → Type 0
 StuckTail text i e = (n : ℕ) × NoTail text i n × IsWanted text n dues.Newline e
 
 -- a bracket of a header is to close at i, and another token stands there
+--
+-- broken: `std-table-close = ws %x5D`, or `array-table-close = ws %x5D.5D`
 abbrev pub NoBracket : List ℕ → ℕ → Fault → Type 0
 NoBracket text i e = ((slice_index text i == right_bracket) ≡ false) × IsWanted text i dues.RightBracket e
 
 -- where the brackets of a header are to close, a bracket is missing
-abbrev pub NoShuts : Bool → List ℕ → ℕ → Fault → Type 0
-NoShuts false text i e = NoBracket text i e
-NoShuts true text i e = NoBracket text i e ⊎ ((slice_index text i ≡ right_bracket) × NoBracket text (i + 1) e)
+abbrev pub NoClosing : Bool → List ℕ → ℕ → Fault → Type 0
+NoClosing false text i e = NoBracket text i e
+NoClosing true text i e = NoBracket text i e ⊎ ((slice_index text i ≡ right_bracket) × NoBracket text (i + 1) e)

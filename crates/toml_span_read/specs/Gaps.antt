@@ -58,7 +58,7 @@ BlankLines text i (k ∷ ks) j = Tail text i k × BlankLines text k ks j
 abbrev pub BehindLines : List ℕ → ℕ → Type 0
 BehindLines text i = (i ≡ length text) ⊎ (is_printed (slice_index text i) ≡ true)
 
--- ---- signs, with what may stand round them
+-- ---- what separates and closes forms, with what may stand round it
 
 -- a dot, with spaces and tabs round it: `dot-sep = ws %x2E ws`
 pub record Dot (text : List ℕ) (i j : ℕ) : Type 0 where
@@ -73,8 +73,8 @@ pub record NoDot (text : List ℕ) (i : ℕ) : Type 0 where
   pub before : MaximalRun is_blank text i at
   pub here : (slice_index text at == period) ≡ false
 
--- a sign, with gaps round it: `array-sep = %x2C`, `inline-table-sep = %x2C`, and the `%x3D` of a pair
-pub record Sign (c : ℕ) (text : List ℕ) (i j : ℕ) : Type 0 where
+-- this byte, with gaps round it: `array-sep = %x2C`, `inline-table-sep = %x2C`, and the `%x3D` of a pair
+pub record Separator (c : ℕ) (text : List ℕ) (i j : ℕ) : Type 0 where
   pub at : ℕ
   pub before : MaximalGap text i at
   pub here : slice_index text at ≡ c

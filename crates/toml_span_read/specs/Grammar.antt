@@ -12,9 +12,10 @@ use Rattle.toml_span_tree.specs.Date.{IsDateText}
 use Rattle.toml_span_tree.specs.Node.{Scalar, integer, float, boolean, datetime, text as text_scalar}
 use Rattle.toml_span_read.specs.Dates.{begins_date, IsCandidate}
 use Rattle.toml_span_read.specs.Numbers.{IsNumber}
-use Rattle.toml_span_read.specs.Gaps.{MaximalGap, Sign, Closes, Equals, Tail}
-use Rattle.toml_span_read.specs.Keys.{Dotted, Part}
-use Rattle.toml_span_read.specs.Data.{Node, node, Inner, scalar, Items, no_items, item, Pairs, no_pairs, pair, Event}
+use Rattle.toml_span_read.specs.Gaps.{MaximalGap, Separator, Closes, Equals, Tail}
+use Rattle.toml_span_read.specs.Keys.{SpellsKey, SimpleKey}
+use Rattle.toml_span_read.specs.Data.{ParsedValue, parsed, ParsedInner, scalar, ParsedItems, no_items, item}
+use Rattle.toml_span_read.specs.Data.{ParsedPairs, no_pairs, pair, KeyValue}
 use Rattle.toml_span_read.specs.Data.{array as array_node, inline as inline_node, Block}
 use Rattle.toml_span_read.specs.Earlier.{Clear}
 
@@ -51,12 +52,12 @@ abbrev mutual
   -- brackets and braces open round it plus that of the parts of its own key and of those round it, at most the limit.
   --
   -- `val = string / boolean / array / inline-table / date-time / float / integer`
-  pub SpellsWith : Scalars → Node → List ℕ → ℕ → ℕ → ℕ → ℕ → Type 0
-  SpellsWith S (node k span) t limit d i j = (d ≤ limit) × InnerWith S k span t limit d i j
+  pub SpellsWith : Scalars → ParsedValue → List ℕ → ℕ → ℕ → ℕ → ℕ → Type 0
+  SpellsWith S (parsed k span) t limit d i j = (d ≤ limit) × InnerWith S k span t limit d i j
 
   -- `array = array-open [ array-values ] ws-comment-newline array-close`
   -- `inline-table = inline-table-open [ inline-table-keyvals ] ws-comment-newline inline-table-close`
-  pub InnerWith : Scalars → Inner → Span → List ℕ → ℕ → ℕ → ℕ → ℕ → Type 0
+  pub InnerWith : Scalars → ParsedInner → Span → List ℕ → ℕ → ℕ → ℕ → ℕ → Type 0
   InnerWith S (scalar s) span t limit d i j = S s span t i j
   InnerWith S (array_node vs) span t limit d i j =
       (slice_index t i ≡ left_bracket) × (span ≡ from_to i j) × (k : ℕ) × MaximalGap t (i + 1) k
@@ -69,11 +70,12 @@ abbrev mutual
   --
   -- `array-values =  ws-comment-newline val ws-comment-newline array-sep array-values`
   -- `array-values =/ ws-comment-newline val ws-comment-newline [ array-sep ]`
-  pub ItemsWith : Scalars → Items → List ℕ → ℕ → ℕ → ℕ → ℕ → Type 0
+  pub ItemsWith : Scalars → ParsedItems → List ℕ → ℕ → ℕ → ℕ → ℕ → Type 0
   ItemsWith S no_items t limit d i j = (slice_index t i ≡ right_bracket) × (j ≡ i + 1)
   ItemsWith S (item v vs) t limit d i j =
       (m : ℕ) × SpellsWith S v t limit d i m
-      × (((vs ≡ no_items) × Closes right_bracket t m j) ⊎ ((p : ℕ) × Sign comma t m p × ItemsWith S vs t limit d p j))
+      × (((vs ≡ no_items) × Closes right_bracket t m j)
+      ⊎ ((p : ℕ) × Separator comma t m p × ItemsWith S vs t limit d p j))
 
   -- `keyval = key keyval-sep val`, with gaps round the equals sign: pairs behind these earlier ones, each a key of at
   -- most limit parts that goes through the value of no earlier pair, and its value, with commas between them, one more
@@ -81,44 +83,44 @@ abbrev mutual
   --
   -- `inline-table-keyvals =  ws-comment-newline keyval ws-comment-newline inline-table-sep inline-table-keyvals`
   -- `inline-table-keyvals =/ ws-comment-newline keyval ws-comment-newline [ inline-table-sep ]`
-  pub PairsWith : Scalars → Pairs → List Event → List ℕ → ℕ → ℕ → ℕ → ℕ → Type 0
+  pub PairsWith : Scalars → ParsedPairs → List KeyValue → List ℕ → ℕ → ℕ → ℕ → ℕ → Type 0
   PairsWith S no_pairs es t limit d i j = (slice_index t i ≡ right_brace) × (j ≡ i + 1)
   PairsWith S (pair ss v extent ps) es t limit d i j =
       (m : ℕ)
-      × ((a b : ℕ) × Dotted ss t i a × (length ss ≤ limit) × Sign equals t a b
+      × ((a b : ℕ) × SpellsKey ss t i a × (length ss ≤ limit) × Separator equals t a b
       × SpellsWith S v t limit (d + length ss) b m × (extent ≡ from_to i m))
       × Clear es (record { parts = ss; value = v; extent = extent })
       × (((ps ≡ no_pairs) × Closes right_brace t m j)
-      ⊎ ((p : ℕ) × Sign comma t m p
+      ⊎ ((p : ℕ) × Separator comma t m p
       × PairsWith S ps (es ++ (record { parts = ss; value = v; extent = extent } ∷ [])) t limit d p j))
 
 -- TOML's own values: with dates
-abbrev pub Spells : Node → List ℕ → ℕ → ℕ → ℕ → ℕ → Type 0
+abbrev pub Spells : ParsedValue → List ℕ → ℕ → ℕ → ℕ → ℕ → Type 0
 Spells = SpellsWith IsScalar
 
-abbrev pub SpellsInner : Inner → Span → List ℕ → ℕ → ℕ → ℕ → ℕ → Type 0
+abbrev pub SpellsInner : ParsedInner → Span → List ℕ → ℕ → ℕ → ℕ → ℕ → Type 0
 SpellsInner = InnerWith IsScalar
 
-abbrev pub SpellsItems : Items → List ℕ → ℕ → ℕ → ℕ → ℕ → Type 0
+abbrev pub SpellsItems : ParsedItems → List ℕ → ℕ → ℕ → ℕ → ℕ → Type 0
 SpellsItems = ItemsWith IsScalar
 
-abbrev pub SpellsPairs : Pairs → List Event → List ℕ → ℕ → ℕ → ℕ → ℕ → Type 0
+abbrev pub SpellsPairs : ParsedPairs → List KeyValue → List ℕ → ℕ → ℕ → ℕ → ℕ → Type 0
 SpellsPairs = PairsWith IsScalar
 
 -- a pair from i to j: a key of at most limit parts, an equals sign, and a value; its extent runs from the key to behind
 -- the value
-abbrev pub SpellsPair : Event → List ℕ → ℕ → ℕ → ℕ → ℕ → Type 0
+abbrev pub SpellsPair : KeyValue → List ℕ → ℕ → ℕ → ℕ → ℕ → Type 0
 SpellsPair e t limit d i j =
-    (a b : ℕ) × Dotted e.parts t i a × (length e.parts ≤ limit) × Sign equals t a b
+    (a b : ℕ) × SpellsKey e.parts t i a × (length e.parts ≤ limit) × Separator equals t a b
     × Spells e.value t limit (d + length e.parts) b j × (e.extent ≡ from_to i j)
 
 -- ---- assignments
 
 -- the text from i to j is this assignment: `keyval = key keyval-sep val`
-pub record EventWith (S : Scalars) (ev : Event) (text : List ℕ) (limit i j : ℕ) : Type 0 where
+pub record KeyValueWith (S : Scalars) (ev : KeyValue) (text : List ℕ) (limit i j : ℕ) : Type 0 where
   pub key_end : ℕ
   pub from : ℕ
-  pub key : Dotted ev.parts text i key_end
+  pub key : SpellsKey ev.parts text i key_end
   pub few : length ev.parts ≤ limit
   pub sign : Equals text key_end from
   pub spelled : SpellsWith S ev.value text limit (length ev.parts) from j
@@ -128,24 +130,24 @@ pub record EventWith (S : Scalars) (ev : Event) (text : List ℕ) (limit i j : �
 -- through one of the earlier values of its section.
 --
 -- `expression =/ ws keyval ws [ comment ]`
-abbrev pub EventsWith : Scalars → List Event → List Event → List ℕ → ℕ → ℕ → ℕ → Type 0
-EventsWith S [] earlier text limit i j = j ≡ i
-EventsWith S (ev ∷ evs) earlier text limit i j =
-    (m n k : ℕ) × EventWith S ev text limit i m × Tail text m n × Clear earlier ev × MaximalGap text n k
-    × EventsWith S evs (earlier ++ (ev ∷ [])) text limit k j
+abbrev pub KeyValuesWith : Scalars → List KeyValue → List KeyValue → List ℕ → ℕ → ℕ → ℕ → Type 0
+KeyValuesWith S [] earlier text limit i j = j ≡ i
+KeyValuesWith S (ev ∷ evs) earlier text limit i j =
+    (m n k : ℕ) × KeyValueWith S ev text limit i m × Tail text m n × Clear earlier ev × MaximalGap text n k
+    × KeyValuesWith S evs (earlier ++ (ev ∷ [])) text limit k j
 
 -- from i to j stand blank lines and these assignments
-abbrev pub LinesWith : Scalars → List Event → List ℕ → ℕ → ℕ → ℕ → Type 0
-LinesWith S evs text limit i j = (k : ℕ) × MaximalGap text i k × EventsWith S evs [] text limit k j
+abbrev pub LinesWith : Scalars → List KeyValue → List ℕ → ℕ → ℕ → ℕ → Type 0
+LinesWith S evs text limit i j = (k : ℕ) × MaximalGap text i k × KeyValuesWith S evs [] text limit k j
 
 -- with dates
-abbrev pub SpellsEvent : Event → List ℕ → ℕ → ℕ → ℕ → Type 0
-SpellsEvent = EventWith IsScalar
+abbrev pub SpellsKeyValue : KeyValue → List ℕ → ℕ → ℕ → ℕ → Type 0
+SpellsKeyValue = KeyValueWith IsScalar
 
-abbrev pub SpellsEvents : List Event → List Event → List ℕ → ℕ → ℕ → ℕ → Type 0
-SpellsEvents = EventsWith IsScalar
+abbrev pub SpellsKeyValues : List KeyValue → List KeyValue → List ℕ → ℕ → ℕ → ℕ → Type 0
+SpellsKeyValues = KeyValuesWith IsScalar
 
-abbrev pub SpellsLines : List Event → List ℕ → ℕ → ℕ → ℕ → Type 0
+abbrev pub SpellsLines : List KeyValue → List ℕ → ℕ → ℕ → ℕ → Type 0
 SpellsLines = LinesWith IsScalar
 
 -- ---- headers
@@ -153,26 +155,28 @@ SpellsLines = LinesWith IsScalar
 -- one bracket and no second one, or two; the white space behind them is that of `HeaderFront`
 --
 -- `std-table-open = %x5B ws`, `array-table-open = %x5B.5B ws`
-abbrev pub Opens : Bool → List ℕ → ℕ → ℕ → Type 0
-Opens false text i j =
+abbrev pub OpensHeader : Bool → List ℕ → ℕ → ℕ → Type 0
+OpensHeader false text i j =
     (slice_index text i ≡ left_bracket) × ((slice_index text (i + 1) == left_bracket) ≡ false) × (j ≡ i + 1)
-Opens true text i j = (slice_index text i ≡ left_bracket) × (slice_index text (i + 1) ≡ left_bracket) × (j ≡ i + 2)
+OpensHeader true text i j =
+    (slice_index text i ≡ left_bracket) × (slice_index text (i + 1) ≡ left_bracket) × (j ≡ i + 2)
 
 -- one bracket, or two of them, without the white space before them
 --
 -- `std-table-close = ws %x5D`, `array-table-close = ws %x5D.5D`
-abbrev pub Shuts : Bool → List ℕ → ℕ → ℕ → Type 0
-Shuts false text i j = (slice_index text i ≡ right_bracket) × (j ≡ i + 1)
-Shuts true text i j = (slice_index text i ≡ right_bracket) × (slice_index text (i + 1) ≡ right_bracket) × (j ≡ i + 2)
+abbrev pub ClosesHeader : Bool → List ℕ → ℕ → ℕ → Type 0
+ClosesHeader false text i j = (slice_index text i ≡ right_bracket) × (j ≡ i + 1)
+ClosesHeader true text i j =
+    (slice_index text i ≡ right_bracket) × (slice_index text (i + 1) ≡ right_bracket) × (j ≡ i + 2)
 
 -- an opening bracket, one or two, with the spaces and tabs behind it, and the parts of the key with those behind it
-pub record HeaderFront (parts : List Part) (array : Bool) (text : List ℕ) (limit i j : ℕ) : Type 0 where
+pub record HeaderFront (parts : List SimpleKey) (array : Bool) (text : List ℕ) (limit i j : ℕ) : Type 0 where
   pub inside : ℕ
   pub start : ℕ
   pub end : ℕ
-  pub opens : Opens array text i inside
+  pub opens : OpensHeader array text i inside
   pub before : MaximalRun is_blank text inside start
-  pub key : Dotted parts text start end
+  pub key : SpellsKey parts text start end
   pub few : length parts ≤ limit
   pub behind : MaximalRun is_blank text end j
 
@@ -180,17 +184,17 @@ pub record HeaderFront (parts : List Part) (array : Bool) (text : List ℕ) (lim
 --
 -- `table = std-table / array-table`, `std-table = std-table-open key std-table-close`,
 -- `array-table = array-table-open key array-table-close`, `expression =/ ws table ws [ comment ]`
-pub record SpellsHeader (parts : List Part) (array : Bool) (text : List ℕ) (limit i j : ℕ) : Type 0 where
+pub record SpellsHeader (parts : List SimpleKey) (array : Bool) (text : List ℕ) (limit i j : ℕ) : Type 0 where
   pub close : ℕ
   pub end : ℕ
   pub front : HeaderFront parts array text limit i close
-  pub shuts : Shuts array text close end
+  pub shuts : ClosesHeader array text close end
   pub rest : Tail text end j
 
 -- ---- sections
 
 -- where the last of these assignments ends, or, without one, n
-abbrev pub last_end : ℕ → List Event → ℕ
+abbrev pub last_end : ℕ → List KeyValue → ℕ
 last_end n [] = n
 last_end n (ev ∷ evs) = last_end ev.extent.end evs
 
@@ -200,12 +204,12 @@ pub record SectionWith (S : Scalars) (b : Block) (text : List ℕ) (limit i j : 
   pub end : ℕ
   pub header : SpellsHeader b.header b.array text limit i end
   pub header_span : b.header_span ≡ record { start = i; end = end }
-  pub lines : LinesWith S b.events text limit end j
-  pub extent : b.extent ≡ record { start = i; end = last_end end b.events }
+  pub lines : LinesWith S b.key_values text limit end j
+  pub extent : b.extent ≡ record { start = i; end = last_end end b.key_values }
 
 -- The assignments before the first header, if there are any, are a section of their own: its header is empty and stands
 -- at 0..0, and its extent goes from the first assignment to the end of the last.
-abbrev pub first_block : List Event → List Block
+abbrev pub first_block : List KeyValue → List Block
 first_block [] = []
 first_block (ev ∷ evs) =
     record {
@@ -213,7 +217,7 @@ first_block (ev ∷ evs) =
       array = false;
       header_span = from_to 0 0;
       extent = from_to ev.extent.start (last_end ev.extent.end evs);
-      events = ev ∷ evs;
+      key_values = ev ∷ evs;
     } ∷ []
 
 -- from i to the end of the text stand these sections
@@ -225,7 +229,7 @@ SectionsWith S (b ∷ bs) text limit i = (j : ℕ) × SectionWith S b text limit
 pub record DocumentWith (S : Scalars) (bs : List Block) (text : List ℕ) (limit : ℕ) : Type 0 where
   pub start : ℕ
   pub end : ℕ
-  pub first : List Event
+  pub first : List KeyValue
   pub rest : List Block
   pub begins : FirstPlace text start
   pub lines : LinesWith S first text limit start end

@@ -10,23 +10,23 @@ use Rattle.toml_span_read.specs.declared.value.DottedKey.{DottedKey}
 use Rattle.toml_span_read.specs.Gaps.{Dot, NoDot}
 
 -- a key by its name and its span
-pub record Part : Type 0 where
+pub record SimpleKey : Type 0 where
   pub name : List ℕ
   pub span : Span
 
 -- a key that is read, seen so, and the parts of a dotted key
-abbrev pub part : Key → Part
-part key = record { name = cow_str_bytes key.name; span = key.span }
+abbrev pub simple_key : Key → SimpleKey
+simple_key key = record { name = cow_str_bytes key.name; span = key.span }
 
-abbrev pub parts : DottedKey → List Part
-parts key = map part key.inner.items ++ (part key.last ∷ [])
+abbrev pub parts : DottedKey → List SimpleKey
+parts key = map simple_key key.inner.items ++ (simple_key key.last ∷ [])
 
 -- the text from i to j is this key
 --
 -- `simple-key = quoted-key / unquoted-key`, `unquoted-key = 1*( ALPHA / DIGIT / %x2D / %x5F )`,
 -- `quoted-key = basic-string / literal-string`
-abbrev pub IsKey : Part → List ℕ → ℕ → ℕ → Type 0
-IsKey p text i j =
+abbrev pub SpellsSimpleKey : SimpleKey → List ℕ → ℕ → ℕ → Type 0
+SpellsSimpleKey p text i j =
     (RunAt is_keylike text i j p.name × (p.span ≡ record { start = i; end = j }))
     ⊎ ((source : List ℕ) × IsString text i j p.span source p.name false)
 
@@ -35,13 +35,13 @@ abbrev pub opens_string : ℕ → Bool
 opens_string c = c == quotation_mark || c == apostrophe
 
 -- `*( dot-sep simple-key )`: from m, behind a key, to j stand these keys, each behind a dot, and no dot follows
-abbrev pub Onward : List Part → List ℕ → ℕ → ℕ → Type 0
+abbrev pub Onward : List SimpleKey → List ℕ → ℕ → ℕ → Type 0
 Onward [] text m j = (j ≡ m) × NoDot text m
-Onward (s ∷ ss) text m j = (p q : ℕ) × Dot text m p × IsKey s text p q × Onward ss text q j
+Onward (s ∷ ss) text m j = (p q : ℕ) × Dot text m p × SpellsSimpleKey s text p q × Onward ss text q j
 
 -- the text from i to j is a dotted key of these parts
 --
 -- `key = simple-key / dotted-key`, `dotted-key = simple-key 1*( dot-sep simple-key )`
-abbrev pub Dotted : List Part → List ℕ → ℕ → ℕ → Type 0
-Dotted [] text i j = ⊥
-Dotted (s ∷ ss) text i j = (m : ℕ) × IsKey s text i m × Onward ss text m j
+abbrev pub SpellsKey : List SimpleKey → List ℕ → ℕ → ℕ → Type 0
+SpellsKey [] text i j = ⊥
+SpellsKey (s ∷ ss) text i j = (m : ℕ) × SpellsSimpleKey s text i m × Onward ss text m j

@@ -1,40 +1,45 @@
 -- What is read is within the limit.
 use Rattle.std.specs.Prelude.{ℕ, ◌+◌, ◌≤◌, List, [], ◌∷◌, map, length}
-use Rattle.toml_span_read.specs.Data.{Node, node, Inner, scalar, array, inline, Items, no_items, item, Pairs, no_pairs}
-use Rattle.toml_span_read.specs.Data.{pair, Event, event}
+use Rattle.toml_span_read.specs.Data.{ParsedValue, parsed, ParsedInner, scalar, array, inline, ParsedItems, no_items}
+use Rattle.toml_span_read.specs.Data.{item, ParsedPairs, no_pairs}
+use Rattle.toml_span_read.specs.Data.{pair, KeyValue, key_value}
 use Rattle.toml_span_read.specs.declared.section.Section.{Section}
+
+-- the greatest limit that a call may set, and that of `parse`
+abbrev pub depth_limit : ℕ
+depth_limit = 128
 
 -- The depth of a value is the number of brackets and braces open round it plus the number of all key parts of its own
 -- assignment or pair and of those round it. It is at most the limit, and so is the number of parts of each key.
 abbrev mutual
-  pub Within : ℕ → ℕ → Node → Type 0
-  Within limit d (node k span) = (d ≤ limit) × WithinInner limit d k
+  pub Within : ℕ → ℕ → ParsedValue → Type 0
+  Within limit d (parsed k span) = (d ≤ limit) × WithinInner limit d k
 
-  pub WithinInner : ℕ → ℕ → Inner → Type 0
+  pub WithinInner : ℕ → ℕ → ParsedInner → Type 0
   WithinInner limit d (scalar s) = Unit {0}
   WithinInner limit d (array vs) = WithinItems limit (d + 1) vs
   WithinInner limit d (inline ps) = WithinPairs limit (d + 1) ps
 
-  pub WithinItems : ℕ → ℕ → Items → Type 0
+  pub WithinItems : ℕ → ℕ → ParsedItems → Type 0
   WithinItems limit d no_items = Unit {0}
   WithinItems limit d (item v vs) = Within limit d v × WithinItems limit d vs
 
-  pub WithinPairs : ℕ → ℕ → Pairs → Type 0
+  pub WithinPairs : ℕ → ℕ → ParsedPairs → Type 0
   WithinPairs limit d no_pairs = Unit {0}
   WithinPairs limit d (pair ps v extent rest) =
       (length ps ≤ limit) × Within limit (d + length ps) v × WithinPairs limit d rest
 
 -- an assignment under so many brackets and key parts
-abbrev pub WithinEvent : ℕ → ℕ → Event → Type 0
-WithinEvent limit d e = (length e.parts ≤ limit) × Within limit (d + length e.parts) e.value
+abbrev pub WithinKeyValue : ℕ → ℕ → KeyValue → Type 0
+WithinKeyValue limit d e = (length e.parts ≤ limit) × Within limit (d + length e.parts) e.value
 
-abbrev pub WithinEvents : ℕ → List Event → Type 0
-WithinEvents limit [] = Unit {0}
-WithinEvents limit (e ∷ es) = WithinEvent limit 0 e × WithinEvents limit es
+abbrev pub WithinKeyValues : ℕ → List KeyValue → Type 0
+WithinKeyValues limit [] = Unit {0}
+WithinKeyValues limit (e ∷ es) = WithinKeyValue limit 0 e × WithinKeyValues limit es
 
 -- the parts of its header, and its assignments
 abbrev pub WithinSection : ℕ → Section → Type 0
-WithinSection limit s = (length s.header.items ≤ limit) × WithinEvents limit (map event s.assignments.items)
+WithinSection limit s = (length s.header.items ≤ limit) × WithinKeyValues limit (map key_value s.assignments.items)
 
 abbrev pub WithinSections : ℕ → List Section → Type 0
 WithinSections limit [] = Unit {0}

@@ -3,29 +3,18 @@ use Rattle.std.specs.Prelude.{◌≡◌, ℕ, ℤ, pos, neg_ℤ, ◌+◌, ◌*�
 use Rattle.std.specs.Prelude.{◌||◌, ◌==◌, nat_lt, if◌then◌else◌, List, [], ◌∷◌, map, filter, length}
 use Rattle.std.specs.Prelude.{slice_index, slice_range, Option, Some, None, codes}
 use Rattle.std.specs.Char.{is_ascii_hexdigit, digit_value}
-use Rattle.toml_span_lex.specs.Bytes.{underscore, MaximalRun, plus, dash, is_keylike, period}
+use Rattle.toml_span_lex.specs.Bytes.{underscore, MaximalRun, plus, dash, is_keylike, period, digit_zero, small_b}
+use Rattle.toml_span_lex.specs.Bytes.{small_e, small_x}
 use Rattle.toml_span_tree.specs.Node.{finite, infinite, not_a_number, Scalar, text as text_scalar, integer, float}
 use Rattle.toml_span_tree.specs.Node.{boolean, datetime}
 
 -- ---- letters
 
-abbrev pub digit_zero : ℕ
-digit_zero = 48
-
 abbrev pub capital_e : ℕ
 capital_e = 69
 
-abbrev pub letter_b : ℕ
-letter_b = 98
-
-abbrev pub letter_e : ℕ
-letter_e = 101
-
-abbrev pub letter_o : ℕ
-letter_o = 111
-
-abbrev pub letter_x : ℕ
-letter_x = 120
+abbrev pub small_o : ℕ
+small_o = 111
 
 -- ---- digits
 
@@ -89,9 +78,9 @@ pub record DecimalInteger (n : ℤ) (text : List ℕ) (i j : ℕ) : Type 0 where
 abbrev pub radix_at : List ℕ → ℕ → Option ℕ
 radix_at text i =
     if not (slice_index text i == digit_zero) then None
-    else (if slice_index text (i + 1) == letter_x then Some 16
-    else (if slice_index text (i + 1) == letter_o then Some 8
-    else (if slice_index text (i + 1) == letter_b then Some 2 else None)))
+    else (if slice_index text (i + 1) == small_x then Some 16
+    else (if slice_index text (i + 1) == small_o then Some 8
+    else (if slice_index text (i + 1) == small_b then Some 2 else None)))
 
 -- a prefix, and digits of its radix
 --
@@ -109,7 +98,7 @@ pub record RadixInteger (n : ℤ) (text : List ℕ) (i j : ℕ) : Type 0 where
 
 -- `"e"`, of either case
 abbrev pub is_exponent : ℕ → Bool
-is_exponent c = c == letter_e || c == capital_e
+is_exponent c = c == small_e || c == capital_e
 
 -- `exp = "e" float-exp-part`, `float-exp-part = [ minus / plus ] zero-prefixable-int`
 pub record Exponent (text : List ℕ) (i j : ℕ) : Type 0 where
@@ -131,7 +120,7 @@ pub record FloatLiteral (text : List ℕ) (i j : ℕ) : Type 0 where
 -- the text of a float as it is kept: without pluses and underscores, with a capital letter before the exponent
 abbrev pub cleaned : List ℕ → List ℕ
 cleaned literal =
-    map (λ c. if c == letter_e then capital_e else c) (filter (λ c. not (c == plus || c == underscore)) literal)
+    map (λ c. if c == small_e then capital_e else c) (filter (λ c. not (c == plus || c == underscore)) literal)
 
 -- `special-float = [ minus / plus ] ( inf / nan )`
 pub record SpecialFloat (word : List ℕ) (text : List ℕ) (i j : ℕ) : Type 0 where

@@ -4,9 +4,10 @@ use Rattle.std.specs.Prelude.{count_by}
 use Rattle.toml_span_lex.specs.Bytes.{line_feed}
 use Rattle.toml_span_lex.specs.declared.span.Span.{Span}
 use Rattle.toml_span_read.specs.declared.fault.Fault.{Fault}
-use Rattle.toml_span_read.specs.Keys.{Part, part}
-use Rattle.toml_span_read.specs.Data.{Node, node, Inner, scalar, array, inline, Items, no_items, item, Pairs, no_pairs}
-use Rattle.toml_span_read.specs.Data.{pair, Event, event}
+use Rattle.toml_span_read.specs.Keys.{SimpleKey, simple_key}
+use Rattle.toml_span_read.specs.Data.{ParsedValue, parsed, ParsedInner, scalar, array, inline, ParsedItems, no_items}
+use Rattle.toml_span_read.specs.Data.{item, ParsedPairs, no_pairs}
+use Rattle.toml_span_read.specs.Data.{pair, KeyValue, key_value}
 use Rattle.toml_span_read.specs.declared.section.Section.{Section}
 
 -- The place i stands in this line at this column, both counted from 0: so many line feeds stand before it, and so
@@ -19,7 +20,7 @@ pub record IsLineInfo (text : List ℕ) (i line column : ℕ) : Type 0 where
   pub column_is : start + column ≡ i
 
 -- a fault starts within the text, and does not end before it starts
-pub record IsPlaced (text : List ℕ) (fault : Fault) : Type 0 where
+pub record StartsInside (text : List ℕ) (fault : Fault) : Type 0 where
   pub within : fault.span.start ≤ length text
   pub forward : fault.span.start ≤ fault.span.end
 
@@ -30,40 +31,41 @@ abbrev pub IsInside : ℕ → Span → Type 0
 IsInside n span = (span.start ≤ span.end) × (span.end ≤ n)
 
 -- the parts of a key
-abbrev pub PartsInside : ℕ → List Part → Type 0
+abbrev pub PartsInside : ℕ → List SimpleKey → Type 0
 PartsInside n [] = Unit {0}
 PartsInside n (p ∷ ps) = IsInside n p.span × PartsInside n ps
 
 -- the keys of the inline tables in a value, at every nesting
 abbrev mutual
-  pub KeysInside : ℕ → Node → Type 0
-  KeysInside n (node k span) = InnerKeysInside n k
+  pub KeysInside : ℕ → ParsedValue → Type 0
+  KeysInside n (parsed k span) = InnerKeysInside n k
 
-  pub InnerKeysInside : ℕ → Inner → Type 0
+  pub InnerKeysInside : ℕ → ParsedInner → Type 0
   InnerKeysInside n (scalar s) = Unit {0}
   InnerKeysInside n (array vs) = ItemKeysInside n vs
   InnerKeysInside n (inline ps) = PairKeysInside n ps
 
-  pub ItemKeysInside : ℕ → Items → Type 0
+  pub ItemKeysInside : ℕ → ParsedItems → Type 0
   ItemKeysInside n no_items = Unit {0}
   ItemKeysInside n (item v vs) = KeysInside n v × ItemKeysInside n vs
 
-  pub PairKeysInside : ℕ → Pairs → Type 0
+  pub PairKeysInside : ℕ → ParsedPairs → Type 0
   PairKeysInside n no_pairs = Unit {0}
   PairKeysInside n (pair ps v extent rest) = PartsInside n ps × KeysInside n v × PairKeysInside n rest
 
 -- an assignment's key, and the keys in its value
-abbrev pub EventInside : ℕ → Event → Type 0
-EventInside n e = PartsInside n e.parts × KeysInside n e.value
+abbrev pub KeyValueInside : ℕ → KeyValue → Type 0
+KeyValueInside n e = PartsInside n e.parts × KeysInside n e.value
 
-abbrev pub EventsInside : ℕ → List Event → Type 0
-EventsInside n [] = Unit {0}
-EventsInside n (e ∷ es) = EventInside n e × EventsInside n es
+abbrev pub KeyValuesInside : ℕ → List KeyValue → Type 0
+KeyValuesInside n [] = Unit {0}
+KeyValuesInside n (e ∷ es) = KeyValueInside n e × KeyValuesInside n es
 
 -- a section's header with its parts, and the keys of its assignments
 abbrev pub SectionInside : ℕ → Section → Type 0
 SectionInside n s =
-    IsInside n s.header_span × PartsInside n (map part s.header.items) × EventsInside n (map event s.assignments.items)
+    IsInside n s.header_span × PartsInside n (map simple_key s.header.items)
+    × KeyValuesInside n (map key_value s.assignments.items)
 
 abbrev pub SectionsInside : ℕ → List Section → Type 0
 SectionsInside n [] = Unit {0}
@@ -72,28 +74,28 @@ SectionsInside n (s ∷ ss) = SectionInside n s × SectionsInside n ss
 -- ---- one behind the other
 
 -- from i to j the spans of the parts ascend: none is empty, and each ends before the next one begins
-abbrev pub Ascend : List Part → ℕ → ℕ → Type 0
+abbrev pub Ascend : List SimpleKey → ℕ → ℕ → Type 0
 Ascend [] i j = i ≤ j
 Ascend (p ∷ ps) i j = (i ≤ p.span.start) × (p.span.start < p.span.end) × Ascend ps p.span.end j
 
 abbrev mutual
   -- the span of a value lies from i to j, and those of the values and keys in it lie within its own
-  pub Inside : Node → ℕ → ℕ → Type 0
-  Inside (node k span) i j =
+  pub Inside : ParsedValue → ℕ → ℕ → Type 0
+  Inside (parsed k span) i j =
       (i ≤ span.start) × (span.start ≤ span.end) × (span.end ≤ j) × InsideInner k span.start span.end
 
-  pub InsideInner : Inner → ℕ → ℕ → Type 0
+  pub InsideInner : ParsedInner → ℕ → ℕ → Type 0
   InsideInner (scalar s) i j = Unit {0}
   InsideInner (array vs) i j = InsideItems vs i j
   InsideInner (inline ps) i j = InsidePairs ps i j
 
   -- each element behind the one before it
-  pub InsideItems : Items → ℕ → ℕ → Type 0
+  pub InsideItems : ParsedItems → ℕ → ℕ → Type 0
   InsideItems no_items i j = i ≤ j
   InsideItems (item v vs) i j = (m : ℕ) × Inside v i m × InsideItems vs m j
 
   -- each pair behind the one before it, and its value behind its key
-  pub InsidePairs : Pairs → ℕ → ℕ → Type 0
+  pub InsidePairs : ParsedPairs → ℕ → ℕ → Type 0
   InsidePairs no_pairs i j = i ≤ j
   InsidePairs (pair ss v extent ps) i j =
       (a m : ℕ) × Ascend ss i a × Inside v a m × (i ≤ extent.start) × (extent.end ≤ m) × InsidePairs ps m j

@@ -1,5 +1,6 @@
--- Where a document gets stuck: the forms before the fault, and the fault that stands behind them.
-use Rattle.std.specs.Prelude.{◌≡◌, ℕ, ◌+◌, ◌<◌, ◌≤◌, Bool, true, false, ◌==◌, List, [], ◌∷◌, ◌++◌, map, length}
+-- Where a document gets stuck: the forms before the fault, and the fault of the tables (`Faults`) that stands behind
+-- them.
+use Rattle.std.specs.Prelude.{◌≡◌, ℕ, ◌+◌, ◌<◌, ◌≤◌, Bool, false, ◌==◌, List, [], ◌∷◌, ◌++◌, map, length}
 use Rattle.std.specs.Prelude.{slice_index, Vec, Result, Ok, Err}
 use Rattle.std.specs.Global.{Global}
 use Rattle.toml_span_lex.specs.Bytes.{is_blank, equals, MaximalRun, left_bracket, comma, left_brace, right_brace}
@@ -7,61 +8,56 @@ use Rattle.toml_span_lex.specs.Bytes.{right_bracket}
 use Rattle.toml_span_lex.specs.Tokenizer.{FirstPlace}
 use Rattle.toml_span_lex.specs.declared.stop.Stop.{Stop}
 use Rattle.toml_span_lex.specs.declared.stop.Stop.TheVariants as stops
-use Rattle.toml_span_tree.specs.Error.{fault_of}
+use Rattle.toml_span_tree.specs.Error.{content_of}
 use Rattle.toml_span_tree.specs.declared.error.Error.{Error}
-use Rattle.toml_span_read.specs.Places.{IsPlaced}
+use Rattle.toml_span_read.specs.Places.{StartsInside}
 use Rattle.toml_span_read.specs.declared.fault.Fault.{Fault}
-use Rattle.toml_span_read.specs.declared.fault.FaultKind.TheVariants as kinds
-use Rattle.toml_span_read.specs.Gaps.{Dot, MaximalGap, Sign, Neither, Equals, Tail}
-use Rattle.toml_span_read.specs.Faults.{fault_at, NoKey, IsWanted, IsNoValue, IsTokenFault, Begins, NoBare, StuckTail}
-use Rattle.toml_span_read.specs.Faults.{NoShuts, Tells, begins_value}
-use Rattle.toml_span_read.specs.Keys.{Part, IsKey, opens_string, Dotted}
+use Rattle.toml_span_read.specs.Gaps.{Dot, MaximalGap, Separator, Equals, Tail}
+use Rattle.toml_span_read.specs.Faults.{NoSimpleKey, NoPart, NoHeaderPart, NoEquals, NoValue, NoComma, NoClosing}
+use Rattle.toml_span_read.specs.Faults.{StuckTail, Tells}
+use Rattle.toml_span_read.specs.Keys.{SimpleKey, SpellsSimpleKey, SpellsKey}
 use Rattle.toml_span_read.specs.declared.fault.Due.TheVariants as dues
-use Rattle.toml_span_read.specs.Data.{Node, Event, Block, block}
+use Rattle.toml_span_read.specs.Data.{ParsedValue, KeyValue, Block, block}
 use Rattle.toml_span_read.specs.Earlier.{Clear, Crossing}
-use Rattle.toml_span_read.specs.Grammar.{Spells, SpellsPair, SpellsEvent, Opens, Shuts, HeaderFront, SpellsHeader}
+use Rattle.toml_span_read.specs.Grammar.{Spells, SpellsPair, SpellsKeyValue, OpensHeader, ClosesHeader, HeaderFront}
+use Rattle.toml_span_read.specs.Grammar.{SpellsHeader}
 use Rattle.toml_span_read.specs.Grammar.{SpellsSection, SpellsLines, SpellsDocument}
 use Rattle.toml_span_read.specs.declared.section.Section.{Section}
 
 -- ---- keys
 
 -- behind n parts of a dotted key, the last of which ends at m, this fault stands
+--
+-- within `*( dot-sep simple-key )`
 pub data StuckOnward (text : List ℕ) (limit : ℕ) : ℕ → ℕ → Fault → Type 0 where
-  no_part : (n m p : ℕ) (e : Fault) → Dot text m p → NoKey text p e → StuckOnward text limit n m e
-  too_many : (n m p q : ℕ) (s : Part) → Dot text m p → IsKey s text p q → limit ≤ n
-      → StuckOnward text limit n m (fault_at kinds.ExceededDepthLimit p)
-  dotted_on : (n m p q : ℕ) (s : Part) (e : Fault) → Dot text m p → IsKey s text p q → n < limit
+  part_here : (n m p : ℕ) (e : Fault) → Dot text m p → NoPart text limit n p e → StuckOnward text limit n m e
+  dotted_on : (n m p q : ℕ) (s : SimpleKey) (e : Fault) → Dot text m p → SpellsSimpleKey s text p q → n < limit
       → StuckOnward text limit (n + 1) q e → StuckOnward text limit n m e
 
--- a dotted key of at most so many parts is due at i, and this fault stands there or behind its first parts
-pub data StuckDotted (text : List ℕ) (limit : ℕ) : ℕ → Fault → Type 0 where
-  no_first : (i : ℕ) (e : Fault) → NoKey text i e → StuckDotted text limit i e
-  onward : (i m : ℕ) (s : Part) (e : Fault) → IsKey s text i m → StuckOnward text limit 1 m e
-      → StuckDotted text limit i e
+-- a key of at most so many parts is due at i, and this fault stands there or behind its first parts
+--
+-- within `key = simple-key / dotted-key`
+pub data StuckKey (text : List ℕ) (limit : ℕ) : ℕ → Fault → Type 0 where
+  no_first : (i : ℕ) (e : Fault) → NoSimpleKey text i e → StuckKey text limit i e
+  onward : (i m : ℕ) (s : SimpleKey) (e : Fault) → SpellsSimpleKey s text i m → StuckOnward text limit 1 m e
+      → StuckKey text limit i e
 
 -- behind n parts of a header another one is due at i, and this fault stands there or further on
+--
+-- within the `key` of `std-table = std-table-open key std-table-close` or of `array-table`
 pub data StuckHeaderKey (text : List ℕ) (limit : ℕ) : ℕ → ℕ → Fault → Type 0 where
-  no_header_part : (n i : ℕ) (e : Fault) → NoKey text i e → StuckHeaderKey text limit n i e
-  header_too_many : (n i m : ℕ) (s : Part) → IsKey s text i m → limit ≤ n
-      → StuckHeaderKey text limit n i (record { kind = kinds.ExceededDepthLimit; span = s.span })
-  header_on : (n i m p : ℕ) (s : Part) (e : Fault) → IsKey s text i m → n < limit → Dot text m p
+  header_part_here : (n i : ℕ) (e : Fault) → NoHeaderPart text limit n i e → StuckHeaderKey text limit n i e
+  header_on : (n i m p : ℕ) (s : SimpleKey) (e : Fault) → SpellsSimpleKey s text i m → n < limit → Dot text m p
       → StuckHeaderKey text limit (n + 1) p e → StuckHeaderKey text limit n i e
 
 -- ---- values
 
 mutual
   -- a value is due at i, at this depth, and this fault stands there or within it
+  --
+  -- within `val = string / boolean / array / inline-table / date-time / float / integer`
   pub data StuckValue (text : List ℕ) (limit : ℕ) : ℕ → ℕ → Fault → Type 0 where
-    -- no value begins at i
-    no_value : (d i : ℕ) (e : Fault) → begins_value (slice_index text i) ≡ false → IsNoValue text i e
-        → StuckValue text limit d i e
-    -- quotes open at i, and no string is there
-    no_string : (d i : ℕ) (e : Fault) → opens_string (slice_index text i) ≡ true → IsTokenFault text i e
-        → StuckValue text limit d i e
-    -- a value begins at i, past the limit
-    too_deep : (d i : ℕ) (e : Fault) → limit < d → Begins text i → e ≡ fault_at kinds.ExceededDepthLimit i
-        → StuckValue text limit d i e
-    no_bare : (d i : ℕ) (e : Fault) → d ≤ limit → NoBare text i e → StuckValue text limit d i e
+    value_here : (d i : ℕ) (e : Fault) → NoValue text limit d i e → StuckValue text limit d i e
     -- a bracket opens at i, and an element or the closing bracket is stuck
     in_array : (d i k : ℕ) (e : Fault) → d ≤ limit → slice_index text i ≡ left_bracket → MaximalGap text (i + 1) k
         → StuckItems text limit (d + 1) k e → StuckValue text limit d i e
@@ -70,93 +66,97 @@ mutual
         → StuckPairs text limit [] (d + 1) k e → StuckValue text limit d i e
 
   -- an element or the closing bracket is due at i
+  --
+  -- within `[ array-values ] ws-comment-newline array-close`
   pub data StuckItems (text : List ℕ) (limit : ℕ) : ℕ → ℕ → Fault → Type 0 where
     in_item : (d i : ℕ) (e : Fault) → (slice_index text i == right_bracket) ≡ false → StuckValue text limit d i e
         → StuckItems text limit d i e
     -- behind an element stands neither a comma nor the closing bracket
-    behind_item : (d i m n : ℕ) (v : Node) (e : Fault) → Spells v text limit d i m → Neither right_bracket text m n
-        → IsWanted text n dues.RightBracket e → StuckItems text limit d i e
-    item_on : (d i m p : ℕ) (v : Node) (e : Fault) → Spells v text limit d i m → Sign comma text m p
+    behind_item : (d i m n : ℕ) (v : ParsedValue) (e : Fault) → Spells v text limit d i m
+        → MaximalGap text m n → NoComma right_bracket dues.RightBracket text n e → StuckItems text limit d i e
+    item_on : (d i m p : ℕ) (v : ParsedValue) (e : Fault) → Spells v text limit d i m → Separator comma text m p
         → StuckItems text limit d p e → StuckItems text limit d i e
 
   -- a pair or the closing brace is due at i, behind these earlier pairs
-  pub data StuckPairs (text : List ℕ) (limit : ℕ) : List Event → ℕ → ℕ → Fault → Type 0 where
-    in_pair : (es : List Event) (d i : ℕ) (e : Fault) → (slice_index text i == right_brace) ≡ false
+  --
+  -- within `[ inline-table-keyvals ] ws-comment-newline inline-table-close`
+  pub data StuckPairs (text : List ℕ) (limit : ℕ) : List KeyValue → ℕ → ℕ → Fault → Type 0 where
+    in_pair : (es : List KeyValue) (d i : ℕ) (e : Fault) → (slice_index text i == right_brace) ≡ false
         → StuckPair text limit d i e → StuckPairs text limit es d i e
     -- the key of a whole pair goes through the value of an earlier one
-    crosses : (es : List Event) (d i m : ℕ) (p : Event) (e : Fault) → SpellsPair p text limit d i m → Crossing es p e
-        → StuckPairs text limit es d i e
+    crosses : (es : List KeyValue) (d i m : ℕ) (p : KeyValue) (e : Fault) → SpellsPair p text limit d i m
+        → Crossing es p e → StuckPairs text limit es d i e
     -- behind a pair stands neither a comma nor the closing brace
-    behind_pair : (es : List Event) (d i m n : ℕ) (p : Event) (e : Fault) → SpellsPair p text limit d i m → Clear es p
-        → Neither right_brace text m n → IsWanted text n dues.Comma e → StuckPairs text limit es d i e
-    pair_on : (es : List Event) (d i m n : ℕ) (p : Event) (e : Fault) → SpellsPair p text limit d i m → Clear es p
-        → Sign comma text m n → StuckPairs text limit (es ++ (p ∷ [])) d n e → StuckPairs text limit es d i e
+    behind_pair : (es : List KeyValue) (d i m n : ℕ) (p : KeyValue) (e : Fault) → SpellsPair p text limit d i m
+        → Clear es p → MaximalGap text m n → NoComma right_brace dues.Comma text n e → StuckPairs text limit es d i e
+    pair_on : (es : List KeyValue) (d i m n : ℕ) (p : KeyValue) (e : Fault) → SpellsPair p text limit d i m → Clear es p
+        → Separator comma text m n → StuckPairs text limit (es ++ (p ∷ [])) d n e → StuckPairs text limit es d i e
 
-  -- a pair is due at i
+  -- a pair is due at i: within `keyval = key keyval-sep val`
   pub data StuckPair (text : List ℕ) (limit : ℕ) : ℕ → ℕ → Fault → Type 0 where
-    in_key : (d i : ℕ) (e : Fault) → StuckDotted text limit i e → StuckPair text limit d i e
+    in_key : (d i : ℕ) (e : Fault) → StuckKey text limit i e → StuckPair text limit d i e
     -- behind the key stands no equals sign
-    no_equals : (d i a n : ℕ) (ss : List Part) (e : Fault) → Dotted ss text i a → length ss ≤ limit
-        → MaximalGap text a n → (slice_index text n == equals) ≡ false → IsWanted text n dues.Equals e
-        → StuckPair text limit d i e
-    in_value : (d i a b : ℕ) (ss : List Part) (e : Fault) → Dotted ss text i a → length ss ≤ limit
-        → Sign equals text a b → StuckValue text limit (d + length ss) b e → StuckPair text limit d i e
+    no_equals : (d i a n : ℕ) (ss : List SimpleKey) (e : Fault) → SpellsKey ss text i a → length ss ≤ limit
+        → MaximalGap text a n → NoEquals text n e → StuckPair text limit d i e
+    in_value : (d i a b : ℕ) (ss : List SimpleKey) (e : Fault) → SpellsKey ss text i a → length ss ≤ limit
+        → Separator equals text a b → StuckValue text limit (d + length ss) b e → StuckPair text limit d i e
 
 -- ---- assignments
 
--- an assignment is due at i, and this fault stands there or further on
-pub data StuckEvent (text : List ℕ) (limit : ℕ) : ℕ → Fault → Type 0 where
-  line_key : (i : ℕ) (e : Fault) → StuckDotted text limit i e → StuckEvent text limit i e
-  line_equals : (i a n : ℕ) (ps : List Part) (e : Fault) → Dotted ps text i a → length ps ≤ limit
-      → MaximalRun is_blank text a n
-      → (slice_index text n == equals) ≡ false → IsWanted text n dues.Equals e → StuckEvent text limit i e
-  line_value : (i a b : ℕ) (ps : List Part) (e : Fault) → Dotted ps text i a → length ps ≤ limit → Equals text a b
-      → StuckValue text limit (length ps) b e
-      → StuckEvent text limit i e
+-- an assignment is due at i, and this fault stands there or further on: within `keyval = key keyval-sep val`
+pub data StuckKeyValue (text : List ℕ) (limit : ℕ) : ℕ → Fault → Type 0 where
+  line_key : (i : ℕ) (e : Fault) → StuckKey text limit i e → StuckKeyValue text limit i e
+  line_equals : (i a n : ℕ) (ps : List SimpleKey) (e : Fault) → SpellsKey ps text i a → length ps ≤ limit
+      → MaximalRun is_blank text a n → NoEquals text n e → StuckKeyValue text limit i e
+  line_value : (i a b : ℕ) (ps : List SimpleKey) (e : Fault) → SpellsKey ps text i a → length ps ≤ limit
+      → Equals text a b → StuckValue text limit (length ps) b e → StuckKeyValue text limit i e
 
 -- Behind these earlier values of a section this fault stands, where no header is next. A key that goes through one of
 -- them is told once the rest of its line has been read.
-pub data StuckEvents (text : List ℕ) (limit : ℕ) : List Event → ℕ → Fault → Type 0 where
-  in_line : (earlier : List Event) (i : ℕ) (e : Fault) → i < length text → (slice_index text i == left_bracket) ≡ false
-      → StuckEvent text limit i e
-      → StuckEvents text limit earlier i e
-  no_newline : (earlier : List Event) (i m : ℕ) (ev : Event) (e : Fault) → SpellsEvent ev text limit i m
-      → StuckTail text m e → StuckEvents text limit earlier i e
-  crossing : (earlier : List Event) (i m n : ℕ) (ev : Event) (e : Fault) → SpellsEvent ev text limit i m → Tail text m n
-      → Crossing earlier ev e
-      → StuckEvents text limit earlier i e
-  line_on : (earlier : List Event) (i m n k : ℕ) (ev : Event) (e : Fault) → SpellsEvent ev text limit i m
+--
+-- within `expression =/ ws keyval ws [ comment ]`
+pub data StuckKeyValues (text : List ℕ) (limit : ℕ) : List KeyValue → ℕ → Fault → Type 0 where
+  in_line : (earlier : List KeyValue) (i : ℕ) (e : Fault) → i < length text
+      → (slice_index text i == left_bracket) ≡ false → StuckKeyValue text limit i e
+      → StuckKeyValues text limit earlier i e
+  no_newline : (earlier : List KeyValue) (i m : ℕ) (ev : KeyValue) (e : Fault) → SpellsKeyValue ev text limit i m
+      → StuckTail text m e → StuckKeyValues text limit earlier i e
+  crossing : (earlier : List KeyValue) (i m n : ℕ) (ev : KeyValue) (e : Fault) → SpellsKeyValue ev text limit i m
+      → Tail text m n → Crossing earlier ev e → StuckKeyValues text limit earlier i e
+  line_on : (earlier : List KeyValue) (i m n k : ℕ) (ev : KeyValue) (e : Fault) → SpellsKeyValue ev text limit i m
       → Tail text m n → Clear earlier ev → MaximalGap text n k
-      → StuckEvents text limit (earlier ++ (ev ∷ [])) k e → StuckEvents text limit earlier i e
+      → StuckKeyValues text limit (earlier ++ (ev ∷ [])) k e → StuckKeyValues text limit earlier i e
 
 -- behind blank lines and assignments from i on this fault stands
 abbrev pub StuckLines : List ℕ → ℕ → ℕ → Fault → Type 0
-StuckLines text limit i e = (k : ℕ) × MaximalGap text i k × StuckEvents text limit [] k e
+StuckLines text limit i e = (k : ℕ) × MaximalGap text i k × StuckKeyValues text limit [] k e
 
 -- ---- headers, sections and the document
 
--- a header begins at i, and this fault stands in it
+-- a header begins at i, and this fault stands in it or behind it on its line
+--
+-- within `expression =/ ws table ws [ comment ]`, where `table = std-table / array-table`
 pub data StuckHeader (text : List ℕ) (limit : ℕ) : ℕ → Fault → Type 0 where
-  header_key : (i m k : ℕ) (array : Bool) (e : Fault) → Opens array text i m → MaximalRun is_blank text m k
+  header_key : (i m k : ℕ) (array : Bool) (e : Fault) → OpensHeader array text i m → MaximalRun is_blank text m k
       → StuckHeaderKey text limit 0 k e → StuckHeader text limit i e
-  header_close : (i k : ℕ) (array : Bool) (ps : List Part) (e : Fault) → HeaderFront ps array text limit i k
-      → NoShuts array text k e → StuckHeader text limit i e
-  header_rest : (i k m : ℕ) (array : Bool) (ps : List Part) (e : Fault) → HeaderFront ps array text limit i k
-      → Shuts array text k m → StuckTail text m e
+  header_close : (i k : ℕ) (array : Bool) (ps : List SimpleKey) (e : Fault) → HeaderFront ps array text limit i k
+      → NoClosing array text k e → StuckHeader text limit i e
+  header_rest : (i k m : ℕ) (array : Bool) (ps : List SimpleKey) (e : Fault) → HeaderFront ps array text limit i k
+      → ClosesHeader array text k m → StuckTail text m e
       → StuckHeader text limit i e
 
 -- from i on, where a header is next, this fault stands
 pub data StuckSections (text : List ℕ) (limit : ℕ) : ℕ → Fault → Type 0 where
   in_header : (i : ℕ) (e : Fault) → StuckHeader text limit i e → StuckSections text limit i e
-  in_section : (i m : ℕ) (array : Bool) (ps : List Part) (e : Fault) → SpellsHeader ps array text limit i m
+  in_section : (i m : ℕ) (array : Bool) (ps : List SimpleKey) (e : Fault) → SpellsHeader ps array text limit i m
       → StuckLines text limit m e → StuckSections text limit i e
   section_on : (i j : ℕ) (b : Block) (e : Fault) → SpellsSection b text limit i j → StuckSections text limit j e
       → StuckSections text limit i e
 
--- the forms before it, then the fault
+-- the forms before it, then the fault: within `toml = expression *( newline expression )`
 pub data StuckDocument (text : List ℕ) (limit : ℕ) : Fault → Type 0 where
   before_headers : (i : ℕ) (e : Fault) → FirstPlace text i → StuckLines text limit i e → StuckDocument text limit e
-  behind_header : (i j : ℕ) (evs : List Event) (e : Fault) → FirstPlace text i → SpellsLines evs text limit i j
+  behind_header : (i j : ℕ) (evs : List KeyValue) (e : Fault) → FirstPlace text i → SpellsLines evs text limit i j
       → StuckSections text limit j e → StuckDocument text limit e
 
 -- ---- what is read of a text
@@ -166,14 +166,14 @@ abbrev pub ReadsDocument : List ℕ → ℕ → Result (Vec Section Global) (Sto
 ReadsDocument text limit (Ok found) = SpellsDocument (map block found.items) text limit
 ReadsDocument text limit (Err (stops.Memory e)) = Unit {0}
 ReadsDocument text limit (Err (stops.Fault error)) =
-    (fault : Fault) × StuckDocument text limit fault × Tells text fault (fault_of error)
+    (fault : Fault) × StuckDocument text limit fault × Tells text fault (content_of error)
 
 -- what a text is refused for starts within the text, and does not end before it starts
 abbrev pub RefusedInside : List ℕ → Result (Vec Section Global) (Stop Error) → Type 0
 RefusedInside text (Ok found) = Unit {0}
 RefusedInside text (Err (stops.Memory e)) = Unit {0}
 RefusedInside text (Err (stops.Fault error)) =
-    (fault : Fault) × IsPlaced text fault × Tells text fault (fault_of error)
+    (fault : Fault) × StartsInside text fault × Tells text fault (content_of error)
 
 -- these sections, unless memory ran out
 abbrev pub AreRead : List Block → Result (Vec Section Global) (Stop Error) → Type 0

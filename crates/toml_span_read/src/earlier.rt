@@ -1,10 +1,10 @@
 //! The earlier values of a section or an inline table, by their paths.
 ghost use Rattle.std.specs.Prelude.{◌≡◌, ◌≤◌, ◌+◌, ◌++◌, ◌∷◌, [], map, length, OnOk, Some, unwrap_or};
 ghost use Rattle.std.specs.Cow.{cow_str_bytes};
-ghost use Rattle.toml_span_read.specs.Data.{span_of, event};
+ghost use Rattle.toml_span_read.specs.Data.{parsed_span, key_value};
 ghost use Rattle.toml_span_read.specs.Earlier as spec;
 ghost use Rattle.toml_span_read.specs.code.Earlier as code;
-ghost use Rattle.toml_span_read.specs.Keys.{part, parts};
+ghost use Rattle.toml_span_read.specs.Keys.{simple_key, parts};
 
 use crate::fault::{Fault, FaultKind};
 use crate::keys::add;
@@ -40,7 +40,7 @@ fn put<'de>(
     inner: &[Key<'de>],
     last: &Key<'de>,
 ) -> Result<(), AllocError>
-    ensures { OnOk result (code.Puts (spec.path (map part inner.now ++ (part last.now ∷ []))) last.now.span
+    ensures { OnOk result (code.Puts (spec.path (map simple_key inner.now ++ (simple_key last.now ∷ []))) last.now.span
         (code.holds node.old) (code.holds node.new)) }
 {
     match inner {
@@ -79,7 +79,7 @@ fn put_last<'de>(alloc: Global, node: &mut Node<'de>, last: &Key<'de>) -> Result
 
 /// The first of these parts at whose path a value stands, with the key's span of that value.
 fn crossing<'de>(node: &Node<'de>, inner: &[Key<'de>]) -> Option<(usize, Span)>
-    ensures { code.FindsOutermost (code.holds node.now) (map part inner.now) result }
+    ensures { code.FindsOutermost (code.holds node.now) (map simple_key inner.now) result }
 {
     let [part, rest @ ..] = inner else {
         return None;
@@ -96,7 +96,7 @@ fn crossing<'de>(node: &Node<'de>, inner: &[Key<'de>]) -> Option<(usize, Span)>
 /// The key of an assignment.
 #[inline]
 fn key_of<'x, 'de>(next: &'x Assignment<'de>) -> &'x DottedKey<'de>
-    ensures { parts result.now ≡ (event next.now).parts }
+    ensures { parts result.now ≡ (key_value next.now).parts }
 {
     &next.parts
 }
@@ -104,7 +104,7 @@ fn key_of<'x, 'de>(next: &'x Assignment<'de>) -> &'x DottedKey<'de>
 /// Where the span of an assignment's value ends.
 #[inline]
 fn value_end<'de>(next: &Assignment<'de>) -> usize
-    ensures { result ≡ (span_of (event next.now).value).end }
+    ensures { result ≡ (parsed_span (key_value next.now).value).end }
 {
     next.value.span.end
 }
@@ -134,8 +134,8 @@ impl<'de> Earlier<'de> {
 
     /// Puts in those of the values that are not in yet.
     fn catch_up(&mut self, alloc: Global, values: &[Assignment<'de>]) -> Result<(), AllocError>
-        requires { code.Knows self.now (map event values.now) }
-        ensures knows { OnOk result (code.Knows self.new (map event values.now)) }
+        requires { code.Knows self.now (map key_value values.now) }
+        ensures knows { OnOk result (code.Knows self.new (map key_value values.now)) }
         ensures all { OnOk result (self.new.known ≡ length values.now) }
         ensures fewest { OnOk result (self.new.fewest ≡ self.old.fewest) }
     {
@@ -154,8 +154,8 @@ impl<'de> Earlier<'de> {
         values: &[Assignment<'de>],
         next: &Assignment<'de>,
     ) -> Result<Option<Fault>, AllocError>
-        requires { code.Knows self.now (map event values.now) }
-        ensures { code.Judges self.new (map event values.now) (event next.now) result }
+        requires { code.Knows self.now (map key_value values.now) }
+        ensures { code.Judges self.new (map key_value values.now) (key_value next.now) result }
     {
         let key = key_of(next);
         let inner = key.inner.len();
@@ -184,9 +184,9 @@ pub(crate) fn add_clear<'de>(
     values: &mut Vec<Assignment<'de>>,
     next: Assignment<'de>,
 ) -> Result<(), Stop<Fault>>
-    requires knows { code.Knows earlier.now (map event values.now.items) }
+    requires knows { code.Knows earlier.now (map key_value values.now.items) }
     ensures adds { code.AddsClear values.old.items values.new.items next.entry result }
-    ensures knows { OnOk result (code.Knows earlier.new (map event values.new.items)) }
+    ensures knows { OnOk result (code.Knows earlier.new (map key_value values.new.items)) }
 {
     match earlier.fault(alloc, values, &next) {
         Err(e) => return Err(Stop::Memory(e)),

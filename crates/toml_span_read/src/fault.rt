@@ -1,6 +1,6 @@
 //! What is wrong in a text, and where.
 ghost use Rattle.std.specs.Prelude.{◌≡◌, ◌<◌, ◌≤◌, length};
-ghost use Rattle.toml_span_tree.specs.Error.{kind_of, fault_of};
+ghost use Rattle.toml_span_tree.specs.Error.{kind_of, content_of};
 ghost use Rattle.toml_span_read.specs.Faults as spec;
 ghost use Rattle.toml_span_read.specs.Places.{IsLineInfo};
 ghost use Rattle.toml_span_read.specs.Faults.{Tells};
@@ -184,7 +184,7 @@ pub fn line_info(text: &str, at: usize) -> (usize, usize)
 /// A fault as an error of the document, with its line and column.
 pub fn error_of<'s>(text: &str, fault: Fault) -> Error<'s>
     requires { fault.span.start ≤ length text.now }
-    ensures { Tells text.now fault (fault_of result) }
+    ensures { Tells text.now fault (content_of result) }
 {
     Error {
         kind: error_kind(fault.kind),

@@ -1,7 +1,7 @@
 //! White space, comments and line ends between tokens.
 ghost use Rattle.std.specs.Prelude.{◌≡◌, ◌+◌, ◌<◌, slice_index};
 ghost use Rattle.std.specs.Str.{IsCharBoundary};
-ghost use Rattle.toml_span_read.specs.code.Gaps.{GapPieceGives, TailGives, DotGives, BehindGives, SignGives};
+ghost use Rattle.toml_span_read.specs.code.Gaps.{GapPieceGives, TailGives, DotGives, BehindGives, SeparatorGives};
 ghost use Rattle.toml_span_read.specs.code.Gaps.{EqualsGives, Further};
 ghost use Rattle.toml_span_read.specs.Gaps.{MaximalGap};
 ghost use Rattle.toml_span_lex.specs.Bytes.{comma, equals};
@@ -84,9 +84,9 @@ pub fn dot(text: &str, at: usize) -> Option<usize>
     }
 }
 
-/// What is behind the byte of a sign.
+/// What is behind a byte of ASCII.
 #[inline]
-pub fn behind_sign(text: &str, at: usize) -> usize
+pub fn behind_byte(text: &str, at: usize) -> usize
     requires some { 0 < slice_index text.now at }
     requires ascii { slice_index text.now at < 128 }
     ensures value { result ≡ at + 1 }
@@ -105,7 +105,7 @@ pub fn opened(text: &str, at: usize) -> usize
     ensures run { MaximalGap text.now (at + 1) result }
     ensures further { Further text.now at result }
 {
-    gap_end(text, behind_sign(text, at))
+    gap_end(text, behind_byte(text, at))
 }
 
 /// What is behind an element of an array or a pair of an inline table.
@@ -134,7 +134,7 @@ pub fn after_element(text: &str, at: usize, close: u8) -> Behind
     if byte == b',' {
         Behind::Comma(opened(text, end))
     } else if byte == close {
-        Behind::Closed(behind_sign(text, end))
+        Behind::Closed(behind_byte(text, end))
     } else {
         Behind::Neither(end)
     }
@@ -145,7 +145,7 @@ pub fn after_element(text: &str, at: usize, close: u8) -> Behind
 /// `keyval-sep` in an inline table, where line ends and comments may stand round it (TOML 1.1, Inline Table)
 pub fn pair_equals(text: &str, at: usize) -> Result<usize, usize>
     requires { IsCharBoundary text.now at }
-    ensures { SignGives equals text.now at result }
+    ensures { SeparatorGives equals text.now at result }
 {
     let end = gap_end(text, at);
     if byte_at(text, end) == b'=' {
@@ -164,7 +164,7 @@ pub fn line_equals(text: &str, at: usize) -> Result<usize, usize>
 {
     let end = blanks_end(text, at);
     if byte_at(text, end) == b'=' {
-        Ok(blanks_end(text, behind_sign(text, end)))
+        Ok(blanks_end(text, behind_byte(text, end)))
     } else {
         Err(end)
     }

@@ -3,7 +3,7 @@ ghost use Rattle.std.specs.Prelude.{◌≡◌, ◌<◌, ◌≤◌, ◌⊎◌, le
 ghost use Rattle.std.specs.Str.{IsCharBoundary};
 ghost use Rattle.toml_span_lex.specs.Bytes.{quotation_mark, apostrophe};
 ghost use Rattle.toml_span_lex.specs.Strings.{BorrowsWhereSame};
-ghost use Rattle.toml_span_read.specs.Borrowed.{AreRight, dotted_written, keys_written};
+ghost use Rattle.toml_span_read.specs.Borrowed.{AreWrittenRight, dotted_written, keys_written};
 ghost use Rattle.toml_span_read.specs.code.Keys.{KeyGives, DottedGives, HeaderKeyGives};
 ghost use Rattle.toml_span_read.specs.code.Faults.{Advances};
 
@@ -100,7 +100,7 @@ pub fn dotted_key<'de>(
     requires boundary { IsCharBoundary text.now at }
     requires some { 1 ≤ limit }
     ensures gives { DottedGives text.now limit at result }
-    ensures borrows { IfOk result (λ found. AreRight text.now (dotted_written found.0)) }
+    ensures borrows { IfOk result (λ found. AreWrittenRight text.now (dotted_written found.0)) }
     ensures advances { Advances text.now at result }
 {
     let mut inner = Vec::new(alloc);
@@ -130,7 +130,7 @@ pub fn header_key<'de>(
     requires boundary { IsCharBoundary text.now at }
     requires some { 1 ≤ limit }
     ensures gives { HeaderKeyGives text.now limit at result }
-    ensures borrows { IfOk result (λ found. AreRight text.now (keys_written found.0.items)) }
+    ensures borrows { IfOk result (λ found. AreWrittenRight text.now (keys_written found.0.items)) }
     ensures advances { Advances text.now at result }
 {
     let mut parts = SmallVec::new(alloc);

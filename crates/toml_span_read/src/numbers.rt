@@ -2,12 +2,12 @@
 ghost use Rattle.std.specs.Prelude.{◌≡◌, ℕ, ◌+◌, ◌*◌, ◌<◌, ◌≤◌, ◌||◌, ◌&&◌, ◌==◌, ◌⊎◌, not, true, false, length};
 ghost use Rattle.std.specs.Prelude.{slice_index, filter, string_bytes, IfOk, IfSome, Ok};
 ghost use Rattle.std.specs.Str.{IsCharBoundary};
-ghost use Rattle.toml_span_lex.specs.Bytes.{is_keylike, MaximalRun, period, underscore, plus};
+ghost use Rattle.toml_span_lex.specs.Bytes.{is_keylike, MaximalRun, period, underscore, plus, small_e};
 ghost use Rattle.std.specs.Char.{is_ascii_digit};
 ghost use Rattle.toml_span_read.specs.code.Gaps.{Further};
 ghost use Rattle.toml_span_read.specs.code.Values.{BareGives, IsScalarKind};
 ghost use Rattle.toml_span_read.specs.code.Faults.{Advances};
-ghost use Rattle.toml_span_read.specs.Places.{IsPlaced};
+ghost use Rattle.toml_span_read.specs.Places.{StartsInside};
 ghost use Rattle.toml_span_read.specs.Data.{kind_view, scalar};
 ghost use Rattle.toml_span_tree.specs.Node.{integer, float};
 ghost use Rattle.toml_span_tree.specs.Value.{float_value};
@@ -19,7 +19,6 @@ ghost use Rattle.toml_span_read.specs.code.Numbers.{ExponentGives, FractionGives
 ghost use Rattle.toml_span_read.specs.code.Numbers.{UnsignedGives, NumberGives};
 ghost use Rattle.toml_span_read.specs.Faults.{Run, IsSpecial, NoDecimal};
 ghost use Rattle.toml_span_read.specs.Numbers.{UnsignedDecimal, sum_of_digits, is_digit, behind_sign, is_negative};
-ghost use Rattle.toml_span_read.specs.Numbers.{letter_e};
 
 use crate::fault::{Fault, invalid_number};
 use crate::gaps::byte_at;
@@ -386,7 +385,7 @@ pub(crate) fn short_integer<'de>(text: &'de str, at: usize) -> Option<(ValKind<'
 /// Whether a byte stands in the cleaned text of a float as it is.
 #[inline]
 fn is_clean(byte: u8) -> bool
-    ensures { result ≡ not ((byte == underscore || byte == plus) || byte == letter_e) }
+    ensures { result ≡ not ((byte == underscore || byte == plus) || byte == small_e) }
 {
     byte != b'_' && byte != b'+' && byte != b'e'
 }
@@ -443,7 +442,7 @@ pub fn special_dot(text: &str, start: usize, first: Span) -> Fault
     requires run { IsRun text.now first }
     requires dot { slice_index text.now first.end ≡ period }
     requires special { IsSpecial text.now first.start first.end }
-    ensures placed { IsPlaced text.now result }
+    ensures placed { StartsInside text.now result }
     ensures gives { NoDecimal text.now start first.start first.end result }
 {
     let behind = first.end + 1;

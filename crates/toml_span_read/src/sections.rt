@@ -1,12 +1,12 @@
 //! Lines, headers and sections.
 ghost use Rattle.std.specs.Prelude.{◌≡◌, ℕ, ◌<◌, ◌≤◌, ◌+◌, ◌++◌, ◌⊎◌, map, length, slice_index, IfSome, IfOk};
 ghost use Rattle.std.specs.Str.{IsCharBoundary};
-ghost use Rattle.toml_span_read.specs.Borrowed.{AreRight, keys_written, assignment_written, assignments_written};
+ghost use Rattle.toml_span_read.specs.Borrowed.{AreWrittenRight, keys_written, assignment_written, assignments_written};
 ghost use Rattle.toml_span_read.specs.Borrowed.{section_written, sections_written};
-ghost use Rattle.toml_span_read.specs.Data.{event, block};
+ghost use Rattle.toml_span_read.specs.Data.{key_value, block};
 ghost use Rattle.toml_span_read.specs.Grammar as spec;
-ghost use Rattle.toml_span_read.specs.Grammar.{Opens, first_block};
-ghost use Rattle.toml_span_read.specs.code.Sections.{EventGives, LineGives, LinesGive, CloseGives, HeaderGives};
+ghost use Rattle.toml_span_read.specs.Grammar.{OpensHeader, first_block};
+ghost use Rattle.toml_span_read.specs.code.Sections.{KeyValueGives, LineGives, LinesGive, CloseGives, HeaderGives};
 ghost use Rattle.toml_span_read.specs.code.Sections.{SectionsGive, block_of, first_blocks, FirstReads, FirstGives};
 ghost use Rattle.toml_span_read.specs.code.Sections.{SectionReads, SectionGives};
 ghost use Rattle.toml_span_read.specs.Stuck.{KeepsForm, ReadsDocument, RefusedInside};
@@ -15,11 +15,11 @@ ghost use Rattle.toml_span_lex.specs.Bytes.{left_bracket};
 ghost use Rattle.toml_span_lex.specs.Tokenizer.{FirstPlace};
 ghost use Rattle.toml_span_read.specs.code.Limits.{AssignmentReads, AssignmentsRead, LineReads, HeaderReads};
 ghost use Rattle.toml_span_read.specs.code.Limits.{SectionsRead, EndsAtHeader};
-ghost use Rattle.toml_span_read.specs.Limits.{WithinSection, WithinEvents};
+ghost use Rattle.toml_span_read.specs.Limits.{WithinSection, WithinKeyValues, depth_limit};
 
 use crate::earlier::{Earlier, add_clear};
 use crate::fault::{Due, Fault, error_of};
-use crate::gaps::{behind_sign, byte_at, gap_end, line_equals, line_rest};
+use crate::gaps::{behind_byte, byte_at, gap_end, line_equals, line_rest};
 use crate::keys::{add, dotted_key, header_key};
 use crate::section::Section;
 use crate::value::Assignment;
@@ -45,10 +45,10 @@ fn assignment<'de>(
 ) -> Result<(Assignment<'de>, usize), Stop<Fault>>
     requires boundary { IsCharBoundary text.now at }
     requires some { 1 ≤ limit }
-    requires small { limit ≤ 128 }
+    requires small { limit ≤ depth_limit }
     ensures reads { AssignmentReads text.now limit 0 at result }
-    ensures gives { EventGives text.now limit at result }
-    ensures borrows { IfOk result (λ found. AreRight text.now (assignment_written found.0)) }
+    ensures gives { KeyValueGives text.now limit at result }
+    ensures borrows { IfOk result (λ found. AreWrittenRight text.now (assignment_written found.0)) }
 {
     let (parts, key_end) = dotted_key(alloc, text, at, limit)?;
     let from = match line_equals(text, key_end) {
@@ -85,11 +85,11 @@ fn assignments<'de>(
 ) -> Result<(Vec<Assignment<'de>>, usize), Stop<Fault>>
     requires boundary { IsCharBoundary text.now from }
     requires some { 1 ≤ limit }
-    requires small { limit ≤ 128 }
+    requires small { limit ≤ depth_limit }
     ensures read { AssignmentsRead text.now limit from result }
     ensures header { EndsAtHeader text.now result }
     ensures gives { LinesGive text.now limit from result }
-    ensures borrows { IfOk result (λ found. AreRight text.now (assignments_written found.0.items)) }
+    ensures borrows { IfOk result (λ found. AreWrittenRight text.now (assignments_written found.0.items)) }
     ensures memory { KeepsForm text.now from result }
 {
     let mut found = Vec::new(alloc);
@@ -117,12 +117,12 @@ fn assignments<'de>(
 /// `std-table-open = %x5B ws`, `array-table-open = %x5B.5B ws` (TOML 1.1, Table, Array of Tables)
 fn header_open(text: &str, at: usize) -> (bool, usize)
     requires opens { slice_index text.now at ≡ left_bracket }
-    ensures opens { Opens result.0 text.now at result.1 }
+    ensures opens { OpensHeader result.0 text.now at result.1 }
     ensures further { Further text.now at result.1 }
 {
-    let behind = behind_sign(text, at);
+    let behind = behind_byte(text, at);
     if byte_at(text, behind) == b'[' {
-        (true, behind_sign(text, behind))
+        (true, behind_byte(text, behind))
     } else {
         (false, behind)
     }
@@ -140,14 +140,14 @@ fn header_close(alloc: Global, text: &str, at: usize, array: bool) -> Result<usi
     if byte_at(text, close) != b']' {
         return Err(wanted(alloc, text, close, Due::RightBracket));
     }
-    let behind = behind_sign(text, close);
+    let behind = behind_byte(text, close);
     if !array {
         return Ok(behind);
     }
     if byte_at(text, behind) != b']' {
         return Err(wanted(alloc, text, behind, Due::RightBracket));
     }
-    Ok(behind_sign(text, behind))
+    Ok(behind_byte(text, behind))
 }
 
 /// A header: its parts, whether its brackets are double, and its extent.
@@ -171,7 +171,7 @@ fn read_header<'de>(
     requires some { 1 ≤ limit }
     ensures reads { HeaderReads text.now limit at result }
     ensures gives { HeaderGives text.now limit at result }
-    ensures borrows { IfOk result (λ header. AreRight text.now (keys_written header.parts.items)) }
+    ensures borrows { IfOk result (λ header. AreWrittenRight text.now (keys_written header.parts.items)) }
 {
     let (array, open) = header_open(text, at);
     let (parts, key_end) = header_key(alloc, text, blanks_end(text, open), limit)?;
@@ -187,14 +187,14 @@ fn read_header<'de>(
 /// The extent of an assignment.
 #[inline]
 fn extent_of(assignment: &Assignment<'_>) -> Span
-    ensures { result ≡ (event assignment.now).extent }
+    ensures { result ≡ (key_value assignment.now).extent }
 {
     assignment.extent
 }
 
 /// Where the last of these assignments ends, or, without one, the place given.
 fn last_end(assignments: &[Assignment<'_>], without: usize) -> usize
-    ensures { result ≡ spec.last_end without (map event assignments.now) }
+    ensures { result ≡ spec.last_end without (map key_value assignments.now) }
 {
     match assignments.last() {
         Some(last) => extent_of(last).end,
@@ -205,8 +205,8 @@ fn last_end(assignments: &[Assignment<'_>], without: usize) -> usize
 /// The section of a header with its assignments.
 fn section_of<'de>(header: Header<'de>, assignments: Vec<Assignment<'de>>) -> Section<'de>
     ensures within { (limit : ℕ) → length header.entry.parts.items ≤ limit
-        → WithinEvents limit (map event assignments.entry.items) → WithinSection limit result }
-    ensures gives { block result ≡ block_of header.entry (map event assignments.entry.items) }
+        → WithinKeyValues limit (map key_value assignments.entry.items) → WithinSection limit result }
+    ensures gives { block result ≡ block_of header.entry (map key_value assignments.entry.items) }
     ensures written { section_written result ≡ keys_written header.entry.parts.items
         ++ assignments_written assignments.entry.items }
 {
@@ -230,9 +230,9 @@ fn section_of<'de>(header: Header<'de>, assignments: Vec<Assignment<'de>>) -> Se
 
 /// The section of the assignments before the first header, if there are any.
 fn first_section<'de>(alloc: Global, assignments: Vec<Assignment<'de>>) -> Option<Section<'de>>
-    ensures within { (limit : ℕ) → WithinEvents limit (map event assignments.entry.items)
+    ensures within { (limit : ℕ) → WithinKeyValues limit (map key_value assignments.entry.items)
         → IfSome result (λ section. WithinSection limit section) }
-    ensures gives { first_blocks result ≡ first_block (map event assignments.entry.items) }
+    ensures gives { first_blocks result ≡ first_block (map key_value assignments.entry.items) }
     ensures written { IfSome result (λ section. section_written section ≡ assignments_written assignments.entry.items) }
 {
     let start = extent_of(assignments.first()?).start;
@@ -256,7 +256,7 @@ pub fn read_first<'de>(
     limit: usize,
 ) -> Result<(Option<Section<'de>>, usize), Stop<Fault>>
     requires some { 1 ≤ limit }
-    requires small { limit ≤ 128 }
+    requires small { limit ≤ depth_limit }
     ensures reads { FirstReads text.now limit result }
     ensures gives { FirstGives text.now limit result }
     ensures memory { (start : ℕ) × FirstPlace text.now start × KeepsForm text.now start result }
@@ -277,7 +277,7 @@ pub fn read_section<'de>(
 ) -> Result<(Section<'de>, usize), Stop<Fault>>
     requires opens { slice_index text.now at ≡ left_bracket }
     requires some { 1 ≤ limit }
-    requires small { limit ≤ 128 }
+    requires small { limit ≤ depth_limit }
     ensures reads { SectionReads text.now limit at result }
     ensures gives { SectionGives text.now limit at result }
 {
@@ -293,10 +293,10 @@ fn sections<'de>(
     limit: usize,
 ) -> Result<Vec<Section<'de>>, Stop<Fault>>
     requires some { 1 ≤ limit }
-    requires small { limit ≤ 128 }
+    requires small { limit ≤ depth_limit }
     ensures reads { SectionsRead text.now limit result }
     ensures gives { SectionsGive text.now limit result }
-    ensures borrows { IfOk result (λ found. AreRight text.now (sections_written found.items)) }
+    ensures borrows { IfOk result (λ found. AreWrittenRight text.now (sections_written found.items)) }
     ensures memory { (start : ℕ) × FirstPlace text.now start × KeepsForm text.now start result }
 {
     let mut found = Vec::new(alloc);
@@ -328,7 +328,7 @@ pub fn read_sections<'de>(
     limit: usize,
 ) -> Result<Vec<Section<'de>>, Stop<Error<'de>>>
     requires some { 1 ≤ limit }
-    requires small { limit ≤ 128 }
+    requires small { limit ≤ depth_limit }
     // The sections are those that the text spells. A fault stands where the forms before it lead.
     ensures document { ReadsDocument text.now limit result }
     ensures placed { RefusedInside text.now result }
@@ -336,7 +336,7 @@ pub fn read_sections<'de>(
     ensures memory { (start : ℕ) × FirstPlace text.now start × KeepsForm text.now start result }
     // Strings and keys are borrowed exactly where they equal the text at their span. Empty ones on one line are
     // borrowed.
-    ensures borrows { IfOk result (λ found. AreRight text.now (sections_written found.items)) }
+    ensures borrows { IfOk result (λ found. AreWrittenRight text.now (sections_written found.items)) }
 {
     match sections(alloc, text, limit) {
         Ok(found) => Ok(found),

@@ -1,14 +1,16 @@
 //! Values.
+ghost use Rattle.toml_span_read.specs.Limits.{depth_limit};
 ghost use Rattle.std.specs.Prelude.{◌≡◌, ◌+◌, ◌<◌, ◌≤◌, ◌||◌, ◌==◌, ◌⊎◌, ◌++◌, ◌∷◌, [], true, false, length};
 ghost use Rattle.std.specs.Prelude.{slice_index, map, IfOk};
 ghost use Rattle.std.specs.Str.{IsCharBoundary};
 ghost use Rattle.toml_span_lex.specs.Bytes.{is_keylike, quotation_mark, apostrophe, left_bracket, left_brace};
 ghost use Rattle.toml_span_read.specs.code.Faults.{Advances, IsPlacedStop};
-ghost use Rattle.toml_span_read.specs.Places.{IsPlaced};
+ghost use Rattle.toml_span_read.specs.Places.{StartsInside};
 ghost use Rattle.std.specs.Cow.{cow_str_bytes};
 ghost use Rattle.toml_span_tree.specs.Node.{text as text_node, boolean, datetime};
 ghost use Rattle.toml_span_tree.specs.Value.{date_bytes};
-ghost use Rattle.toml_span_read.specs.Borrowed.{AreRight, string as string_written, written, kind_written, joined};
+ghost use Rattle.toml_span_read.specs.Borrowed.{AreWrittenRight, string as string_written, written, kind_written};
+ghost use Rattle.toml_span_read.specs.Borrowed.{joined};
 ghost use Rattle.toml_span_read.specs.Borrowed.{assignment_written, assignments_written, dotted_written};
 ghost use Rattle.toml_span_read.specs.Keys as spec;
 ghost use Rattle.toml_span_read.specs.code.Limits.{ValueReads, AssignmentReads};
@@ -16,13 +18,14 @@ ghost use Rattle.toml_span_read.specs.Faults.{opens_nested, begins_bare, begins_
 ghost use Rattle.toml_span_read.specs.code.Values.{IsRunOf, IsTooDeep, ValueGives, BareGives, PairGives};
 ghost use Rattle.toml_span_read.specs.Dates as date_spec;
 ghost use Rattle.toml_span_read.specs.Keys.{opens_string};
-ghost use Rattle.toml_span_read.specs.Data.{view, kind_view, event, node, scalar as scalar_node, array as array_node};
+ghost use Rattle.toml_span_read.specs.Data.{view, kind_view, key_value, parsed, scalar as scalar_node};
+ghost use Rattle.toml_span_read.specs.Data.{array as array_node};
 ghost use Rattle.toml_span_read.specs.Data.{inline as inline_node, onto, pairs_onto, no_items, no_pairs};
 
 use crate::dates::{begins_date, date};
 use crate::earlier::{Earlier, add_clear};
 use crate::fault::{Due, Fault, FaultKind, fault_at};
-use crate::gaps::{Behind, after_element, behind_sign, byte_at, opened, pair_equals};
+use crate::gaps::{Behind, after_element, behind_byte, byte_at, opened, pair_equals};
 use crate::keys::{add, dotted_key};
 use crate::numbers::{number, short_integer};
 use crate::value::{Assignment, DottedKey, Val, ValKind};
@@ -48,10 +51,10 @@ pub fn value<'de>(
 ) -> Result<(Val<'de>, usize), Stop<Fault>>
     requires boundary { IsCharBoundary text.now at }
     requires some { 1 ≤ limit }
-    requires small { limit ≤ 128 }
+    requires small { limit ≤ depth_limit }
     ensures reads { ValueReads text.now limit depth at result }
     ensures gives { ValueGives text.now limit depth at result }
-    ensures borrows { IfOk result (λ found. AreRight text.now (written found.0)) }
+    ensures borrows { IfOk result (λ found. AreWrittenRight text.now (written found.0)) }
 {
     match byte_at(text, at) {
         b'[' | b'{' if depth > limit => Err(too_deep(text, at)),
@@ -86,7 +89,7 @@ fn string_value<'de>(
     requires quote { (slice_index text.now at ≡ quotation_mark) ⊎ (slice_index text.now at ≡ apostrophe) }
     ensures reads { ValueReads text.now limit depth at result }
     ensures gives { ValueGives text.now limit depth at result }
-    ensures borrows { IfOk result (λ found. AreRight text.now (written found.0)) }
+    ensures borrows { IfOk result (λ found. AreWrittenRight text.now (written found.0)) }
 {
     let token = string(alloc, text, at)?;
     if depth > limit {
@@ -107,7 +110,7 @@ fn scalar<'de>(
     requires plain { (opens_nested (slice_index text.now at) || opens_string (slice_index text.now at)) ≡ false }
     ensures reads { ValueReads text.now limit depth at result }
     ensures gives { ValueGives text.now limit depth at result }
-    ensures borrows { IfOk result (λ found. AreRight text.now (written found.0)) }
+    ensures borrows { IfOk result (λ found. AreWrittenRight text.now (written found.0)) }
 {
     let byte = byte_at(text, at);
     if !is_keylike(byte) && byte != b'+' {
@@ -204,17 +207,17 @@ fn array<'de>(
     requires boundary { IsCharBoundary text.now at }
     requires opens { slice_index text.now at ≡ left_bracket }
     requires some { 1 ≤ limit }
-    requires small { limit ≤ 128 }
+    requires small { limit ≤ depth_limit }
     requires depth { depth ≤ limit }
     ensures reads { ValueReads text.now limit depth at result }
     ensures gives { ValueGives text.now limit depth at result }
-    ensures borrows { IfOk result (λ found. AreRight text.now (written found.0)) }
+    ensures borrows { IfOk result (λ found. AreWrittenRight text.now (written found.0)) }
 {
     let mut items = Vec::new(alloc);
     let mut next = opened(text, at);
     'items: loop {
         if byte_at(text, next) == b']' {
-            let close = behind_sign(text, next);
+            let close = behind_byte(text, next);
             return Ok((array_of(items, at, close), close));
         }
         let (item, end) = match value(alloc, text, next, depth + 1, limit) {
@@ -247,18 +250,18 @@ fn inline_table<'de>(
     requires boundary { IsCharBoundary text.now at }
     requires opens { slice_index text.now at ≡ left_brace }
     requires some { 1 ≤ limit }
-    requires small { limit ≤ 128 }
+    requires small { limit ≤ depth_limit }
     requires depth { depth ≤ limit }
     ensures reads { ValueReads text.now limit depth at result }
     ensures gives { ValueGives text.now limit depth at result }
-    ensures borrows { IfOk result (λ found. AreRight text.now (written found.0)) }
+    ensures borrows { IfOk result (λ found. AreWrittenRight text.now (written found.0)) }
 {
     let mut pairs = Vec::new(alloc);
     let mut earlier = Earlier::new(alloc);
     let mut next = opened(text, at);
     'pairs: loop {
         if byte_at(text, next) == b'}' {
-            let close = behind_sign(text, next);
+            let close = behind_byte(text, next);
             return Ok((inline_of(pairs, at, close), close));
         }
         let (found, end) = match pair(alloc, text, next, depth + 1, limit) {
@@ -289,11 +292,11 @@ fn pair<'de>(
 ) -> Result<(Assignment<'de>, usize), Stop<Fault>>
     requires boundary { IsCharBoundary text.now at }
     requires some { 1 ≤ limit }
-    requires small { limit ≤ 128 }
+    requires small { limit ≤ depth_limit }
     requires depth { depth ≤ limit + 1 }
     ensures reads { AssignmentReads text.now limit depth at result }
     ensures gives { PairGives text.now limit depth at result }
-    ensures borrows { IfOk result (λ found. AreRight text.now (assignment_written found.0)) }
+    ensures borrows { IfOk result (λ found. AreWrittenRight text.now (assignment_written found.0)) }
 {
     let (parts, key_end) = dotted_key(alloc, text, at, limit)?;
     let from = match pair_equals(text, key_end) {
@@ -309,7 +312,7 @@ fn pair<'de>(
 
 /// The string of this content.
 fn string_of<'de>(content: CowStr<'de>, span: Span) -> Val<'de>
-    ensures view { view result ≡ node (scalar_node (text_node (cow_str_bytes content.entry))) span }
+    ensures view { view result ≡ parsed (scalar_node (text_node (cow_str_bytes content.entry))) span }
     ensures written { written result ≡ string_written content.entry span ∷ [] }
 {
     let kind = ValKind::String(content);
@@ -332,7 +335,7 @@ fn dated<'de>(date: DateText<'de>) -> ValKind<'de>
 
 /// The value of this kind that is no string.
 fn scalar_of<'de>(kind: ValKind<'de>, start: usize, end: usize) -> Val<'de>
-    ensures view { view result ≡ node (kind_view kind.entry) (record { start = start; end = end }) }
+    ensures view { view result ≡ parsed (kind_view kind.entry) (record { start = start; end = end }) }
     ensures written { written result ≡ kind_written kind.entry (record { start = start; end = end }) }
 {
     let span = Span { start, end };
@@ -341,7 +344,7 @@ fn scalar_of<'de>(kind: ValKind<'de>, start: usize, end: usize) -> Val<'de>
 
 /// The array of these elements.
 fn array_of<'de>(items: Vec<Val<'de>>, start: usize, end: usize) -> Val<'de>
-    ensures view { view result ≡ node (array_node (onto (map view items.entry.items) no_items))
+    ensures view { view result ≡ parsed (array_node (onto (map view items.entry.items) no_items))
         (record { start = start; end = end }) }
     ensures written { written result ≡ joined (map written items.entry.items) }
 {
@@ -354,7 +357,7 @@ fn array_of<'de>(items: Vec<Val<'de>>, start: usize, end: usize) -> Val<'de>
 
 /// The inline table of these pairs.
 fn inline_of<'de>(pairs: Vec<Assignment<'de>>, start: usize, end: usize) -> Val<'de>
-    ensures view { view result ≡ node (inline_node (pairs_onto (map event pairs.entry.items) no_pairs))
+    ensures view { view result ≡ parsed (inline_node (pairs_onto (map key_value pairs.entry.items) no_pairs))
         (record { start = start; end = end }) }
     ensures written { written result ≡ assignments_written pairs.entry.items }
 {
@@ -372,7 +375,7 @@ pub fn assigned<'de>(
     start: usize,
     end: usize,
 ) -> Assignment<'de>
-    ensures event { event result
+    ensures key_value { key_value result
         ≡ record {
           parts = spec.parts parts.entry;
           value = view value.entry;

@@ -5,11 +5,11 @@ use Rattle.std.proofs.lemmas.List.{get_or_past, get_or-drop, get_or-take, get_or
 use Rattle.toml_span_lex.specs.Bytes.{is_blank, is_keylike, MaximalRun}
 use Rattle.toml_span_lex.specs.Tokenizer.{FirstPlace}
 use Rattle.toml_span_read.specs.Gaps.{MaximalGap, Tail}
-use Rattle.toml_span_read.specs.Keys.{opens_string, Dotted}
-use Rattle.toml_span_read.specs.Data.{Node, node, scalar, array, inline}
-use Rattle.toml_span_read.specs.Grammar.{Spells, SpellsEvent, SpellsDocument, first_block}
+use Rattle.toml_span_read.specs.Keys.{opens_string, SpellsKey}
+use Rattle.toml_span_read.specs.Data.{ParsedValue, parsed, scalar, array, inline}
+use Rattle.toml_span_read.specs.Grammar.{Spells, SpellsKeyValue, SpellsDocument, first_block}
 use Rattle.toml_span_read.specs.Faults.{begins_bare}
-use Rattle.toml_span_read_laws.specs.Again.{moved, assigned_again, event_again}
+use Rattle.toml_span_read_laws.specs.Again.{moved, assigned_again, key_value_again}
 use Rattle.toml_span_read.proofs.NumberLemmas.{is_false, byte_is, clash}
 use Rattle.toml_span_read.proofs.SpanLaws.{value_lies}
 use Rattle.toml_span_read_laws.proofs.ScalarLaws.{scalar_byte}
@@ -45,8 +45,8 @@ one_byte p b i l h n =
 
 -- ---- the assignment
 
-few : (v : Node) (text : List ℕ) (limit d i j : ℕ) → Spells v text limit d i j → d ≤ limit
-few (node x s) text limit d i j h = h.0
+few : (v : ParsedValue) (text : List ℕ) (limit d i j : ℕ) → Spells v text limit d i j → d ≤ limit
+few (parsed x s) text limit d i j h = h.0
 
 begins_scalar : ℕ → Bool
 begins_scalar c = begins_bare c || opens_string c
@@ -61,21 +61,21 @@ no_blank_here c h =
     ]
     )
 
-no_blank : (v : Node) (text : List ℕ) (limit d i j : ℕ) → Spells v text limit d i j → is_blank (get_or text i 0) ≡ false
+no_blank : (v : ParsedValue) (text : List ℕ) (limit d i j : ℕ) → Spells v text limit d i j → is_blank (get_or text i 0) ≡ false
 unfolding begins_scalar
-no_blank (node (scalar x) s) text limit d i j h = no_blank_here (get_or text i 0) (scalar_byte x s text i j h.1)
-no_blank (node (array vs) s) text limit d i j h = rw h.1.0 refl
-no_blank (node (inline ps) s) text limit d i j h = rw h.1.0 refl
+no_blank (parsed (scalar x) s) text limit d i j h = no_blank_here (get_or text i 0) (scalar_byte x s text i j h.1)
+no_blank (parsed (array vs) s) text limit d i j h = rw h.1.0 refl
+no_blank (parsed (inline ps) s) text limit d i j h = rw h.1.0 refl
 
-x_key : (text : List ℕ) (i j : ℕ) → 4 ≤ length (assigned_again text i j) → Dotted (record { name = codes "x"; span = record { start = 0; end = 1 } } ∷ []) (assigned_again text i j) 0 1
+x_key : (text : List ℕ) (i j : ℕ) → 4 ≤ length (assigned_again text i j) → SpellsKey (record { name = codes "x"; span = record { start = 0; end = 1 } } ∷ []) (assigned_again text i j) 0 1
 x_key text i j l = (
   1,
   inl ((omega arith, one_byte is_keylike (assigned_again text i j) 0 (omega arith) refl (λ x. refl), refl), refl),
   (refl, record { at = 2; before = one_byte is_blank (assigned_again text i j) 1 (omega arith) refl (λ x. refl); here = refl }),
 )
 
-pub event_spelled : (v : Node) (text : List ℕ) (limit d i j : ℕ) → 1 ≤ d → Spells v text limit d i j → SpellsEvent (event_again v i j) (assigned_again text i j) limit 0 ((j + 4) - i)
-event_spelled v text limit d i j deep h =
+pub key_value_spelled : (v : ParsedValue) (text : List ℕ) (limit d i j : ℕ) → 1 ≤ d → Spells v text limit d i j → SpellsKeyValue (key_value_again v i j) (assigned_again text i j) limit 0 ((j + 4) - i)
+key_value_spelled v text limit d i j deep h =
     let lies = value_lies v text limit d i j h in
     let on : i ≤ j = lies.1 in
     let w = again_copied text i j on lies.2 in
@@ -118,7 +118,7 @@ x_first : (text : List ℕ) (i j : ℕ) → FirstPlace (assigned_again text i j)
 unfolding lib.Utf8.encode
 x_first text i j = inr (refl, inr (120, 1, inr (refl, refl, refl), λ e. omega (arith, e)))
 
-pub document_spelled : (v : Node) (text : List ℕ) (limit d i j : ℕ) → 1 ≤ d → Spells v text limit d i j → SpellsDocument (first_block (event_again v i j ∷ [])) (assigned_again text i j) limit
+pub document_spelled : (v : ParsedValue) (text : List ℕ) (limit d i j : ℕ) → 1 ≤ d → Spells v text limit d i j → SpellsDocument (first_block (key_value_again v i j ∷ [])) (assigned_again text i j) limit
 document_spelled v text limit d i j deep h =
     let lies = value_lies v text limit d i j h in
     let n = again_length text i j lies.1 lies.2 in
@@ -127,10 +127,10 @@ document_spelled v text limit d i j deep h =
     record {
       start = 0;
       end = (j + 4) - i;
-      first = event_again v i j ∷ [];
+      first = key_value_again v i j ∷ [];
       rest = [];
       begins = x_first text i j;
-      lines = (0, record { ends = []; pieces = refl; forward = z; stops = refl }, ((j + 4) - i, (j + 4) - i, (j + 4) - i, event_spelled v text limit d i j deep h, more.0, (λ inner last e outer p rest q. tt), more.1, refl));
+      lines = (0, record { ends = []; pieces = refl; forward = z; stops = refl }, ((j + 4) - i, (j + 4) - i, (j + 4) - i, key_value_spelled v text limit d i j deep h, more.0, (λ inner last e outer p rest q. tt), more.1, refl));
       sections = sym n;
       all = refl;
     }

@@ -5,7 +5,7 @@ use Rattle.std.proofs.lemmas.Bool.{cases_lt, false≢true}
 use Rattle.std.proofs.lemmas.List.{get_or_past, get_or-drop, get_or-take, ext_get_or}
 use Rattle.toml_span_lex.specs.Bytes.{is_blank, is_printed, MaximalRun}
 use Rattle.toml_span_lex.specs.Text.{is_crlf, LineEnd}
-use Rattle.toml_span_read.specs.Gaps.{GapPiece, begins_gap, GapBy, MaximalGap, Dot, NoDot, Sign, Closes}
+use Rattle.toml_span_read.specs.Gaps.{GapPiece, begins_gap, GapBy, MaximalGap, Dot, NoDot, Separator, Closes}
 use Rattle.toml_span_read.proofs.Places.{read_within, run_some}
 use Rattle.toml_span_read.proofs.NumberLemmas.{is_false}
 
@@ -162,7 +162,7 @@ gap a b s t w i j k l o e f u h =
 
 -- ---- signs
 
-pub sign : (a b : List ℕ) (s t c : ℕ) → Copied a b s t → (i j k l : ℕ) → s ≤ i → i + t ≡ k + s → j + t ≡ l + s → l ≤ length b → Sign c a i j → Sign c b k l
+pub sign : (a b : List ℕ) (s t c : ℕ) → Copied a b s t → (i j k l : ℕ) → s ≤ i → i + t ≡ k + s → j + t ≡ l + s → l ≤ length b → Separator c a i j → Separator c b k l
 sign a b s t c w i j k l o e f u h =
     let x = h.before.forward in
     let y = h.behind.forward in

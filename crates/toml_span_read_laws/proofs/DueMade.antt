@@ -6,21 +6,21 @@ use Rattle.toml_span_lex.specs.Text.{NoLineEnd}
 use Rattle.toml_span_read.specs.declared.fault.Due.TheVariants as dues
 use Rattle.toml_span_read.specs.declared.fault.Fault.{Fault}
 use Rattle.toml_span_read.specs.declared.fault.FaultKind.TheVariants as kinds
-use Rattle.toml_span_read.specs.Data.{Event, Block}
+use Rattle.toml_span_read.specs.Data.{KeyValue, Block}
 use Rattle.toml_span_read_laws.specs.Due.{Frame, in_section, in_brackets, in_braces, under_key, depth, What, a_line, a_part, an_equals, a_value, an_element, a_comma, a_verdict, a_header_part, a_closing, a_tail, a_line_end, DueAt, first_line, line_part, line_equals, line_value, line_tail, tail_rest, line_verdict, next_line, part_next, opens_header, header_part_next, header_closes, closes_again, header_tail, next_section, opens_array, item_value, behind_item, behind_comma, opens_table, pair_part, pair_equals, pair_value, pair_verdict, behind_pair, DueFault, IsDue}
 use Rattle.toml_span_read.specs.Earlier.{Clear, Crossing}
-use Rattle.toml_span_read.specs.Faults.{fault_at, NoKey, NoShuts, StuckTail, IsWanted}
+use Rattle.toml_span_read.specs.Faults.{fault_at, NoSimpleKey, NoClosing, StuckTail, IsWanted}
 use Rattle.toml_span_read.specs.Gaps.{MaximalGap, Dot}
-use Rattle.toml_span_read.specs.Grammar.{from_to, last_end, Shuts, SpellsHeader, SpellsEvents}
-use Rattle.toml_span_read.specs.Keys.{Part, IsKey}
-use Rattle.toml_span_read.specs.Stuck.{StuckOnward, no_part, too_many, dotted_on, StuckDotted, no_first, onward, StuckHeaderKey, no_header_part, header_too_many, header_on, StuckEvent, StuckEvents, StuckSections, StuckDocument, StuckValue, StuckItems, StuckPairs, StuckPair}
+use Rattle.toml_span_read.specs.Grammar.{from_to, last_end, ClosesHeader, SpellsHeader, SpellsKeyValues}
+use Rattle.toml_span_read.specs.Keys.{SimpleKey, SpellsSimpleKey}
+use Rattle.toml_span_read.specs.Stuck.{StuckOnward, part_here, dotted_on, StuckKey, no_first, onward, StuckHeaderKey, header_part_here, header_on, StuckKeyValue, StuckKeyValues, StuckSections, StuckDocument, StuckValue, StuckItems, StuckPairs, StuckPair}
 use Rattle.toml_span_read.specs.Stuck as l
 
 -- ---- what gets stuck from a place on
 
 -- assignments from i on, or sections behind some
-abbrev FromLine : List ℕ → ℕ → List Event → ℕ → Fault → Type 0
-FromLine text limit es i e = StuckEvents text limit es i e ⊎ ((evs : List Event) × (j : ℕ) × SpellsEvents evs es text limit i j × StuckSections text limit j e)
+abbrev FromLine : List ℕ → ℕ → List KeyValue → ℕ → Fault → Type 0
+FromLine text limit es i e = StuckKeyValues text limit es i e ⊎ ((evs : List KeyValue) × (j : ℕ) × SpellsKeyValues evs es text limit i j × StuckSections text limit j e)
 
 abbrev FromComma : List ℕ → ℕ → List Frame → ℕ → Fault → Type 0
 FromComma text limit (in_brackets ∷ fs) n e =
@@ -33,14 +33,14 @@ FromComma text limit fs n e = ⊥
 
 -- behind n parts of a key another one is due
 data FromPart (text : List ℕ) (limit n i : ℕ) : Fault → Type 0 where
-  here : (e : Fault) → NoKey text i e → FromPart text limit n i e
-  past : (s : Part) (j : ℕ) → IsKey s text i j → limit ≤ n → FromPart text limit n i (fault_at kinds.ExceededDepthLimit i)
-  behind : (s : Part) (j : ℕ) (e : Fault) → IsKey s text i j → n < limit → StuckOnward text limit (n + 1) j e → FromPart text limit n i e
+  here : (e : Fault) → NoSimpleKey text i e → FromPart text limit n i e
+  past : (s : SimpleKey) (j : ℕ) → SpellsSimpleKey s text i j → limit ≤ n → FromPart text limit n i (fault_at kinds.ExceededDepthLimit i)
+  behind : (s : SimpleKey) (j : ℕ) (e : Fault) → SpellsSimpleKey s text i j → n < limit → StuckOnward text limit (n + 1) j e → FromPart text limit n i e
 
 abbrev FromKey : List ℕ → ℕ → List Frame → ℕ → Fault → Type 0
-FromKey text limit (in_section es ∷ fs) i e = StuckEvent text limit i e
+FromKey text limit (in_section es ∷ fs) i e = StuckKeyValue text limit i e
 FromKey text limit (in_braces es ∷ fs) i e = StuckPair text limit (depth (in_braces es ∷ fs)) i e
-FromKey text limit fs i e = StuckDotted text limit i e
+FromKey text limit fs i e = StuckKey text limit i e
 
 abbrev FromEquals : List ℕ → ℕ → ℕ → List Frame → ℕ → Fault → Type 0
 FromEquals text limit k (in_section es ∷ fs) n e =
@@ -50,7 +50,7 @@ FromEquals text limit k (in_braces es ∷ fs) n e =
     ⊎ ((get_or text n 0 ≡ equals) × (b : ℕ) × MaximalGap text (n + 1) b × StuckValue text limit (depth (in_braces es ∷ fs) + k) b e)
 FromEquals text limit k fs n e = ((get_or text n 0 == equals) ≡ false) × IsWanted text n dues.Equals e
 
-abbrev FromVerdict : List ℕ → ℕ → Event → List Frame → ℕ → Fault → Type 0
+abbrev FromVerdict : List ℕ → ℕ → KeyValue → List Frame → ℕ → Fault → Type 0
 FromVerdict text limit ev (in_section es ∷ fs) n e = Crossing es ev e ⊎ (Clear es ev × (k : ℕ) × MaximalGap text n k × FromLine text limit (es ++ (ev ∷ [])) k e)
 FromVerdict text limit ev (in_braces es ∷ fs) n e = Crossing es ev e ⊎ (Clear es ev × (k : ℕ) × MaximalGap text n k × FromComma text limit (in_braces (es ++ (ev ∷ [])) ∷ fs) k e)
 FromVerdict text limit ev fs n e = ⊥
@@ -70,7 +70,7 @@ From text limit an_element fs i e = FromElement text limit fs i e
 From text limit a_comma fs i e = FromComma text limit fs i e
 From text limit (a_verdict ev) fs i e = FromVerdict text limit ev fs i e
 From text limit (a_header_part n) fs i e = StuckHeaderKey text limit n i e
-From text limit (a_closing array) fs i e = NoShuts array text i e ⊎ ((m : ℕ) × Shuts array text i m × StuckTail text m e)
+From text limit (a_closing array) fs i e = NoClosing array text i e ⊎ ((m : ℕ) × ClosesHeader array text i m × StuckTail text m e)
 From text limit a_tail fs i e = StuckTail text i e
 From text limit a_line_end fs i e = (i < length text) × NoLineEnd text i × IsWanted text i dues.Newline e
 From text limit what fs i e = ⊥
@@ -78,11 +78,11 @@ From text limit what fs i e = ⊥
 -- ---- keys
 
 onward_made : (text : List ℕ) (limit n m p : ℕ) {e : Fault} → Dot text m p → FromPart text limit n p e → StuckOnward text limit n m e
-onward_made text limit n m p dot (here e h) = no_part n m p e dot h
-onward_made text limit n m p dot (past part j key o) = too_many n m p j part dot key o
+onward_made text limit n m p dot (here e h) = part_here n m p e dot (inl h)
+onward_made text limit n m p dot (past part j key o) = part_here n m p (fault_at kinds.ExceededDepthLimit p) dot (inr (part, j, key, o, refl))
 onward_made text limit n m p dot (behind part j e key few r) = dotted_on n m p j part e dot key few r
 
-key_made : (fs : List Frame) (text : List ℕ) (limit i : ℕ) (e : Fault) → StuckDotted text limit i e → FromKey text limit fs i e
+key_made : (fs : List Frame) (text : List ℕ) (limit i : ℕ) (e : Fault) → StuckKey text limit i e → FromKey text limit fs i e
 key_made [] text limit i e h = h
 key_made (in_section es ∷ fs) text limit i e h = l.line_key i e h
 key_made (in_brackets ∷ fs) text limit i e h = h
@@ -107,17 +107,17 @@ outermost text limit k b e r = let x : 0 + k ≡ k = omega arith in rw x at r
 later_part : (fs : List Frame) (text : List ℕ) (limit k n p : ℕ) (e : Fault) → k ≡ suc n → From text limit (a_part k) fs p e → FromPart text limit k p e
 later_part fs text limit k n p e x r = let y : FromPart text limit (suc n) p e = rw x at r in rw x y
 
-section_made : (text : List ℕ) (limit i m k j : ℕ) (array : Bool) (ps : List Part) (evs : List Event) (e : Fault) → SpellsHeader ps array text limit i m → MaximalGap text m k → SpellsEvents evs [] text limit k j
+section_made : (text : List ℕ) (limit i m k j : ℕ) (array : Bool) (ps : List SimpleKey) (evs : List KeyValue) (e : Fault) → SpellsHeader ps array text limit i m → MaximalGap text m k → SpellsKeyValues evs [] text limit k j
     → StuckSections text limit j e → StuckSections text limit i e
 section_made text limit i m k j array ps evs e h gap more r =
-    let b : Block = record { header = ps; array = array; header_span = from_to i m; extent = from_to i (last_end m evs); events = evs } in
+    let b : Block = record { header = ps; array = array; header_span = from_to i m; extent = from_to i (last_end m evs); key_values = evs } in
     l.section_on i j b e (record { end = m; header = h; header_span = refl; lines = (k, gap, more); extent = refl }) r
 
 leads : (text : List ℕ) (limit : ℕ) {what : What} {fs : List Frame} {i : ℕ} → DueAt text limit what fs i → (e : Fault) → From text limit what fs i e → StuckDocument text limit e
 leads text limit (first_line i k begins gap) e (inl r) = l.before_headers i e begins (k, gap, r)
 leads text limit (first_line i k begins gap) e (inr (evs, j, h, r)) = l.behind_header i j evs e begins (k, gap, h) r
 leads text limit (line_part es i w on other) e r = leads text limit {what = a_line} {fs = in_section es ∷ []} {i = i} w e (inl (l.in_line es i e on other r))
-leads text limit (line_equals es i a n ps w key few run) e (inl (none, h)) = leads text limit {what = a_part 0} {fs = in_section es ∷ []} {i = i} w e (l.line_equals i a n ps e key few run none h)
+leads text limit (line_equals es i a n ps w key few run) e (inl none) = leads text limit {what = a_part 0} {fs = in_section es ∷ []} {i = i} w e (l.line_equals i a n ps e key few run none)
 leads text limit (line_equals es i a n ps w key few run) e (inr (h, b, more, r)) = leads text limit {what = a_part 0} {fs = in_section es ∷ []} {i = i} w e (l.line_value i a b ps e key few (record { at = n; before = run; here = h; behind = more }) r)
 leads text limit (line_value es k n b w h run) e r = leads text limit {what = an_equals k} {fs = in_section es ∷ []} {i = n} w e (inr (h, b, run, outermost text limit k b e r))
 leads text limit (line_tail es i m ev w h) e r = leads text limit {what = a_line} {fs = in_section es ∷ []} {i = i} w e (inl (l.no_newline es i m ev e h r))
@@ -139,16 +139,16 @@ leads text limit (next_section es i m k array ps w h gap) e (inl r) = leads text
 leads text limit (next_section es i m k array ps w h gap) e (inr (evs, j, more, r)) = leads text limit {what = a_line} {fs = in_section es ∷ []} {i = i} w e (inr ([], i, refl, section_made text limit i m k j array ps evs e h gap more r))
 leads text limit (opens_array fs i k w few h gap) e r = leads text limit {what = a_value} {fs = fs} {i = i} w e (l.in_array (depth fs) i k e few h gap r)
 leads text limit (item_value fs i w other) e r = leads text limit {what = an_element} {fs = in_brackets ∷ fs} {i = i} w e (l.in_item (depth (in_brackets ∷ fs)) i e other r)
-leads text limit (behind_item fs i m n v w h gap) e (inl (c, b, r)) = leads text limit {what = an_element} {fs = in_brackets ∷ fs} {i = i} w e (l.behind_item (depth (in_brackets ∷ fs)) i m n v e h (record { before = gap; no_comma = c; no_bracket = b }) r)
+leads text limit (behind_item fs i m n v w h gap) e (inl none) = leads text limit {what = an_element} {fs = in_brackets ∷ fs} {i = i} w e (l.behind_item (depth (in_brackets ∷ fs)) i m n v e h gap none)
 leads text limit (behind_item fs i m n v w h gap) e (inr (c, p, more, r)) = leads text limit {what = an_element} {fs = in_brackets ∷ fs} {i = i} w e (l.item_on (depth (in_brackets ∷ fs)) i m p v e h (record { at = n; before = gap; here = c; behind = more }) r)
 leads text limit (behind_comma fs n p w h gap) e r = leads text limit {what = a_comma} {fs = fs} {i = n} w e (comma_made fs text limit n p e h gap r)
 leads text limit (opens_table fs i k w few h gap) e r = leads text limit {what = a_value} {fs = fs} {i = i} w e (l.in_inline (depth fs) i k e few h gap r)
 leads text limit (pair_part es fs i w other) e r = leads text limit {what = an_element} {fs = in_braces es ∷ fs} {i = i} w e (l.in_pair es (depth (in_braces es ∷ fs)) i e other r)
-leads text limit (pair_equals es fs i a n ps w key few gap) e (inl (none, h)) = leads text limit {what = a_part 0} {fs = in_braces es ∷ fs} {i = i} w e (l.no_equals (depth (in_braces es ∷ fs)) i a n ps e key few gap none h)
+leads text limit (pair_equals es fs i a n ps w key few gap) e (inl none) = leads text limit {what = a_part 0} {fs = in_braces es ∷ fs} {i = i} w e (l.no_equals (depth (in_braces es ∷ fs)) i a n ps e key few gap none)
 leads text limit (pair_equals es fs i a n ps w key few gap) e (inr (h, b, more, r)) = leads text limit {what = a_part 0} {fs = in_braces es ∷ fs} {i = i} w e (l.in_value (depth (in_braces es ∷ fs)) i a b ps e key few (record { at = n; before = gap; here = h; behind = more }) r)
 leads text limit (pair_value es fs k n b w h gap) e r = leads text limit {what = an_equals k} {fs = in_braces es ∷ fs} {i = n} w e (inr (h, b, gap, r))
 leads text limit (pair_verdict es fs i m p w h) e (inl c) = leads text limit {what = an_element} {fs = in_braces es ∷ fs} {i = i} w e (l.crosses es (depth (in_braces es ∷ fs)) i m p e h c)
-leads text limit (pair_verdict es fs i m p w h) e (inr (clear, n, gap, inl (c, b, r))) = leads text limit {what = an_element} {fs = in_braces es ∷ fs} {i = i} w e (l.behind_pair es (depth (in_braces es ∷ fs)) i m n p e h clear (record { before = gap; no_comma = c; no_bracket = b }) r)
+leads text limit (pair_verdict es fs i m p w h) e (inr (clear, n, gap, inl none)) = leads text limit {what = an_element} {fs = in_braces es ∷ fs} {i = i} w e (l.behind_pair es (depth (in_braces es ∷ fs)) i m n p e h clear gap none)
 leads text limit (pair_verdict es fs i m p w h) e (inr (clear, n, gap, inr (c, q, more, r))) = leads text limit {what = an_element} {fs = in_braces es ∷ fs} {i = i} w e (l.pair_on es (depth (in_braces es ∷ fs)) i m q p e h clear (record { at = n; before = gap; here = c; behind = more }) r)
 leads text limit (behind_pair es fs m n p w clear gap) e r = leads text limit {what = a_verdict p} {fs = in_braces es ∷ fs} {i = m} w e (inr (clear, n, gap, r))
 
@@ -165,10 +165,7 @@ told_from (an_equals k) (in_section es ∷ fs) text limit i e o h = inl h
 told_from (an_equals k) (in_brackets ∷ fs) text limit i e o h = h
 told_from (an_equals k) (in_braces es ∷ fs) text limit i e o h = inl h
 told_from (an_equals k) (under_key n ∷ fs) text limit i e o h = h
-told_from a_value fs text limit i e o (inl (n, h)) = l.no_value (depth fs) i e n h
-told_from a_value fs text limit i e o (inr (inl (q, h))) = l.no_string (depth fs) i e q h
-told_from a_value fs text limit i e o (inr (inr (inl (g, b, h)))) = l.too_deep (depth fs) i e g b h
-told_from a_value fs text limit i e o (inr (inr (inr (g, h)))) = l.no_bare (depth fs) i e g h
+told_from a_value fs text limit i e o h = l.value_here (depth fs) i e h
 told_from an_element fs text limit i e o h = absurd h
 told_from a_comma [] text limit i e o h = absurd h
 told_from a_comma (in_section es ∷ fs) text limit i e o h = absurd h
@@ -180,8 +177,7 @@ told_from (a_verdict ev) (in_section es ∷ fs) text limit i e o h = inl h
 told_from (a_verdict ev) (in_brackets ∷ fs) text limit i e o h = absurd h
 told_from (a_verdict ev) (in_braces es ∷ fs) text limit i e o h = inl h
 told_from (a_verdict ev) (under_key n ∷ fs) text limit i e o h = absurd h
-told_from (a_header_part n) fs text limit i e o (inl h) = no_header_part n i e h
-told_from (a_header_part n) fs text limit i e o (inr (part, j, key, g, u)) = rw u (header_too_many n i j part key g)
+told_from (a_header_part n) fs text limit i e o h = header_part_here n i e h
 told_from (a_closing false) fs text limit i e o h = inl h
 told_from (a_closing true) fs text limit i e o h = inl (inl h)
 told_from a_tail fs text limit i e o h = absurd h

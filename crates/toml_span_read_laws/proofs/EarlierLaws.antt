@@ -4,8 +4,8 @@ use Rattle.std.proofs.lemmas.List.{append-nil}
 use Rattle.toml_span_lex.specs.declared.span.Span.{Span}
 use Rattle.toml_span_read.specs.declared.fault.Fault.{Fault}
 use Rattle.toml_span_read.specs.declared.fault.FaultKind.TheVariants as kinds
-use Rattle.toml_span_read.specs.Data.{Event, span_of}
-use Rattle.toml_span_read.specs.Keys.{Part}
+use Rattle.toml_span_read.specs.Data.{KeyValue, parsed_span}
+use Rattle.toml_span_read.specs.Keys.{SimpleKey}
 use Rattle.toml_span_read.specs.Earlier.{path, NoneAt, EarliestAt, NoneThrough, Clear, Crossing}
 use Rattle.toml_span_read.proofs.EarlierLemmas.{snoc_same, clear_of, through_none}
 use Rattle.toml_span_read.proofs.EarlierKnows.{same_path, behind_part}
@@ -28,48 +28,48 @@ cuts [] (b ∷ ys) us vs x y e = inr (inl (ys, cc))
 cuts (a ∷ xs) [] us vs x y e = inr (inr (xs, cc))
 cuts (a ∷ xs) (b ∷ ys) us vs x y e = cuts_more a b xs ys x y (cc) (cuts xs ys us vs x y (cc))
 
-none_found : (names : List (List ℕ)) (events before behind : List Event) (found : Event) → NoneAt names events → events ≡ before ++ (found ∷ behind) → path found.parts ≡ names → ⊥
-none_found names events before behind found none stands same = go before (subst (λ (es : List Event). NoneAt names es) stands none)
+none_found : (names : List (List ℕ)) (key_values before behind : List KeyValue) (found : KeyValue) → NoneAt names key_values → key_values ≡ before ++ (found ∷ behind) → path found.parts ≡ names → ⊥
+none_found names key_values before behind found none stands same = go before (subst (λ (es : List KeyValue). NoneAt names es) stands none)
   where
-    go : (before : List Event) → NoneAt names (before ++ (found ∷ behind)) → ⊥
+    go : (before : List KeyValue) → NoneAt names (before ++ (found ∷ behind)) → ⊥
     go [] h = h.0 same
     go (e ∷ es) h = go es h.1
 
-none_earliest : (names : List (List ℕ)) (events : List Event) (first : Span) → NoneAt names events → EarliestAt names events first → ⊥
-none_earliest names events first none h = none_found names events h.before h.behind h.found none h.stands h.same
+none_earliest : (names : List (List ℕ)) (key_values : List KeyValue) (first : Span) → NoneAt names key_values → EarliestAt names key_values first → ⊥
+none_earliest names key_values first none h = none_found names key_values h.before h.behind h.found none h.stands h.same
 
 -- a list that is not empty has a last element
-front_last : (x : Part) (xs : List Part) → (front : List Part) × (last : Part) × (x ∷ xs ≡ front ++ (last ∷ []))
+front_last : (x : SimpleKey) (xs : List SimpleKey) → (front : List SimpleKey) × (last : SimpleKey) × (x ∷ xs ≡ front ++ (last ∷ []))
 front_last x [] = ([], x, refl)
 front_last x (y ∷ ys) =
     let more = front_last y ys in
     (x ∷ more.0, more.1, ap (λ l. x ∷ l) more.2)
 
-pub clear_crossing : (earlier : List Event) (next : Event) (fault : Fault) → Clear earlier next → Crossing earlier next fault → ⊥
+pub clear_crossing : (earlier : List KeyValue) (next : KeyValue) (fault : Fault) → Clear earlier next → Crossing earlier next fault → ⊥
 clear_crossing earlier next fault clear c =
     let end = front_last c.more c.rest in
     let key : next.parts ≡ (c.outer ++ (c.part ∷ end.0)) ++ (end.1 ∷ []) =
     c.key ∙ ap (λ l. c.outer ++ (c.part ∷ l)) end.2 ∙ sym (append_assoc c.outer (c.part ∷ end.0) (end.1 ∷ [])) in
     none_earliest _ earlier c.first (clear (c.outer ++ (c.part ∷ end.0)) end.1 key c.outer c.part end.0 refl) c.met
 
-one_earliest : (names : List (List ℕ)) (events : List Event) (a b : Span) → EarliestAt names events a → EarliestAt names events b → a ≡ b
-one_earliest names events a b g h = go (cuts g.before h.before g.behind h.behind g.found h.found (sym g.stands ∙ h.stands))
+one_earliest : (names : List (List ℕ)) (key_values : List KeyValue) (a b : Span) → EarliestAt names key_values a → EarliestAt names key_values b → a ≡ b
+one_earliest names key_values a b g h = go (cuts g.before h.before g.behind h.behind g.found h.found (sym g.stands ∙ h.stands))
   where
     go : Cuts g.before g.found h.before h.found → a ≡ b
     go (inl e) =
-        let same : g.last ≡ h.last = (snoc_same g.inner h.inner g.last h.last (sym g.key ∙ ap (λ (e : Event). e.parts) e.1 ∙ h.key)).1 in
-        g.span ∙ ap (λ (p : Part). p.span) same ∙ sym h.span
+        let same : g.last ≡ h.last = (snoc_same g.inner h.inner g.last h.last (sym g.key ∙ ap (λ (e : KeyValue). e.parts) e.1 ∙ h.key)).1 in
+        g.span ∙ ap (λ (p : SimpleKey). p.span) same ∙ sym h.span
     go (inr (inl (zs, e))) = absurd (none_found names h.before g.before zs g.found h.none_before e g.same)
     go (inr (inr (zs, e))) = absurd (none_found names g.before h.before zs h.found g.none_before e h.same)
 
-pub crossing_one : (earlier : List Event) (next : Event) (f g : Fault) → Crossing earlier next f → Crossing earlier next g → f ≡ g
+pub crossing_one : (earlier : List KeyValue) (next : KeyValue) (f g : Fault) → Crossing earlier next f → Crossing earlier next g → f ≡ g
 crossing_one earlier next f g c d = go (cuts c.outer d.outer (c.more ∷ c.rest) (d.more ∷ d.rest) c.part d.part (sym c.key ∙ d.key))
   where
     go : Cuts c.outer c.part d.outer d.part → f ≡ g
     go (inl e) =
         let names : path (c.outer ++ (c.part ∷ [])) ≡ path (d.outer ++ (d.part ∷ [])) = ap (λ l. path (l ++ (c.part ∷ []))) e.0 ∙ ap (λ p. path (d.outer ++ (p ∷ []))) e.1 in
         let first : c.first ≡ d.first = one_earliest _ earlier c.first d.first (subst (λ (q : List (List ℕ)). EarliestAt q earlier c.first) names c.met) d.met in
-        let start : c.part.span.start ≡ d.part.span.start = ap (λ (p : Part). p.span.start) e.1 in
+        let start : c.part.span.start ≡ d.part.span.start = ap (λ (p : SimpleKey). p.span.start) e.1 in
         let a = c.fault_is in
         let b = d.fault_is in
         cc
@@ -79,17 +79,17 @@ crossing_one earlier next f g c d = go (cuts c.outer d.outer (c.more ∷ c.rest)
 -- ---- every key is clear or crosses
 
 -- the values at a path: there is none, or there is an earliest one
-EarliestOrNone : List (List ℕ) → List Event → Type 0
-EarliestOrNone names events = NoneAt names events ⊎ ((first : Span) × EarliestAt names events first)
+EarliestOrNone : List (List ℕ) → List KeyValue → Type 0
+EarliestOrNone names key_values = NoneAt names key_values ⊎ ((first : Span) × EarliestAt names key_values first)
 
-told_first : (names : List (List ℕ)) (e : Event) (es : List Event) (ps : List Part) → e.parts ≡ ps → path e.parts ≡ names → (names ≡ [] → ⊥) → EarliestOrNone names (e ∷ es)
+told_first : (names : List (List ℕ)) (e : KeyValue) (es : List KeyValue) (ps : List SimpleKey) → e.parts ≡ ps → path e.parts ≡ names → (names ≡ [] → ⊥) → EarliestOrNone names (e ∷ es)
 unfolding EarliestOrNone
 told_first names e es [] is same some = absurd (some (sym same ∙ ap path is))
 told_first names e es (p ∷ ps) is same some =
     let end = front_last p ps in
     inr (end.1.span, record { before = []; found = e; behind = es; inner = end.0; last = end.1; stands = refl; none_before = tt; same = same; key = is ∙ end.2; span = refl })
 
-told_later : (names : List (List ℕ)) (e : Event) (es : List Event) → (path e.parts ≡ names → ⊥) → EarliestOrNone names es → EarliestOrNone names (e ∷ es)
+told_later : (names : List (List ℕ)) (e : KeyValue) (es : List KeyValue) → (path e.parts ≡ names → ⊥) → EarliestOrNone names es → EarliestOrNone names (e ∷ es)
 unfolding EarliestOrNone
 told_later names e es apart (inl none) = inl (apart, none)
 told_later names e es apart (inr (first, h)) = inr (
@@ -108,40 +108,40 @@ told_later names e es apart (inr (first, h)) = inr (
   },
 )
 
-told_of : (names : List (List ℕ)) (e : Event) (es : List Event) → (names ≡ [] → ⊥) → ((path e.parts ≡ names) ⊎ (path e.parts ≡ names → ⊥)) → EarliestOrNone names es → EarliestOrNone names (e ∷ es)
+told_of : (names : List (List ℕ)) (e : KeyValue) (es : List KeyValue) → (names ≡ [] → ⊥) → ((path e.parts ≡ names) ⊎ (path e.parts ≡ names → ⊥)) → EarliestOrNone names es → EarliestOrNone names (e ∷ es)
 told_of names e es some (inl same) more = told_first names e es e.parts refl same some
 told_of names e es some (inr apart) more = told_later names e es apart more
 
-told : (names : List (List ℕ)) (events : List Event) → (names ≡ [] → ⊥) → EarliestOrNone names events
+told : (names : List (List ℕ)) (key_values : List KeyValue) → (names ≡ [] → ⊥) → EarliestOrNone names key_values
 unfolding EarliestOrNone
 told names [] some = inl tt
 told names (e ∷ es) some = told_of names e es some (same_path (path e.parts) names) (told names es some)
 
-not_empty : (outer : List Part) (p : Part) → path (outer ++ (p ∷ [])) ≡ [] → ⊥
+not_empty : (outer : List SimpleKey) (p : SimpleKey) → path (outer ++ (p ∷ [])) ≡ [] → ⊥
 not_empty [] p e = cc
 not_empty (q ∷ outer) p e = cc
 
-none_push : (outer : List Part) (p : Part) (events : List Event) → NoneThrough outer events → NoneAt (path (outer ++ (p ∷ []))) events → NoneThrough (outer ++ (p ∷ [])) events
-none_push outer p events none here front q [] split =
+none_push : (outer : List SimpleKey) (p : SimpleKey) (key_values : List KeyValue) → NoneThrough outer key_values → NoneAt (path (outer ++ (p ∷ []))) key_values → NoneThrough (outer ++ (p ∷ [])) key_values
+none_push outer p key_values none here front q [] split =
     let same = snoc_same outer front p q split in
-    subst (λ (l : List Part). NoneAt (path l) events) (ap (λ l. l ++ (p ∷ [])) same.0 ∙ ap (λ r. front ++ (r ∷ [])) same.1) here
-none_push outer p events none here front q (r ∷ rest) split =
+    subst (λ (l : List SimpleKey). NoneAt (path l) key_values) (ap (λ l. l ++ (p ∷ [])) same.0 ∙ ap (λ r. front ++ (r ∷ [])) same.1) here
+none_push outer p key_values none here front q (r ∷ rest) split =
     let end = front_last r rest in
     let cut = snoc_same outer (front ++ (q ∷ end.0)) p end.1 (split ∙ ap (λ l. front ++ (q ∷ l)) end.2 ∙ sym (append_assoc front (q ∷ end.0) (end.1 ∷ []))) in
     none front q end.0 cut.0
 
 -- the key is clear, or it crosses
-Judged : List Event → Event → Type 0
+Judged : List KeyValue → KeyValue → Type 0
 Judged earlier next = Clear earlier next ⊎ ((fault : Fault) × Crossing earlier next fault)
 
-judged_at : (earlier : List Event) (next : Event) (outer : List Part) (p : Part) (ps : List Part) (last : Part) → next.parts ≡ (outer ++ (p ∷ ps)) ++ (last ∷ []) → NoneThrough outer earlier
+judged_at : (earlier : List KeyValue) (next : KeyValue) (outer : List SimpleKey) (p : SimpleKey) (ps : List SimpleKey) (last : SimpleKey) → next.parts ≡ (outer ++ (p ∷ ps)) ++ (last ∷ []) → NoneThrough outer earlier
     → EarliestOrNone (path (outer ++ (p ∷ []))) earlier → (NoneThrough (outer ++ (p ∷ [])) earlier → Judged earlier next) → Judged earlier next
 unfolding EarliestOrNone Judged
 judged_at earlier next outer p ps last key none (inl here) more = more (none_push outer p earlier none here)
 judged_at earlier next outer p ps last key none (inr (first, met)) more =
     let behind = behind_part ps last in
     inr (
-      record { kind = kinds.DottedKeyInvalidType first; span = record { start = p.span.start; end = (span_of next.value).end } },
+      record { kind = kinds.DottedKeyInvalidType first; span = record { start = p.span.start; end = (parsed_span next.value).end } },
       record {
         outer = outer;
         part = p;
@@ -155,24 +155,24 @@ judged_at earlier next outer p ps last key none (inr (first, met)) more =
       },
     )
 
-judged_from : (earlier : List Event) (next : Event) (outer parts : List Part) (last : Part) → next.parts ≡ (outer ++ parts) ++ (last ∷ []) → NoneThrough outer earlier → Judged earlier next
+judged_from : (earlier : List KeyValue) (next : KeyValue) (outer parts : List SimpleKey) (last : SimpleKey) → next.parts ≡ (outer ++ parts) ++ (last ∷ []) → NoneThrough outer earlier → Judged earlier next
 unfolding Judged
 judged_from earlier next outer [] last key none = inl (clear_of earlier next outer last (key ∙ ap (λ l. l ++ (last ∷ [])) (append-nil outer)) none)
 judged_from earlier next outer (p ∷ ps) last key none =
     judged_at earlier next outer p ps last key none (told (path (outer ++ (p ∷ []))) earlier (not_empty outer p))
     (λ more. judged_from earlier next (outer ++ (p ∷ [])) ps last (key ∙ ap (λ l. l ++ (last ∷ [])) (sym (append_assoc outer (p ∷ []) ps))) more)
 
-judged : (earlier : List Event) (next : Event) (parts : List Part) → next.parts ≡ parts → Judged earlier next
+judged : (earlier : List KeyValue) (next : KeyValue) (parts : List SimpleKey) → next.parts ≡ parts → Judged earlier next
 unfolding Judged
 judged earlier next [] is = inl (λ inner last key. absurd (no_parts inner last (sym is ∙ key)))
   where
-    no_parts : (inner : List Part) (last : Part) → [] ≡ inner ++ (last ∷ []) → ⊥
+    no_parts : (inner : List SimpleKey) (last : SimpleKey) → [] ≡ inner ++ (last ∷ []) → ⊥
     no_parts [] last e = cc
     no_parts (x ∷ inner) last e = cc
 judged earlier next (p ∷ ps) is =
     let end = front_last p ps in
     judged_from earlier next [] end.0 end.1 (is ∙ end.2) (through_none (λ names. NoneAt names earlier))
 
-pub every_key : (earlier : List Event) (next : Event) → Clear earlier next ⊎ ((fault : Fault) × Crossing earlier next fault)
+pub every_key : (earlier : List KeyValue) (next : KeyValue) → Clear earlier next ⊎ ((fault : Fault) × Crossing earlier next fault)
 unfolding Judged
 every_key earlier next = judged earlier next next.parts refl

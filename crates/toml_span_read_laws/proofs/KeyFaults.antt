@@ -12,10 +12,10 @@ use Rattle.toml_span_read.specs.declared.fault.Due.{Due}
 use Rattle.toml_span_read.specs.declared.fault.Fault.{Fault}
 use Rattle.toml_span_read.specs.declared.fault.FaultKind.TheVariants as kinds
 use Rattle.toml_span_read.specs.declared.fault.Found.{Found}
-use Rattle.toml_span_read.specs.Faults.{fault_at, token_fault, IsMultilineKey, NoKey, found_of, IsFound, IsTokenFault, wanted_fault, IsWanted, IsNoValue}
+use Rattle.toml_span_read.specs.Faults.{fault_at, token_fault, IsMultilineKeyFault, NoSimpleKey, found_of, IsFound, IsTokenFault, wanted_fault, IsWanted, IsNoValue}
 use Rattle.toml_span_read.specs.Gaps.{Dot}
-use Rattle.toml_span_read.specs.Keys.{Part, IsKey, opens_string}
-use Rattle.toml_span_read.specs.Stuck.{StuckOnward, no_part, too_many, dotted_on, StuckDotted, no_first, onward, StuckHeaderKey, no_header_part, header_too_many, header_on}
+use Rattle.toml_span_read.specs.Keys.{SimpleKey, SpellsSimpleKey, opens_string}
+use Rattle.toml_span_read.specs.Stuck.{StuckOnward, part_here, dotted_on, StuckKey, no_first, onward, StuckHeaderKey, header_part_here, header_on}
 use Rattle.toml_span_read_laws.proofs.KeyLaws.{quote_opens, token_or_token_fault, key_unique, key_or_none, dot_unique}
 use Rattle.toml_span_read_laws.proofs.ScalarLaws.{contents_same}
 
@@ -60,13 +60,13 @@ no_value_one text i e f (inr (inr s)) (inr (inr t)) = token_fault_one text i e f
 
 -- ---- keys
 
-multiline_one : (text : List ℕ) (i : ℕ) (e f : Fault) → IsMultilineKey text i e → IsMultilineKey text i f → e ≡ f
+multiline_one : (text : List ℕ) (i : ℕ) (e f : Fault) → IsMultilineKeyFault text i e → IsMultilineKeyFault text i f → e ≡ f
 multiline_one text i e f a b =
     let u = token_unique text i a.end b.end a.span b.span (string a.source a.value true) (string b.source b.value true) a.here b.here in
     let v : a.value ≡ b.value = contents_same a.source b.source a.value b.value true true u.2 in
     a.fault_is ∙ (rw v (sym b.fault_is))
 
-multiline_or_fault : (text : List ℕ) (i : ℕ) (e f : Fault) → IsMultilineKey text i e → IsTokenFault text i f → ⊥
+multiline_or_fault : (text : List ℕ) (i : ℕ) (e f : Fault) → IsMultilineKeyFault text i e → IsTokenFault text i f → ⊥
 multiline_or_fault text i e f a t = token_or_token_fault text i a.end a.span (string a.source a.value true) f a.here t
 
 opens_key : (b : ℕ) → opens_string b ≡ true → (is_keylike b || opens_string b) ≡ true
@@ -76,7 +76,7 @@ opens_key b h = go (is_keylike b)
     go true = refl
     go false = h
 
-pub no_key_one : (text : List ℕ) (i : ℕ) (e f : Fault) → NoKey text i e → NoKey text i f → e ≡ f
+pub no_key_one : (text : List ℕ) (i : ℕ) (e f : Fault) → NoSimpleKey text i e → NoSimpleKey text i f → e ≡ f
 no_key_one text i e f (inl a) (inl b) = multiline_one text i e f a b
 no_key_one text i e f (inl a) (inr (inl t)) = absurd (multiline_or_fault text i e f a t.1)
 no_key_one text i e f (inl a) (inr (inr w)) = absurd (false≢true (sym w.0 ∙ quote_opens (get_or text i 0) a.here.quote))
@@ -90,24 +90,24 @@ no_key_one text i e f (inr (inr w)) (inr (inr v)) = wanted_one text i _ e f w.1 
 -- ---- dotted keys
 
 -- a key stands behind this dot, and none does
-part_or_none : (text : List ℕ) (m p q j : ℕ) (s : Part) (e : Fault) → Dot text m p → Dot text m q → IsKey s text p j → NoKey text q e → ⊥
+part_or_none : (text : List ℕ) (m p q j : ℕ) (s : SimpleKey) (e : Fault) → Dot text m p → Dot text m q → SpellsSimpleKey s text p j → NoSimpleKey text q e → ⊥
 part_or_none text m p q j s e d d' key h = let u : q ≡ p = dot_unique text m q p d' d in key_or_none s text p j e key (rw u at h)
 
 onward_one : (text : List ℕ) (limit : ℕ) {n m : ℕ} {e f : Fault} → StuckOnward text limit n m e → StuckOnward text limit n m f → e ≡ f
-onward_one text limit (no_part n m p e d h) (no_part n' m' q f d' k) = let u : q ≡ p = dot_unique text m q p d' d in no_key_one text p e f h (rw u at k)
-onward_one text limit (no_part n m p e d h) (too_many n' m' q j s d' key o) = absurd (part_or_none text m q p j s e d' d key h)
-onward_one text limit (no_part n m p e d h) (dotted_on n' m' q j s f d' key few k) = absurd (part_or_none text m q p j s e d' d key h)
-onward_one text limit (too_many n m p j s d key o) (no_part n' m' q f d' h) = absurd (part_or_none text m p q j s f d d' key h)
-onward_one text limit (too_many n m p j s d key o) (too_many n' m' q k t d' key' o') = ap (λ x. fault_at kinds.ExceededDepthLimit x) (dot_unique text m p q d d')
-onward_one text limit (too_many n m p j s d key o) (dotted_on n' m' q k t f d' key' few h) = absurd (omega (arith, o, few))
-onward_one text limit (dotted_on n m p j s e d key few h) (no_part n' m' q f d' k) = absurd (part_or_none text m p q j s f d d' key k)
-onward_one text limit (dotted_on n m p j s e d key few h) (too_many n' m' q k t d' key' o) = absurd (omega (arith, o, few))
+onward_one text limit (part_here n m p e d (inl h)) (part_here n' m' q f d' (inl k)) = let u : q ≡ p = dot_unique text m q p d' d in no_key_one text p e f h (rw u at k)
+onward_one text limit (part_here n m p e d (inl h)) (part_here n' m' q f d' (inr (s, j, key, o, is))) = absurd (part_or_none text m q p j s e d' d key h)
+onward_one text limit (part_here n m p e d (inl h)) (dotted_on n' m' q j s f d' key few k) = absurd (part_or_none text m q p j s e d' d key h)
+onward_one text limit (part_here n m p e d (inr (s, j, key, o, is))) (part_here n' m' q f d' (inl h)) = absurd (part_or_none text m p q j s f d d' key h)
+onward_one text limit (part_here n m p e d (inr (s, j, key, o, is))) (part_here n' m' q f d' (inr (t, k, key', o', at))) = is ∙ ap (λ x. fault_at kinds.ExceededDepthLimit x) (dot_unique text m p q d d') ∙ sym at
+onward_one text limit (part_here n m p e d (inr (s, j, key, o, is))) (dotted_on n' m' q k t f d' key' few h) = absurd (omega (arith, o, few))
+onward_one text limit (dotted_on n m p j s e d key few h) (part_here n' m' q f d' (inl k)) = absurd (part_or_none text m p q j s f d d' key k)
+onward_one text limit (dotted_on n m p j s e d key few h) (part_here n' m' q f d' (inr (t, k, key', o, is))) = absurd (omega (arith, o, few))
 onward_one text limit (dotted_on n m p j s e d key few h) (dotted_on n' m' q k t f d' key' few' g) =
     let u : q ≡ p = dot_unique text m q p d' d in
     let v = key_unique t s text p k j (rw u at key') key in
     onward_one text limit {n = n + 1} {m = j} {e = e} {f = f} h (rw v.1 at g)
 
-pub dotted_one : (text : List ℕ) (limit : ℕ) {i : ℕ} {e f : Fault} → StuckDotted text limit i e → StuckDotted text limit i f → e ≡ f
+pub dotted_one : (text : List ℕ) (limit : ℕ) {i : ℕ} {e f : Fault} → StuckKey text limit i e → StuckKey text limit i f → e ≡ f
 dotted_one text limit (no_first i e h) (no_first i' f k) = no_key_one text i e f h k
 dotted_one text limit (no_first i e h) (onward i' m s f key k) = absurd (key_or_none s text i m e key h)
 dotted_one text limit (onward i m s e key h) (no_first i' f k) = absurd (key_or_none s text i m f key k)
@@ -115,15 +115,15 @@ dotted_one text limit (onward i m s e key h) (onward i' n t f key' k) =
     let v = key_unique t s text i n m key' key in onward_one text limit {n = 1} {m = m} {e = e} {f = f} h (rw v.1 at k)
 
 pub header_key_one : (text : List ℕ) (limit : ℕ) {n i : ℕ} {e f : Fault} → StuckHeaderKey text limit n i e → StuckHeaderKey text limit n i f → e ≡ f
-header_key_one text limit (no_header_part n i e h) (no_header_part n' i' f k) = no_key_one text i e f h k
-header_key_one text limit (no_header_part n i e h) (header_too_many n' i' m s key o) = absurd (key_or_none s text i m e key h)
-header_key_one text limit (no_header_part n i e h) (header_on n' i' m p s f key few d k) = absurd (key_or_none s text i m e key h)
-header_key_one text limit (header_too_many n i m s key o) (no_header_part n' i' f k) = absurd (key_or_none s text i m f key k)
-header_key_one text limit (header_too_many n i m s key o) (header_too_many n' i' j t key' o') =
-    let v = key_unique s t text i m j key key' in ap (λ (x : Part). record { kind = kinds.ExceededDepthLimit; span = x.span }) v.0
-header_key_one text limit (header_too_many n i m s key o) (header_on n' i' j p t f key' few d k) = absurd (omega (arith, o, few))
-header_key_one text limit (header_on n i m p s e key few d h) (no_header_part n' i' f k) = absurd (key_or_none s text i m f key k)
-header_key_one text limit (header_on n i m p s e key few d h) (header_too_many n' i' j t key' o) = absurd (omega (arith, o, few))
+header_key_one text limit (header_part_here n i e (inl h)) (header_part_here n' i' f (inl k)) = no_key_one text i e f h k
+header_key_one text limit (header_part_here n i e (inl h)) (header_part_here n' i' f (inr (s, m, key, o, is))) = absurd (key_or_none s text i m e key h)
+header_key_one text limit (header_part_here n i e (inl h)) (header_on n' i' m p s f key few d k) = absurd (key_or_none s text i m e key h)
+header_key_one text limit (header_part_here n i e (inr (s, m, key, o, is))) (header_part_here n' i' f (inl k)) = absurd (key_or_none s text i m f key k)
+header_key_one text limit (header_part_here n i e (inr (s, m, key, o, is))) (header_part_here n' i' f (inr (t, j, key', o', at))) =
+    let v = key_unique s t text i m j key key' in is ∙ ap (λ (x : SimpleKey). record { kind = kinds.ExceededDepthLimit; span = x.span }) v.0 ∙ sym at
+header_key_one text limit (header_part_here n i e (inr (s, m, key, o, is))) (header_on n' i' j p t f key' few d k) = absurd (omega (arith, o, few))
+header_key_one text limit (header_on n i m p s e key few d h) (header_part_here n' i' f (inl k)) = absurd (key_or_none s text i m f key k)
+header_key_one text limit (header_on n i m p s e key few d h) (header_part_here n' i' f (inr (t, j, key', o, is))) = absurd (omega (arith, o, few))
 header_key_one text limit (header_on n i m p s e key few d h) (header_on n' i' j q t f key' few' d' k) =
     let v = key_unique t s text i j m key' key in
     let u : q ≡ p = dot_unique text m q p (rw v.1 at d') d in

@@ -6,16 +6,16 @@ use Rattle.std.proofs.lemmas.Bool.Decides.{nat_tests}
 use Rattle.toml_span_lex.specs.declared.span.Span.{Span}
 use Rattle.toml_span_lex.specs.Bytes.{is_blank, is_keylike, is_printed}
 use Rattle.toml_span_lex.specs.Text.{LineEnd}
-use Rattle.toml_span_lex.specs.Tokens.{Lexeme, whitespace, newline, comment, sign, keylike, string, Stands}
+use Rattle.toml_span_lex.specs.Tokens.{Lexeme, whitespace, newline, comment, punctuator, keylike, string, Stands}
 use Rattle.toml_span_lex.proofs.Runs.{crlf_first}
 use Rattle.toml_span_lex.proofs.Unique.{run_unique, line_unique, or_true}
 use Rattle.toml_span_lex.proofs.OneToken.{token_unique}
 use Rattle.toml_span_lex.proofs.NoFault.{token_or_fault}
 use Rattle.toml_span_read.specs.declared.fault.Fault.{Fault}
-use Rattle.toml_span_read.specs.Gaps.{GapPiece, begins_gap, GapBy, MaximalGap, Dot, NoDot, Sign, Closes, Neither}
-use Rattle.toml_span_read.specs.Faults.{IsTokenFault, NoKey}
-use Rattle.toml_span_read.specs.Keys.{Part, IsKey, opens_string, Onward, Dotted}
-use Rattle.toml_span_read.specs.Stuck.{StuckOnward, no_part, too_many, dotted_on, StuckDotted, no_first, onward}
+use Rattle.toml_span_read.specs.Gaps.{GapPiece, begins_gap, GapBy, MaximalGap, Dot, NoDot, Separator, Closes, Neither}
+use Rattle.toml_span_read.specs.Faults.{IsTokenFault, NoSimpleKey}
+use Rattle.toml_span_read.specs.Keys.{SimpleKey, SpellsSimpleKey, opens_string, Onward, SpellsKey}
+use Rattle.toml_span_read.specs.Stuck.{StuckOnward, part_here, dotted_on, StuckKey, no_first, onward}
 
 -- a byte b that is k passes where k does not
 pub clash : (p : ℕ → Bool) (b k : ℕ) → p b ≡ true → b ≡ k → p k ≡ false → ⊥
@@ -69,7 +69,7 @@ gap_unique text i j k a b = gap_by_unique text i j k a.ends b.ends a.pieces b.pi
 
 -- ---- signs
 
-pub sign_unique : (c : ℕ) (text : List ℕ) (i j k : ℕ) → Sign c text i j → Sign c text i k → j ≡ k
+pub sign_unique : (c : ℕ) (text : List ℕ) (i j k : ℕ) → Separator c text i j → Separator c text i k → j ≡ k
 sign_unique c text i j k a b =
     let e : a.at ≡ b.at = gap_unique text i a.at b.at a.before b.before in gap_unique text (a.at + 1) j k a.behind (rw (sym e) at b.behind)
 
@@ -77,11 +77,11 @@ pub closes_unique : (c : ℕ) (text : List ℕ) (i j k : ℕ) → Closes c text 
 closes_unique c text i j k a b =
     let e : a.at ≡ b.at = gap_unique text i a.at b.at a.before b.before in omega (arith, a.ends, b.ends)
 
-pub close_or_comma : (c : ℕ) (text : List ℕ) (i j k : ℕ) → (c ≡ 44 → ⊥) → Closes c text i j → Sign 44 text i k → ⊥
+pub close_or_comma : (c : ℕ) (text : List ℕ) (i j k : ℕ) → (c ≡ 44 → ⊥) → Closes c text i j → Separator 44 text i k → ⊥
 close_or_comma c text i j k n a b =
     let e : a.at ≡ b.at = gap_unique text i a.at b.at a.before b.before in n (sym a.here ∙ (rw e b.here))
 
-pub sign_or_none : (c : ℕ) (text : List ℕ) (i j k : ℕ) → Sign c text i j → MaximalGap text i k → (get_or text k 0 == c) ≡ false → ⊥
+pub sign_or_none : (c : ℕ) (text : List ℕ) (i j k : ℕ) → Separator c text i j → MaximalGap text i k → (get_or text k 0 == c) ≡ false → ⊥
 sign_or_none c text i j k a g n =
     let e : a.at ≡ k = gap_unique text i a.at k a.before g in not_here (get_or text a.at 0) c a.here (rw e n)
 
@@ -89,7 +89,7 @@ pub close_or_neither : (c : ℕ) (text : List ℕ) (i j k : ℕ) → Closes c te
 close_or_neither c text i j k a b =
     let e : a.at ≡ k = gap_unique text i a.at k a.before b.before in not_here (get_or text a.at 0) c a.here (rw e b.no_bracket)
 
-pub comma_or_neither : (c : ℕ) (text : List ℕ) (i j k : ℕ) → Sign 44 text i j → Neither c text i k → ⊥
+pub comma_or_neither : (c : ℕ) (text : List ℕ) (i j k : ℕ) → Separator 44 text i j → Neither c text i k → ⊥
 comma_or_neither c text i j k a b = sign_or_none 44 text i j k a b.before b.no_comma
 
 pub dot_unique : (text : List ℕ) (i j k : ℕ) → Dot text i j → Dot text i k → j ≡ k
@@ -106,7 +106,7 @@ abbrev name_of : Lexeme → List ℕ
 name_of (whitespace s) = []
 name_of newline = []
 name_of (comment s) = []
-name_of (sign c) = []
+name_of (punctuator c) = []
 name_of (keylike s) = s
 name_of (string src v m) = v
 
@@ -114,26 +114,26 @@ abbrev is_multi : Lexeme → Bool
 is_multi (whitespace s) = false
 is_multi newline = false
 is_multi (comment s) = false
-is_multi (sign c) = false
+is_multi (punctuator c) = false
 is_multi (keylike s) = false
 is_multi (string src v m) = m
 
 -- a key is a token
-record KeyToken (p : Part) (text : List ℕ) (i j : ℕ) : Type 0 where
+record KeyToken (p : SimpleKey) (text : List ℕ) (i j : ℕ) : Type 0 where
   pub lexeme : Lexeme
   pub stands : Stands text i j p.span lexeme
   pub name : p.name ≡ name_of lexeme
   pub one_line : is_multi lexeme ≡ false
 
-key_token : (p : Part) (text : List ℕ) (i j : ℕ) → IsKey p text i j → KeyToken p text i j
+key_token : (p : SimpleKey) (text : List ℕ) (i j : ℕ) → SpellsSimpleKey p text i j → KeyToken p text i j
 key_token p text i j (inl (run, e)) = record { lexeme = keylike p.name; stands = (run, e); name = refl; one_line = refl }
 key_token p text i j (inr (src, h)) = record { lexeme = string src p.name false; stands = h; name = refl; one_line = refl }
 
-part_same : (p q : Part) → p.name ≡ q.name → p.span ≡ q.span → p ≡ q
+part_same : (p q : SimpleKey) → p.name ≡ q.name → p.span ≡ q.span → p ≡ q
 part_same p q a b =
     let e : record { name = p.name; span = p.span } ≡ record { name = q.name; span = q.span } = rw (a, b) refl in e
 
-pub key_unique : (p q : Part) (text : List ℕ) (i j k : ℕ) → IsKey p text i j → IsKey q text i k → (p ≡ q) × (j ≡ k)
+pub key_unique : (p q : SimpleKey) (text : List ℕ) (i j k : ℕ) → SpellsSimpleKey p text i j → SpellsSimpleKey q text i k → (p ≡ q) × (j ≡ k)
 key_unique p q text i j k a b =
     let x = key_token p text i j a in
     let y = key_token q text i k b in
@@ -144,14 +144,14 @@ pub quote_opens : (b : ℕ) → (b ≡ 34) ⊎ (b ≡ 39) → (is_keylike b || o
 quote_opens b (inl e) = rw e refl
 quote_opens b (inr e) = rw e refl
 
-pub key_byte : (p : Part) (text : List ℕ) (i j : ℕ) → IsKey p text i j → (is_keylike (get_or text i 0) || opens_string (get_or text i 0)) ≡ true
+pub key_byte : (p : SimpleKey) (text : List ℕ) (i j : ℕ) → SpellsSimpleKey p text i j → (is_keylike (get_or text i 0) || opens_string (get_or text i 0)) ≡ true
 key_byte p text i j (inl (run, e)) = let b : is_keylike (get_or text i 0) ≡ true = run.1.passes i (omega arith) run.0 in rw b refl
 key_byte p text i j (inr (src, h)) = quote_opens (get_or text i 0) h.quote
 
 pub token_or_token_fault : (text : List ℕ) (i j : ℕ) (s : Span) (l : Lexeme) (e : Fault) → Stands text i j s l → IsTokenFault text i e → ⊥
 token_or_token_fault text i j s l e h (k, x, f, is) = token_or_fault text i j k s l x h f
 
-pub key_or_none : (p : Part) (text : List ℕ) (i j : ℕ) (e : Fault) → IsKey p text i j → NoKey text i e → ⊥
+pub key_or_none : (p : SimpleKey) (text : List ℕ) (i j : ℕ) (e : Fault) → SpellsSimpleKey p text i j → NoSimpleKey text i e → ⊥
 key_or_none p text i j e a (inl m) =
     let x = key_token p text i j a in
     let u = token_unique text i j m.end p.span m.span x.lexeme (string m.source m.value true) x.stands m.here in
@@ -161,7 +161,7 @@ key_or_none p text i j e a (inr (inr w)) = false≢true (sym w.0 ∙ key_byte p 
 
 -- ---- dotted keys
 
-onward_unique : (ss ts : List Part) (text : List ℕ) (m j k : ℕ) → Onward ss text m j → Onward ts text m k → (ss ≡ ts) × (j ≡ k)
+onward_unique : (ss ts : List SimpleKey) (text : List ℕ) (m j k : ℕ) → Onward ss text m j → Onward ts text m k → (ss ≡ ts) × (j ≡ k)
 onward_unique [] [] text m j k a b = (refl, a.0 ∙ sym b.0)
 onward_unique [] (t ∷ ts) text m j k a (p, q, d, key, rest) = absurd (dot_or_none text m p d a.1)
 onward_unique (s ∷ ss) [] text m j k (p, q, d, key, rest) b = absurd (dot_or_none text m p d b.1)
@@ -171,7 +171,7 @@ onward_unique (s ∷ ss) (t ∷ ts) text m j k (p, q, d, key, rest) (p', q', d',
     let r = onward_unique ss ts text q j k rest (rw (sym u.1) at rest') in
     (rw (u.0, r.0) refl, r.1)
 
-pub dotted_unique : (ss ts : List Part) (text : List ℕ) (i j k : ℕ) → Dotted ss text i j → Dotted ts text i k → (ss ≡ ts) × (j ≡ k)
+pub dotted_unique : (ss ts : List SimpleKey) (text : List ℕ) (i j k : ℕ) → SpellsKey ss text i j → SpellsKey ts text i k → (ss ≡ ts) × (j ≡ k)
 dotted_unique [] ts text i j k a b = absurd a
 dotted_unique (s ∷ ss) [] text i j k a b = absurd b
 dotted_unique (s ∷ ss) (t ∷ ts) text i j k (m, key, rest) (m', key', rest') =
@@ -179,23 +179,23 @@ dotted_unique (s ∷ ss) (t ∷ ts) text i j k (m, key, rest) (m', key', rest') 
     let r = onward_unique ss ts text m j k rest (rw (sym u.1) at rest') in
     (rw (u.0, r.0) refl, r.1)
 
-pub dotted_byte : (ss : List Part) (text : List ℕ) (i j : ℕ) → Dotted ss text i j → (is_keylike (get_or text i 0) || opens_string (get_or text i 0)) ≡ true
+pub dotted_byte : (ss : List SimpleKey) (text : List ℕ) (i j : ℕ) → SpellsKey ss text i j → (is_keylike (get_or text i 0) || opens_string (get_or text i 0)) ≡ true
 dotted_byte [] text i j h = absurd h
 dotted_byte (s ∷ ss) text i j (m, key, rest) = key_byte s text i m key
 
-onward_excluded : (text : List ℕ) (limit : ℕ) {n m : ℕ} {e : Fault} → StuckOnward text limit n m e → (ss : List Part) (j : ℕ) → Onward ss text m j → n + length ss ≤ limit → ⊥
-onward_excluded text limit (no_part n m p e d h) [] j a l = dot_or_none text m p d a.1
-onward_excluded text limit (no_part n m p e d h) (s ∷ ss) j (p', q, d', key, rest) l =
+onward_excluded : (text : List ℕ) (limit : ℕ) {n m : ℕ} {e : Fault} → StuckOnward text limit n m e → (ss : List SimpleKey) (j : ℕ) → Onward ss text m j → n + length ss ≤ limit → ⊥
+onward_excluded text limit (part_here n m p e d (inl h)) [] j a l = dot_or_none text m p d a.1
+onward_excluded text limit (part_here n m p e d (inl h)) (s ∷ ss) j (p', q, d', key, rest) l =
     let f : p' ≡ p = dot_unique text m p' p d' d in key_or_none s text p q e (rw f at key) h
-onward_excluded text limit (too_many n m p q s d k o) [] j a l = dot_or_none text m p d a.1
-onward_excluded text limit (too_many n m p q s d k o) (t ∷ ts) j a l = omega arith
+onward_excluded text limit (part_here n m p e d (inr (s, q, k, o, is))) [] j a l = dot_or_none text m p d a.1
+onward_excluded text limit (part_here n m p e d (inr (s, q, k, o, is))) (t ∷ ts) j a l = omega arith
 onward_excluded text limit (dotted_on n m p q s e d k few h) [] j a l = dot_or_none text m p d a.1
 onward_excluded text limit (dotted_on n m p q s e d k few h) (t ∷ ts) j (p', q', d', key, rest) l =
     let f : p' ≡ p = dot_unique text m p' p d' d in
     let u = key_unique t s text p q' q (rw f at key) k in
     onward_excluded text limit {n = n + 1} {m = q} {e = e} h ts j (rw u.1 at rest) (omega arith)
 
-pub dotted_excluded : (text : List ℕ) (limit : ℕ) {i : ℕ} {e : Fault} → StuckDotted text limit i e → (ss : List Part) (j : ℕ) → Dotted ss text i j → length ss ≤ limit → ⊥
+pub dotted_excluded : (text : List ℕ) (limit : ℕ) {i : ℕ} {e : Fault} → StuckKey text limit i e → (ss : List SimpleKey) (j : ℕ) → SpellsKey ss text i j → length ss ≤ limit → ⊥
 dotted_excluded text limit h [] j a l = a
 dotted_excluded text limit (no_first i e h) (s ∷ ss) j (m, key, rest) l = key_or_none s text i m e key h
 dotted_excluded text limit (onward i m s e k h) (t ∷ ts) j (m', key, rest) l =

@@ -14,22 +14,22 @@ use Rattle.toml_span_lex.specs.declared.stop.Stop.TheVariants as stops
 use Rattle.toml_span_tree.specs.declared.error.Error.{Error}
 use Rattle.toml_span_read.specs.declared.section.Section.{Section}
 use Rattle.toml_span_read.specs.declared.fault.Fault.{Fault}
-use Rattle.toml_span_read.specs.Data.{Node, Event, Block, block}
+use Rattle.toml_span_read.specs.Data.{ParsedValue, KeyValue, Block, block}
 use Rattle.toml_span_read.specs.Gaps.{Skipped, Tail, NoTail, Equals}
-use Rattle.toml_span_read.specs.Grammar.{Spells, from_to, SpellsEvent, SpellsEvents, SpellsLines, Opens, Shuts, HeaderFront, SpellsHeader, last_end, SpellsSection, SpellsSections, SpellsDocument}
-use Rattle.toml_span_read.specs.Keys.{Part, opens_string, Dotted}
-use Rattle.toml_span_read.specs.Stuck.{StuckHeaderKey, no_header_part, header_too_many, header_on, StuckEvent, line_key, line_equals, line_value, StuckEvents, in_line, no_newline, crossing, line_on, StuckLines, StuckHeader, header_key, header_close, header_rest, StuckSections, in_header, in_section, section_on, StuckDocument, before_headers, behind_header, ReadsDocument, AreRead, StuckValue}
-use Rattle.toml_span_read.specs.Faults.{StuckTail, NoShuts}
+use Rattle.toml_span_read.specs.Grammar.{Spells, from_to, SpellsKeyValue, SpellsKeyValues, SpellsLines, OpensHeader, ClosesHeader, HeaderFront, SpellsHeader, last_end, SpellsSection, SpellsSections, SpellsDocument}
+use Rattle.toml_span_read.specs.Keys.{SimpleKey, opens_string, SpellsKey}
+use Rattle.toml_span_read.specs.Stuck.{StuckHeaderKey, header_part_here, header_on, StuckKeyValue, line_key, line_equals, line_value, StuckKeyValues, in_line, no_newline, crossing, line_on, StuckLines, StuckHeader, header_key, header_close, header_rest, StuckSections, in_header, in_section, section_on, StuckDocument, before_headers, behind_header, ReadsDocument, AreRead, StuckValue}
+use Rattle.toml_span_read.specs.Faults.{StuckTail, NoClosing}
 use Rattle.toml_span_read_laws.proofs.EarlierLaws.{clear_crossing}
 use Rattle.toml_span_read_laws.proofs.KeyLaws.{clash, not_here, gap_unique, key_unique, key_or_none, dot_unique, dot_or_none, dotted_unique, dotted_byte, dotted_excluded}
 use Rattle.toml_span_read.proofs.Places.{read_within}
 
 -- the laws of values
 abbrev pub OneValue : Type 0
-OneValue = (v w : Node) (text : List ℕ) (limit d i j k : ℕ) → Spells v text limit d i j → Spells w text limit d i k → (v ≡ w) × (j ≡ k)
+OneValue = (v w : ParsedValue) (text : List ℕ) (limit d i j k : ℕ) → Spells v text limit d i j → Spells w text limit d i k → (v ≡ w) × (j ≡ k)
 
 abbrev pub ValueOrFault : Type 0
-ValueOrFault = (v : Node) (text : List ℕ) (limit d i j : ℕ) (e : Fault) → Spells v text limit d i j → StuckValue text limit d i e → ⊥
+ValueOrFault = (v : ParsedValue) (text : List ℕ) (limit d i j : ℕ) (e : Fault) → Spells v text limit d i j → StuckValue text limit d i e → ⊥
 
 -- ---- the rest of a line
 
@@ -81,25 +81,25 @@ pub equals_or_none : (text : List ℕ) (i j n : ℕ) → Equals text i j → Max
 equals_or_none text i j n a run none =
     let e : a.at ≡ n = run_unique is_blank text i a.at n a.before run in not_here (get_or text a.at 0) 61 a.here (rw (sym e) at none)
 
-event_same : (x y : Event) → x.parts ≡ y.parts → x.value ≡ y.value → x.extent ≡ y.extent → x ≡ y
-event_same x y a b c =
+key_value_same : (x y : KeyValue) → x.parts ≡ y.parts → x.value ≡ y.value → x.extent ≡ y.extent → x ≡ y
+key_value_same x y a b c =
     let e : record { parts = x.parts; value = x.value; extent = x.extent } ≡ record { parts = y.parts; value = y.value; extent = y.extent } = rw (a, b, c) refl in e
 
 span_to : (i j k : ℕ) → j ≡ k → from_to i j ≡ from_to i k
 span_to i j k e = ap (from_to i) e
 
-pub event_unique : OneValue → (x y : Event) (text : List ℕ) (limit i j k : ℕ) → SpellsEvent x text limit i j → SpellsEvent y text limit i k → (x ≡ y) × (j ≡ k)
-event_unique one x y text limit i j k a b =
+pub key_value_unique : OneValue → (x y : KeyValue) (text : List ℕ) (limit i j k : ℕ) → SpellsKeyValue x text limit i j → SpellsKeyValue y text limit i k → (x ≡ y) × (j ≡ k)
+key_value_unique one x y text limit i j k a b =
     let p = dotted_unique x.parts y.parts text i a.key_end b.key_end a.key b.key in
     let f : a.from ≡ b.from = equals_unique text a.key_end a.from b.from a.sign (rw (sym p.1) at b.sign) in
     let v = one x.value y.value text limit (length x.parts) a.from j k a.spelled (rw (sym p.0, sym f) at b.spelled) in
-    (event_same x y p.0 v.0 (a.extent ∙ (span_to i j k v.1 ∙ sym b.extent)), v.1)
+    (key_value_same x y p.0 v.0 (a.extent ∙ (span_to i j k v.1 ∙ sym b.extent)), v.1)
 
-pub event_excluded : ValueOrFault → (text : List ℕ) (limit i : ℕ) (e : Fault) → StuckEvent text limit i e → (x : Event) (j : ℕ) → SpellsEvent x text limit i j → ⊥
-event_excluded none text limit i e (line_key i' e' r) x j a = dotted_excluded text limit {i = i} {e = e} r x.parts a.key_end a.key a.few
-event_excluded none text limit i e (line_equals i' m n ps e' key few run other w) x j a =
+pub key_value_excluded : ValueOrFault → (text : List ℕ) (limit i : ℕ) (e : Fault) → StuckKeyValue text limit i e → (x : KeyValue) (j : ℕ) → SpellsKeyValue x text limit i j → ⊥
+key_value_excluded none text limit i e (line_key i' e' r) x j a = dotted_excluded text limit {i = i} {e = e} r x.parts a.key_end a.key a.few
+key_value_excluded none text limit i e (line_equals i' m n ps e' key few run (other, w)) x j a =
     let p = dotted_unique x.parts ps text i a.key_end m a.key key in equals_or_none text m a.from n (rw p.1 at a.sign) run other
-event_excluded none text limit i e (line_value i' m b ps e' key few sign r) x j a =
+key_value_excluded none text limit i e (line_value i' m b ps e' key few sign r) x j a =
     let p = dotted_unique x.parts ps text i a.key_end m a.key key in
     let f : a.from ≡ b = equals_unique text m a.from b (rw p.1 at a.sign) sign in
     none x.value text limit (length ps) b j e (rw (p.0, f) at a.spelled) r
@@ -110,92 +110,92 @@ event_excluded none text limit i e (line_value i' m b ps e' key few sign r) x j 
 abbrev pub Stops : List ℕ → ℕ → Type 0
 Stops text i = (i ≡ length text) ⊎ (get_or text i 0 ≡ 91)
 
-no_key_at : (ps : List Part) (text : List ℕ) (i j : ℕ) → Stops text i → Dotted ps text i j → ⊥
+no_key_at : (ps : List SimpleKey) (text : List ℕ) (i j : ℕ) → Stops text i → SpellsKey ps text i j → ⊥
 no_key_at ps text i j (inl e) d = let z : get_or text i 0 ≡ 0 = get_or_past text i 0 (omega (arith, e)) in clash (λ b. is_keylike b || opens_string b) (get_or text i 0) 0 (dotted_byte ps text i j d) z refl
 no_key_at ps text i j (inr h) d = clash (λ b. is_keylike b || opens_string b) (get_or text i 0) 91 (dotted_byte ps text i j d) h refl
 
-no_event_at : (x : Event) (text : List ℕ) (limit i j : ℕ) → Stops text i → SpellsEvent x text limit i j → ⊥
-no_event_at x text limit i j s a = no_key_at x.parts text i a.key_end s a.key
+no_key_value_at : (x : KeyValue) (text : List ℕ) (limit i j : ℕ) → Stops text i → SpellsKeyValue x text limit i j → ⊥
+no_key_value_at x text limit i j s a = no_key_at x.parts text i a.key_end s a.key
 
-events_unique : OneValue → (es fs before : List Event) (text : List ℕ) (limit i j k : ℕ) → SpellsEvents es before text limit i j → SpellsEvents fs before text limit i k → Stops text j → Stops text k
+key_values_unique : OneValue → (es fs before : List KeyValue) (text : List ℕ) (limit i j k : ℕ) → SpellsKeyValues es before text limit i j → SpellsKeyValues fs before text limit i k → Stops text j → Stops text k
     → (es ≡ fs) × (j ≡ k)
-events_unique one [] [] before text limit i j k a b s t = (refl, a ∙ sym b)
-events_unique one [] (y ∷ ys) before text limit i j k a (m, n, p, h, l, c, g, r) s t = absurd (no_event_at y text limit i m (rw a at s) h)
-events_unique one (x ∷ xs) [] before text limit i j k (m, n, p, h, l, c, g, r) b s t = absurd (no_event_at x text limit i m (rw b at t) h)
-events_unique one (x ∷ xs) (y ∷ ys) before text limit i j k (m, n, p, h, t, c, g, r) (m', n', p', h', t', c', g', r') s s' =
-    let u = event_unique one y x text limit i m' m h' h in
+key_values_unique one [] [] before text limit i j k a b s t = (refl, a ∙ sym b)
+key_values_unique one [] (y ∷ ys) before text limit i j k a (m, n, p, h, l, c, g, r) s t = absurd (no_key_value_at y text limit i m (rw a at s) h)
+key_values_unique one (x ∷ xs) [] before text limit i j k (m, n, p, h, l, c, g, r) b s t = absurd (no_key_value_at x text limit i m (rw b at t) h)
+key_values_unique one (x ∷ xs) (y ∷ ys) before text limit i j k (m, n, p, h, t, c, g, r) (m', n', p', h', t', c', g', r') s s' =
+    let u = key_value_unique one y x text limit i m' m h' h in
     let e : n' ≡ n = tail_unique text m n' n (rw u.1 at t') t in
     let f : p' ≡ p = gap_unique text n p' p (rw e at g') g in
-    let v = events_unique one xs ys (before ++ (x ∷ [])) text limit p j k r (rw (f, u.0) at r') s s' in
+    let v = key_values_unique one xs ys (before ++ (x ∷ [])) text limit p j k r (rw (f, u.0) at r') s s' in
     (rw (u.0, v.0) refl, v.1)
 
-pub lines_unique : OneValue → (es fs : List Event) (text : List ℕ) (limit i j k : ℕ) → SpellsLines es text limit i j → SpellsLines fs text limit i k → Stops text j → Stops text k → (es ≡ fs) × (j ≡ k)
+pub lines_unique : OneValue → (es fs : List KeyValue) (text : List ℕ) (limit i j k : ℕ) → SpellsLines es text limit i j → SpellsLines fs text limit i k → Stops text j → Stops text k → (es ≡ fs) × (j ≡ k)
 lines_unique one es fs text limit i j k (m, g, a) (n, h, b) s t =
-    let e : n ≡ m = gap_unique text i n m h g in events_unique one es fs [] text limit m j k a (rw e at b) s t
+    let e : n ≡ m = gap_unique text i n m h g in key_values_unique one es fs [] text limit m j k a (rw e at b) s t
 
-events_excluded : OneValue → ValueOrFault → (text : List ℕ) (limit : ℕ) {before : List Event} {i : ℕ} {e : Fault} → StuckEvents text limit before i e → (es : List Event) (j : ℕ) → SpellsEvents es before text limit i j
+key_values_excluded : OneValue → ValueOrFault → (text : List ℕ) (limit : ℕ) {before : List KeyValue} {i : ℕ} {e : Fault} → StuckKeyValues text limit before i e → (es : List KeyValue) (j : ℕ) → SpellsKeyValues es before text limit i j
     → Stops text j → ⊥
-events_excluded one none text limit (in_line before i e l other r) [] j a (inl s) = omega (arith, a, s, l)
-events_excluded one none text limit (in_line before i e l other r) [] j a (inr s) = not_here (get_or text i 0) 91 (rw a at s) other
-events_excluded one none text limit (in_line before i e l other r) (x ∷ xs) j (m, n, k, h, t, c, g, rest) s = event_excluded none text limit i e r x m h
-events_excluded one none text limit (no_newline before i m y e h r) [] j a s = no_event_at y text limit i m (rw a at s) h
-events_excluded one none text limit (no_newline before i m y e h r) (x ∷ xs) j (m', n, k, h', t, c, g, rest) s =
-    let u = event_unique one x y text limit i m' m h' h in tail_or_stuck text m n e (rw u.1 at t) r
-events_excluded one none text limit (crossing before i m n y e h t c) [] j a s = no_event_at y text limit i m (rw a at s) h
-events_excluded one none text limit (crossing before i m n y e h t c) (x ∷ xs) j (m', n', k, h', t', clear, g, rest) s =
-    let u = event_unique one x y text limit i m' m h' h in clear_crossing before y e (rw u.0 at clear) c
-events_excluded one none text limit (line_on before i m n k y e h t c g r) [] j a s = no_event_at y text limit i m (rw a at s) h
-events_excluded one none text limit (line_on before i m n k y e h t c g r) (x ∷ xs) j (m', n', k', h', t', c', g', rest) s =
-    let u = event_unique one x y text limit i m' m h' h in
+key_values_excluded one none text limit (in_line before i e l other r) [] j a (inl s) = omega (arith, a, s, l)
+key_values_excluded one none text limit (in_line before i e l other r) [] j a (inr s) = not_here (get_or text i 0) 91 (rw a at s) other
+key_values_excluded one none text limit (in_line before i e l other r) (x ∷ xs) j (m, n, k, h, t, c, g, rest) s = key_value_excluded none text limit i e r x m h
+key_values_excluded one none text limit (no_newline before i m y e h r) [] j a s = no_key_value_at y text limit i m (rw a at s) h
+key_values_excluded one none text limit (no_newline before i m y e h r) (x ∷ xs) j (m', n, k, h', t, c, g, rest) s =
+    let u = key_value_unique one x y text limit i m' m h' h in tail_or_stuck text m n e (rw u.1 at t) r
+key_values_excluded one none text limit (crossing before i m n y e h t c) [] j a s = no_key_value_at y text limit i m (rw a at s) h
+key_values_excluded one none text limit (crossing before i m n y e h t c) (x ∷ xs) j (m', n', k, h', t', clear, g, rest) s =
+    let u = key_value_unique one x y text limit i m' m h' h in clear_crossing before y e (rw u.0 at clear) c
+key_values_excluded one none text limit (line_on before i m n k y e h t c g r) [] j a s = no_key_value_at y text limit i m (rw a at s) h
+key_values_excluded one none text limit (line_on before i m n k y e h t c g r) (x ∷ xs) j (m', n', k', h', t', c', g', rest) s =
+    let u = key_value_unique one x y text limit i m' m h' h in
     let f : n' ≡ n = tail_unique text m n' n (rw u.1 at t') t in
     let w : k' ≡ k = gap_unique text n k' k (rw f at g') g in
-    events_excluded one none text limit {before = before ++ (y ∷ [])} {i = k} {e = e} r xs j (rw (w, u.0) at rest) s
+    key_values_excluded one none text limit {before = before ++ (y ∷ [])} {i = k} {e = e} r xs j (rw (w, u.0) at rest) s
 
-pub lines_excluded : OneValue → ValueOrFault → (text : List ℕ) (limit i : ℕ) (e : Fault) → StuckLines text limit i e → (es : List Event) (j : ℕ) → SpellsLines es text limit i j → Stops text j → ⊥
+pub lines_excluded : OneValue → ValueOrFault → (text : List ℕ) (limit i : ℕ) (e : Fault) → StuckLines text limit i e → (es : List KeyValue) (j : ℕ) → SpellsLines es text limit i j → Stops text j → ⊥
 lines_excluded one none text limit i e (k, g, r) es j (m, h, a) s =
-    let f : m ≡ k = gap_unique text i m k h g in events_excluded one none text limit {before = []} {i = k} {e = e} r es j (rw f at a) s
+    let f : m ≡ k = gap_unique text i m k h g in key_values_excluded one none text limit {before = []} {i = k} {e = e} r es j (rw f at a) s
 
 -- ---- headers
 
-opens_byte : (b : Bool) (text : List ℕ) (i j : ℕ) → Opens b text i j → get_or text i 0 ≡ 91
+opens_byte : (b : Bool) (text : List ℕ) (i j : ℕ) → OpensHeader b text i j → get_or text i 0 ≡ 91
 opens_byte false text i j h = h.0
 opens_byte true text i j h = h.0
 
-pub opens_unique : (b c : Bool) (text : List ℕ) (i j k : ℕ) → Opens b text i j → Opens c text i k → (b ≡ c) × (j ≡ k)
+pub opens_unique : (b c : Bool) (text : List ℕ) (i j k : ℕ) → OpensHeader b text i j → OpensHeader c text i k → (b ≡ c) × (j ≡ k)
 opens_unique false false text i j k a b = (refl, a.2 ∙ sym b.2)
 opens_unique false true text i j k a b = absurd (not_here (get_or text (i + 1) 0) 91 b.1 a.1)
 opens_unique true false text i j k a b = absurd (not_here (get_or text (i + 1) 0) 91 a.1 b.1)
 opens_unique true true text i j k a b = (refl, a.2 ∙ sym b.2)
 
-pub shuts_unique : (b : Bool) (text : List ℕ) (i j k : ℕ) → Shuts b text i j → Shuts b text i k → j ≡ k
+pub shuts_unique : (b : Bool) (text : List ℕ) (i j k : ℕ) → ClosesHeader b text i j → ClosesHeader b text i k → j ≡ k
 shuts_unique false text i j k a b = a.1 ∙ sym b.1
 shuts_unique true text i j k a b = a.2 ∙ sym b.2
 
-pub shuts_or_none : (b : Bool) (text : List ℕ) (i j : ℕ) (e : Fault) → Shuts b text i j → NoShuts b text i e → ⊥
+pub shuts_or_none : (b : Bool) (text : List ℕ) (i j : ℕ) (e : Fault) → ClosesHeader b text i j → NoClosing b text i e → ⊥
 shuts_or_none false text i j e a n = not_here (get_or text i 0) 93 a.0 n.0
 shuts_or_none true text i j e a (inl n) = not_here (get_or text i 0) 93 a.0 n.0
 shuts_or_none true text i j e a (inr n) = not_here (get_or text (i + 1) 0) 93 a.1 n.1.0
 
-pub front_unique : (ps qs : List Part) (b c : Bool) (text : List ℕ) (limit i j k : ℕ) → HeaderFront ps b text limit i j → HeaderFront qs c text limit i k → (ps ≡ qs) × (b ≡ c) × (j ≡ k)
+pub front_unique : (ps qs : List SimpleKey) (b c : Bool) (text : List ℕ) (limit i j k : ℕ) → HeaderFront ps b text limit i j → HeaderFront qs c text limit i k → (ps ≡ qs) × (b ≡ c) × (j ≡ k)
 front_unique ps qs b c text limit i j k x y =
     let o = opens_unique b c text i x.inside y.inside x.opens y.opens in
     let s : x.start ≡ y.start = run_unique is_blank text x.inside x.start y.start x.before (rw (sym o.1) at y.before) in
     let d = dotted_unique ps qs text x.start x.end y.end x.key (rw (sym s) at y.key) in
     (d.0, o.0, run_unique is_blank text x.end j k x.behind (rw (sym d.1) at y.behind))
 
-pub header_unique : (ps qs : List Part) (b c : Bool) (text : List ℕ) (limit i j k : ℕ) → SpellsHeader ps b text limit i j → SpellsHeader qs c text limit i k → (ps ≡ qs) × (b ≡ c) × (j ≡ k)
+pub header_unique : (ps qs : List SimpleKey) (b c : Bool) (text : List ℕ) (limit i j k : ℕ) → SpellsHeader ps b text limit i j → SpellsHeader qs c text limit i k → (ps ≡ qs) × (b ≡ c) × (j ≡ k)
 header_unique ps qs b c text limit i j k x y =
     let f = front_unique ps qs b c text limit i x.close y.close x.front y.front in
     let e : x.end ≡ y.end = shuts_unique b text x.close x.end y.end x.shuts (rw (sym f.1, sym f.2) at y.shuts) in
     (f.0, f.1, tail_unique text x.end j k x.rest (rw (sym e) at y.rest))
 
-header_byte : (ps : List Part) (b : Bool) (text : List ℕ) (limit i j : ℕ) → SpellsHeader ps b text limit i j → get_or text i 0 ≡ 91
+header_byte : (ps : List SimpleKey) (b : Bool) (text : List ℕ) (limit i j : ℕ) → SpellsHeader ps b text limit i j → get_or text i 0 ≡ 91
 header_byte ps b text limit i j h = opens_byte b text i h.front.inside h.front.opens
 
-pub header_key_excluded : (text : List ℕ) (limit : ℕ) {n i : ℕ} {e : Fault} → StuckHeaderKey text limit n i e → (ss : List Part) (j : ℕ) → Dotted ss text i j → n + length ss ≤ limit → ⊥
+pub header_key_excluded : (text : List ℕ) (limit : ℕ) {n i : ℕ} {e : Fault} → StuckHeaderKey text limit n i e → (ss : List SimpleKey) (j : ℕ) → SpellsKey ss text i j → n + length ss ≤ limit → ⊥
 header_key_excluded text limit h [] j a l = a
-header_key_excluded text limit (no_header_part n i e h) (s ∷ ss) j (m, key, rest) l = key_or_none s text i m e key h
-header_key_excluded text limit (header_too_many n i m s k o) (t ∷ ts) j a l = omega (arith, o, l)
+header_key_excluded text limit (header_part_here n i e (inl h)) (s ∷ ss) j (m, key, rest) l = key_or_none s text i m e key h
+header_key_excluded text limit (header_part_here n i e (inr (s, m, k, o, is))) (t ∷ ts) j a l = omega (arith, o, l)
 header_key_excluded text limit (header_on n i m p s e k few d h) (t ∷ []) j (m', key, rest) l =
     let u = key_unique t s text i m' m key k in dot_or_none text m p d (rw u.1 at rest.1)
 header_key_excluded text limit (header_on n i m p s e k few d h) (t ∷ t' ∷ ts) j (m', key, (p', q, d', key', rest)) l =
@@ -203,7 +203,7 @@ header_key_excluded text limit (header_on n i m p s e k few d h) (t ∷ t' ∷ t
     let f : p' ≡ p = dot_unique text m p' p (rw u.1 at d') d in
     header_key_excluded text limit {n = n + 1} {i = p} {e = e} h (t' ∷ ts) j (q, (rw f at key'), rest) (omega (arith, l))
 
-pub header_excluded : (text : List ℕ) (limit i : ℕ) (e : Fault) → StuckHeader text limit i e → (ps : List Part) (b : Bool) (j : ℕ) → SpellsHeader ps b text limit i j → ⊥
+pub header_excluded : (text : List ℕ) (limit i : ℕ) (e : Fault) → StuckHeader text limit i e → (ps : List SimpleKey) (b : Bool) (j : ℕ) → SpellsHeader ps b text limit i j → ⊥
 header_excluded text limit i e (header_key i' m k array e' opens run r) ps b j h =
     let o = opens_unique b array text i h.front.inside m h.front.opens opens in
     let s : h.front.start ≡ k = run_unique is_blank text m h.front.start k (rw o.1 at h.front.before) run in
@@ -235,19 +235,19 @@ stuck_byte text limit i e (section_on i' j b e' s r) = header_byte b.header b.ar
 not_at_end : (text : List ℕ) (i : ℕ) → i ≡ length text → get_or text i 0 ≡ 91 → ⊥
 not_at_end text i e h = let l = read_within text i (omega (arith, h)) in omega (arith, e, l)
 
-block_same : (b c : Block) → b.header ≡ c.header → b.array ≡ c.array → b.header_span ≡ c.header_span → b.extent ≡ c.extent → b.events ≡ c.events → b ≡ c
+block_same : (b c : Block) → b.header ≡ c.header → b.array ≡ c.array → b.header_span ≡ c.header_span → b.extent ≡ c.extent → b.key_values ≡ c.key_values → b ≡ c
 block_same b c h a s e v =
-    let x : record { header = b.header; array = b.array; header_span = b.header_span; extent = b.extent; events = b.events }
-    ≡ record { header = c.header; array = c.array; header_span = c.header_span; extent = c.extent; events = c.events } = rw (h, a, s, e, v) refl in x
+    let x : record { header = b.header; array = b.array; header_span = b.header_span; extent = b.extent; key_values = b.key_values }
+    ≡ record { header = c.header; array = c.array; header_span = c.header_span; extent = c.extent; key_values = c.key_values } = rw (h, a, s, e, v) refl in x
 
-last_same : (m n : ℕ) (es fs : List Event) → m ≡ n → es ≡ fs → last_end m es ≡ last_end n fs
+last_same : (m n : ℕ) (es fs : List KeyValue) → m ≡ n → es ≡ fs → last_end m es ≡ last_end n fs
 last_same m n es fs e f = rw (e, f) refl
 
 pub section_unique : OneValue → (b c : Block) (text : List ℕ) (limit i j k : ℕ) → SpellsSection b text limit i j → SpellsSection c text limit i k → Stops text j → Stops text k → (b ≡ c) × (j ≡ k)
 section_unique one b c text limit i j k x y s t =
     let h = header_unique b.header c.header b.array c.array text limit i x.end y.end x.header y.header in
-    let l = lines_unique one b.events c.events text limit x.end j k x.lines (rw (sym h.2) at y.lines) s t in (
-      block_same b c h.0 h.1 (x.header_span ∙ (span_to i x.end y.end h.2 ∙ sym y.header_span)) (x.extent ∙ (span_to i _ _ (last_same x.end y.end b.events c.events h.2 l.0) ∙ sym y.extent)) l.0,
+    let l = lines_unique one b.key_values c.key_values text limit x.end j k x.lines (rw (sym h.2) at y.lines) s t in (
+      block_same b c h.0 h.1 (x.header_span ∙ (span_to i x.end y.end h.2 ∙ sym y.header_span)) (x.extent ∙ (span_to i _ _ (last_same x.end y.end b.key_values c.key_values h.2 l.0) ∙ sym y.extent)) l.0,
       l.1,
     )
 
@@ -265,7 +265,7 @@ sections_excluded one none text limit (in_header i e r) (b ∷ bs) (j, s, q) = h
 sections_excluded one none text limit (in_section i m array ps e h r) [] a = not_at_end text i a (header_byte ps array text limit i m h)
 sections_excluded one none text limit (in_section i m array ps e h r) (b ∷ bs) (j, s, q) =
     let u = header_unique b.header ps b.array array text limit i s.end m s.header h in
-    lines_excluded one none text limit m e r b.events j (rw u.2 at s.lines) (sections_stop bs text limit j q)
+    lines_excluded one none text limit m e r b.key_values j (rw u.2 at s.lines) (sections_stop bs text limit j q)
 sections_excluded one none text limit (section_on i k c e t r) [] a = not_at_end text i a (header_byte c.header c.array text limit i t.end t.header)
 sections_excluded one none text limit (section_on i k c e t r) (b ∷ bs) (j, s, q) =
     let u = section_unique one b c text limit i j k s t (sections_stop bs text limit j q) (inr (stuck_byte text limit k e r)) in

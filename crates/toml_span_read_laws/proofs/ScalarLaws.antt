@@ -14,7 +14,7 @@ use Rattle.toml_span_lex.proofs.OneToken.{token_unique}
 use Rattle.toml_span_tree.specs.Date.{IsDateText}
 use Rattle.toml_span_tree.specs.Node.{Scalar, text as text_scalar, integer, float, boolean, datetime, finite, infinite, not_a_number}
 use Rattle.toml_span_read.specs.declared.fault.Fault.{Fault}
-use Rattle.toml_span_read.specs.Faults.{IsTokenFault, begins_bare, begins_number, BeginsNumber, IsOther, IsUnquoted, NoBare}
+use Rattle.toml_span_read.specs.Faults.{IsTokenFault, begins_bare, begins_number, BeginsNumber, IsOtherWord, IsUnquoted, NoBare}
 use Rattle.toml_span_read.specs.Keys.{opens_string}
 use Rattle.std.specs.Char.{is_ascii_digit}
 use Rattle.toml_span_read.specs.Dates.{is_date_byte, begins_date, continues_date, IsCandidate}
@@ -322,7 +322,7 @@ truth_or_number b t i j run (d, inl h) = truth_clash begins_number b t i j refl 
 truth_or_number b t i j run (d, inr (k, inl r)) = truth_letters b (inl (same_words t _ _ i j k run r))
 truth_or_number b t i j run (d, inr (k, inr r)) = truth_letters b (inr (same_words t _ _ i j k run r))
 
-truth_or_other : (b : Bool) (word : List ℕ) → truth_text b ≡ word → IsOther word → ⊥
+truth_or_other : (b : Bool) (word : List ℕ) → truth_text b ≡ word → IsOtherWord word → ⊥
 truth_or_other true word e o = o.no_true (sym e)
 truth_or_other false word e o = o.no_false (sym e)
 

@@ -19,12 +19,12 @@ use Rattle.toml_span_read.specs.declared.fault.Due.TheVariants as dues
 use Rattle.toml_span_read.specs.declared.fault.Found.TheVariants as founds
 use Rattle.toml_span_read.specs.declared.fault.Fault.{Fault}
 use Rattle.toml_span_read.specs.declared.fault.FaultKind.TheVariants as kinds
-use Rattle.toml_span_read.specs.Faults.{fault_at, token_fault, NoKey, found_of, IsTokenFault, IsWanted, IsNoValue, wanted_fault}
+use Rattle.toml_span_read.specs.Faults.{fault_at, token_fault, NoSimpleKey, found_of, IsTokenFault, IsWanted, IsNoValue, wanted_fault}
 use Rattle.toml_span_read.specs.code.Gaps.{Further, DotGives}
 use Rattle.toml_span_read.specs.Gaps.{Dot, NoDot}
 use Rattle.toml_span_read_laws.specs.code.Judged.{Judged}
-use Rattle.toml_span_read.specs.Keys.{Part, IsKey, opens_string, Onward, Dotted}
-use Rattle.toml_span_read.specs.Stuck.{StuckOnward, StuckDotted, StuckHeaderKey, no_part, too_many, dotted_on, no_first, onward, no_header_part, header_too_many, header_on}
+use Rattle.toml_span_read.specs.Keys.{SimpleKey, SpellsSimpleKey, opens_string, Onward, SpellsKey}
+use Rattle.toml_span_read.specs.Stuck.{StuckOnward, StuckKey, StuckHeaderKey, part_here, dotted_on, no_first, onward, header_part_here, header_on}
 use Rattle.toml_span_read.proofs.NumberLemmas.{bool_cases}
 use Rattle.toml_span_read.proofs.Places.{run_some}
 
@@ -88,7 +88,7 @@ string_stands text i u o (inr (inr (j, e, h))) = inr (token_fault e, (j, e, h, r
 -- ---- keys
 
 abbrev pub KeyAt : List ℕ → ℕ → Type 0
-KeyAt text i = ((j : ℕ) × (p : Part) × IsKey p text i j × Further text i j) ⊎ ((fault : Fault) × NoKey text i fault)
+KeyAt text i = ((j : ℕ) × (p : SimpleKey) × SpellsSimpleKey p text i j × Further text i j) ⊎ ((fault : Fault) × NoSimpleKey text i fault)
 
 quoted_key : (text : List ℕ) (i j : ℕ) (s : Span) (src v : List ℕ) (m : Bool) → IsString text i j s src v m → Further text i j → KeyAt text i
 quoted_key text i j s src v true h f =
@@ -117,7 +117,7 @@ dot_sum text i (Some j, h) = inr (j, h.0, h.1)
 
 abbrev OnwardAt : List ℕ → ℕ → ℕ → ℕ → Type 0
 OnwardAt text limit n m =
-    ((j : ℕ) × (ss : List Part) × Onward ss text m j × (n + length ss ≤ limit) × (m ≤ j) × IsCharBoundary text j) ⊎ ((fault : Fault) × StuckOnward text limit n m fault)
+    ((j : ℕ) × (ss : List SimpleKey) × Onward ss text m j × (n + length ss ≤ limit) × (m ≤ j) × IsCharBoundary text j) ⊎ ((fault : Fault) × StuckOnward text limit n m fault)
 
 onward_stands : (fuel : ℕ) (text : List ℕ) (limit n m : ℕ) → IsUtf8 text → AllJudged text → length text < m + fuel → n ≤ limit → IsCharBoundary text m → OnwardAt text limit n m
 onward_stands zero text limit n m u all l few b = absurd (omega (arith, l, b.0))
@@ -126,10 +126,10 @@ onward_stands (suc fuel) text limit n m u all l few b =
       | inl none ↦ inl (m, [], (refl, none), omega (arith, few), omega arith, b)
       | inr d ↦
           elim (key_stands text d.0 u (all d.0 d.2.boundary)) [
-            | inr x ↦ inr (x.0, no_part n m d.0 x.0 d.1 x.1)
+            | inr x ↦ inr (x.0, part_here n m d.0 x.0 d.1 (inl x.1))
             | inl k ↦
                 elim (cases_lt n limit) [
-                  | inr past ↦ inr (fault_at kinds.ExceededDepthLimit d.0, too_many n m d.0 k.0 k.1 d.1 k.2 past)
+                  | inr past ↦ inr (fault_at kinds.ExceededDepthLimit d.0, part_here n m d.0 (fault_at kinds.ExceededDepthLimit d.0) d.1 (inr (k.1, k.0, k.2, past, refl)))
                   | inl under ↦
                       elim (onward_stands fuel text limit (n + 1) k.0 u all (omega (arith, l, d.2.on, k.3.on)) (omega (arith, under)) k.3.boundary) [
                         | inl o ↦ inl (o.0, k.1 ∷ o.1, (d.0, k.0, d.1, k.2, o.2), omega (arith, o.3), omega (arith, d.2.on, k.3.on, o.4), o.5)
@@ -142,7 +142,7 @@ onward_stands (suc fuel) text limit n m u all l few b =
 -- a dotted key within the limit, with its end further on, or where one is stuck
 abbrev pub DottedAt : List ℕ → ℕ → ℕ → Type 0
 DottedAt text limit i =
-    ((j : ℕ) × (ss : List Part) × Dotted ss text i j × (length ss ≤ limit) × Further text i j) ⊎ ((fault : Fault) × StuckDotted text limit i fault)
+    ((j : ℕ) × (ss : List SimpleKey) × SpellsKey ss text i j × (length ss ≤ limit) × Further text i j) ⊎ ((fault : Fault) × StuckKey text limit i fault)
 
 pub dotted_stands : (text : List ℕ) (limit i : ℕ) → IsUtf8 text → AllJudged text → 1 ≤ limit → IsCharBoundary text i → DottedAt text limit i
 dotted_stands text limit i u all some b =
@@ -159,9 +159,9 @@ dotted_stands text limit i u all some b =
 
 abbrev HeaderKeyAt : List ℕ → ℕ → ℕ → ℕ → Type 0
 HeaderKeyAt text limit n i =
-    ((j : ℕ) × (ss : List Part) × Dotted ss text i j × (n + length ss ≤ limit) × Further text i j) ⊎ ((fault : Fault) × StuckHeaderKey text limit n i fault)
+    ((j : ℕ) × (ss : List SimpleKey) × SpellsKey ss text i j × (n + length ss ≤ limit) × Further text i j) ⊎ ((fault : Fault) × StuckHeaderKey text limit n i fault)
 
-one_more : (s : Part) (ss : List Part) (text : List ℕ) (i m p j : ℕ) → IsKey s text i m → Dot text m p → Dotted ss text p j → Dotted (s ∷ ss) text i j
+one_more : (s : SimpleKey) (ss : List SimpleKey) (text : List ℕ) (i m p j : ℕ) → SpellsSimpleKey s text i m → Dot text m p → SpellsKey ss text p j → SpellsKey (s ∷ ss) text i j
 one_more s [] text i m p j k d h = absurd h
 one_more s (t ∷ ts) text i m p j k d (q, l, h) = (m, k, (p, q, d, l, h))
 
@@ -169,10 +169,10 @@ pub header_key_stands : (fuel : ℕ) (text : List ℕ) (limit n i : ℕ) → IsU
 header_key_stands zero text limit n i u all l b = absurd (omega (arith, l, b.0))
 header_key_stands (suc fuel) text limit n i u all l b =
     elim (key_stands text i u (all i b)) [
-      | inr x ↦ inr (x.0, no_header_part n i x.0 x.1)
+      | inr x ↦ inr (x.0, header_part_here n i x.0 (inl x.1))
       | inl k ↦
           elim (cases_lt n limit) [
-            | inr past ↦ inr (record { kind = kinds.ExceededDepthLimit; span = k.1.span }, header_too_many n i k.0 k.1 k.2 past)
+            | inr past ↦ inr (record { kind = kinds.ExceededDepthLimit; span = k.1.span }, header_part_here n i (record { kind = kinds.ExceededDepthLimit; span = k.1.span }) (inr (k.1, k.0, k.2, past, refl)))
             | inl under ↦
                 elim (dot_sum text k.0 (all k.0 k.3.boundary).dot) [
                   | inl none ↦ inl (k.0, k.1 ∷ [], (k.0, k.2, (refl, none)), omega (arith, under), k.3)

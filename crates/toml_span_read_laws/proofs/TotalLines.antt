@@ -7,13 +7,13 @@ use Rattle.toml_span_lex.specs.Bytes.{is_blank, MaximalRun}
 use Rattle.toml_span_lex.specs.Tokenizer.{FirstPlace}
 use Rattle.toml_span_read.specs.declared.fault.Due.TheVariants as dues
 use Rattle.toml_span_read.specs.declared.fault.Fault.{Fault}
-use Rattle.toml_span_read.specs.Data.{Event, Block}
+use Rattle.toml_span_read.specs.Data.{KeyValue, Block}
 use Rattle.toml_span_read.specs.code.Gaps.{Further, EqualsGives, TailGives}
 use Rattle.toml_span_read.specs.Gaps.{Equals, Tail, NoTail}
-use Rattle.toml_span_read.specs.Grammar.{from_to, SpellsEvent, SpellsEvents, SpellsLines, Opens, Shuts, HeaderFront, SpellsHeader, last_end, SpellsSection, first_block, SpellsSections, SpellsDocument}
-use Rattle.toml_span_read.specs.Keys.{Part}
-use Rattle.toml_span_read.specs.Stuck.{StuckEvent, line_key, line_equals, line_value, StuckEvents, in_line, no_newline, crossing, line_on, StuckLines, StuckHeader, header_key, header_close, header_rest, StuckSections, in_header, in_section, section_on, StuckDocument, before_headers, behind_header}
-use Rattle.toml_span_read.specs.Faults.{StuckTail, NoShuts}
+use Rattle.toml_span_read.specs.Grammar.{from_to, SpellsKeyValue, SpellsKeyValues, SpellsLines, OpensHeader, ClosesHeader, HeaderFront, SpellsHeader, last_end, SpellsSection, first_block, SpellsSections, SpellsDocument}
+use Rattle.toml_span_read.specs.Keys.{SimpleKey}
+use Rattle.toml_span_read.specs.Stuck.{StuckKeyValue, line_key, line_equals, line_value, StuckKeyValues, in_line, no_newline, crossing, line_on, StuckLines, StuckHeader, header_key, header_close, header_rest, StuckSections, in_header, in_section, section_on, StuckDocument, before_headers, behind_header}
+use Rattle.toml_span_read.specs.Faults.{StuckTail, NoClosing}
 use Rattle.toml_span_read_laws.proofs.EarlierLaws.{every_key}
 use Rattle.toml_span_read.proofs.NumberLemmas.{bool_cases, byte_is}
 use Rattle.toml_span_read.proofs.Places.{behind_byte}
@@ -41,16 +41,16 @@ tail_stands text i all b =
 
 -- ---- assignments
 
-abbrev EventAt : List ℕ → ℕ → ℕ → Type 0
-EventAt text limit i = ((j : ℕ) × (e : Event) × SpellsEvent e text limit i j × Further text i j) ⊎ ((fault : Fault) × StuckEvent text limit i fault)
+abbrev KeyValueAt : List ℕ → ℕ → ℕ → Type 0
+KeyValueAt text limit i = ((j : ℕ) × (e : KeyValue) × SpellsKeyValue e text limit i j × Further text i j) ⊎ ((fault : Fault) × StuckKeyValue text limit i fault)
 
-event_stands : (text : List ℕ) (limit i : ℕ) → IsUtf8 text → AllJudged text → 1 ≤ limit → IsCharBoundary text i → EventAt text limit i
-event_stands text limit i u all some b =
+key_value_stands : (text : List ℕ) (limit i : ℕ) → IsUtf8 text → AllJudged text → 1 ≤ limit → IsCharBoundary text i → KeyValueAt text limit i
+key_value_stands text limit i u all some b =
     elim (dotted_stands text limit i u all some b) [
       | inr x ↦ inr (x.0, line_key i x.0 x.1)
       | inl k ↦
           elim (equals_sum text k.0 (all k.0 k.4.boundary).equals) [
-            | inr n ↦ let w = wanted_stands text n.0 dues.Equals (all n.0 n.3).stands in inr (w.0, line_equals i k.0 n.0 k.1 w.0 k.2 k.3 n.1 n.2 w.1)
+            | inr n ↦ let w = wanted_stands text n.0 dues.Equals (all n.0 n.3).stands in inr (w.0, line_equals i k.0 n.0 k.1 w.0 k.2 k.3 n.1 (n.2, w.1))
             | inl s ↦
                 elim (value_or_stuck text limit (length k.1) s.0 u all some s.2.boundary) [
                   | inr x ↦ inr (x.0, line_value i k.0 s.0 k.1 x.0 k.2 k.3 s.1 x.1)
@@ -69,21 +69,21 @@ event_stands text limit i u all some b =
 abbrev EndsLines : List ℕ → ℕ → Type 0
 EndsLines text i = (i ≡ length text) ⊎ (get_or text i 0 ≡ 91)
 
-abbrev EventsAt : List ℕ → ℕ → List Event → ℕ → Type 0
-EventsAt text limit earlier i =
-    ((j : ℕ) × (es : List Event) × SpellsEvents es earlier text limit i j × (i ≤ j) × IsCharBoundary text j × EndsLines text j)
-    ⊎ ((fault : Fault) × StuckEvents text limit earlier i fault)
+abbrev KeyValuesAt : List ℕ → ℕ → List KeyValue → ℕ → Type 0
+KeyValuesAt text limit earlier i =
+    ((j : ℕ) × (es : List KeyValue) × SpellsKeyValues es earlier text limit i j × (i ≤ j) × IsCharBoundary text j × EndsLines text j)
+    ⊎ ((fault : Fault) × StuckKeyValues text limit earlier i fault)
 
-events_stand : (fuel : ℕ) (text : List ℕ) (limit : ℕ) (earlier : List Event) (i : ℕ) → IsUtf8 text → AllJudged text → 1 ≤ limit → length text < i + fuel → IsCharBoundary text i → EventsAt text limit earlier i
-events_stand zero text limit earlier i u all some l b = absurd (omega (arith, l, b.0))
-events_stand (suc fuel) text limit earlier i u all some l b =
+key_values_stand : (fuel : ℕ) (text : List ℕ) (limit : ℕ) (earlier : List KeyValue) (i : ℕ) → IsUtf8 text → AllJudged text → 1 ≤ limit → length text < i + fuel → IsCharBoundary text i → KeyValuesAt text limit earlier i
+key_values_stand zero text limit earlier i u all some l b = absurd (omega (arith, l, b.0))
+key_values_stand (suc fuel) text limit earlier i u all some l b =
     elim (cases_lt i (length text)) [
       | inr past ↦ inl (i, [], refl, omega arith, b, inl (omega (arith, past, b.0)))
       | inl under ↦
           elim (bool_cases (get_or text i 0 == 91)) [
             | inl t ↦ inl (i, [], refl, omega arith, b, inr (byte_is _ _ t))
             | inr t ↦
-                elim (event_stands text limit i u all some b) [
+                elim (key_value_stands text limit i u all some b) [
                   | inr x ↦ inr (x.0, in_line earlier i x.0 under t x.1)
                   | inl e ↦
                       elim (tail_stands text e.0 all e.3.boundary) [
@@ -93,7 +93,7 @@ events_stand (suc fuel) text limit earlier i u all some l b =
                               | inr x ↦ inr (x.0, crossing earlier i e.0 line.0 e.1 x.0 e.2 line.1 x.1)
                               | inl clear ↦
                                   let g = (all line.0 line.3).gap in
-                                  elim (events_stand fuel text limit (earlier ++ (e.1 ∷ [])) g.0 u all some (omega (arith, l, e.3.on, line.2, g.1.forward)) g.2) [
+                                  elim (key_values_stand fuel text limit (earlier ++ (e.1 ∷ [])) g.0 u all some (omega (arith, l, e.3.on, line.2, g.1.forward)) g.2) [
                                     | inl r ↦ inl (r.0, e.1 ∷ r.1, (e.0, line.0, g.0, e.2, line.1, clear, g.1, r.2), omega (arith, e.3.on, line.2, g.1.forward, r.3), r.4, r.5)
                                     | inr x ↦ inr (x.0, line_on earlier i e.0 line.0 g.0 e.1 x.0 e.2 line.1 clear g.1 x.1)
                                   ]
@@ -105,13 +105,13 @@ events_stand (suc fuel) text limit earlier i u all some l b =
 
 abbrev LinesAt : List ℕ → ℕ → ℕ → Type 0
 LinesAt text limit i =
-    ((j : ℕ) × (es : List Event) × SpellsLines es text limit i j × (i ≤ j) × IsCharBoundary text j × EndsLines text j)
+    ((j : ℕ) × (es : List KeyValue) × SpellsLines es text limit i j × (i ≤ j) × IsCharBoundary text j × EndsLines text j)
     ⊎ ((fault : Fault) × StuckLines text limit i fault)
 
 lines_stand : (text : List ℕ) (limit i : ℕ) → IsUtf8 text → AllJudged text → 1 ≤ limit → IsCharBoundary text i → LinesAt text limit i
 lines_stand text limit i u all some b =
     let g = (all i b).gap in
-    elim (events_stand (length text + 1) text limit [] g.0 u all some (omega arith) g.2) [
+    elim (key_values_stand (length text + 1) text limit [] g.0 u all some (omega arith) g.2) [
       | inl r ↦ inl (r.0, r.1, (g.0, g.1, r.2), omega (arith, g.1.forward, r.3), r.4, r.5)
       | inr x ↦ inr (x.0, (g.0, g.1, x.1))
     ]
@@ -119,7 +119,7 @@ lines_stand text limit i u all some b =
 -- ---- headers
 
 abbrev ShutsAt : Bool → List ℕ → ℕ → Type 0
-ShutsAt many text i = ((j : ℕ) × Shuts many text i j × (i ≤ j) × IsCharBoundary text j) ⊎ ((fault : Fault) × NoShuts many text i fault)
+ShutsAt many text i = ((j : ℕ) × ClosesHeader many text i j × (i ≤ j) × IsCharBoundary text j) ⊎ ((fault : Fault) × NoClosing many text i fault)
 
 shuts_stand : (many : Bool) (text : List ℕ) (i : ℕ) → IsUtf8 text → AllJudged text → IsCharBoundary text i → ShutsAt many text i
 shuts_stand false text i u all b =
@@ -144,9 +144,9 @@ shuts_stand true text i u all b =
 
 abbrev HeaderAt : List ℕ → ℕ → ℕ → Type 0
 HeaderAt text limit i =
-    ((j : ℕ) × (ps : List Part) × (many : Bool) × SpellsHeader ps many text limit i j × (i < j) × IsCharBoundary text j) ⊎ ((fault : Fault) × StuckHeader text limit i fault)
+    ((j : ℕ) × (ps : List SimpleKey) × (many : Bool) × SpellsHeader ps many text limit i j × (i < j) × IsCharBoundary text j) ⊎ ((fault : Fault) × StuckHeader text limit i fault)
 
-header_inside : (text : List ℕ) (limit i m : ℕ) (many : Bool) → IsUtf8 text → AllJudged text → Opens many text i m → i < m → IsCharBoundary text m → HeaderAt text limit i
+header_inside : (text : List ℕ) (limit i m : ℕ) (many : Bool) → IsUtf8 text → AllJudged text → OpensHeader many text i m → i < m → IsCharBoundary text m → HeaderAt text limit i
 header_inside text limit i m many u all opens past b =
     let s = (all m b).blank in
     elim (header_key_stands (length text + 1) text limit 0 s.0 u all (omega arith) s.2) [
@@ -199,7 +199,7 @@ sections_stand (suc fuel) text limit i u all some l b (inr here) =
           elim (lines_stand text limit h.0 u all some h.5) [
             | inr x ↦ inr (x.0, in_section i h.0 h.2 h.1 x.0 h.3 x.1)
             | inl r ↦
-                let found : Block = record { header = h.1; array = h.2; header_span = from_to i h.0; extent = from_to i (last_end h.0 r.1); events = r.1 } in
+                let found : Block = record { header = h.1; array = h.2; header_span = from_to i h.0; extent = from_to i (last_end h.0 r.1); key_values = r.1 } in
                 let spelled : SpellsSection found text limit i r.0 = record { end = h.0; header = h.3; header_span = refl; lines = r.2; extent = refl } in
                 elim (sections_stand fuel text limit r.0 u all some (omega (arith, l, h.4, r.3)) r.4 r.5) [
                   | inl more ↦ inl (found ∷ more.0, (r.0, spelled, more.1))

@@ -12,17 +12,17 @@ use Rattle.toml_span_read.specs.declared.fault.Fault.{Fault}
 use Rattle.toml_span_read.specs.declared.fault.FaultKind.TheVariants as kinds
 use Rattle.toml_span_read.specs.declared.gaps.Behind.{Behind}
 use Rattle.toml_span_read.specs.declared.gaps.Behind.TheVariants as behind
-use Rattle.toml_span_read.specs.Data.{Node, node, scalar, array, inline, Items, no_items, item, Pairs, no_pairs, pair, Event}
+use Rattle.toml_span_read.specs.Data.{ParsedValue, parsed, scalar, array, inline, ParsedItems, no_items, item, ParsedPairs, no_pairs, pair, KeyValue}
 use Rattle.toml_span_read.specs.Dates.{begins_date}
 use Rattle.toml_span_read.specs.code.Dates.{DateGives}
 use Rattle.toml_span_read.specs.Faults.{fault_at, begins_bare, opens_nested, begins_number, NoBare}
-use Rattle.toml_span_read.specs.code.Gaps.{Further, BehindGives, SignGives}
-use Rattle.toml_span_read.specs.Gaps.{MaximalGap, Sign, Closes, Neither}
+use Rattle.toml_span_read.specs.code.Gaps.{Further, BehindGives, SeparatorGives}
+use Rattle.toml_span_read.specs.Gaps.{MaximalGap, Separator, Closes, Neither}
 use Rattle.toml_span_read.specs.Grammar.{from_to, IsScalar, Spells, SpellsItems, SpellsPairs, SpellsPair}
 use Rattle.toml_span_read_laws.specs.code.Judged.{Judged, NumberStands, EndsFurther}
 use Rattle.toml_span_read.specs.Keys.{opens_string}
 use Rattle.toml_span_read.specs.Numbers.{IsNumber}
-use Rattle.toml_span_read.specs.Stuck.{StuckValue, StuckItems, StuckPairs, StuckPair, no_value, no_string, too_deep, no_bare, in_array, in_inline, in_item, behind_item, item_on, in_pair, crosses, behind_pair, pair_on, in_key, no_equals, in_value}
+use Rattle.toml_span_read.specs.Stuck.{StuckValue, StuckItems, StuckPairs, StuckPair, value_here, in_array, in_inline, in_item, behind_item, item_on, in_pair, crosses, behind_pair, pair_on, in_key, no_equals, in_value}
 use Rattle.toml_span_read_laws.proofs.EarlierLaws.{every_key}
 use Rattle.toml_span_read.proofs.NumberLemmas.{bool_cases, byte_is}
 use Rattle.toml_span_read.proofs.Places.{run_some, behind_byte}
@@ -31,13 +31,13 @@ use Rattle.toml_span_read_laws.proofs.TotalKeys.{AllJudged, further_on, wanted_s
 -- ---- what is behind a form
 
 element_sum : (c : ℕ) (text : List ℕ) (i : ℕ) → (found : Behind) × BehindGives c text i found
-    → ((j : ℕ) × Sign 44 text i j × Further text i j) ⊎ (((j : ℕ) × Closes c text i j × Further text i j) ⊎ ((j : ℕ) × Neither c text i j × IsCharBoundary text j))
+    → ((j : ℕ) × Separator 44 text i j × Further text i j) ⊎ (((j : ℕ) × Closes c text i j × Further text i j) ⊎ ((j : ℕ) × Neither c text i j × IsCharBoundary text j))
 element_sum c text i (behind.Comma j, h) = inl (j, h.0, h.1)
 element_sum c text i (behind.Closed j, h) = inr (inl (j, h.0, h.1))
 element_sum c text i (behind.Neither j, h) = inr (inr (j, h.0, h.1))
 
-sign_sum : (c : ℕ) (text : List ℕ) (i : ℕ) → (found : Result ℕ ℕ) × SignGives c text i found
-    → ((j : ℕ) × Sign c text i j × Further text i j) ⊎ ((j : ℕ) × MaximalGap text i j × ((get_or text j 0 == c) ≡ false) × IsCharBoundary text j)
+sign_sum : (c : ℕ) (text : List ℕ) (i : ℕ) → (found : Result ℕ ℕ) × SeparatorGives c text i found
+    → ((j : ℕ) × Separator c text i j × Further text i j) ⊎ ((j : ℕ) × MaximalGap text i j × ((get_or text j 0 == c) ≡ false) × IsCharBoundary text j)
 sign_sum c text i (Ok j, h) = inl (j, h.0, h.1)
 sign_sum c text i (Err j, h) = inr (j, h.0, h.1, h.2)
 
@@ -129,33 +129,33 @@ bare_stands text i g bare =
 
 -- a value within the limit, with its end further on, or where one is stuck
 abbrev pub ValueAt : List ℕ → ℕ → ℕ → ℕ → Type 0
-ValueAt text limit d i = ((j : ℕ) × (v : Node) × Spells v text limit d i j × Further text i j) ⊎ ((fault : Fault) × StuckValue text limit d i fault)
+ValueAt text limit d i = ((j : ℕ) × (v : ParsedValue) × Spells v text limit d i j × Further text i j) ⊎ ((fault : Fault) × StuckValue text limit d i fault)
 
 abbrev ItemsAt : List ℕ → ℕ → ℕ → ℕ → Type 0
-ItemsAt text limit d i = ((j : ℕ) × (vs : Items) × SpellsItems vs text limit d i j × Further text i j) ⊎ ((fault : Fault) × StuckItems text limit d i fault)
+ItemsAt text limit d i = ((j : ℕ) × (vs : ParsedItems) × SpellsItems vs text limit d i j × Further text i j) ⊎ ((fault : Fault) × StuckItems text limit d i fault)
 
-abbrev PairsAt : List ℕ → ℕ → List Event → ℕ → ℕ → Type 0
-PairsAt text limit es d i = ((j : ℕ) × (ps : Pairs) × SpellsPairs ps es text limit d i j × Further text i j) ⊎ ((fault : Fault) × StuckPairs text limit es d i fault)
+abbrev PairsAt : List ℕ → ℕ → List KeyValue → ℕ → ℕ → Type 0
+PairsAt text limit es d i = ((j : ℕ) × (ps : ParsedPairs) × SpellsPairs ps es text limit d i j × Further text i j) ⊎ ((fault : Fault) × StuckPairs text limit es d i fault)
 
 abbrev PairAt : List ℕ → ℕ → ℕ → ℕ → Type 0
-PairAt text limit d i = ((j : ℕ) × (p : Event) × SpellsPair p text limit d i j × Further text i j) ⊎ ((fault : Fault) × StuckPair text limit d i fault)
+PairAt text limit d i = ((j : ℕ) × (p : KeyValue) × SpellsPair p text limit d i j × Further text i j) ⊎ ((fault : Fault) × StuckPair text limit d i fault)
 
 string_value : (text : List ℕ) (limit d i : ℕ) → IsUtf8 text → Judged text i → opens_string (get_or text i 0) ≡ true → ValueAt text limit d i
 string_value text limit d i u g o =
     elim (string_stands text i u o g.stands) [
-      | inr x ↦ inr (x.0, no_string d i x.0 o x.1)
+      | inr x ↦ inr (x.0, value_here d i x.0 (inr (inl (o, x.1))))
       | inl s ↦
           elim (cases_lt limit d) [
-            | inl deep ↦ inr (fault_at kinds.ExceededDepthLimit i, too_deep d i (fault_at kinds.ExceededDepthLimit i) deep (inr (s.end, s.span, s.source, s.value, s.multi, s.here)) refl)
-            | inr few ↦ inl (s.end, node (scalar (text_scalar s.value)) s.span, (few, (s.source, s.multi, s.here)), s.further)
+            | inl deep ↦ inr (fault_at kinds.ExceededDepthLimit i, value_here d i (fault_at kinds.ExceededDepthLimit i) (inr (inr (inl (deep, (inr (s.end, s.span, s.source, s.value, s.multi, s.here)), refl)))))
+            | inr few ↦ inl (s.end, parsed (scalar (text_scalar s.value)) s.span, (few, (s.source, s.multi, s.here)), s.further)
           ]
     ]
 
 bare_value : (text : List ℕ) (limit d i : ℕ) → Judged text i → d ≤ limit → begins_bare (get_or text i 0) ≡ true → ValueAt text limit d i
 bare_value text limit d i g few bare =
     elim (bare_stands text i g bare) [
-      | inl s ↦ inl (s.1, node (scalar s.0) (from_to i s.1), (few, s.2), s.3)
-      | inr x ↦ inr (x.0, no_bare d i x.0 few x.1)
+      | inl s ↦ inl (s.1, parsed (scalar s.0) (from_to i s.1), (few, s.2), s.3)
+      | inr x ↦ inr (x.0, value_here d i x.0 (inr (inr (inr (few, x.1)))))
     ]
 
 nested_of : (c : ℕ) → opens_nested c ≡ true → (c == 91) ≡ false → c ≡ 123
@@ -170,14 +170,14 @@ or_right true b h = refl
 or_right false b h = h
 
 deep_value : (text : List ℕ) (limit d i : ℕ) → limit < d → (opens_nested (get_or text i 0) || begins_bare (get_or text i 0)) ≡ true → ValueAt text limit d i
-deep_value text limit d i deep begins = inr (fault_at kinds.ExceededDepthLimit i, too_deep d i (fault_at kinds.ExceededDepthLimit i) deep (inl begins) refl)
+deep_value text limit d i deep begins = inr (fault_at kinds.ExceededDepthLimit i, value_here d i (fault_at kinds.ExceededDepthLimit i) (inr (inr (inl (deep, (inl begins), refl)))))
 
 array_of : (text : List ℕ) (limit d i k : ℕ) → d ≤ limit → get_or text i 0 ≡ 91 → MaximalGap text (i + 1) k → ItemsAt text limit (d + 1) k → ValueAt text limit d i
-array_of text limit d i k few here gap (inl (j, vs, h, f)) = inl (j, node (array vs) (from_to i j), (few, (here, refl, k, gap, h)), further_on text i k j (omega (arith, gap.forward)) f)
+array_of text limit d i k few here gap (inl (j, vs, h, f)) = inl (j, parsed (array vs) (from_to i j), (few, (here, refl, k, gap, h)), further_on text i k j (omega (arith, gap.forward)) f)
 array_of text limit d i k few here gap (inr (e, h)) = inr (e, in_array d i k e few here gap h)
 
 inline_of : (text : List ℕ) (limit d i k : ℕ) → d ≤ limit → get_or text i 0 ≡ 123 → MaximalGap text (i + 1) k → PairsAt text limit [] (d + 1) k → ValueAt text limit d i
-inline_of text limit d i k few here gap (inl (j, ps, h, f)) = inl (j, node (inline ps) (from_to i j), (few, (here, refl, k, gap, h)), further_on text i k j (omega (arith, gap.forward)) f)
+inline_of text limit d i k few here gap (inl (j, ps, h, f)) = inl (j, parsed (inline ps) (from_to i j), (few, (here, refl, k, gap, h)), further_on text i k j (omega (arith, gap.forward)) f)
 inline_of text limit d i k few here gap (inr (e, h)) = inr (e, in_inline d i k e few here gap h)
 
 closing_at : (text : List ℕ) (i : ℕ) → IsUtf8 text → 0 < get_or text i 0 → get_or text i 0 < 128 → Further text i (i + 1)
@@ -221,7 +221,7 @@ mutual
                           | inl deep ↦ deep_value text limit d i deep (or_right _ _ bare)
                           | inr few ↦ bare_value text limit d i (all i b) few bare
                         ]
-                    | inr bare ↦ let x = no_value_stands text i (all i b).stands in inr (x.0, no_value d i x.0 (rw (n, bare, o) refl) x.1)
+                    | inr bare ↦ let x = no_value_stands text i (all i b).stands in inr (x.0, value_here d i x.0 (inl ((rw (n, bare, o) refl), x.1)))
                   ]
             ]
       ]
@@ -244,13 +244,13 @@ mutual
                     | inr rest ↦
                         elim rest [
                           | inl close ↦ inl (close.0, item v.1 no_items, (v.0, v.2, inl (refl, close.1)), further_on text i v.0 close.0 (omega (arith, v.3.on)) close.2)
-                          | inr other ↦ let w = wanted_stands text other.0 dues.RightBracket (all other.0 other.2).stands in inr (w.0, behind_item d i v.0 other.0 v.1 w.0 v.2 other.1 w.1)
+                          | inr other ↦ let w = wanted_stands text other.0 dues.RightBracket (all other.0 other.2).stands in inr (w.0, behind_item d i v.0 other.0 v.1 w.0 v.2 other.1.before (other.1.no_comma, other.1.no_bracket, w.1))
                         ]
                   ]
             ]
       ]
 
-  pairs_stand : (fuel : ℕ) (text : List ℕ) (limit : ℕ) (es : List Event) (d i : ℕ) → IsUtf8 text → AllJudged text → 1 ≤ limit → 3 * length text + 3 ≤ fuel + 3 * i → IsCharBoundary text i → PairsAt text limit es d i
+  pairs_stand : (fuel : ℕ) (text : List ℕ) (limit : ℕ) (es : List KeyValue) (d i : ℕ) → IsUtf8 text → AllJudged text → 1 ≤ limit → 3 * length text + 3 ≤ fuel + 3 * i → IsCharBoundary text i → PairsAt text limit es d i
   pairs_stand zero text limit es d i u all some l b = absurd (omega (arith, l, b.0))
   pairs_stand (suc fuel) text limit es d i u all some l b =
       elim (bool_cases (get_or text i 0 == 125)) [
@@ -271,7 +271,7 @@ mutual
                           | inr rest ↦
                               elim rest [
                                 | inl close ↦ inl (close.0, pair p.1.parts p.1.value p.1.extent no_pairs, (p.0, p.2, clear, inl (refl, close.1)), further_on text i p.0 close.0 (omega (arith, p.3.on)) close.2)
-                                | inr other ↦ let w = wanted_stands text other.0 dues.Comma (all other.0 other.2).stands in inr (w.0, behind_pair es d i p.0 other.0 p.1 w.0 p.2 clear other.1 w.1)
+                                | inr other ↦ let w = wanted_stands text other.0 dues.Comma (all other.0 other.2).stands in inr (w.0, behind_pair es d i p.0 other.0 p.1 w.0 p.2 clear other.1.before (other.1.no_comma, other.1.no_bracket, w.1))
                               ]
                         ]
                   ]
@@ -285,7 +285,7 @@ mutual
         | inr x ↦ inr (x.0, in_key d i x.0 x.1)
         | inl k ↦
             elim (sign_sum 61 text k.0 (all k.0 k.4.boundary).sign) [
-              | inr n ↦ let w = wanted_stands text n.0 dues.Equals (all n.0 n.3).stands in inr (w.0, no_equals d i k.0 n.0 k.1 w.0 k.2 k.3 n.1 n.2 w.1)
+              | inr n ↦ let w = wanted_stands text n.0 dues.Equals (all n.0 n.3).stands in inr (w.0, no_equals d i k.0 n.0 k.1 w.0 k.2 k.3 n.1 (n.2, w.1))
               | inl s ↦
                   elim (value_stands fuel text limit (d + length k.1) s.0 u all some (omega (arith, l, k.4.on, s.2.on)) s.2.boundary) [
                     | inr x ↦ inr (x.0, in_value d i k.0 s.0 k.1 x.0 k.2 k.3 s.1 x.1)

@@ -8,11 +8,11 @@ use Rattle.toml_span_lex.specs.Bytes.{is_blank, is_printed, MaximalRun}
 use Rattle.toml_span_lex.specs.Text.{LineEnd}
 use Rattle.toml_span_lex.proofs.Runs.{crlf_first}
 use Rattle.toml_span_tree.specs.Node.{Scalar, text as text_scalar, integer, float, boolean, datetime, finite, infinite, not_a_number}
-use Rattle.toml_span_read.specs.Data.{Node, node, Inner, scalar, array, inline, Items, no_items, item, Pairs, no_pairs, pair, Event, Block}
+use Rattle.toml_span_read.specs.Data.{ParsedValue, parsed, ParsedInner, scalar, array, inline, ParsedItems, no_items, item, ParsedPairs, no_pairs, pair, KeyValue, Block}
 use Rattle.std.specs.Char.{is_ascii_digit}
 use Rattle.toml_span_read.specs.Dates.{begins_date}
-use Rattle.toml_span_read.specs.Gaps.{GapPiece, GapBy, Sign, Closes, Tail}
-use Rattle.toml_span_read.specs.Grammar.{IsScalar, Spells, SpellsInner, SpellsItems, SpellsPairs, SpellsEvent, SpellsEvents, SpellsLines, SpellsSection, SpellsSections, SpellsDocument, InnerWith, ItemsWith, PairsWith, EventWith, EventsWith, LinesWith, SectionWith, SectionsWith}
+use Rattle.toml_span_read.specs.Gaps.{GapPiece, GapBy, Separator, Closes, Tail}
+use Rattle.toml_span_read.specs.Grammar.{IsScalar, Spells, SpellsInner, SpellsItems, SpellsPairs, SpellsKeyValue, SpellsKeyValues, SpellsLines, SpellsSection, SpellsSections, SpellsDocument, InnerWith, ItemsWith, PairsWith, KeyValueWith, KeyValuesWith, LinesWith, SectionWith, SectionsWith}
 use Rattle.toml_span_read.specs.Numbers.{is_figure, is_exponent, behind_sign, Digits, Exponent, Fraction, goes_on, radix_at, SpecialFloat, IsNumber}
 use Rattle.toml_span_read_laws.specs.Undated.{UndatedScalar, SpellsUndated, SpellsUndatedDocument}
 use Rattle.toml_span_read.proofs.NumberLemmas.{is_false, and_left, byte_is, bool_cases, clash, none_some, slice_first}
@@ -166,7 +166,7 @@ pieces_no_colon : (ks : List ℕ) (text : List ℕ) (i j c : ℕ) → GapBy text
 pieces_no_colon [] text i j c e h n = other_no_colon (get_or text i 0) c (rw e h) n
 pieces_no_colon (k ∷ ks) text i j c (p, r) h n = piece_no_colon text i k p
 
-sign_no_colon : (c : ℕ) (text : List ℕ) (i j : ℕ) → (c == 58) ≡ false → Sign c text i j → (get_or text i 0 == 58) ≡ false
+sign_no_colon : (c : ℕ) (text : List ℕ) (i j : ℕ) → (c == 58) ≡ false → Separator c text i j → (get_or text i 0 == 58) ≡ false
 sign_no_colon c text i j n s = pieces_no_colon s.before.ends text i s.at c s.before.pieces s.here n
 
 closes_no_colon : (c : ℕ) (text : List ℕ) (i j : ℕ) → (c == 58) ≡ false → Closes c text i j → (get_or text i 0 == 58) ≡ false
@@ -187,21 +187,21 @@ tail_no_colon text i j (k, s, e) = elim (cases_lt i s.at) [
 -- ---- values
 
 mutual
-  pub value_dated : (v : Node) (text : List ℕ) (limit d i j : ℕ) → (get_or text j 0 == 58) ≡ false → SpellsUndated v text limit d i j → Spells v text limit d i j
-  value_dated (node x s) text limit d i j n (few, h) = (few, inner_dated x s text limit d i j n h)
+  pub value_dated : (v : ParsedValue) (text : List ℕ) (limit d i j : ℕ) → (get_or text j 0 == 58) ≡ false → SpellsUndated v text limit d i j → Spells v text limit d i j
+  value_dated (parsed x s) text limit d i j n (few, h) = (few, inner_dated x s text limit d i j n h)
 
-  inner_dated : (x : Inner) (s : Span) (text : List ℕ) (limit d i j : ℕ) → (get_or text j 0 == 58) ≡ false → InnerWith UndatedScalar x s text limit d i j → SpellsInner x s text limit d i j
+  inner_dated : (x : ParsedInner) (s : Span) (text : List ℕ) (limit d i j : ℕ) → (get_or text j 0 == 58) ≡ false → InnerWith UndatedScalar x s text limit d i j → SpellsInner x s text limit d i j
   inner_dated (scalar y) s text limit d i j n h = scalar_dated y s text i j n h
   inner_dated (array vs) s text limit d i j n (here, span, k, gap, h) = (here, span, k, gap, items_dated vs text limit (d + 1) k j h)
   inner_dated (inline ps) s text limit d i j n (here, span, k, gap, h) = (here, span, k, gap, pairs_dated ps [] text limit (d + 1) k j h)
 
-  items_dated : (vs : Items) (text : List ℕ) (limit d i j : ℕ) → ItemsWith UndatedScalar vs text limit d i j → SpellsItems vs text limit d i j
+  items_dated : (vs : ParsedItems) (text : List ℕ) (limit d i j : ℕ) → ItemsWith UndatedScalar vs text limit d i j → SpellsItems vs text limit d i j
   items_dated no_items text limit d i j h = h
   items_dated (item v vs) text limit d i j (m, h, inl (e, close)) = (m, value_dated v text limit d i m (closes_no_colon 93 text m j refl close) h, inl (e, close))
   items_dated (item v vs) text limit d i j (m, h, inr (p, sign, rest)) =
       (m, value_dated v text limit d i m (sign_no_colon 44 text m p refl sign) h, inr (p, sign, items_dated vs text limit d p j rest))
 
-  pairs_dated : (ps : Pairs) (es : List Event) (text : List ℕ) (limit d i j : ℕ) → PairsWith UndatedScalar ps es text limit d i j → SpellsPairs ps es text limit d i j
+  pairs_dated : (ps : ParsedPairs) (es : List KeyValue) (text : List ℕ) (limit d i j : ℕ) → PairsWith UndatedScalar ps es text limit d i j → SpellsPairs ps es text limit d i j
   pairs_dated no_pairs es text limit d i j h = h
   pairs_dated (pair ss v x ps) es text limit d i j (m, (a, b, key, few, sign, h, extent), clear, inl (e, close)) =
       (m, (a, b, key, few, sign, value_dated v text limit (d + length ss) b m (closes_no_colon 125 text m j refl close) h, extent), clear, inl (e, close))
@@ -214,20 +214,20 @@ mutual
 
 -- ---- the document
 
-event_dated : (ev : Event) (text : List ℕ) (limit i j : ℕ) → (get_or text j 0 == 58) ≡ false → EventWith UndatedScalar ev text limit i j → SpellsEvent ev text limit i j
-event_dated ev text limit i j n h = record { key_end = h.key_end; from = h.from; key = h.key; few = h.few; sign = h.sign; spelled = value_dated ev.value text limit (length ev.parts) h.from j n h.spelled; extent = h.extent }
+key_value_dated : (ev : KeyValue) (text : List ℕ) (limit i j : ℕ) → (get_or text j 0 == 58) ≡ false → KeyValueWith UndatedScalar ev text limit i j → SpellsKeyValue ev text limit i j
+key_value_dated ev text limit i j n h = record { key_end = h.key_end; from = h.from; key = h.key; few = h.few; sign = h.sign; spelled = value_dated ev.value text limit (length ev.parts) h.from j n h.spelled; extent = h.extent }
 
-events_dated : (evs earlier : List Event) (text : List ℕ) (limit i j : ℕ) → EventsWith UndatedScalar evs earlier text limit i j → SpellsEvents evs earlier text limit i j
-events_dated [] earlier text limit i j h = h
-events_dated (ev ∷ evs) earlier text limit i j (m, n, k, h, t, c, g, r) =
-    (m, n, k, event_dated ev text limit i m (tail_no_colon text m n t) h, t, c, g, events_dated evs (earlier ++ (ev ∷ [])) text limit k j r)
+key_values_dated : (evs earlier : List KeyValue) (text : List ℕ) (limit i j : ℕ) → KeyValuesWith UndatedScalar evs earlier text limit i j → SpellsKeyValues evs earlier text limit i j
+key_values_dated [] earlier text limit i j h = h
+key_values_dated (ev ∷ evs) earlier text limit i j (m, n, k, h, t, c, g, r) =
+    (m, n, k, key_value_dated ev text limit i m (tail_no_colon text m n t) h, t, c, g, key_values_dated evs (earlier ++ (ev ∷ [])) text limit k j r)
 
-lines_dated : (evs : List Event) (text : List ℕ) (limit i j : ℕ) → LinesWith UndatedScalar evs text limit i j → SpellsLines evs text limit i j
-lines_dated evs text limit i j (k, gap, h) = (k, gap, events_dated evs [] text limit k j h)
+lines_dated : (evs : List KeyValue) (text : List ℕ) (limit i j : ℕ) → LinesWith UndatedScalar evs text limit i j → SpellsLines evs text limit i j
+lines_dated evs text limit i j (k, gap, h) = (k, gap, key_values_dated evs [] text limit k j h)
 
 section_dated : (b : Block) (text : List ℕ) (limit i j : ℕ) → SectionWith UndatedScalar b text limit i j → SpellsSection b text limit i j
 section_dated b text limit i j h =
-    record { end = h.end; header = h.header; header_span = h.header_span; lines = lines_dated b.events text limit h.end j h.lines; extent = h.extent }
+    record { end = h.end; header = h.header; header_span = h.header_span; lines = lines_dated b.key_values text limit h.end j h.lines; extent = h.extent }
 
 sections_dated : (bs : List Block) (text : List ℕ) (limit i : ℕ) → SectionsWith UndatedScalar bs text limit i → SpellsSections bs text limit i
 sections_dated [] text limit i h = h

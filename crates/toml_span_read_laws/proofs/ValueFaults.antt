@@ -7,12 +7,12 @@ use Rattle.toml_span_lex.specs.Tokens.{string}
 use Rattle.toml_span_lex.proofs.Unique.{run_unique}
 use Rattle.toml_span_read.specs.declared.fault.Due.TheVariants as dues
 use Rattle.toml_span_read.specs.declared.fault.Fault.{Fault}
-use Rattle.toml_span_read.specs.Data.{Event}
+use Rattle.toml_span_read.specs.Data.{KeyValue}
 use Rattle.toml_span_read.specs.Dates.{begins_date}
 use Rattle.toml_span_read.specs.Faults.{IsNoDate, begins_bare, opens_nested, Begins, BeginsNumber, IsUnquoted, NoBare, IsTokenFault}
 use Rattle.toml_span_read.specs.Earlier.{Clear, Crossing}
 use Rattle.toml_span_read.specs.Keys.{opens_string}
-use Rattle.toml_span_read.specs.Stuck.{StuckValue, no_value, no_string, too_deep, no_bare, in_array, in_inline, StuckItems, in_item, behind_item, item_on, StuckPairs, in_pair, crosses, behind_pair, pair_on, StuckPair, in_key, no_equals, in_value}
+use Rattle.toml_span_read.specs.Stuck.{StuckValue, value_here, in_array, in_inline, StuckItems, in_item, behind_item, item_on, StuckPairs, in_pair, crosses, behind_pair, pair_on, StuckPair, in_key, no_equals, in_value}
 use Rattle.toml_span_read_laws.proofs.EarlierLaws.{clear_crossing, crossing_one}
 use Rattle.toml_span_read_laws.proofs.KeyLaws.{clash, gap_unique, sign_unique, sign_or_none, comma_or_neither, dotted_unique, dotted_excluded, token_or_token_fault}
 use Rattle.toml_span_read_laws.proofs.ScalarLaws.{date_byte, decimal_number, same_words, candidate_unique, bare_byte, string_byte, string_clash}
@@ -97,104 +97,104 @@ quote_bare text i e o h = string_clash begins_bare text i refl refl o (bare_byte
 
 mutual
   pub value_one : (text : List ℕ) (limit : ℕ) {d i : ℕ} {e f : Fault} → StuckValue text limit d i e → StuckValue text limit d i f → e ≡ f
-  value_one text limit (no_value d i e n w) (no_value d' i' f n' w') = no_value_one text i e f w w'
-  value_one text limit (no_value d i e n w) (no_string d' i' f o t) = absurd (none_quote text i n o)
-  value_one text limit (no_value d i e n w) (too_deep d' i' f l b is) = absurd (none_begins text i n b)
-  value_one text limit (no_value d i e n w) (no_bare d' i' f l h) = absurd (none_bare text i f n h)
-  value_one text limit (no_value d i e n w) (in_array d' i' k f l here gap r) = absurd (none_array text i n here)
-  value_one text limit (no_value d i e n w) (in_inline d' i' k f l here gap r) = absurd (none_inline text i n here)
-  value_one text limit (no_string d i e o t) (no_value d' i' f n w) = absurd (none_quote text i n o)
-  value_one text limit (no_string d i e o t) (no_string d' i' f o' t') = token_fault_one text i e f t t'
-  value_one text limit (no_string d i e o t) (too_deep d' i' f l b is) = absurd (quote_begins text i e o t b)
-  value_one text limit (no_string d i e o t) (no_bare d' i' f l h) = absurd (quote_bare text i f o h)
-  value_one text limit (no_string d i e o t) (in_array d' i' k f l here gap r) = absurd (clash opens_string (get_or text i 0) 91 o here refl)
-  value_one text limit (no_string d i e o t) (in_inline d' i' k f l here gap r) = absurd (clash opens_string (get_or text i 0) 123 o here refl)
-  value_one text limit (too_deep d i e l b is) (no_value d' i' f n w) = absurd (none_begins text i n b)
-  value_one text limit (too_deep d i e l b is) (no_string d' i' f o t) = absurd (quote_begins text i f o t b)
-  value_one text limit (too_deep d i e l b is) (too_deep d' i' f l' b' at) = is ∙ sym at
-  value_one text limit (too_deep d i e l b is) (no_bare d' i' f l' h) = absurd (omega (arith, l, l'))
-  value_one text limit (too_deep d i e l b is) (in_array d' i' k f l' here gap r) = absurd (omega (arith, l, l'))
-  value_one text limit (too_deep d i e l b is) (in_inline d' i' k f l' here gap r) = absurd (omega (arith, l, l'))
-  value_one text limit (no_bare d i e l h) (no_value d' i' f n w) = absurd (none_bare text i e n h)
-  value_one text limit (no_bare d i e l h) (no_string d' i' f o t) = absurd (quote_bare text i e o h)
-  value_one text limit (no_bare d i e l h) (too_deep d' i' f l' b at) = absurd (omega (arith, l, l'))
-  value_one text limit (no_bare d i e l h) (no_bare d' i' f l' g) = bare_one text i e f h g
-  value_one text limit (no_bare d i e l h) (in_array d' i' k f l' here gap r) = absurd (clash begins_bare (get_or text i 0) 91 (bare_byte text i e h) here refl)
-  value_one text limit (no_bare d i e l h) (in_inline d' i' k f l' here gap r) = absurd (clash begins_bare (get_or text i 0) 123 (bare_byte text i e h) here refl)
-  value_one text limit (in_array d i k e l here gap r) (no_value d' i' f n w) = absurd (none_array text i n here)
-  value_one text limit (in_array d i k e l here gap r) (no_string d' i' f o t) = absurd (clash opens_string (get_or text i 0) 91 o here refl)
-  value_one text limit (in_array d i k e l here gap r) (too_deep d' i' f l' b at) = absurd (omega (arith, l, l'))
-  value_one text limit (in_array d i k e l here gap r) (no_bare d' i' f l' h) = absurd (clash begins_bare (get_or text i 0) 91 (bare_byte text i f h) here refl)
+  value_one text limit (value_here d i e (inl (n, w))) (value_here d' i' f (inl (n', w'))) = no_value_one text i e f w w'
+  value_one text limit (value_here d i e (inl (n, w))) (value_here d' i' f (inr (inl (o, t)))) = absurd (none_quote text i n o)
+  value_one text limit (value_here d i e (inl (n, w))) (value_here d' i' f (inr (inr (inl (l, b, is))))) = absurd (none_begins text i n b)
+  value_one text limit (value_here d i e (inl (n, w))) (value_here d' i' f (inr (inr (inr (l, h))))) = absurd (none_bare text i f n h)
+  value_one text limit (value_here d i e (inl (n, w))) (in_array d' i' k f l here gap r) = absurd (none_array text i n here)
+  value_one text limit (value_here d i e (inl (n, w))) (in_inline d' i' k f l here gap r) = absurd (none_inline text i n here)
+  value_one text limit (value_here d i e (inr (inl (o, t)))) (value_here d' i' f (inl (n, w))) = absurd (none_quote text i n o)
+  value_one text limit (value_here d i e (inr (inl (o, t)))) (value_here d' i' f (inr (inl (o', t')))) = token_fault_one text i e f t t'
+  value_one text limit (value_here d i e (inr (inl (o, t)))) (value_here d' i' f (inr (inr (inl (l, b, is))))) = absurd (quote_begins text i e o t b)
+  value_one text limit (value_here d i e (inr (inl (o, t)))) (value_here d' i' f (inr (inr (inr (l, h))))) = absurd (quote_bare text i f o h)
+  value_one text limit (value_here d i e (inr (inl (o, t)))) (in_array d' i' k f l here gap r) = absurd (clash opens_string (get_or text i 0) 91 o here refl)
+  value_one text limit (value_here d i e (inr (inl (o, t)))) (in_inline d' i' k f l here gap r) = absurd (clash opens_string (get_or text i 0) 123 o here refl)
+  value_one text limit (value_here d i e (inr (inr (inl (l, b, is))))) (value_here d' i' f (inl (n, w))) = absurd (none_begins text i n b)
+  value_one text limit (value_here d i e (inr (inr (inl (l, b, is))))) (value_here d' i' f (inr (inl (o, t)))) = absurd (quote_begins text i f o t b)
+  value_one text limit (value_here d i e (inr (inr (inl (l, b, is))))) (value_here d' i' f (inr (inr (inl (l', b', at))))) = is ∙ sym at
+  value_one text limit (value_here d i e (inr (inr (inl (l, b, is))))) (value_here d' i' f (inr (inr (inr (l', h))))) = absurd (omega (arith, l, l'))
+  value_one text limit (value_here d i e (inr (inr (inl (l, b, is))))) (in_array d' i' k f l' here gap r) = absurd (omega (arith, l, l'))
+  value_one text limit (value_here d i e (inr (inr (inl (l, b, is))))) (in_inline d' i' k f l' here gap r) = absurd (omega (arith, l, l'))
+  value_one text limit (value_here d i e (inr (inr (inr (l, h))))) (value_here d' i' f (inl (n, w))) = absurd (none_bare text i e n h)
+  value_one text limit (value_here d i e (inr (inr (inr (l, h))))) (value_here d' i' f (inr (inl (o, t)))) = absurd (quote_bare text i e o h)
+  value_one text limit (value_here d i e (inr (inr (inr (l, h))))) (value_here d' i' f (inr (inr (inl (l', b, at))))) = absurd (omega (arith, l, l'))
+  value_one text limit (value_here d i e (inr (inr (inr (l, h))))) (value_here d' i' f (inr (inr (inr (l', g))))) = bare_one text i e f h g
+  value_one text limit (value_here d i e (inr (inr (inr (l, h))))) (in_array d' i' k f l' here gap r) = absurd (clash begins_bare (get_or text i 0) 91 (bare_byte text i e h) here refl)
+  value_one text limit (value_here d i e (inr (inr (inr (l, h))))) (in_inline d' i' k f l' here gap r) = absurd (clash begins_bare (get_or text i 0) 123 (bare_byte text i e h) here refl)
+  value_one text limit (in_array d i k e l here gap r) (value_here d' i' f (inl (n, w))) = absurd (none_array text i n here)
+  value_one text limit (in_array d i k e l here gap r) (value_here d' i' f (inr (inl (o, t)))) = absurd (clash opens_string (get_or text i 0) 91 o here refl)
+  value_one text limit (in_array d i k e l here gap r) (value_here d' i' f (inr (inr (inl (l', b, at))))) = absurd (omega (arith, l, l'))
+  value_one text limit (in_array d i k e l here gap r) (value_here d' i' f (inr (inr (inr (l', h))))) = absurd (clash begins_bare (get_or text i 0) 91 (bare_byte text i f h) here refl)
   value_one text limit (in_array d i k e l here gap r) (in_array d' i' m f l' here' gap' z) =
       let u : m ≡ k = gap_unique text (i + 1) m k gap' gap in items_one text limit {d = d + 1} {i = k} {e = e} {f = f} r (rw u at z)
   value_one text limit (in_array d i k e l here gap r) (in_inline d' i' m f l' here' gap' z) = absurd (omega (arith, here, here'))
-  value_one text limit (in_inline d i k e l here gap r) (no_value d' i' f n w) = absurd (none_inline text i n here)
-  value_one text limit (in_inline d i k e l here gap r) (no_string d' i' f o t) = absurd (clash opens_string (get_or text i 0) 123 o here refl)
-  value_one text limit (in_inline d i k e l here gap r) (too_deep d' i' f l' b at) = absurd (omega (arith, l, l'))
-  value_one text limit (in_inline d i k e l here gap r) (no_bare d' i' f l' h) = absurd (clash begins_bare (get_or text i 0) 123 (bare_byte text i f h) here refl)
+  value_one text limit (in_inline d i k e l here gap r) (value_here d' i' f (inl (n, w))) = absurd (none_inline text i n here)
+  value_one text limit (in_inline d i k e l here gap r) (value_here d' i' f (inr (inl (o, t)))) = absurd (clash opens_string (get_or text i 0) 123 o here refl)
+  value_one text limit (in_inline d i k e l here gap r) (value_here d' i' f (inr (inr (inl (l', b, at))))) = absurd (omega (arith, l, l'))
+  value_one text limit (in_inline d i k e l here gap r) (value_here d' i' f (inr (inr (inr (l', h))))) = absurd (clash begins_bare (get_or text i 0) 123 (bare_byte text i f h) here refl)
   value_one text limit (in_inline d i k e l here gap r) (in_array d' i' m f l' here' gap' z) = absurd (omega (arith, here, here'))
   value_one text limit (in_inline d i k e l here gap r) (in_inline d' i' m f l' here' gap' z) =
       let u : m ≡ k = gap_unique text (i + 1) m k gap' gap in pairs_one text limit {es = []} {d = d + 1} {i = k} {e = e} {f = f} r (rw u at z)
 
   items_one : (text : List ℕ) (limit : ℕ) {d i : ℕ} {e f : Fault} → StuckItems text limit d i e → StuckItems text limit d i f → e ≡ f
   items_one text limit (in_item d i e n r) (in_item d' i' f n' z) = value_one text limit {d = d} {i = i} {e = e} {f = f} r z
-  items_one text limit (in_item d i e n r) (behind_item d' i' m k v f a x w) = absurd (value_excluded text limit {d = d} {i = i} {e = e} r v m a)
+  items_one text limit (in_item d i e n r) (behind_item d' i' m k v f a x (xc, xb, w)) = absurd (value_excluded text limit {d = d} {i = i} {e = e} r v m a)
   items_one text limit (in_item d i e n r) (item_on d' i' m p v f a g z) = absurd (value_excluded text limit {d = d} {i = i} {e = e} r v m a)
-  items_one text limit (behind_item d i m k v e a x w) (in_item d' i' f n z) = absurd (value_excluded text limit {d = d} {i = i} {e = f} z v m a)
-  items_one text limit (behind_item d i m k v e a x w) (behind_item d' i' n l y f b s t) =
+  items_one text limit (behind_item d i m k v e a x (xc, xb, w)) (in_item d' i' f n z) = absurd (value_excluded text limit {d = d} {i = i} {e = f} z v m a)
+  items_one text limit (behind_item d i m k v e a x (xc, xb, w)) (behind_item d' i' n l y f b s (sc, sb, t)) =
       let u = value_unique y v text limit d i n m b a in
-      let h : l ≡ k = gap_unique text m l k (rw u.1 at s.before) x.before in wanted_one text k dues.RightBracket e f w (rw h at t)
-  items_one text limit (behind_item d i m k v e a x w) (item_on d' i' n p y f b g z) =
-      let u = value_unique y v text limit d i n m b a in absurd (comma_or_neither 93 text m p k (rw u.1 at g) x)
+      let h : l ≡ k = gap_unique text m l k (rw u.1 at s) x in wanted_one text k dues.RightBracket e f w (rw h at t)
+  items_one text limit (behind_item d i m k v e a x (xc, xb, w)) (item_on d' i' n p y f b g z) =
+      let u = value_unique y v text limit d i n m b a in absurd (comma_or_neither 93 text m p k (rw u.1 at g) (record { before = x; no_comma = xc; no_bracket = xb }))
   items_one text limit (item_on d i m p v e a g r) (in_item d' i' f n z) = absurd (value_excluded text limit {d = d} {i = i} {e = f} z v m a)
-  items_one text limit (item_on d i m p v e a g r) (behind_item d' i' n k y f b x w) =
-      let u = value_unique v y text limit d i m n a b in absurd (comma_or_neither 93 text n p k (rw u.1 at g) x)
+  items_one text limit (item_on d i m p v e a g r) (behind_item d' i' n k y f b x (xc, xb, w)) =
+      let u = value_unique v y text limit d i m n a b in absurd (comma_or_neither 93 text n p k (rw u.1 at g) (record { before = x; no_comma = xc; no_bracket = xb }))
   items_one text limit (item_on d i m p v e a g r) (item_on d' i' n q y f b h z) =
       let u = value_unique y v text limit d i n m b a in
       let t : q ≡ p = sign_unique 44 text m q p (rw u.1 at h) g in items_one text limit {d = d} {i = p} {e = e} {f = f} r (rw t at z)
 
-  pairs_one : (text : List ℕ) (limit : ℕ) {es : List Event} {d i : ℕ} {e f : Fault} → StuckPairs text limit es d i e → StuckPairs text limit es d i f → e ≡ f
+  pairs_one : (text : List ℕ) (limit : ℕ) {es : List KeyValue} {d i : ℕ} {e f : Fault} → StuckPairs text limit es d i e → StuckPairs text limit es d i f → e ≡ f
   pairs_one text limit (in_pair es d i e n r) (in_pair es' d' i' f n' z) = pair_one text limit {d = d} {i = i} {e = e} {f = f} r z
   pairs_one text limit (in_pair es d i e n r) (crosses es' d' i' m p f s c) = absurd (pair_excluded text limit {d = d} {i = i} {e = e} r p m s)
-  pairs_one text limit (in_pair es d i e n r) (behind_pair es' d' i' m k p f s l x w) = absurd (pair_excluded text limit {d = d} {i = i} {e = e} r p m s)
+  pairs_one text limit (in_pair es d i e n r) (behind_pair es' d' i' m k p f s l x (xc, xb, w)) = absurd (pair_excluded text limit {d = d} {i = i} {e = e} r p m s)
   pairs_one text limit (in_pair es d i e n r) (pair_on es' d' i' m k p f s l g z) = absurd (pair_excluded text limit {d = d} {i = i} {e = e} r p m s)
   pairs_one text limit (crosses es d i m p e s c) (in_pair es' d' i' f n z) = absurd (pair_excluded text limit {d = d} {i = i} {e = f} z p m s)
   pairs_one text limit (crosses es d i m p e s c) (crosses es' d' i' n q f t b) =
-      let u = pair_unique q p text limit d i n m t s in crossing_one es p e f c (subst (λ (x : Event). Crossing es x f) u.0 b)
-  pairs_one text limit (crosses es d i m p e s c) (behind_pair es' d' i' n k q f t l x w) =
-      let u = pair_unique q p text limit d i n m t s in absurd (clear_crossing es p e (subst (λ (x : Event). Clear es x) u.0 l) c)
+      let u = pair_unique q p text limit d i n m t s in crossing_one es p e f c (subst (λ (x : KeyValue). Crossing es x f) u.0 b)
+  pairs_one text limit (crosses es d i m p e s c) (behind_pair es' d' i' n k q f t l x (xc, xb, w)) =
+      let u = pair_unique q p text limit d i n m t s in absurd (clear_crossing es p e (subst (λ (x : KeyValue). Clear es x) u.0 l) c)
   pairs_one text limit (crosses es d i m p e s c) (pair_on es' d' i' n k q f t l g z) =
-      let u = pair_unique q p text limit d i n m t s in absurd (clear_crossing es p e (subst (λ (x : Event). Clear es x) u.0 l) c)
-  pairs_one text limit (behind_pair es d i m k p e s l x w) (in_pair es' d' i' f n z) = absurd (pair_excluded text limit {d = d} {i = i} {e = f} z p m s)
-  pairs_one text limit (behind_pair es d i m k p e s l x w) (crosses es' d' i' n q f t b) =
-      let u = pair_unique q p text limit d i n m t s in absurd (clear_crossing es p f l (subst (λ (x : Event). Crossing es x f) u.0 b))
-  pairs_one text limit (behind_pair es d i m k p e s l x w) (behind_pair es' d' i' n o q f t b y v) =
+      let u = pair_unique q p text limit d i n m t s in absurd (clear_crossing es p e (subst (λ (x : KeyValue). Clear es x) u.0 l) c)
+  pairs_one text limit (behind_pair es d i m k p e s l x (xc, xb, w)) (in_pair es' d' i' f n z) = absurd (pair_excluded text limit {d = d} {i = i} {e = f} z p m s)
+  pairs_one text limit (behind_pair es d i m k p e s l x (xc, xb, w)) (crosses es' d' i' n q f t b) =
+      let u = pair_unique q p text limit d i n m t s in absurd (clear_crossing es p f l (subst (λ (x : KeyValue). Crossing es x f) u.0 b))
+  pairs_one text limit (behind_pair es d i m k p e s l x (xc, xb, w)) (behind_pair es' d' i' n o q f t b y (yc, yb, v)) =
       let u = pair_unique q p text limit d i n m t s in
-      let h : o ≡ k = gap_unique text m o k (rw u.1 at y.before) x.before in wanted_one text k dues.Comma e f w (rw h at v)
-  pairs_one text limit (behind_pair es d i m k p e s l x w) (pair_on es' d' i' n o q f t b g z) =
-      let u = pair_unique q p text limit d i n m t s in absurd (comma_or_neither 125 text m o k (rw u.1 at g) x)
+      let h : o ≡ k = gap_unique text m o k (rw u.1 at y) x in wanted_one text k dues.Comma e f w (rw h at v)
+  pairs_one text limit (behind_pair es d i m k p e s l x (xc, xb, w)) (pair_on es' d' i' n o q f t b g z) =
+      let u = pair_unique q p text limit d i n m t s in absurd (comma_or_neither 125 text m o k (rw u.1 at g) (record { before = x; no_comma = xc; no_bracket = xb }))
   pairs_one text limit (pair_on es d i m k p e s l g r) (in_pair es' d' i' f n z) = absurd (pair_excluded text limit {d = d} {i = i} {e = f} z p m s)
   pairs_one text limit (pair_on es d i m k p e s l g r) (crosses es' d' i' n q f t b) =
-      let u = pair_unique q p text limit d i n m t s in absurd (clear_crossing es p f l (subst (λ (x : Event). Crossing es x f) u.0 b))
-  pairs_one text limit (pair_on es d i m k p e s l g r) (behind_pair es' d' i' n o q f t b x w) =
-      let u = pair_unique p q text limit d i m n s t in absurd (comma_or_neither 125 text n k o (rw u.1 at g) x)
+      let u = pair_unique q p text limit d i n m t s in absurd (clear_crossing es p f l (subst (λ (x : KeyValue). Crossing es x f) u.0 b))
+  pairs_one text limit (pair_on es d i m k p e s l g r) (behind_pair es' d' i' n o q f t b x (xc, xb, w)) =
+      let u = pair_unique p q text limit d i m n s t in absurd (comma_or_neither 125 text n k o (rw u.1 at g) (record { before = x; no_comma = xc; no_bracket = xb }))
   pairs_one text limit (pair_on es d i m k p e s l g r) (pair_on es' d' i' n o q f t b h z) =
       let u = pair_unique q p text limit d i n m t s in
       let y : o ≡ k = sign_unique 44 text m o k (rw u.1 at h) g in
-      pairs_one text limit {es = es ++ (p ∷ [])} {d = d} {i = k} {e = e} {f = f} r (subst (λ (x : Event). StuckPairs text limit (es ++ (x ∷ [])) d k f) u.0 (rw y at z))
+      pairs_one text limit {es = es ++ (p ∷ [])} {d = d} {i = k} {e = e} {f = f} r (subst (λ (x : KeyValue). StuckPairs text limit (es ++ (x ∷ [])) d k f) u.0 (rw y at z))
 
   pair_one : (text : List ℕ) (limit : ℕ) {d i : ℕ} {e f : Fault} → StuckPair text limit d i e → StuckPair text limit d i f → e ≡ f
   pair_one text limit (in_key d i e r) (in_key d' i' f z) = dotted_one text limit {i = i} {e = e} {f = f} r z
-  pair_one text limit (in_key d i e r) (no_equals d' i' a n ss f key few g ne w) = absurd (dotted_excluded text limit r ss a key few)
+  pair_one text limit (in_key d i e r) (no_equals d' i' a n ss f key few g (ne, w)) = absurd (dotted_excluded text limit r ss a key few)
   pair_one text limit (in_key d i e r) (in_value d' i' a b ss f key few eq z) = absurd (dotted_excluded text limit r ss a key few)
-  pair_one text limit (no_equals d i a n ss e key few g ne w) (in_key d' i' f z) = absurd (dotted_excluded text limit z ss a key few)
-  pair_one text limit (no_equals d i a n ss e key few g ne w) (no_equals d' i' b m ts f key' few' h ne' v) =
+  pair_one text limit (no_equals d i a n ss e key few g (ne, w)) (in_key d' i' f z) = absurd (dotted_excluded text limit z ss a key few)
+  pair_one text limit (no_equals d i a n ss e key few g (ne, w)) (no_equals d' i' b m ts f key' few' h (ne', v)) =
       let u = dotted_unique ts ss text i b a key' key in
       let y : m ≡ n = gap_unique text a m n (rw u.1 at h) g in wanted_one text n dues.Equals e f w (rw y at v)
-  pair_one text limit (no_equals d i a n ss e key few g ne w) (in_value d' i' b c ts f key' few' eq z) =
+  pair_one text limit (no_equals d i a n ss e key few g (ne, w)) (in_value d' i' b c ts f key' few' eq z) =
       let u = dotted_unique ts ss text i b a key' key in absurd (sign_or_none 61 text a c n (rw u.1 at eq) g ne)
   pair_one text limit (in_value d i a b ss e key few eq r) (in_key d' i' f z) = absurd (dotted_excluded text limit z ss a key few)
-  pair_one text limit (in_value d i a b ss e key few eq r) (no_equals d' i' c n ts f key' few' g ne w) =
+  pair_one text limit (in_value d i a b ss e key few eq r) (no_equals d' i' c n ts f key' few' g (ne, w)) =
       let u = dotted_unique ss ts text i a c key key' in absurd (sign_or_none 61 text c b n (rw u.1 at eq) g ne)
   pair_one text limit (in_value d i a b ss e key few eq r) (in_value d' i' c h ts f key' few' eq' z) =
       let u = front_unique ts ss text i c a h b key' key eq' eq in value_one text limit {d = d + length ss} {i = b} {e = e} {f = f} r (rw (u.0, u.1) at z)

@@ -1,11 +1,11 @@
 -- What spells a document within a limit spells it within a greater one.
 use Rattle.std.proofs.Common.{ℕ, ◌≤◌, List, [], ◌∷◌, ◌++◌, length, arith}
-use Rattle.toml_span_read.specs.Data.{Event, Block}
-use Rattle.toml_span_read.specs.Grammar.{SpellsEvent, SpellsEvents, SpellsSection, SpellsSections, SpellsDocument}
+use Rattle.toml_span_read.specs.Data.{KeyValue, Block}
+use Rattle.toml_span_read.specs.Grammar.{SpellsKeyValue, SpellsKeyValues, SpellsSection, SpellsSections, SpellsDocument}
 use Rattle.toml_span_read_laws.proofs.WiderLimit.{value_wider}
 
-event_wider : (e : Event) (text : List ℕ) (limit wider i j : ℕ) → limit ≤ wider → SpellsEvent e text limit i j → SpellsEvent e text wider i j
-event_wider e text limit wider i j l h =
+key_value_wider : (e : KeyValue) (text : List ℕ) (limit wider i j : ℕ) → limit ≤ wider → SpellsKeyValue e text limit i j → SpellsKeyValue e text wider i j
+key_value_wider e text limit wider i j l h =
     record {
       key_end = h.key_end;
       from = h.from;
@@ -16,10 +16,10 @@ event_wider e text limit wider i j l h =
       extent = h.extent;
     }
 
-events_wider : (es before : List Event) (text : List ℕ) (limit wider i j : ℕ) → limit ≤ wider → SpellsEvents es before text limit i j → SpellsEvents es before text wider i j
-events_wider [] before text limit wider i j l h = h
-events_wider (e ∷ es) before text limit wider i j l (m, n, k, h, tail, clear, gap, rest) =
-    (m, n, k, event_wider e text limit wider i m l h, tail, clear, gap, events_wider es (before ++ (e ∷ [])) text limit wider k j l rest)
+key_values_wider : (es before : List KeyValue) (text : List ℕ) (limit wider i j : ℕ) → limit ≤ wider → SpellsKeyValues es before text limit i j → SpellsKeyValues es before text wider i j
+key_values_wider [] before text limit wider i j l h = h
+key_values_wider (e ∷ es) before text limit wider i j l (m, n, k, h, tail, clear, gap, rest) =
+    (m, n, k, key_value_wider e text limit wider i m l h, tail, clear, gap, key_values_wider es (before ++ (e ∷ [])) text limit wider k j l rest)
 
 section_wider : (b : Block) (text : List ℕ) (limit wider i j : ℕ) → limit ≤ wider → SpellsSection b text limit i j → SpellsSection b text wider i j
 section_wider b text limit wider i j l s =
@@ -35,7 +35,7 @@ section_wider b text limit wider i j l s =
         rest = h.rest;
       };
       header_span = s.header_span;
-      lines = (s.lines.0, s.lines.1, events_wider b.events [] text limit wider s.lines.0 j l s.lines.2);
+      lines = (s.lines.0, s.lines.1, key_values_wider b.key_values [] text limit wider s.lines.0 j l s.lines.2);
       extent = s.extent;
     }
 
@@ -51,7 +51,7 @@ document_wider bs text limit wider l d =
       first = d.first;
       rest = d.rest;
       begins = d.begins;
-      lines = (d.lines.0, d.lines.1, events_wider d.first [] text limit wider d.lines.0 d.end l d.lines.2);
+      lines = (d.lines.0, d.lines.1, key_values_wider d.first [] text limit wider d.lines.0 d.end l d.lines.2);
       sections = sections_wider d.rest text limit wider d.end l d.sections;
       all = d.all;
     }

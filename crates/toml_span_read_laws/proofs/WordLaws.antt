@@ -1,11 +1,11 @@
 -- A token is called the same by the reader and by the lexer.
 use Rattle.std.proofs.Common.{◌≡◌, ℕ, true, false, refl, inl, inr}
 use Rattle.std.specs.Prelude.{◌==◌}
-use Rattle.toml_span_lex.specs.Tokens.{Lexeme, whitespace, newline, comment, sign, keylike, string, sign_words, words}
+use Rattle.toml_span_lex.specs.Tokens.{Lexeme, whitespace, newline, comment, punctuator, keylike, string, punctuator_words, words}
 use Rattle.toml_span_read.specs.Faults.{found_of, found_words}
 use Rattle.toml_span_read.proofs.NumberLemmas.{bool_cases}
 
-sign_called : (x : ℕ) → found_words (found_of (sign x)) ≡ sign_words x
+sign_called : (x : ℕ) → found_words (found_of (punctuator x)) ≡ punctuator_words x
 sign_called x =
     elim (bool_cases (x == 61)) [
       | inl a ↦ rw a refl
@@ -37,7 +37,7 @@ pub called : (l : Lexeme) → found_words (found_of l) ≡ words l
 called (whitespace s) = refl
 called newline = refl
 called (comment s) = refl
-called (sign c) = sign_called c
+called (punctuator c) = sign_called c
 called (keylike s) = refl
 called (string src value true) = refl
 called (string src value false) = refl

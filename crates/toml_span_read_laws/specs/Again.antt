@@ -2,33 +2,34 @@
 use Rattle.std.specs.Prelude.{ℕ, ◌+◌, ◌-◌, List, [], ◌∷◌, ◌++◌, map, slice_range, codes}
 use Rattle.toml_span_lex.specs.declared.span.Span.{Span}
 use Rattle.toml_span_tree.specs.Node.{Scalar, text, integer, float, boolean, datetime}
-use Rattle.toml_span_read.specs.Keys.{Part}
-use Rattle.toml_span_read.specs.Data.{Node, node, Inner, scalar, array, inline, Items, no_items, item, Pairs, no_pairs}
-use Rattle.toml_span_read.specs.Data.{pair, Event, span_of, Block}
+use Rattle.toml_span_read.specs.Keys.{SimpleKey}
+use Rattle.toml_span_read.specs.Data.{ParsedValue, parsed, ParsedInner, scalar, array, inline, ParsedItems, no_items}
+use Rattle.toml_span_read.specs.Data.{item, ParsedPairs, no_pairs}
+use Rattle.toml_span_read.specs.Data.{pair, KeyValue, parsed_span, Block}
 use Rattle.toml_span_read.specs.Grammar.{first_block, SpellsDocument}
 
 -- a span, moved so that what stood at `from` stands at `to`
 abbrev pub moved_span : ℕ → ℕ → Span → Span
 moved_span from to span = record { start = (span.start + to) - from; end = (span.end + to) - from }
 
-abbrev pub moved_parts : ℕ → ℕ → List Part → List Part
+abbrev pub moved_parts : ℕ → ℕ → List SimpleKey → List SimpleKey
 moved_parts from to parts = map (λ p. record { name = p.name; span = moved_span from to p.span }) parts
 
 -- the same value, with its span and all spans inside it moved
 abbrev mutual
-  pub moved : ℕ → ℕ → Node → Node
-  moved from to (node k span) = node (moved_inner from to k) (moved_span from to span)
+  pub moved : ℕ → ℕ → ParsedValue → ParsedValue
+  moved from to (parsed k span) = parsed (moved_inner from to k) (moved_span from to span)
 
-  pub moved_inner : ℕ → ℕ → Inner → Inner
+  pub moved_inner : ℕ → ℕ → ParsedInner → ParsedInner
   moved_inner from to (scalar s) = scalar s
   moved_inner from to (array vs) = array (moved_items from to vs)
   moved_inner from to (inline ps) = inline (moved_pairs from to ps)
 
-  pub moved_items : ℕ → ℕ → Items → Items
+  pub moved_items : ℕ → ℕ → ParsedItems → ParsedItems
   moved_items from to no_items = no_items
   moved_items from to (item v vs) = item (moved from to v) (moved_items from to vs)
 
-  pub moved_pairs : ℕ → ℕ → Pairs → Pairs
+  pub moved_pairs : ℕ → ℕ → ParsedPairs → ParsedPairs
   moved_pairs from to no_pairs = no_pairs
   moved_pairs from to (pair parts v extent ps) =
       pair (moved_parts from to parts) (moved from to v) (moved_span from to extent) (moved_pairs from to ps)
@@ -39,8 +40,8 @@ assigned_again t i j = codes "x = " ++ slice_range t i j
 
 -- that assignment: its key is x, its value is that which was spelled from i to j, moved to 4, and its extent is the
 -- whole text
-abbrev pub event_again : Node → ℕ → ℕ → Event
-event_again v i j =
+abbrev pub key_value_again : ParsedValue → ℕ → ℕ → KeyValue
+key_value_again v i j =
     record {
       parts = record { name = codes "x"; span = record { start = 0; end = 1 } } ∷ [];
       value = moved i 4 v;
@@ -48,44 +49,44 @@ event_again v i j =
     }
 
 -- the text from i to j spells the value again: behind `x = ` it is a document of that assignment alone
-abbrev pub SpellsAgain : Node → List ℕ → ℕ → ℕ → ℕ → Type 0
-SpellsAgain v t limit i j = SpellsDocument (first_block (event_again v i j ∷ [])) (assigned_again t i j) limit
+abbrev pub SpellsAgain : ParsedValue → List ℕ → ℕ → ℕ → ℕ → Type 0
+SpellsAgain v t limit i j = SpellsDocument (first_block (key_value_again v i j ∷ [])) (assigned_again t i j) limit
 
 -- the text at the value's span spells it again
-abbrev pub ReadsAgain : List ℕ → ℕ → Node → Type 0
-ReadsAgain t limit v = SpellsAgain v t limit (span_of v).start (span_of v).end
+abbrev pub ReadsAgain : List ℕ → ℕ → ParsedValue → Type 0
+ReadsAgain t limit v = SpellsAgain v t limit (parsed_span v).start (parsed_span v).end
 
 -- The span of a string is its content's, without the quotes.
 abbrev pub ScalarReadsAgain : List ℕ → ℕ → Scalar → Span → Type 0
 ScalarReadsAgain t limit (text value) span = Unit {0}
-ScalarReadsAgain t limit (integer n) span = ReadsAgain t limit (node (scalar (integer n)) span)
-ScalarReadsAgain t limit (float x) span = ReadsAgain t limit (node (scalar (float x)) span)
-ScalarReadsAgain t limit (boolean b) span = ReadsAgain t limit (node (scalar (boolean b)) span)
-ScalarReadsAgain t limit (datetime d) span = ReadsAgain t limit (node (scalar (datetime d)) span)
+ScalarReadsAgain t limit (integer n) span = ReadsAgain t limit (parsed (scalar (integer n)) span)
+ScalarReadsAgain t limit (float x) span = ReadsAgain t limit (parsed (scalar (float x)) span)
+ScalarReadsAgain t limit (boolean b) span = ReadsAgain t limit (parsed (scalar (boolean b)) span)
+ScalarReadsAgain t limit (datetime d) span = ReadsAgain t limit (parsed (scalar (datetime d)) span)
 
 -- a value and the values in it, at every nesting, read again, but for strings
 abbrev mutual
-  pub AllReadAgain : List ℕ → ℕ → Node → Type 0
-  AllReadAgain t limit (node k span) = InnerReadAgain t limit k span
+  pub AllReadAgain : List ℕ → ℕ → ParsedValue → Type 0
+  AllReadAgain t limit (parsed k span) = InnerReadAgain t limit k span
 
-  pub InnerReadAgain : List ℕ → ℕ → Inner → Span → Type 0
+  pub InnerReadAgain : List ℕ → ℕ → ParsedInner → Span → Type 0
   InnerReadAgain t limit (scalar s) span = ScalarReadsAgain t limit s span
-  InnerReadAgain t limit (array vs) span = ReadsAgain t limit (node (array vs) span) × ItemsReadAgain t limit vs
-  InnerReadAgain t limit (inline ps) span = ReadsAgain t limit (node (inline ps) span) × PairsReadAgain t limit ps
+  InnerReadAgain t limit (array vs) span = ReadsAgain t limit (parsed (array vs) span) × ItemsReadAgain t limit vs
+  InnerReadAgain t limit (inline ps) span = ReadsAgain t limit (parsed (inline ps) span) × PairsReadAgain t limit ps
 
-  pub ItemsReadAgain : List ℕ → ℕ → Items → Type 0
+  pub ItemsReadAgain : List ℕ → ℕ → ParsedItems → Type 0
   ItemsReadAgain t limit no_items = Unit {0}
   ItemsReadAgain t limit (item v vs) = AllReadAgain t limit v × ItemsReadAgain t limit vs
 
-  pub PairsReadAgain : List ℕ → ℕ → Pairs → Type 0
+  pub PairsReadAgain : List ℕ → ℕ → ParsedPairs → Type 0
   PairsReadAgain t limit no_pairs = Unit {0}
   PairsReadAgain t limit (pair parts v extent ps) = AllReadAgain t limit v × PairsReadAgain t limit ps
 
 -- so do the values of these assignments, and those of these sections
-abbrev pub EventsReadAgain : List ℕ → ℕ → List Event → Type 0
-EventsReadAgain t limit [] = Unit {0}
-EventsReadAgain t limit (e ∷ es) = AllReadAgain t limit e.value × EventsReadAgain t limit es
+abbrev pub KeyValuesReadAgain : List ℕ → ℕ → List KeyValue → Type 0
+KeyValuesReadAgain t limit [] = Unit {0}
+KeyValuesReadAgain t limit (e ∷ es) = AllReadAgain t limit e.value × KeyValuesReadAgain t limit es
 
 abbrev pub BlocksReadAgain : List ℕ → ℕ → List Block → Type 0
 BlocksReadAgain t limit [] = Unit {0}
-BlocksReadAgain t limit (b ∷ bs) = EventsReadAgain t limit b.events × BlocksReadAgain t limit bs
+BlocksReadAgain t limit (b ∷ bs) = KeyValuesReadAgain t limit b.key_values × BlocksReadAgain t limit bs

@@ -7,13 +7,13 @@ use Rattle.toml_span_lex.specs.Bytes.{MaximalRun}
 use Rattle.toml_span_lex.specs.Tokenizer.{FirstPlace}
 use Rattle.toml_span_lex.specs.declared.stop.Stop.{Stop}
 use Rattle.toml_span_lex.specs.declared.stop.Stop.TheVariants as stops
-use Rattle.toml_span_tree.specs.Error.{fault_of}
+use Rattle.toml_span_tree.specs.Error.{content_of}
 use Rattle.toml_span_tree.specs.declared.error.Error.{Error}
-use Rattle.toml_span_read.specs.Data.{Event, Node}
+use Rattle.toml_span_read.specs.Data.{KeyValue, ParsedValue}
 use Rattle.toml_span_read.specs.Earlier.{Clear, Crossing}
 use Rattle.toml_span_read.specs.Gaps.{MaximalGap, Skipped, Tail, Dot}
-use Rattle.toml_span_read.specs.Grammar.{Spells, SpellsPair, SpellsEvent, Opens, HeaderFront, SpellsHeader}
-use Rattle.toml_span_read.specs.Keys.{Part, IsKey, Dotted}
+use Rattle.toml_span_read.specs.Grammar.{Spells, SpellsPair, SpellsKeyValue, OpensHeader, HeaderFront, SpellsHeader}
+use Rattle.toml_span_read.specs.Keys.{SimpleKey, SpellsSimpleKey, SpellsKey}
 use Rattle.toml_span_read.specs.Faults.{NoPart, NoHeaderPart, NoEquals, NoValue, NoComma, NoBracket, NoNewline, Tells}
 use Rattle.toml_span_read.specs.declared.fault.Due.TheVariants as dues
 use Rattle.toml_span_read.specs.declared.fault.Fault.{Fault}
@@ -22,9 +22,9 @@ use Rattle.toml_span_read.specs.declared.section.Section.{Section}
 -- what stands round a place, from the inside: the assignments of a section before it, an open array, an open inline
 -- table with its pairs before it, and the key, of so many parts, of a value
 pub data Frame : Type 0 where
-  in_section : List Event → Frame
+  in_section : List KeyValue → Frame
   in_brackets : Frame
-  in_braces : List Event → Frame
+  in_braces : List KeyValue → Frame
   under_key : ℕ → Frame
 
 -- the brackets and braces round a place, and the parts of the keys
@@ -49,7 +49,7 @@ pub data What : Type 0 where
   -- a comma, or the closing bracket or brace
   a_comma : What
   -- whether the key of this assignment or pair goes through an earlier value
-  a_verdict : Event → What
+  a_verdict : KeyValue → What
   -- the part of a header's key behind so many others
   a_header_part : ℕ → What
   -- the closing bracket of a header, or both of them
@@ -63,39 +63,42 @@ pub data What : Type 0 where
 pub data DueAt (text : List ℕ) (limit : ℕ) : What → List Frame → ℕ → Type 0 where
   first_line : (i k : ℕ) → FirstPlace text i → MaximalGap text i k → DueAt text limit a_line (in_section [] ∷ []) k
   -- `keyval = key keyval-sep val`, and the rest of its line
-  line_part : (es : List Event) (i : ℕ) → DueAt text limit a_line (in_section es ∷ []) i → i < length text
+  line_part : (es : List KeyValue) (i : ℕ) → DueAt text limit a_line (in_section es ∷ []) i → i < length text
       → (slice_index text i == left_bracket) ≡ false → DueAt text limit (a_part 0) (in_section es ∷ []) i
-  line_equals : (es : List Event) (i a n : ℕ) (ps : List Part) → DueAt text limit (a_part 0) (in_section es ∷ []) i
-      → Dotted ps text i a → length ps ≤ limit → MaximalRun is_blank text a n
+  line_equals : (es : List KeyValue) (i a n : ℕ) (ps : List SimpleKey)
+      → DueAt text limit (a_part 0) (in_section es ∷ []) i
+      → SpellsKey ps text i a → length ps ≤ limit → MaximalRun is_blank text a n
       → DueAt text limit (an_equals (length ps)) (in_section es ∷ []) n
-  line_value : (es : List Event) (k n b : ℕ) → DueAt text limit (an_equals k) (in_section es ∷ []) n
+  line_value : (es : List KeyValue) (k n b : ℕ) → DueAt text limit (an_equals k) (in_section es ∷ []) n
       → slice_index text n ≡ equals → MaximalRun is_blank text (n + 1) b
       → DueAt text limit a_value (under_key k ∷ (in_section es ∷ [])) b
-  line_tail : (es : List Event) (i m : ℕ) (ev : Event) → DueAt text limit a_line (in_section es ∷ []) i
-      → SpellsEvent ev text limit i m → DueAt text limit a_tail (in_section es ∷ []) m
+  line_tail : (es : List KeyValue) (i m : ℕ) (ev : KeyValue) → DueAt text limit a_line (in_section es ∷ []) i
+      → SpellsKeyValue ev text limit i m → DueAt text limit a_tail (in_section es ∷ []) m
   tail_rest : (fs : List Frame) (m n : ℕ) → DueAt text limit a_tail fs m → Skipped text m n
       → DueAt text limit a_line_end fs n
-  line_verdict : (es : List Event) (i m n : ℕ) (ev : Event) → DueAt text limit a_line (in_section es ∷ []) i
-      → SpellsEvent ev text limit i m → Tail text m n → DueAt text limit (a_verdict ev) (in_section es ∷ []) n
-  next_line : (es : List Event) (n k : ℕ) (ev : Event) → DueAt text limit (a_verdict ev) (in_section es ∷ []) n
+  line_verdict : (es : List KeyValue) (i m n : ℕ) (ev : KeyValue) → DueAt text limit a_line (in_section es ∷ []) i
+      → SpellsKeyValue ev text limit i m → Tail text m n → DueAt text limit (a_verdict ev) (in_section es ∷ []) n
+  next_line : (es : List KeyValue) (n k : ℕ) (ev : KeyValue) → DueAt text limit (a_verdict ev) (in_section es ∷ []) n
       → Clear es ev → MaximalGap text n k → DueAt text limit a_line (in_section (es ++ (ev ∷ [])) ∷ []) k
   -- `key = simple-key / dotted-key`
-  part_next : (fs : List Frame) (n i m p : ℕ) (s : Part) → DueAt text limit (a_part n) fs i → IsKey s text i m
+  part_next : (fs : List Frame) (n i m p : ℕ) (s : SimpleKey) → DueAt text limit (a_part n) fs i
+      → SpellsSimpleKey s text i m
       → n < limit → Dot text m p → DueAt text limit (a_part (n + 1)) fs p
   -- `std-table = std-table-open key std-table-close`, `array-table = array-table-open key array-table-close`, and the
   -- rest of its line
-  opens_header : (es : List Event) (i m k : ℕ) (array : Bool) → DueAt text limit a_line (in_section es ∷ []) i
-      → Opens array text i m → MaximalRun is_blank text m k → DueAt text limit (a_header_part 0) (in_section es ∷ []) k
-  header_part_next : (fs : List Frame) (n i m p : ℕ) (s : Part) → DueAt text limit (a_header_part n) fs i
-      → IsKey s text i m → n < limit → Dot text m p → DueAt text limit (a_header_part (n + 1)) fs p
-  header_closes : (es : List Event) (i k : ℕ) (array : Bool) (ps : List Part)
+  opens_header : (es : List KeyValue) (i m k : ℕ) (array : Bool) → DueAt text limit a_line (in_section es ∷ []) i
+      → OpensHeader array text i m → MaximalRun is_blank text m k
+      → DueAt text limit (a_header_part 0) (in_section es ∷ []) k
+  header_part_next : (fs : List Frame) (n i m p : ℕ) (s : SimpleKey) → DueAt text limit (a_header_part n) fs i
+      → SpellsSimpleKey s text i m → n < limit → Dot text m p → DueAt text limit (a_header_part (n + 1)) fs p
+  header_closes : (es : List KeyValue) (i k : ℕ) (array : Bool) (ps : List SimpleKey)
       → DueAt text limit a_line (in_section es ∷ []) i → HeaderFront ps array text limit i k
       → DueAt text limit (a_closing array) (in_section es ∷ []) k
   closes_again : (fs : List Frame) (k : ℕ) → DueAt text limit (a_closing true) fs k → slice_index text k ≡ right_bracket
       → DueAt text limit (a_closing false) fs (k + 1)
   header_tail : (fs : List Frame) (k : ℕ) → DueAt text limit (a_closing false) fs k → slice_index text k ≡ right_bracket
       → DueAt text limit a_tail fs (k + 1)
-  next_section : (es : List Event) (i m k : ℕ) (array : Bool) (ps : List Part)
+  next_section : (es : List KeyValue) (i m k : ℕ) (array : Bool) (ps : List SimpleKey)
       → DueAt text limit a_line (in_section es ∷ []) i → SpellsHeader ps array text limit i m → MaximalGap text m k
       → DueAt text limit a_line (in_section [] ∷ []) k
   -- `array = array-open [ array-values ] ws-comment-newline array-close`
@@ -103,7 +106,7 @@ pub data DueAt (text : List ℕ) (limit : ℕ) : What → List Frame → ℕ →
       → slice_index text i ≡ left_bracket → MaximalGap text (i + 1) k → DueAt text limit an_element (in_brackets ∷ fs) k
   item_value : (fs : List Frame) (i : ℕ) → DueAt text limit an_element (in_brackets ∷ fs) i
       → (slice_index text i == right_bracket) ≡ false → DueAt text limit a_value (in_brackets ∷ fs) i
-  behind_item : (fs : List Frame) (i m n : ℕ) (v : Node) → DueAt text limit an_element (in_brackets ∷ fs) i
+  behind_item : (fs : List Frame) (i m n : ℕ) (v : ParsedValue) → DueAt text limit an_element (in_brackets ∷ fs) i
       → Spells v text limit (depth (in_brackets ∷ fs)) i m → MaximalGap text m n
       → DueAt text limit a_comma (in_brackets ∷ fs) n
   behind_comma : (fs : List Frame) (n p : ℕ) → DueAt text limit a_comma fs n → slice_index text n ≡ comma
@@ -111,18 +114,19 @@ pub data DueAt (text : List ℕ) (limit : ℕ) : What → List Frame → ℕ →
   -- `inline-table = inline-table-open [ inline-table-keyvals ] ws-comment-newline inline-table-close`
   opens_table : (fs : List Frame) (i k : ℕ) → DueAt text limit a_value fs i → depth fs ≤ limit
       → slice_index text i ≡ left_brace → MaximalGap text (i + 1) k → DueAt text limit an_element (in_braces [] ∷ fs) k
-  pair_part : (es : List Event) (fs : List Frame) (i : ℕ) → DueAt text limit an_element (in_braces es ∷ fs) i
+  pair_part : (es : List KeyValue) (fs : List Frame) (i : ℕ) → DueAt text limit an_element (in_braces es ∷ fs) i
       → (slice_index text i == right_brace) ≡ false → DueAt text limit (a_part 0) (in_braces es ∷ fs) i
-  pair_equals : (es : List Event) (fs : List Frame) (i a n : ℕ) (ps : List Part)
-      → DueAt text limit (a_part 0) (in_braces es ∷ fs) i → Dotted ps text i a → length ps ≤ limit → MaximalGap text a n
+  pair_equals : (es : List KeyValue) (fs : List Frame) (i a n : ℕ) (ps : List SimpleKey)
+      → DueAt text limit (a_part 0) (in_braces es ∷ fs) i → SpellsKey ps text i a → length ps ≤ limit
+      → MaximalGap text a n
       → DueAt text limit (an_equals (length ps)) (in_braces es ∷ fs) n
-  pair_value : (es : List Event) (fs : List Frame) (k n b : ℕ) → DueAt text limit (an_equals k) (in_braces es ∷ fs) n
+  pair_value : (es : List KeyValue) (fs : List Frame) (k n b : ℕ) → DueAt text limit (an_equals k) (in_braces es ∷ fs) n
       → slice_index text n ≡ equals → MaximalGap text (n + 1) b
       → DueAt text limit a_value (under_key k ∷ (in_braces es ∷ fs)) b
-  pair_verdict : (es : List Event) (fs : List Frame) (i m : ℕ) (p : Event)
+  pair_verdict : (es : List KeyValue) (fs : List Frame) (i m : ℕ) (p : KeyValue)
       → DueAt text limit an_element (in_braces es ∷ fs) i → SpellsPair p text limit (depth (in_braces es ∷ fs)) i m
       → DueAt text limit (a_verdict p) (in_braces es ∷ fs) m
-  behind_pair : (es : List Event) (fs : List Frame) (m n : ℕ) (p : Event)
+  behind_pair : (es : List KeyValue) (fs : List Frame) (m n : ℕ) (p : KeyValue)
       → DueAt text limit (a_verdict p) (in_braces es ∷ fs) m → Clear es p → MaximalGap text m n
       → DueAt text limit a_comma (in_braces (es ++ (p ∷ [])) ∷ fs) n
 
@@ -150,4 +154,4 @@ abbrev pub RefusedWhereDue : List ℕ → ℕ → Result (Vec Section Global) (S
 RefusedWhereDue text limit (Ok found) = Unit {0}
 RefusedWhereDue text limit (Err (stops.Memory e)) = Unit {0}
 RefusedWhereDue text limit (Err (stops.Fault error)) =
-    (fault : Fault) × IsDue text limit fault × Tells text fault (fault_of error)
+    (fault : Fault) × IsDue text limit fault × Tells text fault (content_of error)

@@ -6,7 +6,7 @@ use Rattle.toml_span_lex.specs.Bytes.{is_keylike}
 use Rattle.toml_span_lex.specs.Strings.{IsString}
 use Rattle.toml_span_lex.specs.Tokens.{RunAt}
 use Rattle.toml_span_tree.specs.Node.{Scalar, text, integer, float, boolean, datetime}
-use Rattle.toml_span_read.specs.Data.{Node, Block}
+use Rattle.toml_span_read.specs.Data.{ParsedValue, Block}
 use Rattle.toml_span_read.specs.Grammar.{truth_text, from_to, SpellsWith, DocumentWith}
 use Rattle.toml_span_read.specs.Numbers.{IsNumber}
 
@@ -19,7 +19,7 @@ UndatedScalar (integer n) span t i j = IsNumber (integer n) t i j × (span ≡ f
 UndatedScalar (float x) span t i j = IsNumber (float x) t i j × (span ≡ from_to i j)
 
 -- a value, and a document
-abbrev pub SpellsUndated : Node → List ℕ → ℕ → ℕ → ℕ → ℕ → Type 0
+abbrev pub SpellsUndated : ParsedValue → List ℕ → ℕ → ℕ → ℕ → ℕ → Type 0
 SpellsUndated = SpellsWith UndatedScalar
 
 abbrev pub SpellsUndatedDocument : List Block → List ℕ → ℕ → Type 0

@@ -11,10 +11,10 @@ ghost use Rattle.toml_span_read.specs.code.Gaps.{BehindGives};
 ghost use Rattle.toml_span_read.specs.Dates as date_spec;
 ghost use Rattle.toml_span_read.specs.code.Dates.{DateGives};
 ghost use Rattle.toml_span_read_laws.specs.code.Judged.{UnsignedStands, NumberStands, EndsFurther, Judged};
-ghost use Rattle.toml_span_read.specs.Data.{Node, Block};
+ghost use Rattle.toml_span_read.specs.Data.{ParsedValue, Block};
 ghost use Rattle.toml_span_read.specs.Grammar.{Spells, SpellsDocument};
-ghost use Rattle.toml_span_read.specs.Stuck.{StuckValue, StuckDocument, StuckDotted};
-ghost use Rattle.toml_span_read.specs.Keys.{Part, Dotted};
+ghost use Rattle.toml_span_read.specs.Stuck.{StuckValue, StuckDocument, StuckKey};
+ghost use Rattle.toml_span_read.specs.Keys.{SimpleKey, SpellsKey};
 ghost use Rattle.toml_span_read.specs.code.Numbers.{IsRun};
 
 use toml_span_lex::bytes::{blanks_end, keylike_end};
@@ -158,8 +158,8 @@ pub fn places_are_judged(text: &str)
 /// At each place of a text a dotted key within the limit stands, or one is stuck there.
 pub fn key_or_stuck(text: &str)
     ensures { (limit i : ℕ) → 1 ≤ limit → IsCharBoundary text.now i
-        → ((j : ℕ) × (parts : List Part) × Dotted parts text.now i j × (length parts ≤ limit))
-        ⊎ ((fault : Fault) × StuckDotted text.now limit i fault) }
+        → ((j : ℕ) × (parts : List SimpleKey) × SpellsKey parts text.now i j × (length parts ≤ limit))
+        ⊎ ((fault : Fault) × StuckKey text.now limit i fault) }
 {
     places_are_judged(text);
 }
@@ -167,7 +167,7 @@ pub fn key_or_stuck(text: &str)
 /// At each place of a text, at each depth, a value within the limit stands, or one is stuck there.
 pub fn value_or_stuck(text: &str)
     ensures { (limit depth i : ℕ) → 1 ≤ limit → IsCharBoundary text.now i
-        → ((j : ℕ) × (v : Node) × Spells v text.now limit depth i j)
+        → ((j : ℕ) × (v : ParsedValue) × Spells v text.now limit depth i j)
         ⊎ ((fault : Fault) × StuckValue text.now limit depth i fault) }
 {
     places_are_judged(text);

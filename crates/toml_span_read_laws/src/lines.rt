@@ -7,12 +7,12 @@ ghost use Rattle.toml_span_read.specs.declared.section.Section.{Section};
 ghost use Rattle.toml_span_lex.specs.Bytes.{is_blank, MaximalRun};
 ghost use Rattle.toml_span_read.specs.declared.fault.Fault.{Fault};
 ghost use Rattle.toml_span_read.specs.Gaps.{MaximalGap, begins_gap, BlankLines, BehindLines};
-ghost use Rattle.toml_span_read.specs.Keys.{Part};
+ghost use Rattle.toml_span_read.specs.Keys.{SimpleKey};
 ghost use Rattle.toml_span_read.specs.Places.{SectionsInside};
 ghost use Rattle.toml_span_read_laws.specs.Places.{BlocksAscend};
 ghost use Rattle.toml_span_read.specs.Data.{Block, block};
 ghost use Rattle.toml_span_read.specs.Grammar.{SpellsDocument, SpellsHeader};
-ghost use Rattle.toml_span_read.specs.Stuck.{ReadsDocument, AreRead, StuckDocument, StuckHeader, StuckEvent};
+ghost use Rattle.toml_span_read.specs.Stuck.{ReadsDocument, AreRead, StuckDocument, StuckHeader, StuckKeyValue};
 ghost use Rattle.toml_span_read.specs.Faults.{StuckTail};
 
 /// A text spells at most one document.
@@ -35,14 +35,14 @@ pub fn read_where_spelled()
 
 /// At most one header stands at a place.
 pub fn one_header()
-    ensures { (text : List ℕ) (limit i j k : ℕ) (ps qs : List Part) (array other : Bool)
+    ensures { (text : List ℕ) (limit i j k : ℕ) (ps qs : List SimpleKey) (array other : Bool)
         → SpellsHeader ps array text limit i j → SpellsHeader qs other text limit i k
         → (ps ≡ qs) × (array ≡ other) × (j ≡ k) }
 {}
 
 /// Where a header stands, none gets stuck.
 pub fn header_or_fault()
-    ensures { (text : List ℕ) (limit i j : ℕ) (ps : List Part) (array : Bool) (fault : Fault)
+    ensures { (text : List ℕ) (limit i j : ℕ) (ps : List SimpleKey) (array : Bool) (fault : Fault)
         → SpellsHeader ps array text limit i j → StuckHeader text limit i fault → ⊥ }
 {}
 
@@ -69,8 +69,8 @@ pub fn sections_inside_the_text()
 /// Where a line or a header is due and none stands, one fault does: of an assignment, of the rest of its line,
 /// and of a header.
 pub fn one_line_fault()
-    ensures assignment { (text : List ℕ) (limit i : ℕ) (fault other : Fault) → StuckEvent text limit i fault
-        → StuckEvent text limit i other → fault ≡ other }
+    ensures assignment { (text : List ℕ) (limit i : ℕ) (fault other : Fault) → StuckKeyValue text limit i fault
+        → StuckKeyValue text limit i other → fault ≡ other }
     ensures rest { (text : List ℕ) (i : ℕ) (fault other : Fault) → StuckTail text i fault → StuckTail text i other
         → fault ≡ other }
     ensures header { (text : List ℕ) (limit i : ℕ) (fault other : Fault) → StuckHeader text limit i fault

@@ -1,7 +1,7 @@
 //! The text that shows a diagnostic.
 ghost use Rattle.std.specs.Prelude.{◌≡◌, ℕ, ◌++◌, IfOk, OnOk, map, length, None, option_map, string_bytes};
 ghost use Rattle.toml_span_tree.specs.Diagnostic.{labels_of, label_content};
-ghost use Rattle.toml_span_tree.specs.Error.{fault_of, kind_of};
+ghost use Rattle.toml_span_tree.specs.Error.{content_of, kind_of};
 ghost use Rattle.toml_span_tree.specs.Message.{code_of, display_text};
 ghost use Rattle.toml_span_report.specs.Report as spec;
 ghost use Rattle.toml_span_report.specs.Strips.{marked_line_of};

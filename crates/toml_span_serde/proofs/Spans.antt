@@ -9,7 +9,7 @@ use Rattle.toml_span_lex.specs.declared.stop.Stop.{Stop}
 use Rattle.toml_span_serde.specs.Ahead.{ahead}
 use Rattle.toml_span_serde.specs.Asks.{AsksStart, AsksEnd, HasSpan}
 use Rattle.toml_span_serde.specs.Pieces.{Piece}
-use Rattle.toml_span_serde.specs.Reads.{Picks, StandsAt}
+use Rattle.toml_span_serde.specs.Reads.{Picks, BeginsAt}
 use Rattle.toml_span_serde.specs.declared.reader.Misread.{Misread}
 use Rattle.toml_span_serde.specs.declared.reader.Reader.{Reader}
 
@@ -24,7 +24,7 @@ same_span : (a b : Span) → b.start ≡ a.start → b.end ≡ a.end → a ≡ b
 same_span a b start end = ap (λ n. record { start = n; end = a.end }) (sym start) ∙ ap (λ n. record { start = b.start; end = n }) (sym end)
 
 stands_at : (ps qs rs : List Piece) (starts ends : List Name) (span : Span) → AsksStart starts → AsksEnd ends →
-    Picks ps false starts span.start qs → Picks qs false ends span.end rs → StandsAt span ps
+    Picks ps false starts span.start qs → Picks qs false ends span.end rs → BeginsAt span ps
 stands_at ps qs rs starts ends span a b p q =
     let (same, seen) = p.0 a in
     let (first, rest, split, start) = seen in
@@ -34,7 +34,7 @@ stands_at ps qs rs starts ends span a b p q =
 
 -- the answers of a reader
 pub stands_of : (d : Deserializer Reader (Stop Misread) ℕ) (span : Span) →
-    HasSpan (λ old _ is_key names at new. Picks (ahead old) is_key names at (ahead new)) d span → StandsAt span (ahead (format_of d))
+    HasSpan (λ old _ is_key names at new. Picks (ahead old) is_key names at (ahead new)) d span → BeginsAt span (ahead (format_of d))
 stands_of d span h =
     let (starts, ends, asked, last, a, b, p, q) = h in
     stands_at (ahead (format_of d)) (ahead (format_of asked)) (ahead (format_of last)) starts ends span a b p.0 q.0

@@ -11,7 +11,7 @@ use Rattle.toml_span_claims.specs.Ordered.{HasOneEach, InnerHasOneEach, ItemsHav
 use Rattle.toml_span.proofs.OneTree.{same-name, first-entry, later-entry}
 use Rattle.toml_span_serde.specs.Misfits.{Names}
 use Rattle.toml_span_serde.specs.Pieces.{Piece, piece, pieces, held_pieces, items_pieces, members_pieces, array_ends, table_ends}
-use Rattle.toml_span_serde.specs.Tasks.{content_of, piece_of}
+use Rattle.toml_span_serde.specs.Tasks.{piece_content, piece_of}
 use Rattle.toml_span_serde.specs.Walk.{Way, outer, ended, behind, walked, way_at, AllNamed, down_of, way_of}
 use Rattle.toml_span_serde.specs.declared.path.Down.{Down}
 use Rattle.toml_span_serde.specs.declared.pieces.Piece.{Piece as Made}
@@ -28,7 +28,7 @@ way_of-push ds es d e =
 
 -- one more piece
 pub walked-next : (i : ℕ) (ps : List Made) (p : Made) (way after all : Way) → i < length ps → get_or ps i p ≡ p →
-    walked (map piece_of (drop i ps)) way ≡ all → after ≡ behind (content_of p.content) way →
+    walked (map piece_of (drop i ps)) way ≡ all → after ≡ behind (piece_content p.content) way →
     walked (map piece_of (drop (i + 1) ps)) after ≡ all
 walked-next i ps p way after all at_step here before step =
     let split : drop i ps ≡ p ∷ drop (i + 1) ps = drop_more ps i p at_step ∙ ap (λ x. x ∷ drop (i + 1) ps) here in
@@ -155,14 +155,14 @@ module _ (root : Node) where
 
 -- each piece of a row stands where the way to it leads
 pub named-at : (root : Node) (k : ℕ) (ps : List Made) (p : Made) (way : Way) → k < length ps → get_or ps k p ≡ p → AllNamed root way (map piece_of ps)
-    → Names (reverse (way_at (content_of p.content) (walked (map piece_of (take k ps)) way))) p.span root
+    → Names (reverse (way_at (piece_content p.content) (walked (map piece_of (take k ps)) way))) p.span root
 named-at root k [] p way inside is named = absurd (omega (arith, inside))
 named-at root zero (q ∷ ps) p way inside is named =
-    subst (λ (p : Made). Names (reverse (way_at (content_of p.content) way)) p.span root) is named.0
-named-at root (suc k) (q ∷ ps) p way inside is named = named-at root k ps p (behind (content_of q.content) way) (omega arith) is named.1
+    subst (λ (p : Made). Names (reverse (way_at (piece_content p.content) way)) p.span root) is named.0
+named-at root (suc k) (q ∷ ps) p way inside is named = named-at root k ps p (behind (piece_content q.content) way) (omega arith) is named.1
 
 -- so does each piece of a tree's row
 pub named : (root : Node) (k : ℕ) (ps : List Made) (p : Made) → map piece_of ps ≡ pieces root → HasOneEach root → k < length ps → get_or ps k p ≡ p
-    → Names (reverse (way_at (content_of p.content) (walked (map piece_of (take k ps)) []))) p.span root
+    → Names (reverse (way_at (piece_content p.content) (walked (map piece_of (take k ps)) []))) p.span root
 named root k ps p is one inside here =
     named-at root k ps p [] inside here (subst (AllNamed root []) (sym is) (named-node root root [] None one refl))

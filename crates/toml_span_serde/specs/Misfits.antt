@@ -3,13 +3,14 @@ use Rattle.std.specs.Prelude.{◌≡◌, ◌≤◌, ◌⊎◌, ⊤, ℕ, List, �
 use Rattle.toml_span_lex.specs.declared.span.Span.{Span}
 use Rattle.toml_span_lex.specs.declared.stop.Stop.{Stop}
 use Rattle.toml_span_lex.specs.declared.stop.Stop.TheVariants as stop
-use Rattle.toml_span_tree.specs.Error.{Fault, Kind, fault_of, custom, missing_field, wanted}
+use Rattle.toml_span_tree.specs.Error.{ErrorContent, Kind, content_of, custom, missing_field, wanted}
 use Rattle.toml_span_tree.specs.Node.{Node}
 use Rattle.toml_span_tree.specs.Path.{Place, place_at}
 use Rattle.toml_span_tree.specs.Path as tree
 use Rattle.toml_span_tree.specs.Value.{view}
 use Rattle.toml_span_tree.specs.declared.value.Value.{Value}
 use Rattle.toml_span_read.specs.Places.{IsLineInfo}
+use Rattle.toml_span_read.specs.Limits.{depth_limit}
 use Rattle.toml_span_assembly.specs.Parsing.{IsRefusal, IsTree}
 use Rattle.toml_span_serde.specs.declared.misfit.Expected.{Expected}
 use Rattle.toml_span_serde.specs.declared.misfit.Expected.TheVariants as expected
@@ -67,13 +68,13 @@ kind_of_reason (is.MissingField name) = missing_field (string_bytes name)
 kind_of_reason reason = custom (reason_text reason)
 
 -- the error that tells a misfit
-abbrev pub fault_of_misfit : Misfit → Fault
-fault_of_misfit m = record { kind = kind_of_reason m.reason; span = m.span; line_info = m.line_info }
+abbrev pub content_of_misfit : Misfit → ErrorContent
+content_of_misfit m = record { kind = kind_of_reason m.reason; span = m.span; line_info = m.line_info }
 
 -- what an error tells
-abbrev pub fault_of_error : Error → Fault
-fault_of_error (error.Refused e) = fault_of e
-fault_of_error (error.Misfit m) = fault_of_misfit m
+abbrev pub content_of_error : Error → ErrorContent
+content_of_error (error.Refused e) = content_of e
+content_of_error (error.Misfit m) = content_of_misfit m
 
 abbrev pub step_of : Step → tree.Step
 step_of (step.Key name) = tree.key (string_bytes name)
@@ -99,10 +100,10 @@ HasLine text m = m.span.start ≤ length text → (line column : ℕ) × (m.line
 
 -- the text spells a document, whose tree has this property
 abbrev pub HasTree : List ℕ → (Node → Type 0) → Type 0
-HasTree text P = (root : Value) × IsTree text 128 root × P (view root)
+HasTree text P = (root : Value) × IsTree text depth_limit root × P (view root)
 
 -- the text is refused, or it has a tree and a place of it is told
 abbrev pub IsRefused : List ℕ → Stop Error → Type 0
 IsRefused text (stop.Memory e) = ⊤
-IsRefused text (stop.Fault (error.Refused e)) = IsRefusal text 128 (stop.Fault e)
+IsRefused text (stop.Fault (error.Refused e)) = IsRefusal text depth_limit (stop.Fault e)
 IsRefused text (stop.Fault (error.Misfit m)) = HasTree text (Names (path_of m.path.items) m.span) × HasLine text m

@@ -13,8 +13,8 @@ use Rattle.toml_span_tree.specs.Float.{float_text}
 use Rattle.toml_span_serde.specs.Pieces.{Content, Piece, value, array_begins, array_ends, table_begins, table_ends, key}
 
 -- one piece is taken, of which P holds
-abbrev pub Takes : (Content → Type 0) → List Piece → List Piece → Type 0
-Takes P old new = (p : Piece) × (old ≡ p ∷ new) × P p.content
+abbrev pub TakesPiece : (Content → Type 0) → List Piece → List Piece → Type 0
+TakesPiece P old new = (p : Piece) × (old ≡ p ∷ new) × P p.content
 
 -- a string or a key of these bytes
 abbrev pub IsText : List ℕ → Content → Type 0
@@ -25,29 +25,30 @@ abbrev pub IsWritten : List ℕ → Content → Type 0
 IsWritten s c = IsText s c ⊎ (c ≡ value (tree.datetime s))
 
 -- the float whose text is read as this number, or the integer to which it is nearest
-abbrev pub IsNumber : Format → Float → Content → Type 0
-IsNumber format x c =
+abbrev pub HoldsNumber : Format → Float → Content → Type 0
+HoldsNumber format x c =
     ((d : tree.FloatValue) × (c ≡ value (tree.float d)) × (parse_float format (float_text d) ≡ Some x))
     ⊎ ((z : ℤ) × (c ≡ value (tree.integer z)) × (x ≡ Ieee.of_int format z))
 
 abbrev pub Reads : List Piece → event.Event → List Piece → Type 0
-Reads old (event.boolean b) new = Takes (λ c. c ≡ value (tree.boolean b)) old new
-Reads old (event.signed z) new = Takes (λ c. c ≡ value (tree.integer z)) old new
-Reads old (event.unsigned n) new = Takes (λ c. c ≡ value (tree.integer (pos n))) old new
-Reads old (event.single x) new = Takes (IsNumber binary32 x) old new
-Reads old (event.double x) new = Takes (IsNumber binary64 x) old new
-Reads old (event.character c) new = Takes (IsText (encode_utf8 c)) old new
-Reads old (event.text s) new = Takes (IsWritten s) old new
-Reads old (event.octets s) new = Takes (IsWritten s) old new
+Reads old (event.boolean b) new = TakesPiece (λ c. c ≡ value (tree.boolean b)) old new
+Reads old (event.signed z) new = TakesPiece (λ c. c ≡ value (tree.integer z)) old new
+Reads old (event.unsigned n) new = TakesPiece (λ c. c ≡ value (tree.integer (pos n))) old new
+Reads old (event.single x) new = TakesPiece (HoldsNumber binary32 x) old new
+Reads old (event.double x) new = TakesPiece (HoldsNumber binary64 x) old new
+Reads old (event.character c) new = TakesPiece (IsText (encode_utf8 c)) old new
+Reads old (event.text s) new = TakesPiece (IsWritten s) old new
+Reads old (event.octets s) new = TakesPiece (IsWritten s) old new
 Reads old event.nothing new = ⊥
 Reads old (event.unit_variant name case) new = ⊥
-Reads old (event.seq_begins n) new = Takes (λ c. c ≡ array_begins) old new
-Reads old event.seq_ends new = Takes (λ c. c ≡ array_ends) old new
-Reads old (event.map_begins n) new = Takes (λ c. c ≡ table_begins) old new
-Reads old event.map_ends new = Takes (λ c. c ≡ table_ends) old new
+Reads old (event.seq_begins n) new = TakesPiece (λ c. c ≡ array_begins) old new
+Reads old event.seq_ends new = TakesPiece (λ c. c ≡ array_ends) old new
+Reads old (event.map_begins n) new = TakesPiece (λ c. c ≡ table_begins) old new
+Reads old event.map_ends new = TakesPiece (λ c. c ≡ table_ends) old new
 Reads old (event.field_key name case) new = ⊥
 Reads old (event.variant_key name case) new = ⊥
-Reads old event.key_begins new = (new ≡ old) × ((s : List ℕ) × (rest : List Piece) × Takes (λ c. c ≡ key s) old rest)
+Reads old event.key_begins new =
+    (new ≡ old) × ((s : List ℕ) × (rest : List Piece) × TakesPiece (λ c. c ≡ key s) old rest)
 Reads old event.key_ends new = ⊥
 Reads old event.flattens new = ⊥
 
@@ -57,12 +58,12 @@ Sees P old new = (new ≡ old) × ((p : Piece) × (rest : List Piece) × (old �
 
 -- a key of a table, or a text, and the name that it stands for; or where the first piece starts or ends
 abbrev pub Picks : List Piece → Bool → List Name → ℕ → List Piece → Type 0
-Picks old true names at new = (s : List ℕ) × Takes (λ c. c ≡ key s) old new × Finds names s at
+Picks old true names at new = (s : List ℕ) × TakesPiece (λ c. c ≡ key s) old new × Finds names s at
 Picks old false names at new =
     (AsksStart names → Sees (λ p. at ≡ p.span.start) old new)
     × (AsksEnd names → Sees (λ p. at ≡ p.span.end) old new)
-    × (¬ AsksStart names → ¬ AsksEnd names → (s : List ℕ) × Takes (IsText s) old new × Finds names s at)
+    × (¬ AsksStart names → ¬ AsksEnd names → (s : List ℕ) × TakesPiece (IsText s) old new × Finds names s at)
 
 -- the first piece has these bytes
-abbrev pub StandsAt : Span → List Piece → Type 0
-StandsAt span ps = (p : Piece) × (rest : List Piece) × (ps ≡ p ∷ rest) × (p.span ≡ span)
+abbrev pub BeginsAt : Span → List Piece → Type 0
+BeginsAt span ps = (p : Piece) × (rest : List Piece) × (ps ≡ p ∷ rest) × (p.span ≡ span)

@@ -9,21 +9,21 @@ use Rattle.toml_span_serde.specs.declared.pieces.Piece.{Piece}
 use Rattle.toml_span_serde.specs.declared.pieces.Task.{Task}
 use Rattle.toml_span_serde.specs.declared.pieces.Task.TheVariants as task
 
-abbrev pub content_of : Content → spec.Content
-content_of (is.Text s) = spec.value (text s.now)
-content_of (is.Integer z) = spec.value (integer z)
-content_of (is.Float x) = spec.value (float (float_value x.now))
-content_of (is.Boolean b) = spec.value (boolean b)
-content_of (is.Datetime s) = spec.value (datetime s.now)
-content_of is.Taken = spec.nothing
-content_of is.ArrayBegins = spec.array_begins
-content_of is.ArrayEnds = spec.array_ends
-content_of is.TableBegins = spec.table_begins
-content_of is.TableEnds = spec.table_ends
-content_of (is.Key s) = spec.key s.now
+abbrev pub piece_content : Content → spec.Content
+piece_content (is.Text s) = spec.value (text s.now)
+piece_content (is.Integer z) = spec.value (integer z)
+piece_content (is.Float x) = spec.value (float (float_value x.now))
+piece_content (is.Boolean b) = spec.value (boolean b)
+piece_content (is.Datetime s) = spec.value (datetime s.now)
+piece_content is.Taken = spec.nothing
+piece_content is.ArrayBegins = spec.array_begins
+piece_content is.ArrayEnds = spec.array_ends
+piece_content is.TableBegins = spec.table_begins
+piece_content is.TableEnds = spec.table_ends
+piece_content (is.Key s) = spec.key s.now
 
 abbrev pub piece_of : Piece → spec.Piece
-piece_of p = spec.piece (content_of p.content) p.span
+piece_of p = spec.piece (piece_content p.content) p.span
 
 abbrev pub task_pieces : Task → List spec.Piece
 task_pieces (task.Value v) = spec.pieces (view v.now)

@@ -1,7 +1,7 @@
 //! What follows from the contracts of this crate.
 ghost use Rattle.std.specs.Prelude.{◌≡◌, IfOk};
 ghost use Rattle.toml_span_serde.specs.Ahead.{ahead};
-ghost use Rattle.toml_span_serde.specs.Reads.{StandsAt};
+ghost use Rattle.toml_span_serde.specs.Reads.{BeginsAt};
 
 use crate::reader::{Misread, Reader};
 use crate::spanned::Spanned;
@@ -15,7 +15,7 @@ pub fn spanned_has_its_bytes<'de, T: Deserialize<'de>>(
     input: &'de [u8],
     reader: &mut Reader<'_, '_>,
 ) -> Result<Spanned<T>, Stop<Misread>>
-    ensures { IfOk result (λ read. StandsAt read.span (ahead reader.old)) }
+    ensures { IfOk result (λ read. BeginsAt read.span (ahead reader.old)) }
 {
     Spanned::deserialize(alloc, &mut Deserializer::new(input, reader))
 }

@@ -1,9 +1,9 @@
 //! Why a value is not read as a type.
 ghost use Rattle.std.specs.Prelude.{◌≡◌, IfOk, Some, map, string_bytes};
-ghost use Rattle.toml_span_tree.specs.Error.{fault_of, kind_of};
+ghost use Rattle.toml_span_tree.specs.Error.{content_of, kind_of};
 ghost use Rattle.toml_span_tree.specs.Diagnostic.{labels_of, label_content, message_of};
 ghost use Rattle.toml_span_tree.specs.Message.{code_of};
-ghost use Rattle.toml_span_serde.specs.Misfits.{fault_of_error, fault_of_misfit, kind_of_reason, name_of};
+ghost use Rattle.toml_span_serde.specs.Misfits.{content_of_error, content_of_misfit, kind_of_reason, name_of};
 ghost use Rattle.toml_span_serde.specs.Misfits.{reason_text, words_of};
 
 use crate::path::Step;
@@ -159,7 +159,7 @@ pub struct Misfit {
 impl Misfit {
     /// The misfit as an error of a document, at the same span, line and column. It takes memory for its text.
     pub fn to_error(&self, alloc: Global) -> Result<toml_span_tree::Error<'_>, AllocError>
-        ensures { IfOk result (λ error. fault_of error ≡ fault_of_misfit self.now) }
+        ensures { IfOk result (λ error. content_of error ≡ content_of_misfit self.now) }
     {
         Ok(toml_span_tree::Error {
             kind: self.reason.kind(alloc)?,
@@ -209,21 +209,21 @@ impl std::error::Error for Error<'_> {}
 impl Error<'_> {
     /// The bytes that the error is about.
     pub fn span(&self) -> Span
-        ensures { result ≡ (fault_of_error self.now).span }
+        ensures { result ≡ (content_of_error self.now).span }
     {
         self.place().0
     }
 
     /// The line and the column at which the span starts, both counted from 0, if they are known.
     pub fn line_info(&self) -> Option<(usize, usize)>
-        ensures { result ≡ (fault_of_error self.now).line_info }
+        ensures { result ≡ (content_of_error self.now).line_info }
     {
         self.place().1
     }
 
     /// The bytes that the error is about, and the line and the column at which they start.
     fn place(&self) -> (Span, Option<(usize, usize)>)
-        ensures { (result.0 ≡ (fault_of_error self.now).span) × (result.1 ≡ (fault_of_error self.now).line_info) }
+        ensures { (result.0 ≡ (content_of_error self.now).span) × (result.1 ≡ (content_of_error self.now).line_info) }
     {
         match self {
             Error::Refused(error) => (error.span, error.line_info),
@@ -237,11 +237,11 @@ impl Error<'_> {
         alloc: Global,
         fid: F,
     ) -> Result<Diagnostic<F>, AllocError>
-        ensures code { IfOk result (λ shown. string_bytes shown.code ≡ code_of (fault_of_error self.now).kind) }
+        ensures code { IfOk result (λ shown. string_bytes shown.code ≡ code_of (content_of_error self.now).kind) }
         ensures message { IfOk result (λ shown.
-            string_bytes shown.message ≡ message_of (fault_of_error self.now).kind) }
+            string_bytes shown.message ≡ message_of (content_of_error self.now).kind) }
         ensures labels { IfOk result (λ shown. map label_content shown.labels.items
-            ≡ labels_of fid (fault_of_error self.now).span (fault_of_error self.now).kind) }
+            ≡ labels_of fid (content_of_error self.now).span (content_of_error self.now).kind) }
     {
         match self {
             Error::Refused(error) => error.to_diagnostic(alloc, fid),

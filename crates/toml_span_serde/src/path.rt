@@ -1,7 +1,7 @@
 //! Paths from the root of a tree.
 ghost use Rattle.std.specs.Prelude.{◌≡◌, [], IfOk, OnOk, map, reverse};
 ghost use Rattle.toml_span_serde.specs.Misfits.{path_of, step_of};
-ghost use Rattle.toml_span_serde.specs.Tasks.{content_of, piece_of};
+ghost use Rattle.toml_span_serde.specs.Tasks.{piece_content, piece_of};
 ghost use Rattle.toml_span_serde.specs.Walk.{behind, down_of, ended, outer, walked, way_at, way_of};
 
 use crate::pieces::{Content, Piece};
@@ -39,7 +39,7 @@ pub(crate) fn path_to(
     content: Content<'_>,
 ) -> Result<Vec<Step>, AllocError>
     ensures { IfOk result (λ path. path_of path.items
-        ≡ reverse (way_at (content_of content.entry) (walked (map piece_of before.now) []))) }
+        ≡ reverse (way_at (piece_content content.entry) (walked (map piece_of before.now) []))) }
 {
     let mut downs = Vec::new(alloc);
     for piece in before {
@@ -51,7 +51,7 @@ pub(crate) fn path_to(
 
 /// The way to what stands behind a piece, from the way that leads there.
 fn pass<'v>(downs: &mut Vec<Down<'v>>, content: Content<'v>) -> Result<(), AllocError>
-    ensures { OnOk result (way_of downs.new.items ≡ behind (content_of content.entry) (way_of downs.old.items)) }
+    ensures { OnOk result (way_of downs.new.items ≡ behind (piece_content content.entry) (way_of downs.old.items)) }
 {
     match content {
         Content::Key(name) => downs.push(Down::Key(name))?,
@@ -68,7 +68,7 @@ fn pass<'v>(downs: &mut Vec<Down<'v>>, content: Content<'v>) -> Result<(), Alloc
 
 /// The way to the value of a piece, or to that of its key.
 fn turn_to<'v>(downs: &mut Vec<Down<'v>>, content: Content<'v>) -> Result<(), AllocError>
-    ensures { OnOk result (way_of downs.new.items ≡ way_at (content_of content.entry) (way_of downs.old.items)) }
+    ensures { OnOk result (way_of downs.new.items ≡ way_at (piece_content content.entry) (way_of downs.old.items)) }
 {
     match content {
         Content::Key(name) => downs.push(Down::Key(name))?,

@@ -3,7 +3,7 @@ ghost use Rattle.std.specs.Prelude.{◌≡◌, ◌+◌, ◌-◌, ◌<◌, ◌^�
 ghost use Rattle.toml_span_tree.specs.Node.{integer};
 ghost use Rattle.toml_span_serde.specs.Pieces.{value};
 ghost use Rattle.toml_span_serde.specs.Tasks.{piece_of};
-ghost use Rattle.toml_span_serde.specs.Reads.{IsText, Picks, Reads, Takes};
+ghost use Rattle.toml_span_serde.specs.Reads.{IsText, Picks, Reads, TakesPiece};
 ghost use Rattle.toml_span_serde.specs.Ahead.{ahead};
 
 use crate::misfit::{Expected, Found, Reason};
@@ -115,7 +115,7 @@ impl<'p, 'v> Reader<'p, 'v> {
 
     /// The text of a string or of a key.
     fn text(&mut self, expected: Expected) -> Result<&'v str, Stop<Misread>>
-        ensures { IfOk result (λ text. Takes (IsText text.now) (ahead self.old) (ahead self.new)) }
+        ensures { IfOk result (λ text. TakesPiece (IsText text.now) (ahead self.old) (ahead self.new)) }
     {
         match self.take()?.content {
             Content::Text(text) | Content::Key(text) => Ok(text),
@@ -124,7 +124,7 @@ impl<'p, 'v> Reader<'p, 'v> {
     }
 
     fn integer(&mut self) -> Result<i64, Stop<Misread>>
-        ensures { IfOk result (λ z. Takes (λ c. c ≡ value (integer z)) (ahead self.old) (ahead self.new)) }
+        ensures { IfOk result (λ z. TakesPiece (λ c. c ≡ value (integer z)) (ahead self.old) (ahead self.new)) }
     {
         match self.take()?.content {
             Content::Integer(number) => Ok(number),

@@ -1,6 +1,6 @@
 //! Errors as people read them.
 ghost use Rattle.std.specs.Prelude.{IfOk, string_bytes};
-ghost use Rattle.toml_span_serde.specs.Shown.{IsShown};
+ghost use Rattle.toml_span_serde.specs.Shown.{IsErrorText};
 
 use crate::misfit::Error;
 use std::alloc::{AllocError, Global};
@@ -16,7 +16,7 @@ pub fn render_stop(
     name: &str,
     text: &str,
 ) -> Result<String, AllocError>
-    ensures { IfOk result (λ out. IsShown style stop.entry name.now text.now (string_bytes out)) }
+    ensures { IfOk result (λ out. IsErrorText style stop.entry name.now text.now (string_bytes out)) }
 {
     match stop {
         Stop::Memory(e) => Err(e),

@@ -10,7 +10,7 @@ use Rattle.std.specs.Str.Parse.{digits_value}
 use Rattle.std.specs.Slice.{IsItemAt}
 use Rattle.toml_span_lex.specs.declared.span.Span.{Span}
 use Rattle.toml_span_tree.specs.declared.value.Value.{Value}
-use Rattle.toml_span_tree.specs.Node.{Node, Inner, Items, no_items, item, element_at, get_item}
+use Rattle.toml_span_tree.specs.Node.{Node, Items, get_item}
 use Rattle.toml_span_tree.specs.Value.{view, items_view, inner_of}
 use Rattle.toml_span_tree.specs.Path.{Step, position, Path, at_step, child, reached, node_at}
 use Rattle.toml_span_tree.specs.Pointer.{push_front, segments, pointer_segments, step_named, untaken_child, if_not_taken, path_named, pointed, is_decimal_form, position_of}

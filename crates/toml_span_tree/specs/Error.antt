@@ -43,7 +43,7 @@ pub data Kind : Type 0 where
   unexpected_value : List (List ℕ) → Option (List ℕ) → Kind
 
 -- what is wrong, and where
-pub record Fault : Type 0 where
+pub record ErrorContent : Type 0 where
   pub kind : Kind
   pub span : Span
   pub line_info : Option (ℕ × ℕ)
@@ -81,5 +81,5 @@ kind_of (kinds.UnexpectedValue expected value) =
     unexpected_value (map (λ name. name.now) expected.now) (option_map string_bytes value)
 
 -- what an error tells
-abbrev pub fault_of : Error → Fault
-fault_of error = record { kind = kind_of error.kind; span = error.span; line_info = error.line_info }
+abbrev pub content_of : Error → ErrorContent
+content_of error = record { kind = kind_of error.kind; span = error.span; line_info = error.line_info }

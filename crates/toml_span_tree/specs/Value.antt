@@ -12,7 +12,7 @@ use Rattle.toml_span_tree.specs.declared.value.Value.{Value}
 use Rattle.toml_span_tree.specs.declared.value.ValueInner.{ValueInner}
 use Rattle.toml_span_tree.specs.declared.value.ValueInner.TheOpen.{ValueInner-F, Value-F}
 use Rattle.toml_span_tree.specs.declared.value.ValueInner.TheFolds.{fold-Value, fold-ValueInner}
-use Rattle.toml_span_tree.specs.Error.{Fault, wanted}
+use Rattle.toml_span_tree.specs.Error.{ErrorContent, wanted}
 use Rattle.toml_span_tree.specs.Node.{FloatValue, finite, infinite, not_a_number, Scalar, text, integer, float, boolean}
 use Rattle.toml_span_tree.specs.Node.{datetime, Node, node, Inner, taken, scalar, array, table, Items, no_items, item}
 use Rattle.toml_span_tree.specs.Node.{Members, no_members, member}
@@ -198,5 +198,5 @@ has_members (array ns) = false
 has_members (table ms) = is_filled ms
 
 -- the error that says what was expected of a value, and the kind of the value that was found
-abbrev pub wrong_kind : List ℕ → Node → Fault
+abbrev pub wrong_kind : List ℕ → Node → ErrorContent
 wrong_kind expected n = record { kind = wanted expected (kind_name (inner_of n)); span = span_of n; line_info = None }

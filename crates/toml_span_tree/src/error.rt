@@ -1,7 +1,7 @@
 //! What is told of a document, and where.
 ghost use Rattle.std.specs.Prelude.{◌≡◌, map, IfOk, string_bytes};
 ghost use Rattle.std.specs.Cow.{cow_str_bytes};
-ghost use Rattle.toml_span_tree.specs.Error.{fault_of, kind_of, marked_keys};
+ghost use Rattle.toml_span_tree.specs.Error.{content_of, kind_of, marked_keys};
 
 use std::alloc::{AllocError, Global};
 use std::borrow::CowStr;
@@ -182,7 +182,7 @@ impl<'s> Error<'s> {
     /// A second error of the same content. On want of memory there is none, and this one is as it
     /// was.
     pub fn clone(&self, alloc: Global) -> Result<Self, AllocError>
-        ensures { IfOk result (λ copy. fault_of copy ≡ fault_of self.now) }
+        ensures { IfOk result (λ copy. content_of copy ≡ content_of self.now) }
     {
         Ok(Error {
             kind: self.kind.clone(alloc)?,

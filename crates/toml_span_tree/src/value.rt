@@ -53,7 +53,7 @@ impl Debug for Value<'_> {
 }
 
 impl<'de> Value<'de> {
-    ghost use Rattle.toml_span_tree.specs.Error.{fault_of};
+    ghost use Rattle.toml_span_tree.specs.Error.{content_of};
     ghost use Rattle.toml_span_tree.specs.Node.{node, taken, get_member};
     ghost use Rattle.toml_span_tree.specs.Value.{view, inner_view, date_bytes, float_value, items_view, members_view};
     ghost use Rattle.toml_span_tree.specs.Value.{inner_of, is_taken as is_taken_node, is_whole as is_whole_node};
@@ -134,7 +134,7 @@ impl<'de> Value<'de> {
         requires { is_taken_node (view self.old) ≡ false }
         ensures text { IfOk result (λ text. text_in (inner_of (view self.old)) ≡ Some (cow_str_bytes text)) }
         ensures refused { IfErr result (λ error. (text_in (inner_of (view self.old)) ≡ None)
-            × (fault_of error
+            × (content_of error
             ≡ wrong_kind (unwrap_or (option_map (λ m. m.now) msg.entry) (codes "a string")) (view self.old))) }
         ensures taken { view self.new ≡ node taken self.old.span }
     {

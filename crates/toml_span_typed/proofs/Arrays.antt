@@ -3,30 +3,30 @@ use Rattle.std.proofs.Common.{◌≡◌, List, [], ◌∷◌, ◌++◌, map, Res
 use Rattle.toml_span_tree.specs.Node.{Node}
 use Rattle.toml_span_tree.specs.Value.{items_of, items_view, view}
 use Rattle.toml_span_tree.specs.declared.value.Value.{Value}
-use Rattle.toml_span_tree.specs.Error.{Fault}
+use Rattle.toml_span_tree.specs.Error.{ErrorContent}
 use Rattle.toml_span_typed.specs.code.Arrays.{AddsRead, AreRead}
-use Rattle.toml_span_typed.specs.Faults.{Faults, all}
+use Rattle.toml_span_typed.specs.Errors.{Errors, all}
 use Rattle.toml_span_typed.specs.Reads.{EachReads, ReadsAll, elements, errors, nodes_of}
 
-module _ {T : Type 0} (reads : Node → Result T Faults → Node → Type 0) where
-  each_push : (vs : List Node) (v : Node) (answers : List (Result T Faults)) (a : Result T Faults) → EachReads reads vs answers → (w : Node) × reads v a w → EachReads reads (vs ++ v ∷ []) (answers ++ a ∷ [])
+module _ {T : Type 0} (reads : Node → Result T Errors → Node → Type 0) where
+  each_push : (vs : List Node) (v : Node) (answers : List (Result T Errors)) (a : Result T Errors) → EachReads reads vs answers → (w : Node) × reads v a w → EachReads reads (vs ++ v ∷ []) (answers ++ a ∷ [])
   each_push [] v [] a h one = (one, tt)
   each_push (u ∷ us) v (b ∷ bs) a h one = (h.0, each_push us v bs a h.1 one)
   each_push [] v (b ∷ bs) a h one = elim h [ ]
   each_push (u ∷ us) v [] a h one = elim h [ ]
 
-elements_push : {T : Type 0} → (answers : List (Result T Faults)) (a : Result T Faults) → elements (answers ++ a ∷ []) ≡ elements answers ++ elements (a ∷ [])
+elements_push : {T : Type 0} → (answers : List (Result T Errors)) (a : Result T Errors) → elements (answers ++ a ∷ []) ≡ elements answers ++ elements (a ∷ [])
 elements_push [] a = refl
 elements_push (Ok x ∷ answers) a = ap (λ ys. x ∷ ys) (elements_push answers a)
 elements_push (Err e ∷ answers) a = elements_push answers a
 
-pub errors_push : {T : Type 0} → (answers : List (Result T Faults)) (a : Result T Faults) → errors (answers ++ a ∷ []) ≡ errors answers ++ errors (a ∷ [])
+pub errors_push : {T : Type 0} → (answers : List (Result T Errors)) (a : Result T Errors) → errors (answers ++ a ∷ []) ≡ errors answers ++ errors (a ∷ [])
 errors_push [] a = refl
 errors_push (Ok x ∷ answers) a = errors_push answers a
 errors_push (Err e ∷ answers) a = ap (λ ys. all e ++ ys) (errors_push answers a) ∙ sym (append_assoc (all e) (errors answers) (errors (a ∷ [])))
 
 -- what was read, and one more
-pub read_more : {T : Type 0} → (reads : Node → Result T Faults → Node → Type 0) (vs : List Node) (v : Node) (xs ys : List T) (fs gs : List Fault) → AreRead reads vs xs fs → AddsRead reads v xs fs ys gs → AreRead reads (vs ++ v ∷ []) ys gs
+pub read_more : {T : Type 0} → (reads : Node → Result T Errors → Node → Type 0) (vs : List Node) (v : Node) (xs ys : List T) (fs gs : List ErrorContent) → AreRead reads vs xs fs → AddsRead reads v xs fs ys gs → AreRead reads (vs ++ v ∷ []) ys gs
 read_more reads vs v xs ys fs gs h more = (
   h.0 ++ more.0 ∷ [],
   each_push reads vs v h.0 more.0 h.1 more.1,
@@ -40,11 +40,11 @@ nodes_of-items_of [] = refl
 nodes_of-items_of (v ∷ vs) = ap (λ ws. v ∷ ws) (nodes_of-items_of vs)
 
 -- what is read of a list's values is read of the array that they make
-pub read_array : {T : Type 0} → (reads : Node → Result T Faults → Node → Type 0) (vs : List Value) (xs : List T) (fs : List Fault) → AreRead reads (map view vs) xs fs → AreRead reads (nodes_of (items_view vs)) xs fs
+pub read_array : {T : Type 0} → (reads : Node → Result T Errors → Node → Type 0) (vs : List Value) (xs : List T) (fs : List ErrorContent) → AreRead reads (map view vs) xs fs → AreRead reads (nodes_of (items_view vs)) xs fs
 read_array reads vs xs fs h = rw (nodes_of-items_of (map view vs)) h
 
-pub joined_elements : {T : Type 0} → (reads : Node → Result T Faults → Node → Type 0) (vs : List Value) (xs : List T) (fs : List Fault) → fs ≡ [] → AreRead reads (map view vs) xs fs → ReadsAll reads (nodes_of (items_view vs)) (Ok xs)
+pub joined_elements : {T : Type 0} → (reads : Node → Result T Errors → Node → Type 0) (vs : List Value) (xs : List T) (fs : List ErrorContent) → fs ≡ [] → AreRead reads (map view vs) xs fs → ReadsAll reads (nodes_of (items_view vs)) (Ok xs)
 joined_elements reads vs xs fs none h = let r = read_array reads vs xs fs h in (r.0, r.1, (r.3 ∙ none, r.2))
 
-pub joined_errors : {T : Type 0} → (reads : Node → Result T Faults → Node → Type 0) (vs : List Value) (xs : List T) (fs : List Fault) (faults : Faults) → fs ≡ all faults → AreRead reads (map view vs) xs fs → ReadsAll reads (nodes_of (items_view vs)) (Err faults)
+pub joined_errors : {T : Type 0} → (reads : Node → Result T Errors → Node → Type 0) (vs : List Value) (xs : List T) (fs : List ErrorContent) (faults : Errors) → fs ≡ all faults → AreRead reads (map view vs) xs fs → ReadsAll reads (nodes_of (items_view vs)) (Err faults)
 joined_errors reads vs xs fs faults some h = let r = read_array reads vs xs fs h in (r.0, r.1, r.3 ∙ some)

@@ -3,13 +3,13 @@ use Rattle.std.proofs.Common.{◌≡◌, ℕ, List, [], ◌∷◌, ◌++◌, map
 use Rattle.std.specs.BTreeMap.{insert_entry}
 use Rattle.std.specs.Cow.{cow_str_bytes}
 use Rattle.std.specs.Ordering.{match_ordering}
-use Rattle.toml_span_tree.specs.Error.{Fault}
+use Rattle.toml_span_tree.specs.Error.{ErrorContent}
 use Rattle.toml_span_tree.specs.Node.{Node}
 use Rattle.toml_span_tree.specs.Value.{all_members_whole, is_whole, members_view, view}
 use Rattle.toml_span_tree.proofs.Values.{Entry}
 use Rattle.toml_span_typed.proofs.Arrays.{errors_push}
 use Rattle.toml_span_typed.proofs.Whole.{left, right}
-use Rattle.toml_span_typed.specs.Faults.{Faults}
+use Rattle.toml_span_typed.specs.Errors.{Errors}
 use Rattle.toml_span_typed.specs.code.Maps.{AddsEntry}
 use Rattle.toml_span_typed.specs.Maps.{EntriesRead, holding, holding_read, names_of, shown_pair, values_of}
 use Rattle.toml_span_typed.specs.Reads.{EachReads, errors}
@@ -39,14 +39,14 @@ pub values-entries : (es : List Entry) → values_of (members_view es) ≡ entry
 values-entries [] = refl
 values-entries (e ∷ es) = ap (λ vs. view e.1 ∷ vs) (values-entries es)
 
-module _ {T : Type 0} (reads : Node → Result T Faults → Node → Type 0) where
-  each_more : (es : List Entry) (e : Entry) (answers : List (Result T Faults)) (a : Result T Faults) → EachReads reads (entry_values es) answers → (w : Node) × reads (view e.1) a w → EachReads reads (entry_values (es ++ e ∷ [])) (answers ++ a ∷ [])
+module _ {T : Type 0} (reads : Node → Result T Errors → Node → Type 0) where
+  each_more : (es : List Entry) (e : Entry) (answers : List (Result T Errors)) (a : Result T Errors) → EachReads reads (entry_values es) answers → (w : Node) × reads (view e.1) a w → EachReads reads (entry_values (es ++ e ∷ [])) (answers ++ a ∷ [])
   each_more [] e [] a h one = (one, tt)
   each_more (d ∷ es) e (b ∷ bs) a h one = (h.0, each_more es e bs a h.1 one)
   each_more [] e (b ∷ bs) a h one = elim h [ ]
   each_more (d ∷ es) e [] a h one = elim h [ ]
 
-  holding-more : (es : List Entry) (e : Entry) (answers : List (Result T Faults)) (a : Result T Faults) (held : List (List ℕ × T)) → EachReads reads (entry_values es) answers
+  holding-more : (es : List Entry) (e : Entry) (answers : List (Result T Errors)) (a : Result T Errors) (held : List (List ℕ × T)) → EachReads reads (entry_values es) answers
       → holding_read held (entry_names (es ++ e ∷ [])) (answers ++ a ∷ []) ≡ holding_read (holding_read held (entry_names es) answers) (cow_str_bytes e.0.name ∷ []) (a ∷ [])
   holding-more [] e [] a held h = refl
   holding-more (d ∷ es) e (Ok x ∷ bs) a held h = holding-more es e bs a (holding held (cow_str_bytes d.0.name) x) h.1
@@ -55,7 +55,7 @@ module _ {T : Type 0} (reads : Node → Result T Faults → Node → Type 0) whe
   holding-more (d ∷ es) e [] a held h = elim h [ ]
 
 -- what was read, and one more
-pub entry_more : {T : Type 0} (reads : Node → Result T Faults → Node → Type 0) (es : List Entry) (e : Entry) (held more : List (List ℕ × T)) (fs gs : List Fault)
+pub entry_more : {T : Type 0} (reads : Node → Result T Errors → Node → Type 0) (es : List Entry) (e : Entry) (held more : List (List ℕ × T)) (fs gs : List ErrorContent)
     → EntriesRead reads (entry_names es) (entry_values es) held fs → AddsEntry reads (cow_str_bytes e.0.name) (view e.1) held fs more gs
     → EntriesRead reads (entry_names (es ++ e ∷ [])) (entry_values (es ++ e ∷ [])) more gs
 entry_more reads es e held more fs gs h one = (
@@ -65,7 +65,7 @@ entry_more reads es e held more fs gs h one = (
   errors_push h.0 one.0 ∙ ap (λ zs. zs ++ errors (one.0 ∷ [])) h.3 ∙ sym one.3,
 )
 
-pub read_as_members : {T : Type 0} (reads : Node → Result T Faults → Node → Type 0) (es : List Entry) (held : List (List ℕ × T)) (fs : List Fault)
+pub read_as_members : {T : Type 0} (reads : Node → Result T Errors → Node → Type 0) (es : List Entry) (held : List (List ℕ × T)) (fs : List ErrorContent)
     → EntriesRead reads (entry_names es) (entry_values es) held fs → EntriesRead reads (names_of (members_view es)) (values_of (members_view es)) held fs
 read_as_members reads es held fs h = rw (names-entries es, values-entries es) h
 

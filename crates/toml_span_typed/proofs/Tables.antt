@@ -10,11 +10,11 @@ use Rattle.std.proofs.lemmas.Map.Text.{is_eq-slice_cmp}
 use Rattle.toml_span_lex.specs.declared.key.Key.{Key}
 use Rattle.toml_span_lex.specs.declared.span.Span.{Span}
 use Rattle.toml_span_tree.specs.declared.value.Value.{Value}
-use Rattle.toml_span_tree.specs.Error.{Fault}
+use Rattle.toml_span_tree.specs.Error.{ErrorContent}
 use Rattle.toml_span_tree.specs.Node.{Node, entry_at, member}
 use Rattle.toml_span_tree.specs.Value.{is_filled, members_view, view}
 use Rattle.toml_span_tree.proofs.Values.{Entry, at_name}
-use Rattle.toml_span_typed.specs.TableHelper.{names_in, where_filled, without}
+use Rattle.toml_span_typed.specs.TableHelper.{remaining_keys, where_filled, without}
 
 map_cond : {A B : Type 0} → (f : A → B) (b : Bool) (x : A) (o : Option A) → option_map f (cond b (Some x) o) ≡ cond b (Some (f x)) (option_map f o)
 map_cond f true x o = refl
@@ -95,12 +95,12 @@ named-of_equal name sought (Some entry) e h = same_name sought (cow_str_bytes en
 abbrev pub key_place : Key → List ℕ × Span
 key_place key = (cow_str_bytes key.name, key.span)
 
-pub names-of_keys : (es : List Entry) → map key_place (keys_of es) ≡ names_in (members_view es)
+pub names-of_keys : (es : List Entry) → map key_place (keys_of es) ≡ remaining_keys (members_view es)
 names-of_keys [] = refl
 names-of_keys (e ∷ es) = ap (λ names. key_place e.0 ∷ names) (names-of_keys es)
 
 -- a table that has entries leaves its keys unasked
-pub unasked-of_entries : (es : List Entry) (faults : List Fault) → (length es ≡ 0 → ⊥) → where_filled (members_view es) faults ≡ faults
+pub unasked-of_entries : (es : List Entry) (faults : List ErrorContent) → (length es ≡ 0 → ⊥) → where_filled (members_view es) faults ≡ faults
 unasked-of_entries [] faults h = absurd (h refl)
 unasked-of_entries (e ∷ es) faults h = refl
 

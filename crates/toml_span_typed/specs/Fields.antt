@@ -4,30 +4,30 @@ use Rattle.std.specs.declared.alloc.AllocError.{AllocError}
 use Rattle.toml_span_lex.specs.declared.stop.Stop.{Stop}
 use Rattle.toml_span_lex.specs.declared.stop.Stop.TheVariants as stop
 use Rattle.toml_span_tree.specs.declared.error.Error.{Error}
-use Rattle.toml_span_tree.specs.Error.{fault_of}
+use Rattle.toml_span_tree.specs.Error.{content_of}
 use Rattle.toml_span_tree.specs.Node.{Node}
 use Rattle.toml_span_tree.specs.Value.{is_filled}
-use Rattle.toml_span_typed.specs.Faults.{Faults, all, one}
+use Rattle.toml_span_typed.specs.Errors.{Errors, all, one}
 use Rattle.toml_span_typed.specs.Parse.{Parses}
 use Rattle.toml_span_typed.specs.TableHelper.{Starved, State, found, keeping, missing, noted, with_unasked}
 use Rattle.toml_span_typed.specs.declared.de_helpers.table_helper.Unfinished.{Unfinished}
 use Rattle.toml_span_typed.specs.declared.de_helpers.table_helper.Unfinished.TheVariants as unfinished
 
 -- all errors, or want of memory
-abbrev pub stop_of : Unfinished → Stop Faults
+abbrev pub stop_of : Unfinished → Stop Errors
 stop_of (unfinished.Faults faults) = stop.Fault faults
 stop_of (unfinished.Memory helper) = stop.Memory (record {})
 
 -- `read`: the element; or None, and the error that nothing stands under the name, or all errors of the
 -- read, are kept
-abbrev pub Asks : {T : Type 0} → (Node → Result T Faults → Node → Type 0) → List ℕ → State
+abbrev pub Asks : {T : Type 0} → (Node → Result T Errors → Node → Type 0) → List ℕ → State
     → Result (Option T) AllocError → State → Type 0
 Asks reads name before (Ok (Some x)) after =
     (value : Node) × (left : Node) × (found name before ≡ Some value) × reads value (Ok x) left
     × (after ≡ noted name before)
 Asks reads name before (Ok None) after = MatchOption (found name before)
     (after ≡ keeping (missing name before ∷ []) (noted name before))
-    (λ value. (faults : Faults) × (left : Node) × reads value (Err faults) left
+    (λ value. (faults : Errors) × (left : Node) × reads value (Err faults) left
     × (after ≡ keeping (all faults) (noted name before)))
 Asks reads name before (Err error) after = Starved name before after
 
@@ -41,37 +41,37 @@ lacking None = 1
 lacking (Some x) = 0
 
 -- `finish`: the kept errors and that of the keys that remain; want of memory comes only where keys remain
-abbrev pub Finishes : State → Result (Unit {0}) (Stop Faults) → Type 0
+abbrev pub Finishes : State → Result (Unit {0}) (Stop Errors) → Type 0
 Finishes s (Ok done) = with_unasked s ≡ []
 Finishes s (Err (stop.Fault faults)) = with_unasked s ≡ all faults
 Finishes s (Err (stop.Memory error)) = is_filled s.members ≡ true
 
 -- `finish_into`: the kept errors
-abbrev pub FinishesInto : State → Result (Unit {0}) (Stop Faults) → Type 0
+abbrev pub FinishesInto : State → Result (Unit {0}) (Stop Errors) → Type 0
 FinishesInto s (Ok done) = s.errors ≡ []
 FinishesInto s (Err (stop.Fault faults)) = s.errors ≡ all faults
 FinishesInto s (Err (stop.Memory error)) = ⊥
 
 -- `parsed`: as `Parses`, with the error in a list
 abbrev pub ParsesAll : {T E : Type 0} → (List ℕ → Result T E → Type 0) → (E → Option (List ℕ)) → Node
-    → Result T (Stop Faults) → Type 0
+    → Result T (Stop Errors) → Type 0
 ParsesAll gives output value (Ok x) = Parses gives output value (Ok x)
 ParsesAll gives output value (Err (stop.Fault faults)) =
-    (error : Error) × Parses gives output value (Err (stop.Fault error)) × (faults ≡ one (fault_of error))
+    (error : Error) × Parses gives output value (Err (stop.Fault error)) × (faults ≡ one (content_of error))
 ParsesAll gives output value (Err (stop.Memory e)) = Parses gives output value (Err (stop.Memory e))
 
 -- the answer, if memory was there, as `parsed` gives it
 abbrev pub AsParsed : {T E : Type 0} → (List ℕ → Result T E → Type 0) → (E → Option (List ℕ)) → Node
-    → Result T Faults → Type 0
+    → Result T Errors → Type 0
 AsParsed gives output value (Ok x) = ParsesAll gives output value (Ok x)
 AsParsed gives output value (Err faults) = ParsesAll gives output value (Err (stop.Fault faults))
 
 -- an element was read, and let go
-abbrev pub AsRead : {T : Type 0} → (Node → Result T Faults → Node → Type 0) → Node → Node → Type 0
+abbrev pub AsRead : {T : Type 0} → (Node → Result T Errors → Node → Type 0) → Node → Node → Type 0
 AsRead reads before after = (x : _) × reads before (Ok x) after
 
 -- the answer, if it is an element, is Some of one that is read
-abbrev pub AsSome : {T : Type 0} → (Node → Result T Faults → Node → Type 0) → Node → Result (Option T) Faults → Node
+abbrev pub AsSome : {T : Type 0} → (Node → Result T Errors → Node → Type 0) → Node → Result (Option T) Errors → Node
     → Type 0
 AsSome reads before (Ok (Some x)) after = reads before (Ok x) after
 AsSome reads before (Ok None) after = ⊥

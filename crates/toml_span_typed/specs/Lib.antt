@@ -1,4 +1,4 @@
-pub mod Faults
+pub mod Errors
 pub mod Reads
 pub mod TableHelper
 pub mod Parse

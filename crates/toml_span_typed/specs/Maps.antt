@@ -4,9 +4,9 @@ use Rattle.std.specs.BTreeMap.{insert_entry}
 use Rattle.std.specs.Cmp.Lexicographic.{slice_cmp}
 use Rattle.std.specs.Ordering.{nat_cmp}
 use Rattle.std.specs.declared.alloc.Global.{Global}
-use Rattle.toml_span_tree.specs.Error.{Fault}
+use Rattle.toml_span_tree.specs.Error.{ErrorContent}
 use Rattle.toml_span_tree.specs.Node.{Members, Node, member, no_members, node, table}
-use Rattle.toml_span_typed.specs.Faults.{Faults, all}
+use Rattle.toml_span_typed.specs.Errors.{Errors, all}
 use Rattle.toml_span_typed.specs.Reads.{EachReads, Taken, errors, refused}
 
 -- a map's entry, with the bytes of its name
@@ -18,7 +18,7 @@ abbrev pub holding : {T : Type 0} → List (List ℕ × T) → List ℕ → T �
 holding entries name element = insert_entry (slice_cmp nat_cmp) entries name element
 
 -- the entries of a map that has besides what was read of these values
-abbrev pub holding_read : {T : Type 0} → List (List ℕ × T) → List (List ℕ) → List (Result T Faults) → List (List ℕ × T)
+abbrev pub holding_read : {T : Type 0} → List (List ℕ × T) → List (List ℕ) → List (Result T Errors) → List (List ℕ × T)
 holding_read entries (name ∷ names) (Ok x ∷ answers) = holding_read (holding entries name x) names answers
 holding_read entries (name ∷ names) (Err faults ∷ answers) = holding_read entries names answers
 holding_read entries _ _ = entries
@@ -33,22 +33,22 @@ values_of no_members = []
 values_of (member name span value rest) = value ∷ values_of rest
 
 -- the values were read: each element is in the map under its name, and these are the errors
-abbrev pub EntriesRead : {T : Type 0} → (Node → Result T Faults → Node → Type 0) → List (List ℕ) → List Node
-    → List (List ℕ × T) → List Fault → Type 0
+abbrev pub EntriesRead : {T : Type 0} → (Node → Result T Errors → Node → Type 0) → List (List ℕ) → List Node
+    → List (List ℕ × T) → List ErrorContent → Type 0
 EntriesRead reads names values entries faults =
-    (answers : List (Result _ Faults)) × EachReads reads values answers
+    (answers : List (Result _ Errors)) × EachReads reads values answers
     × (entries ≡ holding_read [] names answers) × (errors answers ≡ faults)
 
 -- a map of the elements where no answer is an error, and else all the errors, in the order of the names
-abbrev pub ReadsEntries : {T : Type 0} → (Node → Result T Faults → Node → Type 0) → Members
-    → Result (List (List ℕ × T)) Faults → Type 0
+abbrev pub ReadsEntries : {T : Type 0} → (Node → Result T Errors → Node → Type 0) → Members
+    → Result (List (List ℕ × T)) Errors → Type 0
 ReadsEntries reads ms (Ok entries) = EntriesRead reads (names_of ms) (values_of ms) entries []
 ReadsEntries {T} reads ms (Err faults) = (entries : List (List ℕ × T))
     × EntriesRead reads (names_of ms) (values_of ms) entries (all faults)
 
 -- T's readings of a table's values, joined; the table is taken
-abbrev pub table_reads : {T : Type 0} → (Node → Result T Faults → Node → Type 0) → Node
-    → Result (List (List ℕ × T)) Faults → Node → Type 0
+abbrev pub table_reads : {T : Type 0} → (Node → Result T Errors → Node → Type 0) → Node
+    → Result (List (List ℕ × T)) Errors → Node → Type 0
 table_reads reads (node (table ms) span) answer after = ReadsEntries reads ms answer
     × Taken (node (table ms) span) after
 table_reads reads value answer after = (answer ≡ refused (codes "a table") value) × Taken value after

@@ -4,12 +4,12 @@ use Rattle.toml_span_lex.specs.declared.span.Span.{Span}
 use Rattle.toml_span_lex.specs.declared.stop.Stop.{Stop}
 use Rattle.toml_span_lex.specs.declared.stop.Stop.TheVariants as stop
 use Rattle.toml_span_tree.specs.declared.error.Error.{Error}
-use Rattle.toml_span_tree.specs.Error.{Fault, custom, fault_of}
+use Rattle.toml_span_tree.specs.Error.{ErrorContent, custom, content_of}
 use Rattle.toml_span_tree.specs.Node.{Node}
 use Rattle.toml_span_tree.specs.Value.{inner_of, wrong_kind, span_of, text_in}
 
 -- an error at the span whose message begins so and ends in a text: the refusal's, if that is stated
-abbrev pub TellsRefusal : Option (List ℕ) → Span → Fault → Type 0
+abbrev pub TellsRefusal : Option (List ℕ) → Span → ErrorContent → Type 0
 TellsRefusal shown span fault =
     (text : List ℕ) × (fault ≡ record {
       kind = custom (codes "failed to parse string: " ++ text);
@@ -24,7 +24,8 @@ abbrev pub Parses : {T E : Type 0} → (List ℕ → Result T E → Type 0) → 
 Parses gives output value (Ok parsed) =
     (text : List ℕ) × (text_in (inner_of value) ≡ Some text) × gives text (Ok parsed)
 Parses gives output value (Err (stop.Fault error)) = MatchOption (text_in (inner_of value))
-    (fault_of error ≡ wrong_kind (codes "a string") value)
-    (λ text. (refusal : _) × gives text (Err refusal) × TellsRefusal (output refusal) (span_of value) (fault_of error))
+    (content_of error ≡ wrong_kind (codes "a string") value)
+    (λ text. (refusal : _) × gives text (Err refusal)
+        × TellsRefusal (output refusal) (span_of value) (content_of error))
 Parses gives output value (Err (stop.Memory error)) =
     (text : List ℕ) × (text_in (inner_of value) ≡ Some text) × ((refusal : _) × gives text (Err refusal))

@@ -7,8 +7,8 @@ use Rattle.toml_span_lex.specs.declared.stop.Stop.TheVariants as stop
 use Rattle.toml_span_tree.specs.Node.{FloatValue, Node, node, taken, scalar, array, text, integer, float, boolean}
 use Rattle.toml_span_tree.specs.Node.{datetime, Items, no_items, item}
 use Rattle.toml_span_tree.specs.Value.{wrong_kind, span_of}
-use Rattle.toml_span_tree.specs.Error.{Fault, out_of_range}
-use Rattle.toml_span_typed.specs.Faults.{Faults, one, all}
+use Rattle.toml_span_tree.specs.Error.{ErrorContent, out_of_range}
+use Rattle.toml_span_typed.specs.Errors.{Errors, one, all}
 
 abbrev pub result_map : {T U E : Type 0} → (T → U) → Result T E → Result U E
 result_map f (Ok x) = Ok (f x)
@@ -16,8 +16,8 @@ result_map f (Err e) = Err e
 
 -- The call gives an answer that the type's reading allows of the value before, the answer and the
 -- value left; want of memory leaves what the type states for it.
-abbrev pub Answers : {T : Type 0} → (Node → Result T Faults → Node → Type 0) → (Node → Node → Type 0) → Node
-    → Result T (Stop Faults) → Node → Type 0
+abbrev pub Answers : {T : Type 0} → (Node → Result T Errors → Node → Type 0) → (Node → Node → Type 0) → Node
+    → Result T (Stop Errors) → Node → Type 0
 Answers reads starved before (Ok x) after = reads before (Ok x) after
 Answers reads starved before (Err (stop.Fault faults)) after = reads before (Err faults) after
 Answers reads starved before (Err (stop.Memory error)) after = starved before after
@@ -35,32 +35,32 @@ abbrev pub Never : Node → Node → Type 0
 Never before after = ⊥
 
 -- the answer is the one that the value gives, and the value is taken
-abbrev pub Gives : {T : Type 0} → (Node → Result T Faults) → Node → Result T Faults → Node → Type 0
+abbrev pub Gives : {T : Type 0} → (Node → Result T Errors) → Node → Result T Errors → Node → Type 0
 Gives read before answer after = (answer ≡ read before) × Taken before after
 
 -- the one error that another kind of value was expected
-abbrev pub refused : {T : Type 0} → List ℕ → Node → Result T Faults
+abbrev pub refused : {T : Type 0} → List ℕ → Node → Result T Errors
 refused expected value = Err (one (wrong_kind expected value))
 
 -- the error that the type of this name does not hold the integer
-abbrev pub beyond_range : List ℕ → Span → Fault
+abbrev pub beyond_range : List ℕ → Span → ErrorContent
 beyond_range name span = record { kind = out_of_range name; span = span; line_info = None }
 
 -- the string's text
-abbrev pub read_string : Node → Result (List ℕ) Faults
+abbrev pub read_string : Node → Result (List ℕ) Errors
 read_string (node (scalar (text s)) span) = Ok s
 read_string value = refused (codes "a string") value
 
-abbrev pub read_boolean : Node → Result Bool Faults
+abbrev pub read_boolean : Node → Result Bool Errors
 read_boolean (node (scalar (boolean b)) span) = Ok b
 read_boolean value = refused (codes "a bool") value
 
-abbrev pub read_float : Node → Result FloatValue Faults
+abbrev pub read_float : Node → Result FloatValue Errors
 read_float (node (scalar (float x)) span) = Ok x
 read_float value = refused (codes "a float") value
 
 -- the text of the date or time
-abbrev pub read_datetime : Node → Result (List ℕ) Faults
+abbrev pub read_datetime : Node → Result (List ℕ) Errors
 read_datetime (node (scalar (datetime d)) span) = Ok d
 read_datetime value = refused (codes "a datetime") value
 
@@ -74,18 +74,18 @@ abbrev pub signed : ℕ → ℤ → Option ℤ
 signed limit (pos n) = if nat_lt n limit then Some (pos n) else None
 signed limit (negsuc n) = if nat_lt n limit then Some (negsuc n) else None
 
-abbrev pub or_out_of : {T : Type 0} → List ℕ → Span → Option T → Result T Faults
+abbrev pub or_out_of : {T : Type 0} → List ℕ → Span → Option T → Result T Errors
 or_out_of name span (Some n) = Ok n
 or_out_of name span None = Err (one (beyond_range name span))
 
 -- the integer, where the type of that name holds it
-abbrev pub read_integer : {T : Type 0} → List ℕ → (ℤ → Option T) → Node → Result T Faults
+abbrev pub read_integer : {T : Type 0} → List ℕ → (ℤ → Option T) → Node → Result T Errors
 read_integer name held (node (scalar (integer z)) span) = or_out_of name span (held z)
 read_integer name held value = refused name value
 
 -- T's reading, with the span of the value as it was beside the element
-abbrev pub spanned : {T S : Type 0} → (Node → Result T Faults → Node → Type 0) → (S → T) → (S → Span) → Node
-    → Result S Faults → Node → Type 0
+abbrev pub spanned : {T S : Type 0} → (Node → Result T Errors → Node → Type 0) → (S → T) → (S → Span) → Node
+    → Result S Errors → Node → Type 0
 spanned reads value_in span_in before answer after =
     reads before (result_map value_in answer) after × IfOk answer (λ s. span_in s ≡ span_of before)
 
@@ -95,7 +95,7 @@ nodes_of no_items = []
 nodes_of (item value values) = value ∷ nodes_of values
 
 -- an answer for each value, that the reading allows
-abbrev pub EachReads : {T : Type 0} → (Node → Result T Faults → Node → Type 0) → List Node → List (Result T Faults)
+abbrev pub EachReads : {T : Type 0} → (Node → Result T Errors → Node → Type 0) → List Node → List (Result T Errors)
     → Type 0
 EachReads reads [] [] = ⊤
 EachReads reads (value ∷ values) (answer ∷ answers) =
@@ -103,30 +103,30 @@ EachReads reads (value ∷ values) (answer ∷ answers) =
 EachReads reads _ _ = ⊥
 
 -- the elements among the answers, in order
-abbrev pub elements : {T : Type 0} → List (Result T Faults) → List T
+abbrev pub elements : {T : Type 0} → List (Result T Errors) → List T
 elements [] = []
 elements (Ok x ∷ answers) = x ∷ elements answers
 elements (Err faults ∷ answers) = elements answers
 
 -- the errors of all the answers, in order
-abbrev pub errors : {T : Type 0} → List (Result T Faults) → List Fault
+abbrev pub errors : {T : Type 0} → List (Result T Errors) → List ErrorContent
 errors [] = []
 errors (Ok x ∷ answers) = errors answers
 errors (Err faults ∷ answers) = all faults ++ errors answers
 
 -- all the elements where no answer is an error, and else all the errors
-abbrev pub Joins : {T : Type 0} → List (Result T Faults) → Result (List T) Faults → Type 0
+abbrev pub Joins : {T : Type 0} → List (Result T Errors) → Result (List T) Errors → Type 0
 Joins answers (Ok xs) = (errors answers ≡ []) × (elements answers ≡ xs)
 Joins answers (Err faults) = errors answers ≡ all faults
 
 -- each value is read, and the answer joins what they gave
-abbrev pub ReadsAll : {T : Type 0} → (Node → Result T Faults → Node → Type 0) → List Node → Result (List T) Faults
+abbrev pub ReadsAll : {T : Type 0} → (Node → Result T Errors → Node → Type 0) → List Node → Result (List T) Errors
     → Type 0
 ReadsAll reads values answer =
-    (answers : List (Result _ Faults)) × EachReads reads values answers × Joins answers answer
+    (answers : List (Result _ Errors)) × EachReads reads values answers × Joins answers answer
 
 -- T's readings of an array's elements, joined; the array is taken
-abbrev pub array_reads : {T : Type 0} → (Node → Result T Faults → Node → Type 0) → Node → Result (List T) Faults → Node
+abbrev pub array_reads : {T : Type 0} → (Node → Result T Errors → Node → Type 0) → Node → Result (List T) Errors → Node
     → Type 0
 array_reads reads (node (array values) span) answer after =
     ReadsAll reads (nodes_of values) answer × Taken (node (array values) span) after

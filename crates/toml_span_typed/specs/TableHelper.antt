@@ -12,11 +12,11 @@ use Rattle.toml_span_lex.specs.declared.stop.Stop.{Stop}
 use Rattle.toml_span_lex.specs.declared.stop.Stop.TheVariants as stop
 use Rattle.toml_span_tree.specs.declared.error.Error.{Error}
 use Rattle.toml_span_tree.specs.declared.value.Value.{Value}
-use Rattle.toml_span_tree.specs.Error.{Fault, fault_of, missing_field, unexpected_keys}
+use Rattle.toml_span_tree.specs.Error.{ErrorContent, content_of, missing_field, unexpected_keys}
 use Rattle.toml_span_tree.specs.Node.{Members, Node, entry_at, member, no_members, node, table}
 use Rattle.toml_span_tree.specs.Value.{all_members_whole, is_filled, members_view, span_of, view}
 use Rattle.std.specs.BTreeMap.{BTreeMap}
-use Rattle.toml_span_typed.specs.Faults.{Faults, all}
+use Rattle.toml_span_typed.specs.Errors.{Errors, all}
 use Rattle.toml_span_typed.specs.Reads.{refused}
 use Rattle.toml_span_typed.specs.declared.de_helpers.table_helper.TableHelper.{TableHelper}
 use Rattle.toml_span_typed.specs.declared.de_helpers.table_helper.Unfinished.{Unfinished}
@@ -27,14 +27,14 @@ use Rattle.toml_span_typed.specs.declared.de_helpers.table_helper.Unfinished.The
 pub record State : Type 0 where
   pub members : Members
   pub asked : List (List ℕ)
-  pub errors : List Fault
+  pub errors : List ErrorContent
   pub span : Span
 
 abbrev pub state_of : TableHelper → State
 state_of helper = record {
   members = members_view helper.table.entries;
   asked = map (λ name. name.now) helper.asked.items;
-  errors = map fault_of helper.errors.items;
+  errors = map content_of helper.errors.items;
   span = helper.span;
 }
 
@@ -58,11 +58,11 @@ noted name s =
     record { members = without name s.members; asked = s.asked ++ name ∷ []; errors = s.errors; span = s.span }
 
 -- errors are kept, behind those that were
-abbrev pub keeping : List Fault → State → State
+abbrev pub keeping : List ErrorContent → State → State
 keeping faults s = record { members = s.members; asked = s.asked; errors = s.errors ++ faults; span = s.span }
 
 -- the error of a name that is not there
-abbrev pub missing : List ℕ → State → Fault
+abbrev pub missing : List ℕ → State → ErrorContent
 missing name s = record { kind = missing_field name; span = s.span; line_info = None }
 
 -- a helper over these entries that was asked nothing
@@ -70,9 +70,9 @@ abbrev pub fresh : Members → Span → State
 fresh members span = record { members = members; asked = []; errors = []; span = span }
 
 -- `new`: a helper over the entries of a table
-abbrev pub Opens : Node → Result State Faults → Type 0
-Opens (node (table members) span) answer = answer ≡ Ok (fresh members span)
-Opens value answer = answer ≡ refused (codes "a table") value
+abbrev pub OpensTable : Node → Result State Errors → Type 0
+OpensTable (node (table members) span) answer = answer ≡ Ok (fresh members span)
+OpensTable value answer = answer ≡ refused (codes "a table") value
 
 -- the entry is the one under the name, with its key's span
 abbrev pub IsEntry : List ℕ → State → Key × Value → Type 0
@@ -91,56 +91,57 @@ abbrev pub Starved : List ℕ → State → State → Type 0
 Starved name before after = (after ≡ before) ⊎ (after ≡ noted name before)
 
 -- `required`: the element, or the last of the errors that are kept
-abbrev pub Requires : {T : Type 0} → (Node → Result T Faults → Node → Type 0) → List ℕ → State → Result T (Stop Error)
+abbrev pub Requires : {T : Type 0} → (Node → Result T Errors → Node → Type 0) → List ℕ → State → Result T (Stop Error)
     → State → Type 0
 Requires reads name before (Ok x) after =
     (value : Node) × (left : Node) × (found name before ≡ Some value) × reads value (Ok x) left
     × (after ≡ noted name before)
 Requires reads name before (Err (stop.Fault error)) after = MatchOption (found name before)
-    ((fault_of error ≡ missing name before) × (after ≡ keeping (missing name before ∷ []) (noted name before)))
-    (λ value. (faults : Faults) × (left : Node) × reads value (Err faults) left
-    × (fault_of error ≡ faults.last) × (after ≡ keeping (all faults) (noted name before)))
+    ((content_of error ≡ missing name before) × (after ≡ keeping (missing name before ∷ []) (noted name before)))
+    (λ value. (faults : Errors) × (left : Node) × reads value (Err faults) left
+    × (content_of error ≡ faults.last) × (after ≡ keeping (all faults) (noted name before)))
 Requires reads name before (Err (stop.Memory error)) after = Starved name before after
 
 -- `optional`: the element; None where nothing stands under the name, and where the read failed: its
 -- errors are kept
-abbrev pub Tries : {T : Type 0} → (Node → Result T Faults → Node → Type 0) → List ℕ → State
+abbrev pub Tries : {T : Type 0} → (Node → Result T Errors → Node → Type 0) → List ℕ → State
     → Result (Option T) AllocError → State → Type 0
 Tries reads name before (Ok (Some x)) after =
     (value : Node) × (left : Node) × (found name before ≡ Some value) × reads value (Ok x) left
     × (after ≡ noted name before)
 Tries reads name before (Ok None) after = MatchOption (found name before)
     (after ≡ noted name before)
-    (λ value. (faults : Faults) × (left : Node) × reads value (Err faults) left
+    (λ value. (faults : Errors) × (left : Node) × reads value (Err faults) left
     × (after ≡ keeping (all faults) (noted name before)))
 Tries reads name before (Err error) after = Starved name before after
 
 -- the keys that remain, with their spans, in the order of their names
-abbrev pub names_in : Members → List (List ℕ × Span)
-names_in no_members = []
-names_in (member name span value rest) = (name, span) ∷ names_in rest
+abbrev pub remaining_keys : Members → List (List ℕ × Span)
+remaining_keys no_members = []
+remaining_keys (member name span value rest) = (name, span) ∷ remaining_keys rest
 
 -- the error of the keys that remain
-abbrev pub unexpected_entries : State → Fault
-unexpected_entries s = record { kind = unexpected_keys (names_in s.members) s.asked; span = s.span; line_info = None }
+abbrev pub unexpected_entries : State → ErrorContent
+unexpected_entries s =
+    record { kind = unexpected_keys (remaining_keys s.members) s.asked; span = s.span; line_info = None }
 
-abbrev pub where_filled : Members → List Fault → List Fault
+abbrev pub where_filled : Members → List ErrorContent → List ErrorContent
 where_filled no_members faults = []
 where_filled (member name span value rest) faults = faults
 
 -- the error of the keys that remain, if any do
-abbrev pub unasked : State → List Fault
+abbrev pub unasked : State → List ErrorContent
 unasked s = where_filled s.members (unexpected_entries s ∷ [])
 
 -- the errors in the end, where no value takes the rest
-abbrev pub with_unasked : State → List Fault
+abbrev pub with_unasked : State → List ErrorContent
 with_unasked s = s.errors ++ unasked s
 
 -- Ok exactly where there is no error; no memory is taken
-abbrev pub Closes : List Fault → Result (Unit {0}) Unfinished → Type 0
-Closes errors (Ok done) = errors ≡ []
-Closes errors (Err (unfinished.Faults faults)) = errors ≡ all faults
-Closes errors (Err (unfinished.Memory helper)) = ⊥
+abbrev pub EndsWithErrors : List ErrorContent → Result (Unit {0}) Unfinished → Type 0
+EndsWithErrors errors (Ok done) = errors ≡ []
+EndsWithErrors errors (Err (unfinished.Faults faults)) = errors ≡ all faults
+EndsWithErrors errors (Err (unfinished.Memory helper)) = ⊥
 
 -- without a value for the rest: the keys that remain are an error; want of memory comes only where keys
 -- remain, and hands the helper back as it was
@@ -151,7 +152,7 @@ Refuses s (Ok done) = with_unasked s ≡ []
 
 -- `finalize`
 abbrev pub Finalizes : {V : Type 0} → State → Option V → Result (Unit {0}) Unfinished → Type 0
-Finalizes s (Some value) answer = Closes s.errors answer
+Finalizes s (Some value) answer = EndsWithErrors s.errors answer
 Finalizes s None answer = Refuses s answer
 
 -- the value holds a table of these entries, and keeps its span

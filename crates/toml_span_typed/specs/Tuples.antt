@@ -1,13 +1,13 @@
 -- What an array of two elements is read as, each element as a type of its own.
-use Rattle.std.specs.Prelude.{◌≡◌, ◌≢◌, ⊤, ℕ, List, [], ◌∷◌, ◌++◌, length, Result, Ok, Err, None, codes}
+use Rattle.std.specs.Prelude.{◌≡◌, ◌≢◌, ⊤, ℕ, [], ◌∷◌, ◌++◌, length, Result, Ok, Err, None, codes}
 use Rattle.std.specs.Fmt.{decimal}
 use Rattle.toml_span_lex.specs.declared.span.Span.{Span}
 use Rattle.toml_span_lex.specs.declared.stop.Stop.{Stop}
 use Rattle.toml_span_lex.specs.declared.stop.Stop.TheVariants as stop
-use Rattle.toml_span_tree.specs.Error.{Fault, custom}
+use Rattle.toml_span_tree.specs.Error.{ErrorContent, custom}
 use Rattle.toml_span_tree.specs.Node.{Node, array, item, no_items, node}
 use Rattle.toml_span_tree.specs.Value.{wrong_kind}
-use Rattle.toml_span_typed.specs.Faults.{Faults, all, one}
+use Rattle.toml_span_typed.specs.Errors.{Errors, all, one}
 use Rattle.toml_span_typed.specs.Reads.{Taken, errors, nodes_of}
 
 -- an array of these two values
@@ -15,7 +15,7 @@ abbrev pub holds_two : Node → Node → Span → Node
 holds_two first second span = node (array (item first (item second no_items))) span
 
 -- the error that an array has another number of elements
-abbrev pub other_length : ℕ → ℕ → Span → Fault
+abbrev pub other_length : ℕ → ℕ → Span → ErrorContent
 other_length wanted found span = record {
   kind = custom (codes "expected " ++ decimal wanted ++ codes " elements, found " ++ decimal found);
   span = span;
@@ -23,43 +23,43 @@ other_length wanted found span = record {
 }
 
 -- the errors for what is not an array of n elements
-abbrev pub Miscounts : ℕ → Node → Faults → Type 0
+abbrev pub Miscounts : ℕ → Node → Errors → Type 0
 Miscounts n (node (array values) span) faults =
     (length (nodes_of values) ≢ n) × (faults ≡ one (other_length n (length (nodes_of values)) span))
 Miscounts n value faults = faults ≡ one (wrong_kind (codes "an array") value)
 
 -- those, or want of memory
-abbrev pub Refuses : ℕ → Node → Stop Faults → Type 0
-Refuses n value (stop.Fault faults) = Miscounts n value faults
-Refuses n value (stop.Memory error) = ⊤
+abbrev pub RefusesLength : ℕ → Node → Stop Errors → Type 0
+RefusesLength n value (stop.Fault faults) = Miscounts n value faults
+RefusesLength n value (stop.Memory error) = ⊤
 
 -- the one error, or want of memory
-abbrev pub Tells : Fault → Stop Faults → Type 0
-Tells fault (stop.Fault faults) = faults ≡ one fault
-Tells fault (stop.Memory error) = ⊤
+abbrev pub TellsOne : ErrorContent → Stop Errors → Type 0
+TellsOne fault (stop.Fault faults) = faults ≡ one fault
+TellsOne fault (stop.Memory error) = ⊤
 
 -- the reading allows the answer of the value
-abbrev pub IsReadAs : {T : Type 0} → (Node → Result T Faults → Node → Type 0) → Node → Result T Faults → Type 0
+abbrev pub IsReadAs : {T : Type 0} → (Node → Result T Errors → Node → Type 0) → Node → Result T Errors → Type 0
 IsReadAs reads value answer = (after : Node) × reads value answer after
 
 -- both elements, or the errors of both
-abbrev pub Pairs : {A B : Type 0} → Result A Faults → Result B Faults → Result (A × B) Faults → Type 0
-Pairs (Ok a) (Ok b) answer = answer ≡ Ok (a, b)
-Pairs first second (Err faults) = errors (first ∷ []) ++ errors (second ∷ []) ≡ all faults
-Pairs first second (Ok pair) = ⊥
+abbrev pub JoinsTwo : {A B : Type 0} → Result A Errors → Result B Errors → Result (A × B) Errors → Type 0
+JoinsTwo (Ok a) (Ok b) answer = answer ≡ Ok (a, b)
+JoinsTwo first second (Err faults) = errors (first ∷ []) ++ errors (second ∷ []) ≡ all faults
+JoinsTwo first second (Ok pair) = ⊥
 
 -- that, or want of memory
-abbrev pub IsPair : {A B : Type 0} → Result A Faults → Result B Faults → Result (A × B) (Stop Faults) → Type 0
-IsPair first second (Ok pair) = Pairs first second (Ok pair)
-IsPair first second (Err (stop.Fault faults)) = Pairs first second (Err faults)
-IsPair first second (Err (stop.Memory error)) = ⊤
+abbrev pub IsPairRead : {A B : Type 0} → Result A Errors → Result B Errors → Result (A × B) (Stop Errors) → Type 0
+IsPairRead first second (Ok pair) = JoinsTwo first second (Ok pair)
+IsPairRead first second (Err (stop.Fault faults)) = JoinsTwo first second (Err faults)
+IsPairRead first second (Err (stop.Memory error)) = ⊤
 
 -- the readings of both elements of an array of two, joined; the array is taken
-abbrev pub pair_reads : {A B : Type 0} → (Node → Result A Faults → Node → Type 0)
-    → (Node → Result B Faults → Node → Type 0)
-    → Node → Result (A × B) Faults → Node → Type 0
+abbrev pub pair_reads : {A B : Type 0} → (Node → Result A Errors → Node → Type 0)
+    → (Node → Result B Errors → Node → Type 0)
+    → Node → Result (A × B) Errors → Node → Type 0
 pair_reads reads-a reads-b (node (array (item a (item b no_items))) span) answer after =
-    (first : Result _ Faults) × (second : Result _ Faults) × IsReadAs reads-a a first × IsReadAs reads-b b second
-    × Pairs first second answer × Taken (holds_two a b span) after
+    (first : Result _ Errors) × (second : Result _ Errors) × IsReadAs reads-a a first × IsReadAs reads-b b second
+    × JoinsTwo first second answer × Taken (holds_two a b span) after
 pair_reads reads-a reads-b value (Err faults) after = Miscounts 2 value faults × Taken value after
 pair_reads reads-a reads-b value (Ok pair) after = ⊥

@@ -1,5 +1,5 @@
 -- How the code's functions share the work: nothing that stands beside this folder cites it.
-pub mod Faults
+pub mod Errors
 pub mod Arrays
 pub mod Maps
 pub mod TableHelper

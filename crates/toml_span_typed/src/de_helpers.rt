@@ -1,6 +1,6 @@
 //! Helpers for reads.
 ghost use Rattle.std.specs.Prelude.{◌≡◌, IfOk, false};
-ghost use Rattle.toml_span_tree.specs.Error.{fault_of};
+ghost use Rattle.toml_span_tree.specs.Error.{content_of};
 ghost use Rattle.toml_span_tree.specs.Node.{node};
 ghost use Rattle.toml_span_tree.specs.Value.{inner_view, is_taken, wrong_kind, view};
 ghost use Rattle.toml_span_typed.specs.Parse.{Parses, TellsRefusal};
@@ -21,7 +21,7 @@ use toml_span_tree::{Error, ErrorKind, Value, ValueInner};
 
 /// The error that something else was expected where this value stands. Takes no memory.
 pub fn expected<'s>(expected: &'s str, found: ValueInner, span: Span) -> Error<'s>
-    ensures { fault_of result ≡ wrong_kind expected.now (node (inner_view found.entry) span) }
+    ensures { content_of result ≡ wrong_kind expected.now (node (inner_view found.entry) span) }
 {
     Error::from((
         ErrorKind::Wanted {
@@ -65,7 +65,7 @@ fn unparsed<'s, E: Display + Drop>(
     refusal: E,
     span: Span,
 ) -> Result<Error<'s>, AllocError>
-    ensures { IfOk result (λ error. TellsRefusal (E.output refusal) span (fault_of error)) }
+    ensures { IfOk result (λ error. TellsRefusal (E.output refusal) span (content_of error)) }
 {
     let shown = refusal.to_string(alloc)?;
     let message = format!(in alloc; "failed to parse string: {shown}")?;

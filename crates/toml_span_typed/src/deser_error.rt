@@ -1,9 +1,9 @@
 //! The errors of a typed read.
 ghost use Rattle.std.specs.Prelude.{◌≡◌, ◌++◌, length, slice_get, option_map, OnOk, OnErr, IfErr, Some, map};
 ghost use Rattle.std.specs.Iterator.{YieldsFirstBy, item_count};
-ghost use Rattle.toml_span_tree.specs.Error.{fault_of};
-ghost use Rattle.toml_span_typed.specs.Faults.{all};
-ghost use Rattle.toml_span_typed.specs.code.Faults.{all_of_option};
+ghost use Rattle.toml_span_tree.specs.Error.{content_of};
+ghost use Rattle.toml_span_typed.specs.Errors.{all};
+ghost use Rattle.toml_span_typed.specs.code.Errors.{all_of_option};
 
 use std::alloc::{AllocError, Global};
 use std::fmt::{Display, Formatter, Write};
@@ -20,20 +20,20 @@ pub struct DeserError<'s> {
 }
 
 impl<'s> Model for DeserError<'s> {
-    ghost use Rattle.toml_span_typed.specs.Faults.{Faults};
-    ghost use Rattle.toml_span_typed.specs.code.Faults.{faults_in};
-    ghost use Rattle.toml_span_tree.specs.Error.{fault_of};
+    ghost use Rattle.toml_span_typed.specs.Errors.{Errors};
+    ghost use Rattle.toml_span_typed.specs.code.Errors.{faults_in};
+    ghost use Rattle.toml_span_tree.specs.Error.{content_of};
 
-    ghost Value = { Faults };
+    ghost Value = { Errors };
 
-    ghost view = { λ e. record { earlier = faults_in e.earlier; last = fault_of e.last } };
+    ghost view = { λ e. record { earlier = faults_in e.earlier; last = content_of e.last } };
 }
 
 impl<'s> From<Error<'s>> for DeserError<'s> {
-    ghost use Rattle.toml_span_typed.specs.Faults.{one};
-    ghost use Rattle.toml_span_tree.specs.Error.{fault_of};
+    ghost use Rattle.toml_span_typed.specs.Errors.{one};
+    ghost use Rattle.toml_span_tree.specs.Error.{content_of};
 
-    ghost from_gives = { λ error faults. faults ≡ one (fault_of error) };
+    ghost from_gives = { λ error faults. faults ≡ one (content_of error) };
 
     fn from(error: Error<'s>) -> Self {
         DeserError {
@@ -54,7 +54,7 @@ impl<'s> From<DeserError<'s>> for Stop<DeserError<'s>> {
 }
 
 impl Display for DeserError<'_> {
-    ghost use Rattle.toml_span_typed.specs.Faults.{lines};
+    ghost use Rattle.toml_span_typed.specs.Errors.{lines};
 
     ghost output = { λ faults. Some (lines (all faults)) };
 
@@ -89,7 +89,7 @@ impl<'s> DeserError<'s> {
 
     /// The error at this position, counted from 0, if there are so many.
     pub fn get(&self, index: usize) -> Option<&Error<'s>>
-        ensures { option_map (λ e. fault_of e.now) result ≡ slice_get (all self.now) index }
+        ensures { option_map (λ e. content_of e.now) result ≡ slice_get (all self.now) index }
     {
         let earlier = self.earlier();
         if index < earlier.len() {
@@ -103,7 +103,7 @@ impl<'s> DeserError<'s> {
 
     /// The last error.
     pub fn last(&self) -> &Error<'s>
-        ensures { fault_of result.now ≡ self.now.last }
+        ensures { content_of result.now ≡ self.now.last }
     {
         &self.last
     }
@@ -120,7 +120,7 @@ impl<'s> DeserError<'s> {
 
     /// The errors before the last one.
     fn earlier(&self) -> &[Error<'s>]
-        ensures { map fault_of result.now ≡ self.now.earlier }
+        ensures { map content_of result.now ≡ self.now.earlier }
     {
         match &self.earlier {
             Some(earlier) => earlier.as_slice(),
@@ -156,7 +156,7 @@ impl<'s> DeserError<'s> {
 
     /// Puts the errors behind those of a list. On want of memory the list is as before.
     pub(crate) fn append_to(self, list: &mut Vec<Error<'s>>) -> Result<(), AllocError>
-        ensures ok { OnOk result (map fault_of list.new.items ≡ map fault_of list.old.items ++ all self.entry) }
+        ensures ok { OnOk result (map content_of list.new.items ≡ map content_of list.old.items ++ all self.entry) }
         ensures err { OnErr result (list.new.items ≡ list.old.items) }
     {
         list.reserve(self.len())?;
@@ -170,7 +170,7 @@ impl<'s> DeserError<'s> {
 
     /// The errors of a list, if it has any.
     pub(crate) fn from_list(mut list: Vec<Error<'s>>) -> Option<DeserError<'s>>
-        ensures { all_of_option result ≡ map fault_of list.entry.items }
+        ensures { all_of_option result ≡ map content_of list.entry.items }
     {
         let last = list.pop()?;
         Some(DeserError {
@@ -189,18 +189,18 @@ pub struct ErrorIter<'a, 's> {
 
 impl<'a, 's> Model for ErrorIter<'a, 's> {
     ghost use Rattle.std.specs.Prelude.{List, ◌++◌, map};
-    ghost use Rattle.toml_span_tree.specs.Error.{Fault, fault_of};
-    ghost use Rattle.toml_span_typed.specs.code.Faults.{last_left};
+    ghost use Rattle.toml_span_tree.specs.Error.{ErrorContent, content_of};
+    ghost use Rattle.toml_span_typed.specs.code.Errors.{last_left};
 
-    ghost Value = { List Fault };
+    ghost Value = { List ErrorContent };
 
-    ghost view = { λ i. map fault_of i.earlier.now ++ last_left i.last };
+    ghost view = { λ i. map content_of i.earlier.now ++ last_left i.last };
 }
 
 impl<'a, 's> Iterator for ErrorIter<'a, 's> {
     type Item = &'a Error<'s>;
 
-    ghost next_gives = { YieldsFirstBy (λ e. fault_of e.now) (λ s. s) };
+    ghost next_gives = { YieldsFirstBy (λ e. content_of e.now) (λ s. s) };
 
     ghost remaining = { item_count (λ s. s) };
 

@@ -2,7 +2,7 @@
 ghost use Rattle.std.specs.Prelude.{IsTrue, Result};
 ghost use Rattle.toml_span_tree.specs.Node.{Node};
 ghost use Rattle.toml_span_tree.specs.Value.{is_whole, view};
-ghost use Rattle.toml_span_typed.specs.Faults.{Faults};
+ghost use Rattle.toml_span_typed.specs.Errors.{Errors};
 ghost use Rattle.toml_span_typed.specs.Reads.{Answers};
 
 mod arrays;
@@ -25,7 +25,7 @@ use toml_span_tree::Value;
 /// answer, which is an element or the errors, and the value left, and `starved` says what want of
 /// memory leaves. An implementation that leaves them out says nothing of either.
 pub trait Deserialize<'de>: Sized + Drop {
-    ghost reads: { Node → Result Self Faults → Node → Type 0 } = { λ _ _ _. Unit {0} };
+    ghost reads: { Node → Result Self Errors → Node → Type 0 } = { λ _ _ _. Unit {0} };
 
     ghost starved: { Node → Node → Type 0 } = { λ _ _. Unit {0} };
 

@@ -9,9 +9,9 @@ use Rattle.toml_span_tree.specs.declared.value.Value.{Value}
 use Rattle.toml_span_tree.specs.Node.{Members, node, table}
 use Rattle.toml_span_tree.specs.Path.{Path, Place}
 use Rattle.toml_span_tree.specs.Value.{view}
-use Rattle.toml_span_typed.specs.Faults.{Faults, all}
+use Rattle.toml_span_typed.specs.Errors.{Errors, all}
 use Rattle.toml_span_typed.specs.Reads.{Gives, read_boolean, result_map, read_string}
-use Rattle.toml_span_typed.specs.TableHelper.{State, Opens, Refuses, Requires, Tries}
+use Rattle.toml_span_typed.specs.TableHelper.{State, OpensTable, Refuses, Requires, Tries}
 use Rattle.toml_span_typed.specs.declared.de_helpers.table_helper.Unfinished.TheVariants as unfinished
 use Rattle.toml_span_claims.specs.Ordered.{IsOrdered}
 use Rattle.toml_span_assembly.specs.Parsing.{IsTree, IsRoot}
@@ -36,7 +36,7 @@ pub record Calls {C : Type 0} (bytes : C → List ℕ) (s : List ℕ) (root : Va
   pub tree : IsTree s 128 root
   pub ordered : IsOrdered (view root)
   pub is_root : IsRoot (length s) root
-  pub opens : Opens (view root) (Ok s0)
+  pub opens : OpensTable (view root) (Ok s0)
   pub first : Requires (λ v r w. Gives read_string v (result_map bytes r) w) (codes "host") s0 r1 s1
   pub host_is : IsField r1 (Ok host)
   pub second : Requires (Gives number) (codes "port") s1 r2 s2
@@ -98,7 +98,7 @@ configured bytes s root host port secure s0 s1 s2 s3 r1 r2 done x y calls refuse
     ))
 
 not-configured : {C : Type 0} (bytes : C → List ℕ) (s : List ℕ) (root : Value) (host : Option C) (port : Option ℕ) (secure : Option Bool) (s0 s1 s2 s3 : State) (r1 : Result C (Stop Error)) (r2 : Result ℕ (Stop Error))
-    (faults : Faults) → Calls bytes s root host port secure s0 s1 s2 s3 r1 r2 → Refuses s3 (Err (unfinished.Faults faults))
+    (faults : Errors) → Calls bytes s root host port secure s0 s1 s2 s3 r1 r2 → Refuses s3 (Err (unfinished.Faults faults))
     → IsDocument s (λ places. (rest : Members) × IsValueOf (except names places) (node (table rest) (whole s)) × (all faults ≡ errors_of (whole s) places rest))
 not-configured bytes s root host port secure s0 s1 s2 s3 r1 r2 faults calls refuses =
     on-document s root (λ places. (rest : Members) × IsValueOf (except names places) (node (table rest) (whole s)) × (all faults ≡ errors_of (whole s) places rest)) calls.tree calls.ordered (λ places value.
@@ -116,7 +116,7 @@ not-configured bytes s root host port secure s0 s1 s2 s3 r1 r2 faults calls refu
     ))
 
 pub refused-settings : {C : Type 0} (bytes : C → List ℕ) (s : List ℕ) (root : Value) (host : Option C) (port : Option ℕ) (secure : Option Bool) (s0 s1 s2 s3 : State) (r1 : Result C (Stop Error)) (r2 : Result ℕ (Stop Error))
-    (why : Unfinished) (stop : Stop Faults) → Calls bytes s root host port secure s0 s1 s2 s3 r1 r2 → Refuses s3 (Err why) → IsStopped why stop → NoSettings s stop
+    (why : Unfinished) (stop : Stop Errors) → Calls bytes s root host port secure s0 s1 s2 s3 r1 r2 → Refuses s3 (Err why) → IsStopped why stop → NoSettings s stop
 refused-settings bytes s root host port secure s0 s1 s2 s3 r1 r2 why (stops.Memory e) calls refuses is = tt
 refused-settings bytes s root host port secure s0 s1 s2 s3 r1 r2 (unfinished.Faults faults) (stops.Fault told) calls refuses is =
     subst (λ f. NoSettings s (stops.Fault f)) is (inr (not-configured bytes s root host port secure s0 s1 s2 s3 r1 r2 faults calls refuses))

@@ -7,13 +7,13 @@ use Rattle.toml_span_lex.specs.declared.stop.Stop.{Stop}
 use Rattle.toml_span_lex.specs.declared.stop.Stop.TheVariants as stops
 use Rattle.toml_span_tree.specs.declared.error.Error.{Error}
 use Rattle.toml_span_tree.specs.declared.value.Value.{Value}
-use Rattle.toml_span_tree.specs.Error.{Fault, fault_of, missing_field}
+use Rattle.toml_span_tree.specs.Error.{ErrorContent, content_of}
 use Rattle.toml_span_tree.specs.Node.{Members, Node, node, taken, scalar, array, table, entry_at}
 use Rattle.toml_span_tree.specs.Path.{Path, Place, key}
 use Rattle.toml_span_tree.specs.Value.{view}
-use Rattle.toml_span_typed.specs.Faults.{Faults, all, one}
+use Rattle.toml_span_typed.specs.Errors.{Errors, all, one}
 use Rattle.toml_span_typed.specs.Reads.{Answers, Gives, result_map}
-use Rattle.toml_span_typed.specs.TableHelper.{State, Opens, Refuses, Requires, found, fresh, keeping, missing, noted, without}
+use Rattle.toml_span_typed.specs.TableHelper.{State, OpensTable, Refuses, Requires, fresh, keeping, missing, noted, without}
 use Rattle.toml_span_typed.specs.declared.de_helpers.table_helper.Unfinished.{Unfinished}
 use Rattle.toml_span_typed.specs.declared.de_helpers.table_helper.Unfinished.TheVariants as unfinished
 use Rattle.toml_span_claims.specs.Ordered.{IsOrdered}
@@ -22,9 +22,9 @@ use Rattle.toml_span.specs.Document.{IsDocument, IsValueOf, subtree, without_key
 use Rattle.toml_span.specs.Helpers.{IsOver, ReadsPart, HasNoKeyBut, except, left_over}
 use Rattle.toml_span.proofs.Fields.{ends-ok, ends-faults, required-at, required-over}
 use Rattle.toml_span_uses.specs.Fields.{IsField, IsStopped, errors_in, number, whole}
-use Rattle.toml_span_uses.specs.Servers.{AreServers, ListErrors, NoServers, ReadsList, ServerReads, lacks, list_reads, number_or, port_in, server_errors}
+use Rattle.toml_span_uses.specs.Servers.{AreServers, ListErrors, NoServers, ReadsList, ServerReads, lacks, list_reads, number_or, port_in}
 use Rattle.toml_span_uses.specs.declared.servers.Server.{Server}
-use Rattle.toml_span_uses.proofs.Reading.{Over, after-noted, after-read, moved, never-empty, on-document, over-root}
+use Rattle.toml_span_uses.proofs.Reading.{Over, after-noted, after-read, never-empty, on-document, over-root}
 
 -- ---- one server
 
@@ -34,15 +34,15 @@ Asked ms span port state =
     (state ≡ record { members = without (codes "port") ms; asked = codes "port" ∷ []; errors = errors_in (port_in ms span); span = span })
     × ((x : ℕ) → port ≡ Some x → port_in ms span ≡ Ok x) × (errors_in (port_in ms span) ≡ [] → (x : ℕ) × (port ≡ Some x))
 
-abbrev asked_of : Members → Span → Result ℕ Faults → State
+abbrev asked_of : Members → Span → Result ℕ Errors → State
 asked_of ms span r = record { members = without (codes "port") ms; asked = codes "port" ∷ []; errors = errors_in r; span = span }
 
-abbrev port_at : Span → Option Node → Result ℕ Faults
+abbrev port_at : Span → Option Node → Result ℕ Errors
 port_at span o = number_or (one (lacks (codes "port") span)) o
 
 port-fault : (o : Option Node) (ms : Members) (span : Span) (error : Error) (s : State) → option_map (λ entry. entry.1) (entry_at (codes "port") ms) ≡ o
-    → MatchOption o ((fault_of error ≡ missing (codes "port") (fresh ms span)) × (s ≡ keeping (missing (codes "port") (fresh ms span) ∷ []) (noted (codes "port") (fresh ms span))))
-    (λ value. (faults : Faults) × (left : Node) × Gives number value (Err faults) left × (fault_of error ≡ faults.last) × (s ≡ keeping (all faults) (noted (codes "port") (fresh ms span))))
+    → MatchOption o ((content_of error ≡ missing (codes "port") (fresh ms span)) × (s ≡ keeping (missing (codes "port") (fresh ms span) ∷ []) (noted (codes "port") (fresh ms span))))
+    (λ value. (faults : Errors) × (left : Node) × Gives number value (Err faults) left × (content_of error ≡ faults.last) × (s ≡ keeping (all faults) (noted (codes "port") (fresh ms span))))
     → Asked ms span None s
 port-fault None ms span error s is (told, after) =
     let read : port_in ms span ≡ Err (one (lacks (codes "port") span)) = ap (port_at span) is in (
@@ -81,7 +81,7 @@ pub record Table (value : Node) (state : State) : Type 0 where
   pub is : value ≡ node (table members) span
   pub opened : state ≡ fresh members span
 
-opened-table : (value : Node) (state : State) → Opens value (Ok state) → Table value state
+opened-table : (value : Node) (state : State) → OpensTable value (Ok state) → Table value state
 opened-table (node taken span) state h = cc
 opened-table (node (scalar s) span) state h = cc
 opened-table (node (array ns) span) state h = cc
@@ -95,7 +95,7 @@ server-asked value before after r port t field h =
 
 -- the calls of a server's read
 pub record Reads (value : Node) (before after : State) (r : Result ℕ (Stop Error)) (port : Option ℕ) : Type 0 where
-  pub opens : Opens value (Ok before)
+  pub opens : OpensTable value (Ok before)
   pub field : IsField r (Ok port)
   pub asked : Requires (Gives number) (codes "port") before r after
 
@@ -105,13 +105,13 @@ server-port value before after r port done h refuses =
     let a = server-asked value before after r port t h.field h.asked in
     a.2 (both-empty _ _ (subst (λ s. Refuses s (Ok done)) a.0 refuses)).0
 
-pub server-refused : (value : Node) (before after : State) (r : Result ℕ (Stop Error)) (port : Option ℕ) (faults : Faults) → Reads value before after r port → Refuses after (Err (unfinished.Faults faults)) → ServerReads value (Err faults)
+pub server-refused : (value : Node) (before after : State) (r : Result ℕ (Stop Error)) (port : Option ℕ) (faults : Errors) → Reads value before after r port → Refuses after (Err (unfinished.Faults faults)) → ServerReads value (Err faults)
 server-refused value before after r port faults h refuses =
     let t = opened-table value before h.opens in
     let a = server-asked value before after r port t h.field h.asked in
     subst (λ v. ServerReads v (Err faults)) (sym t.is) (subst (λ s. Refuses s (Err (unfinished.Faults faults))) a.0 refuses)
 
-pub server-stopped : (value : Node) (before after : State) (r : Result ℕ (Stop Error)) (port : Option ℕ) (why : Unfinished) (stop : Stop Faults) (left : Node) → Reads value before after r port → Refuses after (Err why) → IsStopped why stop
+pub server-stopped : (value : Node) (before after : State) (r : Result ℕ (Stop Error)) (port : Option ℕ) (why : Unfinished) (stop : Stop Errors) (left : Node) → Reads value before after r port → Refuses after (Err why) → IsStopped why stop
     → Answers (λ v answer w. ServerReads v answer) (λ v w. Unit {0}) value (Err stop) left
 server-stopped value before after r port why (stops.Memory e) left h refuses is = tt
 server-stopped value before after r port (unfinished.Faults faults) (stops.Fault told) left h refuses is = subst (λ f. ServerReads value (Err f)) is (server-refused value before after r port faults h refuses)
@@ -121,36 +121,36 @@ server-stopped value before after r port (unfinished.Memory helper) (stops.Fault
 
 -- what was read of the list of a document whose root the helper was opened on
 record Listed {V : Type 0} (items : V → List Server) (s : List ℕ) (places : Path → Option Place) (list : Option V) (state : State) : Type 0 where
-  errors : List Fault
+  errors : List ErrorContent
   told : ListErrors (whole s) places errors
   over : Over places (whole s) (codes "servers" ∷ []) errors state
   read : errors ≡ [] → (x : V) × (list ≡ Some x) × ReadsList places (Ok (items x))
 
 -- a value that is read stands at its key
-stands : (o : Option Place) (places : Path → Option Place) (answer : Result (List Server) Faults) → places (key (codes "servers") ∷ []) ≡ o → ReadsList places answer
+stands : (o : Option Place) (places : Path → Option Place) (answer : Result (List Server) Errors) → places (key (codes "servers") ∷ []) ≡ o → ReadsList places answer
     → MatchOption o ⊥ (λ _. Unit {0})
 stands None places answer is (value, left, valued, read) = none-some _ (sym (valued.1 [] ∙ ap (option_map without_key) is))
 stands (Some x) places answer is h = tt
 
 -- the errors of the list, where this stands at its key
-abbrev ErrorsAt : Option Place → Span → (Path → Option Place) → List Fault → Type 0
-ErrorsAt o span places errors = MatchOption o (errors ≡ lacks (codes "servers") span ∷ []) (λ _. (answer : Result (List Server) Faults) × ReadsList places answer × (errors ≡ errors_in answer))
+abbrev ErrorsAt : Option Place → Span → (Path → Option Place) → List ErrorContent → Type 0
+ErrorsAt o span places errors = MatchOption o (errors ≡ lacks (codes "servers") span ∷ []) (λ _. (answer : Result (List Server) Errors) × ReadsList places answer × (errors ≡ errors_in answer))
 
-told-errors : (o : Option Place) (span : Span) (places : Path → Option Place) (answer : Result (List Server) Faults) (errors : List Fault) → places (key (codes "servers") ∷ []) ≡ o → ReadsList places answer → errors ≡ errors_in answer
+told-errors : (o : Option Place) (span : Span) (places : Path → Option Place) (answer : Result (List Server) Errors) (errors : List ErrorContent) → places (key (codes "servers") ∷ []) ≡ o → ReadsList places answer → errors ≡ errors_in answer
     → ListErrors span places errors
 told-errors None span places answer errors is h e = absurd (stands None places answer is h)
 told-errors (Some x) span places answer errors is h e = subst (λ p. ErrorsAt p span places errors) (sym is) (answer, h, e)
 
 module _ {V : Type 0} (items : V → List Server) (s : List ℕ) (places : Path → Option Place) where
-  abbrev reads : Node → Result V Faults → Node → Type 0
+  abbrev reads : Node → Result V Errors → Node → Type 0
   reads v r w = list_reads v (result_map items r) w
 
   abbrev name : List ℕ
   name = codes "servers"
 
   abbrev FaultAt : Option Place → (Path → Option Place) → State → State → Error → Type 0
-  FaultAt o hidden before after error = MatchOption o ((fault_of error ≡ missing name before) × (after ≡ keeping (missing name before ∷ []) (noted name before)))
-      (λ place. (faults : Faults) × ReadsPart reads (subtree hidden (key name ∷ [])) (Err faults) × (fault_of error ≡ faults.last) × (after ≡ keeping (all faults) (noted name before)))
+  FaultAt o hidden before after error = MatchOption o ((content_of error ≡ missing name before) × (after ≡ keeping (missing name before ∷ []) (noted name before)))
+      (λ place. (faults : Errors) × ReadsPart reads (subtree hidden (key name ∷ [])) (Err faults) × (content_of error ≡ faults.last) × (after ≡ keeping (all faults) (noted name before)))
 
   listed-fault : (o : Option Place) (before after : State) (error : Error) → places (key name ∷ []) ≡ o → Over places (whole s) [] [] before → IsOver places after
       → FaultAt o places before after error → Listed items s places None after
@@ -193,7 +193,7 @@ pub record Calls {V : Type 0} (items : V → List Server) (s : List ℕ) (root :
   pub tree : IsTree s 128 root
   pub ordered : IsOrdered (view root)
   pub is_root : IsRoot (length s) root
-  pub opens : Opens (view root) (Ok before)
+  pub opens : OpensTable (view root) (Ok before)
   pub field : IsField r (Ok list)
   pub asked : Requires (λ v r w. list_reads v (result_map items r) w) (codes "servers") before r after
 
@@ -221,10 +221,10 @@ list-read items s root list before after r done x h refuses is =
     let (read, keys) = ended items s places list after done (session items s root list before after r places h value) refuses in
     (subst (λ z. ReadsList places (Ok (items z))) (same_Some read.0 x (sym read.1 ∙ is)) read.2, keys))
 
-not-read : {V : Type 0} (items : V → List Server) (s : List ℕ) (root : Value) (list : Option V) (before after : State) (r : Result V (Stop Error)) (faults : Faults) → Calls items s root list before after r → Refuses after (Err (unfinished.Faults faults))
+not-read : {V : Type 0} (items : V → List Server) (s : List ℕ) (root : Value) (list : Option V) (before after : State) (r : Result V (Stop Error)) (faults : Errors) → Calls items s root list before after r → Refuses after (Err (unfinished.Faults faults))
     → NoServers s (stops.Fault faults)
 not-read items s root list before after r faults h refuses =
-    inr (on-document s root (λ places. (errors : List Fault) × (rest : Members) × ListErrors (whole s) places errors × IsValueOf (except (codes "servers" ∷ []) places) (node (table rest) (whole s))
+    inr (on-document s root (λ places. (errors : List ErrorContent) × (rest : Members) × ListErrors (whole s) places errors × IsValueOf (except (codes "servers" ∷ []) places) (node (table rest) (whole s))
     × (all faults ≡ errors ++ left_over (codes "servers" ∷ []) (whole s) rest)) h.tree h.ordered (λ places value.
     let l = session items s root list before after r places h value in
     let (rest, left, told) = ends-faults places after faults l.over.over refuses in
@@ -238,7 +238,7 @@ not-read items s root list before after r faults h refuses =
           ∙ ap (λ at. l.errors ++ left_over (codes "servers" ∷ []) at rest) l.over.span_is,
     )))
 
-pub list-refused : {V : Type 0} (items : V → List Server) (s : List ℕ) (root : Value) (list : Option V) (before after : State) (r : Result V (Stop Error)) (why : Unfinished) (stop : Stop Faults) → Calls items s root list before after r
+pub list-refused : {V : Type 0} (items : V → List Server) (s : List ℕ) (root : Value) (list : Option V) (before after : State) (r : Result V (Stop Error)) (why : Unfinished) (stop : Stop Errors) → Calls items s root list before after r
     → Refuses after (Err why) → IsStopped why stop → NoServers s stop
 list-refused items s root list before after r why (stops.Memory e) h refuses is = tt
 list-refused items s root list before after r (unfinished.Faults faults) (stops.Fault told) h refuses is = subst (λ f. NoServers s (stops.Fault f)) is (not-read items s root list before after r faults h refuses)

@@ -5,16 +5,17 @@ use Rattle.toml_span_lex.specs.declared.span.Span.{Span}
 use Rattle.toml_span_lex.specs.declared.stop.Stop.{Stop}
 use Rattle.toml_span_lex.specs.declared.stop.Stop.TheVariants as stops
 use Rattle.toml_span_tree.specs.declared.error.Error.{Error}
-use Rattle.toml_span_tree.specs.Error.{Fault, fault_of}
+use Rattle.toml_span_tree.specs.Error.{ErrorContent, content_of}
 use Rattle.toml_span_tree.specs.Node.{Members, node, table}
 use Rattle.toml_span_tree.specs.Path.{Path, Place}
-use Rattle.toml_span_typed.specs.Faults.{Faults, all, one}
+use Rattle.toml_span_typed.specs.Errors.{Errors, all, one}
 use Rattle.toml_span_typed.specs.Reads.{read_boolean, read_string}
 use Rattle.toml_span_assembly.specs.Parsing.{IsRefusal}
 use Rattle.toml_span.specs.Document.{IsDocument, IsValueOf}
 use Rattle.toml_span.specs.Helpers.{HasNoKeyBut, except, left_over}
 use Rattle.toml_span_uses.specs.Fields.{errors_in, number, optional_field, required_field, whole}
 use Rattle.toml_span_uses.specs.declared.settings.Settings.{Settings}
+use Rattle.toml_span_read.specs.Limits.{depth_limit}
 
 abbrev pub names : List (List ℕ)
 names = codes "host" ∷ codes "port" ∷ codes "secure" ∷ []
@@ -28,16 +29,16 @@ AreSettings span places settings =
     × HasNoKeyBut names places
 
 -- the errors of the fields in their order, and behind them that of the other keys
-abbrev pub errors_of : Span → (Path → Option Place) → Members → List Fault
+abbrev pub errors_of : Span → (Path → Option Place) → Members → List ErrorContent
 errors_of span places rest =
     errors_in (required_field read_string (codes "host") span places)
     ++ errors_in (required_field number (codes "port") span places)
     ++ errors_in (optional_field read_boolean (codes "secure") places) ++ left_over names span rest
 
 -- The text is refused, and the one error tells why; or it is read, and these are all the errors of its settings.
-abbrev pub NoSettings : List ℕ → Stop Faults → Type 0
+abbrev pub NoSettings : List ℕ → Stop Errors → Type 0
 NoSettings text (stops.Memory e) = ⊤
 NoSettings text (stops.Fault faults) =
-    ((error : Error) × IsRefusal text 128 (stops.Fault error) × (faults ≡ one (fault_of error)))
+    ((error : Error) × IsRefusal text depth_limit (stops.Fault error) × (faults ≡ one (content_of error)))
     ⊎ IsDocument text (λ places. (rest : Members) × IsValueOf (except names places) (node (table rest) (whole text))
     × (all faults ≡ errors_of (whole text) places rest))

@@ -8,6 +8,7 @@ ghost use Rattle.toml_span_tree.specs.Path.{Place, key, shape_scalar};
 ghost use Rattle.toml_span_assembly.specs.Parsing.{IsRefusal};
 ghost use Rattle.toml_span.specs.Document.{IsDocument, StandsAt};
 ghost use Rattle.toml_span_uses.specs.Fields.{IsRefusedAt, NoPort};
+ghost use Rattle.toml_span_read.specs.Limits.{depth_limit};
 
 pub mod first;
 pub mod servers;
@@ -26,7 +27,7 @@ pub fn span_at<'de>(
 ) -> Result<Option<Span>, Stop<Error<'de>>>
     ensures found { IfOk result (λ o. IsDocument text.now (λ places. (span : Bytes) → (o ≡ Some span)
         ↔ StandsAt pointer.now places (λ place. place.span ≡ span))) }
-    ensures refused { IfErr result (IsRefusal text.now 128) }
+    ensures refused { IfErr result (IsRefusal text.now depth_limit) }
 {
     let root = parse(alloc, text)?;
     match root.pointer(pointer) {

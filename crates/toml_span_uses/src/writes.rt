@@ -5,6 +5,7 @@ ghost use Rattle.toml_span_tree.specs.Pointer.{pointed};
 ghost use Rattle.toml_span_assembly.specs.Parsing.{IsRefusal};
 ghost use Rattle.toml_span.specs.Document.{IsDocument};
 ghost use Rattle.toml_span_uses.specs.Writes.{IsChanged};
+ghost use Rattle.toml_span_read.specs.Limits.{depth_limit};
 
 use std::alloc::Global;
 use toml_span::{Error, Stop, Value, parse};
@@ -27,7 +28,7 @@ pub fn with_value<'de>(
     new: Value<'de>,
 ) -> Result<Option<Value<'de>>, Stop<Error<'de>>>
     ensures changed { IfOk result (λ o. IsDocument text.now (IsChanged pointer.now (view new.entry) o)) }
-    ensures refused { IfErr result (IsRefusal text.now 128) }
+    ensures refused { IfErr result (IsRefusal text.now depth_limit) }
 {
     let mut root = parse(alloc, text)?;
     match root.replace(pointer, new) {

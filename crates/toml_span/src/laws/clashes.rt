@@ -2,7 +2,7 @@
 ghost use Rattle.std.specs.Prelude.{◌≡◌, ◌≢◌, ◌↔◌, ◌++◌, ◌∷◌, ℕ, List, [], Some};
 ghost use Rattle.toml_span_tree.specs.Path.{Path, position};
 ghost use Rattle.toml_span_claims.specs.declared.claims.Sort.TheVariants.{Assigned, Dotted, Passed};
-ghost use Rattle.toml_span_claims.specs.Flat.{all_claims, claims_at, decides};
+ghost use Rattle.toml_span_claims.specs.Flat.{all_claims, claims_at, deciding_claim};
 ghost use Rattle.toml_span_claims.specs.Claims.{Claim, claims};
 ghost use Rattle.toml_span_claims.specs.Clashes.{NamedClash, Resolves, TellsFirst, clash};
 ghost use Rattle.toml_span_read.specs.Data.{Block};
@@ -18,12 +18,12 @@ pub fn told_is_first_by_place()
         × (clash c d ≡ Some told)) }
 {}
 
-/// What stands at a position is never said by a header that passes through it: the claim of the entry, or of the
-/// array's element, decides there.
-pub fn no_header_through_an_entry_decides()
+/// What stands at a position is never said by a header that passes through it: the claim of the element decides there,
+/// of an array of tables or of an array in brackets.
+pub fn no_header_through_an_element_decides()
     ensures { (text : List ℕ) (limit : ℕ) (blocks : List Block) (path : Path) (index : ℕ) (c : Claim)
         → SpellsDocument blocks text limit
-        → decides (claims_at (path ++ (position index ∷ [])) (all_claims (claims blocks))) ≡ Some c
+        → deciding_claim (claims_at (path ++ (position index ∷ [])) (all_claims (claims blocks))) ≡ Some c
         → c.mark.sort ≢ Passed }
 {}
 

@@ -6,20 +6,20 @@ use Rattle.toml_span_lex.specs.declared.stop.Stop.TheVariants as stops
 use Rattle.toml_span_tree.specs.declared.error.Error.{Error}
 use Rattle.toml_span_read.specs.Data.{Block, block}
 use Rattle.toml_span_read.specs.Places.{IsInside}
-use Rattle.toml_span_read.specs.Keys.{Part}
-use Rattle.toml_span_read.specs.Borrowed.{AreRight as AreRightRead, sections_written}
+use Rattle.toml_span_read.specs.Keys.{SimpleKey}
+use Rattle.toml_span_read.specs.Borrowed.{AreWrittenRight as AreRightRead, sections_written}
 use Rattle.toml_span_read.specs.Grammar.{SpellsDocument}
 use Rattle.toml_span_read.specs.declared.section.Section.{Section}
 use Rattle.toml_span_read.specs.Stuck.{StuckDocument}
 use Rattle.toml_span_read.specs.declared.fault.Fault.{Fault}
 use Rattle.toml_span_claims.specs.declared.claims.Halt.{Halt}
 use Rattle.toml_span_claims.specs.declared.branch.Branch.{Branch}
-use Rattle.toml_span_claims.specs.Claims.{event_claims, head_of, claims_behind, claims}
+use Rattle.toml_span_claims.specs.Claims.{key_value_claims, head_of, claims_behind, claims}
 use Rattle.toml_span_claims.specs.code.Placing.{Places, AreSections}
 use Rattle.toml_span_claims.specs.code.Relative.{section_at, grown}
 use Rattle.toml_span_claims.specs.code.Tree.{counts, cells, IsScope}
 use Rattle.toml_span_claims.specs.code.Machine.{nothing, first_clash, put_all, clash_told}
-use Rattle.toml_span_claims.specs.Paths.{entries_at, opened_by}
+use Rattle.toml_span_claims.specs.Paths.{elements_added, opened_by}
 use Rattle.toml_span_claims.specs.declared.claims.Clash.{Clash}
 use Rattle.toml_span_claims.specs.Clashes.{TellsFirst}
 use Rattle.toml_span_claims.specs.Borrowed.{AreRight}
@@ -31,7 +31,7 @@ use Rattle.toml_span_assembly.specs.Parsing.{IsClashOf}
 -- a section placed from the root on
 abbrev pub Placed : Block → Branch → Branch → Result (Unit {0}) Halt → Type 0
 Placed b root new r =
-    Places root new r (section_at (counts root) (head_of b) b.header (event_claims b.events []))
+    Places root new r (section_at (counts root) (head_of b) b.header (key_value_claims b.key_values []))
     (grown (counts root) (head_of b) b.header)
 
 -- what is left to place behind some sections, into a tree of what they claim
@@ -40,7 +40,7 @@ pub record Remaining (all rest : List Block) (root : Branch) : Type 0 where
   pub headers : AreSections rest
   pub telling : first_clash (cells root) (claims_behind earlier rest) ≡ first_clash nothing (claims all)
   pub putting : put_all (cells root) (claims_behind earlier rest) ≡ put_all nothing (claims all)
-  pub counting : counts root ≡ entries_at (opened_by earlier)
+  pub counting : counts root ≡ elements_added (opened_by earlier)
   pub scope : IsScope root
 
 -- The tree has what these sections claim, and those that follow are left to place. Or this is their first clash.
@@ -56,7 +56,7 @@ abbrev pub IsGrownInside : ℕ → Grown → Type 0
 IsGrownInside n g = IfSome g.clash (λ c. IsInside n c.meeting.place)
 
 -- what stands in the tree is borrowed as it was read
-abbrev pub GrownRight : List ℕ → List Part → Grown → Type 0
+abbrev pub GrownRight : List ℕ → List SimpleKey → Grown → Type 0
 GrownRight text ps g = IfNone g.clash (AreRight text ps (standing g.root))
 
 -- no two clash, and no table is to be finished
@@ -71,7 +71,7 @@ pub record IsGrown (text : List ℕ) (limit : ℕ) (g : Grown) : Type 0 where
   pub inside : IsGrownInside (length text) g
   pub bare : sections ≡ [] → IsBare g
   pub read : AreRightRead text (sections_written sections)
-  pub borrows : (ps : List Part) → AreFrom text ps (sections_written sections) → GrownRight text ps g
+  pub borrows : (ps : List SimpleKey) → AreFrom text ps (sections_written sections) → GrownRight text ps g
 
 abbrev pub GrownGives : List ℕ → ℕ → Result Grown (Stop Fault) → Type 0
 GrownGives text limit (Ok g) = IsGrown text limit g

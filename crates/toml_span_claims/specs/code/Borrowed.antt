@@ -10,8 +10,8 @@ use Rattle.toml_span_lex.specs.Strings.{BorrowsWhereSame}
 use Rattle.toml_span_tree.specs.declared.value.ValueInner.{ValueInner}
 use Rattle.toml_span_tree.specs.declared.value.ValueInner.TheFolds.{fold-ValueInner}
 use Rattle.toml_span_tree.specs.declared.value.Value.{Value}
-use Rattle.toml_span_read.specs.Borrowed.{Written, string as string_written, name as name_written}
-use Rattle.toml_span_read.specs.Keys.{Part}
+use Rattle.toml_span_read.specs.Borrowed.{Written, joined, string as string_written, name as name_written}
+use Rattle.toml_span_read.specs.Keys.{SimpleKey}
 use Rattle.toml_span_claims.specs.Borrowed.{Held, inner_step, value_step, Standing, elements_standing, held}
 use Rattle.toml_span_claims.specs.Borrowed.{entries_standing, title, IsKeyOf, AreRight, value_standing}
 use Rattle.toml_span_claims.specs.declared.branch.Branch.TheOpen.{Branch-F}
@@ -27,15 +27,11 @@ array_standing vs = elements_standing (map held vs)
 abbrev pub table_standing : List (Key × Value) → List Standing
 table_standing es = entries_standing (map (λ e. (e.0, held e.1)) es)
 
--- ---- nodes
+-- ---- branches
 
 abbrev pub nodes_standing : List (Key × Box (List Standing)) → List Standing
 nodes_standing [] = []
 nodes_standing (e ∷ es) = title e.0.name ∷ (box_value e.1 ++ nodes_standing es)
-
-abbrev pub joined : List (List Standing) → List Standing
-joined [] = []
-joined (xs ∷ rest) = xs ++ joined rest
 
 abbrev pub node_step : Branch-F (List Standing) → List Standing
 node_step n = table_standing n.values.entries ++ (nodes_standing n.tables.entries ++ joined n.entries.items)
@@ -53,20 +49,20 @@ entries_of ns = joined (map standing ns)
 -- ---- what was read
 
 -- among what was read, the keys of which are these
-abbrev pub IsFrom : List ℕ → List Part → Written → Type 0
+abbrev pub IsFrom : List ℕ → List SimpleKey → Written → Type 0
 IsFrom text ps (string_written s span) = BorrowsWhereSame text span s
 IsFrom text ps (name_written s span) =
     BorrowsWhereSame text span s × IsKeyOf (record { name = cow_str_bytes s; span = span }) ps
 
-abbrev pub AreFrom : List ℕ → List Part → List Written → Type 0
+abbrev pub AreFrom : List ℕ → List SimpleKey → List Written → Type 0
 AreFrom text ps ws = AllByRecursion (IsFrom text ps) ws
 
 -- ---- what the functions keep
 
--- where nothing goes wrong, what is right of the node stays so
-abbrev pub Keeps : List ℕ → List Part → Branch → Branch → Result (Unit {0}) Halt → Type 0
+-- where nothing goes wrong, what is right of the branch stays so
+abbrev pub Keeps : List ℕ → List SimpleKey → Branch → Branch → Result (Unit {0}) Halt → Type 0
 Keeps text ps old new r = AreRight text ps (standing old) → OnOk r (AreRight text ps (standing new))
 
 -- the value, if there is one, is right
-abbrev pub ValueRight : List ℕ → List Part → Result Value Halt → Type 0
+abbrev pub ValueRight : List ℕ → List SimpleKey → Result Value Halt → Type 0
 ValueRight text ps r = IfOk r (λ v. AreRight text ps (value_standing v))

@@ -1,10 +1,11 @@
--- What a node of the tree under construction keeps of the claims on it.
+-- What a branch of the tree under construction keeps of the claims on it.
 use Rattle.std.specs.Prelude.{◌≡◌, ⊤, ℕ, Bool, true, nat_eq, if◌then◌else◌, List, [], ◌∷◌, ◌++◌, Option, Some, None}
 use Rattle.std.specs.Prelude.{string_bytes}
 use Rattle.std.specs.List.{list_any}
 use Rattle.toml_span_read.specs.Places.{IsInside}
 use Rattle.toml_span_claims.specs.declared.claims.Sort.{Sort}
-use Rattle.toml_span_claims.specs.declared.claims.Sort.TheVariants.{Passed, Section, ArrayOfTables, Entry, Dotted}
+use Rattle.toml_span_claims.specs.declared.claims.Sort.TheVariants.{Passed, StandardTable, ArrayOfTables, TableElement}
+use Rattle.toml_span_claims.specs.declared.claims.Sort.TheVariants.{Dotted}
 use Rattle.toml_span_claims.specs.declared.claims.Sort.TheVariants.{Assigned}
 use Rattle.toml_span_claims.specs.declared.claims.Mark.{Mark}
 use Rattle.toml_span_claims.specs.declared.claims.Meeting.{Meeting}
@@ -15,9 +16,9 @@ use Rattle.toml_span_claims.specs.Clashes.{or_else}
 
 abbrev pub sort_number : Sort → ℕ
 sort_number Passed = 0
-sort_number Section = 1
+sort_number StandardTable = 1
 sort_number ArrayOfTables = 2
-sort_number Entry = 3
+sort_number TableElement = 3
 sort_number Dotted = 4
 sort_number Assigned = 5
 
@@ -45,7 +46,7 @@ abbrev pub first : List Mark → Option Mark
 first [] = None
 first (mark ∷ marks) = Some mark
 
--- the claim that says where a node stands: that of the first header, or else the first one
+-- the claim that says where a branch stands: that of the first header, or else the first one
 abbrev pub deciding : List Mark → Option Mark
 deciding marks = or_else (first_by_header marks) (first marks)
 

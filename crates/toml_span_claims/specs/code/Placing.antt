@@ -16,24 +16,24 @@ use Rattle.toml_span_tree.specs.Value.{view, inner_view, inner_of as tree_inner}
 use Rattle.toml_span_tree.specs.declared.value.Value.{Value}
 use Rattle.toml_span_tree.specs.Node as tree
 use Rattle.toml_span_tree.specs.declared.value.ValueInner.TheVariants.{Table as table_inner}
-use Rattle.toml_span_read.specs.Data.{Node as Read, span_of, Block}
+use Rattle.toml_span_read.specs.Data.{ParsedValue as Read, parsed_span, Block}
 use Rattle.toml_span_claims.specs.declared.claims.Halt.{Halt}
 use Rattle.toml_span_claims.specs.declared.branch.Branch.{Branch}
-use Rattle.toml_span_claims.specs.Claims.{Claims, value_claims, value_shape, inner_of, shape_of, claims}
+use Rattle.toml_span_claims.specs.Claims.{Claims, value_claims, value_shape, parsed_inner, shape_claimed, claims}
 use Rattle.toml_span_claims.specs.code.Machine.{Gives, first_clash, put_all, nothing, show_all, Cell, State, clash_told}
 use Rattle.toml_span_claims.specs.code.Tree.{entries, cells, counts, marks, IsScope, IsChild, IsHeld, Sound}
 use Rattle.toml_span_claims.specs.code.Tree.{value_shows}
 use Rattle.toml_span_claims.specs.declared.claims.Mark.{Mark}
 use Rattle.toml_span_claims.specs.code.Marks.{remember, deciding}
 use Rattle.toml_span_claims.specs.declared.claims.Sort.{Sort}
-use Rattle.toml_span_claims.specs.declared.claims.Sort.TheVariants.{Section, Entry}
+use Rattle.toml_span_claims.specs.declared.claims.Sort.TheVariants.{StandardTable, TableElement}
 use Rattle.toml_span_claims.specs.Ordered.{IsOrdered, HoldsOrdered}
 use Rattle.toml_span_claims.specs.declared.branch.Branch.TheViews.{out-Branch}
 use Rattle.toml_span_claims.specs.declared.claims.Halt.TheVariants.{Memory, Clash}
 use Rattle.toml_span_claims.specs.Clashes.{Resolves, TellsFirst}
 use Rattle.toml_span_claims.specs.Flat.{Shows, flat}
 
--- The claims are placed from a node on, which then has so many entries, or else the first clash is told.
+-- The claims are placed from a branch on, which then has so many entries, or else the first clash is told.
 abbrev pub Reaches : (Branch → Type 0) → (Branch → Type 0) → Branch → Branch → Result (Unit {0}) Halt → Claims
     → (Path → ℕ) → Type 0
 Reaches Before After old new r cs entries =
@@ -45,7 +45,7 @@ Reaches Before After old new r cs entries =
 abbrev pub Places : Branch → Branch → Result (Unit {0}) Halt → Claims → (Path → ℕ) → Type 0
 Places old new r cs entries = Reaches IsScope (λ n. IsScope n × (marks n ≡ marks old)) old new r cs entries
 
--- from a node on that stands at a name
+-- from a branch on that stands at a name
 abbrev pub Passes : Branch → Branch → Result (Unit {0}) Halt → Claims → (Path → ℕ) → Type 0
 Passes old new r cs entries = Reaches IsChild IsHeld old new r cs entries
 
@@ -54,9 +54,9 @@ abbrev pub Opening : (Branch → Type 0) → Mark → Branch → Branch → Resu
 Opening Before m old new r cs entries =
     Reaches Before (λ n. IsScope n × (marks n ≡ remember (marks old) m)) old new r cs entries
 
--- a node that is claimed for a section, or a table that is claimed for an entry
+-- a branch that is claimed for a section, or a table that is claimed for an entry
 abbrev pub Opens : Sort → Branch → Type 0
-Opens sort n = Sound n × ((sort ≡ Section) ⊎ ((sort ≡ Entry) × (entries n ≡ [])))
+Opens sort n = Sound n × ((sort ≡ StandardTable) ⊎ ((sort ≡ TableElement) × (entries n ≡ [])))
 
 -- ---- values
 
@@ -64,7 +64,7 @@ Opens sort n = Sound n × ((sort ≡ Section) ⊎ ((sort ≡ Entry) × (entries 
 abbrev pub IsFinished : Read → Value → Type 0
 IsFinished v x =
     ((at : Option Span)
-    → tree_place (at, view x) ≡ record { shape = value_shape (inner_of v); key_span = at; span = span_of v })
+    → tree_place (at, view x) ≡ record { shape = value_shape (parsed_inner v); key_span = at; span = parsed_span v })
     × ((s : Step) (p : Path) → value_shows None (view x) (s ∷ p) ≡ (show_all nothing (value_claims v []) (s ∷ p)).shown)
     × IsOrdered (view x)
 
@@ -106,19 +106,20 @@ NamesAscend t =
 abbrev pub Array : Type 0
 Array = Vec Value
 
--- the table of a node's values and of what its nodes have become
+-- the table of a branch's values and of what its branches have become
 abbrev pub Finishes : BTreeMap Key (Box Branch) → Table → Result Table AllocError → Type 0
 Finishes tables values (Ok t) =
     (n : Branch) → (out-Branch n).tables ≡ tables → (out-Branch n).values ≡ values → IsScope n
     → ShowsBelow (inner_view (table_inner t)) (cells n) × HoldsOrdered (inner_view (table_inner t))
 Finishes tables values (Err e) = ⊤
 
--- the key's span and the value that a node has become
+-- the key's span and the value that a branch has become
 abbrev pub Becomes : Branch → Result (Span × Value) AllocError → Type 0
 Becomes n (Ok r) =
     Sound n
     → ((m : Mark) (at : Option Span) → deciding (marks n) ≡ Some m
-    → (r.0 ≡ m.key) × (tree_place (at, view r.1) ≡ record { shape = shape_of m.sort; key_span = at; span = m.extent }))
+    → (r.0 ≡ m.key)
+    × (tree_place (at, view r.1) ≡ record { shape = shape_claimed m.sort; key_span = at; span = m.extent }))
     × ShowsBelow (tree_inner (view r.1)) (cells n) × IsOrdered (view r.1)
 Becomes n (Err e) = ⊤
 

@@ -1,4 +1,4 @@
--- What a node of the tree under construction holds, path by path.
+-- What a branch of the tree under construction holds, path by path.
 use Rattle.std.specs.Prelude.{◌≡◌, ⊤, ℕ, zero, suc, ◌⊎◌, Bool, true, false, List, [], ◌∷◌, length, Option, Some, None}
 use Rattle.std.specs.Prelude.{option_map}
 use Rattle.std.specs.Cow.{cow_str_bytes}
@@ -17,10 +17,10 @@ use Rattle.toml_span_tree.specs.Value.{span_of, view}
 use Rattle.toml_span_claims.specs.declared.claims.Mark.{Mark}
 use Rattle.toml_span_claims.specs.declared.branch.Branch.{Branch}
 use Rattle.toml_span_claims.specs.declared.branch.Branch.TheViews.{out-Branch}
-use Rattle.toml_span_claims.specs.Claims.{place_of, pair_mark}
+use Rattle.toml_span_claims.specs.Claims.{place_claimed, pair_mark}
 use Rattle.toml_span_claims.specs.Flat.{by_header}
 use Rattle.toml_span_claims.specs.code.Machine.{Decided, State, no_cell, Cell}
-use Rattle.toml_span_claims.specs.declared.claims.Sort.TheVariants.{Assigned, ArrayOfTables, Entry}
+use Rattle.toml_span_claims.specs.declared.claims.Sort.TheVariants.{Assigned, ArrayOfTables, TableElement}
 use Rattle.toml_span_claims.specs.code.Marks.{deciding}
 use Rattle.toml_span_claims.specs.declared.claims.Sort.{Sort}
 use Rattle.toml_span_claims.specs.Ordered.{IsOrdered}
@@ -35,7 +35,7 @@ marks n = (out-Branch n).marks.items
 abbrev pub entries : Branch → List Branch
 entries n = (out-Branch n).entries.items
 
--- the node of a name, the value of a name with its key, and the entry at a position
+-- the branch of a name, the value of a name with its key, and the entry at a position
 abbrev pub child : List ℕ → Branch → Option Branch
 child name n = option_map box_value (lookup (is_named name) (out-Branch n).tables.entries)
 
@@ -50,7 +50,7 @@ item i [] = None
 item zero (x ∷ xs) = Some x
 item (suc i) (x ∷ xs) = item i xs
 
--- the node of a name among such nodes, and the claims on it
+-- the branch of a name among such branches, and the claims on it
 abbrev pub child_in : List ℕ → BTreeMap Key (Box Branch) → Option Branch
 child_in name tables = option_map box_value (lookup (is_named name) tables.entries)
 
@@ -61,7 +61,7 @@ held_marks (Some n) = marks n
 -- ---- what it keeps and shows
 
 abbrev pub by_mark : Mark → Decided
-by_mark m = record { header = by_header m.sort; place = place_of m }
+by_mark m = record { header = by_header m.sort; place = place_claimed m }
 
 abbrev pub plain : Place → Decided
 plain p = record { header = false; place = p }
@@ -124,7 +124,7 @@ is_array_sort ArrayOfTables = true
 is_array_sort _ = false
 
 abbrev pub is_entry_sort : Sort → Bool
-is_entry_sort Entry = true
+is_entry_sort TableElement = true
 is_entry_sort _ = false
 
 -- no claim of an array of tables, and none of an entry, is among them
@@ -136,16 +136,16 @@ abbrev pub NoEntry : List Mark → Type 0
 NoEntry [] = ⊤
 NoEntry (m ∷ ms) = (is_entry_sort m.sort ≡ false) × NoEntry ms
 
--- the claims on a node that stands at a name, and on an entry
+-- the claims on a branch that stands at a name, and on an entry
 abbrev pub IsNamed : List Mark → Type 0
 IsNamed [] = ⊥
 IsNamed (m ∷ ms) = NoEntry (m ∷ ms)
 
 abbrev pub IsEntry : List Mark → Type 0
 IsEntry [] = ⊥
-IsEntry (m ∷ ms) = m.sort ≡ Entry
+IsEntry (m ∷ ms) = m.sort ≡ TableElement
 
--- nothing is claimed on the node, and nothing stands below it
+-- nothing is claimed on the branch, and nothing stands below it
 pub record IsFresh (n : Branch) : Type 0 where
   pub no_marks : marks n ≡ []
   pub no_values : (out-Branch n).values.entries ≡ []
@@ -160,7 +160,7 @@ pub record IsArray (n : Branch) : Type 0 where
   pub no_values : (out-Branch n).values.entries ≡ []
   pub no_tables : (out-Branch n).tables.entries ≡ []
 
--- without entries a node is a table, and with entries an array of tables
+-- without entries a branch is a table, and with entries an array of tables
 abbrev pub IsTableOrArray : Branch → List Branch → Type 0
 IsTableOrArray n [] = NoArray (marks n)
 IsTableOrArray n (x ∷ xs) = IsArray n
@@ -176,7 +176,7 @@ AreEntries ns = (i : ℕ) (c : Branch) → item i ns ≡ Some c → (entries c �
 abbrev pub HoldsOrderedValues : Branch → Type 0
 HoldsOrderedValues n = (name : List ℕ) (e : Key × Value) → closed name n ≡ Some e → IsOrdered (view e.1)
 
--- A node is a table or an array of tables, and so is all below it. No name stands both in `values` and in `tables`.
+-- A branch is a table or an array of tables, and so is all below it. No name stands both in `values` and in `tables`.
 -- The values are in order.
 pub data Sound : Branch → Type 0 where
   sound : (n : Branch)
@@ -189,7 +189,7 @@ pub data Sound : Branch → Type 0 where
 abbrev pub IsScope : Branch → Type 0
 IsScope n = Sound n × (entries n ≡ [])
 
--- a node that stands at a name, or will stand there once it is claimed
+-- a branch that stands at a name, or will stand there once it is claimed
 abbrev pub IsChild : Branch → Type 0
 IsChild n = Sound n × (IsFresh n ⊎ IsNamed (marks n))
 

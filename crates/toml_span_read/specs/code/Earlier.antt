@@ -10,17 +10,17 @@ use Rattle.toml_span_lex.specs.declared.key.Key.{Key}
 use Rattle.toml_span_lex.specs.declared.span.Span.{Span}
 use Rattle.toml_span_lex.specs.declared.stop.Stop.{Stop}
 use Rattle.toml_span_lex.specs.declared.stop.Stop.TheVariants as stops
-use Rattle.toml_span_read.specs.Keys.{Part}
+use Rattle.toml_span_read.specs.Keys.{SimpleKey}
 use Rattle.toml_span_read.specs.declared.earlier.Node.TheOpen.{Node-F}
 use Rattle.toml_span_read.specs.declared.earlier.Node.{Node as Tree, fold-Node}
 use Rattle.toml_span_read.specs.Earlier.{path, NoneAt, EarliestAt, Clear, Crossing}
-use Rattle.toml_span_read.specs.Data.{Event, event}
+use Rattle.toml_span_read.specs.Data.{KeyValue, key_value}
 use Rattle.toml_span_read.specs.declared.earlier.Earlier.{Earlier}
 use Rattle.toml_span_read.specs.declared.fault.Fault.{Fault}
 use Rattle.toml_span_read.specs.declared.value.Assignment.{Assignment}
 
 -- each part starts at n or before
-abbrev pub StartBefore : ℕ → List Part → Type 0
+abbrev pub StartBefore : ℕ → List SimpleKey → Type 0
 StartBefore n [] = Unit {0}
 StartBefore n (p ∷ ps) = (p.span.start ≤ n) × StartBefore n ps
 
@@ -59,43 +59,43 @@ Puts names first old new =
     × ((other : List (List ℕ)) → (other ≡ names → ⊥) → new other ≡ old other)
 
 -- the tree holds nothing at the path that ends with one of the parts
-abbrev pub HoldsNone : Holds → List Part → Type 0
+abbrev pub HoldsNone : Holds → List SimpleKey → Type 0
 HoldsNone tree parts =
-    (outer : List Part) (p : Part) (rest : List Part) → parts ≡ outer ++ (p ∷ rest)
+    (outer : List SimpleKey) (p : SimpleKey) (rest : List SimpleKey) → parts ≡ outer ++ (p ∷ rest)
     → tree (path (outer ++ (p ∷ []))) ≡ None
 
 -- the outermost of the parts at whose path the tree holds a span starts at `found.0`, and the span is `found.1`
-abbrev pub FindsOutermost : Holds → List Part → Option (ℕ × Span) → Type 0
+abbrev pub FindsOutermost : Holds → List SimpleKey → Option (ℕ × Span) → Type 0
 FindsOutermost tree parts None = HoldsNone tree parts
 FindsOutermost tree parts (Some found) =
-    (outer : List Part) × (p : Part) × (rest : List Part)
+    (outer : List SimpleKey) × (p : SimpleKey) × (rest : List SimpleKey)
     × (parts ≡ outer ++ (p ∷ rest)) × HoldsNone tree outer × (tree (path (outer ++ (p ∷ []))) ≡ Some found.1)
     × (found.0 ≡ p.span.start)
 
 -- of the assignments at the path, the earliest is told, if there is one
-abbrev pub TellsEarliest : List (List ℕ) → List Event → Option Span → Type 0
-TellsEarliest names events None = NoneAt names events
-TellsEarliest names events (Some first) = EarliestAt names events first
+abbrev pub TellsEarliest : List (List ℕ) → List KeyValue → Option Span → Type 0
+TellsEarliest names key_values None = NoneAt names key_values
+TellsEarliest names key_values (Some first) = EarliestAt names key_values first
 
 -- each key has more than n parts
-abbrev pub EachLonger : ℕ → List Event → Type 0
+abbrev pub EachLonger : ℕ → List KeyValue → Type 0
 EachLonger n [] = Unit {0}
 EachLonger n (e ∷ es) = (n < length e.parts) × EachLonger n es
 
 -- no key has fewer inner parts than the fewest, and the tree tells the earliest of the assignments that are in it
-pub record Knows (earlier : Earlier) (events : List Event) : Type 0 where
-  pub fewest : EachLonger earlier.fewest events
-  pub within : earlier.known ≤ length events
-  pub tree : (names : List (List ℕ)) → TellsEarliest names (take earlier.known events) (holds earlier.tree names)
+pub record Knows (earlier : Earlier) (key_values : List KeyValue) : Type 0 where
+  pub fewest : EachLonger earlier.fewest key_values
+  pub within : earlier.known ≤ length key_values
+  pub tree : (names : List (List ℕ)) → TellsEarliest names (take earlier.known key_values) (holds earlier.tree names)
 
 -- the next key is clear of the earlier values and is counted, or it crosses one of them
-abbrev pub Judges : Earlier → List Event → Event → Result (Option Fault) AllocError → Type 0
-Judges new events next (Ok None) = Clear events next × Knows new (events ++ (next ∷ []))
-Judges new events next (Ok (Some fault)) = Crossing events next fault
-Judges new events next (Err e) = Unit {0}
+abbrev pub Judges : Earlier → List KeyValue → KeyValue → Result (Option Fault) AllocError → Type 0
+Judges new key_values next (Ok None) = Clear key_values next × Knows new (key_values ++ (next ∷ []))
+Judges new key_values next (Ok (Some fault)) = Crossing key_values next fault
+Judges new key_values next (Err e) = Unit {0}
 
 -- the assignment stands behind the earlier ones, or its key crosses one of them
 abbrev pub AddsClear : List Assignment → List Assignment → Assignment → Result (Unit {0}) (Stop Fault) → Type 0
-AddsClear old new next (Ok done) = (new ≡ old ++ (next ∷ [])) × Clear (map event old) (event next)
+AddsClear old new next (Ok done) = (new ≡ old ++ (next ∷ [])) × Clear (map key_value old) (key_value next)
 AddsClear old new next (Err (stops.Memory e)) = Unit {0}
-AddsClear old new next (Err (stops.Fault fault)) = Crossing (map event old) (event next) fault
+AddsClear old new next (Err (stops.Fault fault)) = Crossing (map key_value old) (key_value next) fault

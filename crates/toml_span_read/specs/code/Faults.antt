@@ -3,12 +3,12 @@ use Rattle.std.specs.Prelude.{ℕ, List, Result, Ok, Err}
 use Rattle.toml_span_lex.specs.declared.stop.Stop.{Stop}
 use Rattle.toml_span_lex.specs.declared.stop.Stop.TheVariants as stops
 use Rattle.toml_span_read.specs.declared.fault.Fault.{Fault}
-use Rattle.toml_span_read.specs.Places.{IsPlaced}
+use Rattle.toml_span_read.specs.Places.{StartsInside}
 use Rattle.toml_span_read.specs.code.Gaps.{Further}
 
 abbrev pub IsPlacedStop : List ℕ → Stop Fault → Type 0
 IsPlacedStop text (stops.Memory e) = Unit {0}
-IsPlacedStop text (stops.Fault fault) = IsPlaced text fault
+IsPlacedStop text (stops.Fault fault) = StartsInside text fault
 
 -- what is read ends further on, or the fault is placed
 abbrev pub Advances : {A : Type 0} → List ℕ → ℕ → Result (A × ℕ) (Stop Fault) → Type 0

@@ -1,8 +1,9 @@
--- What the functions of gaps and signs give.
+-- What the functions of gaps and separators give.
 use Rattle.std.specs.Prelude.{◌≡◌, ℕ, ◌<◌, ◌≤◌, false, ◌==◌, List, slice_index, Result, Ok, Err, Option, Some, None}
 use Rattle.std.specs.Str.{IsCharBoundary}
 use Rattle.toml_span_lex.specs.Bytes.{is_blank, MaximalRun, comma, equals}
-use Rattle.toml_span_read.specs.Gaps.{GapPiece, begins_gap, Tail, NoTail, Dot, NoDot, Sign, Closes, Neither, MaximalGap}
+use Rattle.toml_span_read.specs.Gaps.{GapPiece, begins_gap, Tail, NoTail, Dot, NoDot, Separator, Closes, Neither}
+use Rattle.toml_span_read.specs.Gaps.{MaximalGap}
 use Rattle.toml_span_read.specs.Gaps.{Equals}
 use Rattle.toml_span_read.specs.declared.gaps.Behind.{Behind}
 use Rattle.toml_span_read.specs.declared.gaps.Behind.TheVariants as behind
@@ -25,14 +26,14 @@ DotGives text i None = NoDot text i
 DotGives text i (Some j) = Dot text i j × Further text i j
 
 abbrev pub BehindGives : ℕ → List ℕ → ℕ → Behind → Type 0
-BehindGives c text i (behind.Comma j) = Sign comma text i j × Further text i j
+BehindGives c text i (behind.Comma j) = Separator comma text i j × Further text i j
 BehindGives c text i (behind.Closed j) = Closes c text i j × Further text i j
 BehindGives c text i (behind.Neither j) = Neither c text i j × IsCharBoundary text j
 
--- a sign with gaps round it, or where it is due
-abbrev pub SignGives : ℕ → List ℕ → ℕ → Result ℕ ℕ → Type 0
-SignGives c text i (Ok j) = Sign c text i j × Further text i j
-SignGives c text i (Err k) = MaximalGap text i k × ((slice_index text k == c) ≡ false) × IsCharBoundary text k
+-- a byte with gaps round it, or where it is due
+abbrev pub SeparatorGives : ℕ → List ℕ → ℕ → Result ℕ ℕ → Type 0
+SeparatorGives c text i (Ok j) = Separator c text i j × Further text i j
+SeparatorGives c text i (Err k) = MaximalGap text i k × ((slice_index text k == c) ≡ false) × IsCharBoundary text k
 
 abbrev pub EqualsGives : List ℕ → ℕ → Result ℕ ℕ → Type 0
 EqualsGives text i (Ok j) = Equals text i j × Further text i j

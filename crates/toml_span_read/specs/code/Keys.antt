@@ -5,22 +5,23 @@ use Rattle.toml_span_lex.specs.declared.key.Key.{Key}
 use Rattle.toml_span_lex.specs.declared.stop.Stop.{Stop}
 use Rattle.toml_span_lex.specs.declared.stop.Stop.TheVariants as stops
 use Rattle.toml_span_read.specs.declared.fault.Fault.{Fault}
-use Rattle.toml_span_read.specs.Keys.{part, IsKey, parts, Dotted}
-use Rattle.toml_span_read.specs.Faults.{NoKey}
+use Rattle.toml_span_read.specs.Keys.{simple_key, SpellsSimpleKey, parts, SpellsKey}
+use Rattle.toml_span_read.specs.Faults.{NoSimpleKey}
 use Rattle.toml_span_read.specs.declared.value.DottedKey.{DottedKey}
-use Rattle.toml_span_read.specs.Stuck.{StuckDotted, StuckHeaderKey}
+use Rattle.toml_span_read.specs.Stuck.{StuckKey, StuckHeaderKey}
 
 abbrev pub KeyGives : List ℕ → ℕ → Result (Key × ℕ) (Stop Fault) → Type 0
-KeyGives text i (Ok (key, j)) = IsKey (part key) text i j
+KeyGives text i (Ok (key, j)) = SpellsSimpleKey (simple_key key) text i j
 KeyGives text i (Err (stops.Memory e)) = Unit {0}
-KeyGives text i (Err (stops.Fault fault)) = NoKey text i fault
+KeyGives text i (Err (stops.Fault fault)) = NoSimpleKey text i fault
 
 abbrev pub DottedGives : List ℕ → ℕ → ℕ → Result (DottedKey × ℕ) (Stop Fault) → Type 0
-DottedGives text limit i (Ok (key, j)) = Dotted (parts key) text i j × (length (parts key) ≤ limit)
+DottedGives text limit i (Ok (key, j)) = SpellsKey (parts key) text i j × (length (parts key) ≤ limit)
 DottedGives text limit i (Err (stops.Memory e)) = Unit {0}
-DottedGives text limit i (Err (stops.Fault fault)) = StuckDotted text limit i fault
+DottedGives text limit i (Err (stops.Fault fault)) = StuckKey text limit i fault
 
 abbrev pub HeaderKeyGives : List ℕ → ℕ → ℕ → Result (SmallVec Key × ℕ) (Stop Fault) → Type 0
-HeaderKeyGives text limit i (Ok (keys, j)) = Dotted (map part keys.items) text i j × (length keys.items ≤ limit)
+HeaderKeyGives text limit i (Ok (keys, j)) =
+    SpellsKey (map simple_key keys.items) text i j × (length keys.items ≤ limit)
 HeaderKeyGives text limit i (Err (stops.Memory e)) = Unit {0}
 HeaderKeyGives text limit i (Err (stops.Fault fault)) = StuckHeaderKey text limit 0 i fault

@@ -19,7 +19,7 @@ use Rattle.toml_span_read.specs.declared.numbers.Decimal.{Decimal as NumberDecim
 use Rattle.toml_span_read.specs.declared.numbers.Decimal.TheVariants as decimals
 use Rattle.toml_span_read.specs.declared.value.ValKind.{ValKind}
 use Rattle.toml_span_read.specs.Data.{kind_view, scalar}
-use Rattle.toml_span_read.specs.Places.{IsPlaced}
+use Rattle.toml_span_read.specs.Places.{StartsInside}
 
 abbrev pub DigitGives : ℕ → ℕ → Option ℕ → Type 0
 DigitGives radix c None = is_digit radix c ≡ false
@@ -110,18 +110,18 @@ pub record IsRun (text : List ℕ) (span : Span) : Type 0 where
 -- digits are read as far as some place of the run, or the fault is placed
 abbrev pub DigitsEnd : List ℕ → ℕ → ℕ → Result ℕ Fault → Type 0
 DigitsEnd text from to (Ok end) = (from < end) × (end ≤ to)
-DigitsEnd text from to (Err fault) = IsPlaced text fault
+DigitsEnd text from to (Err fault) = StartsInside text fault
 
 -- a number is read on from its first run, or the fault is placed
 abbrev pub NumberEnds : List ℕ → ℕ → Result ℕ Fault → Type 0
 NumberEnds text from (Ok end) = (from ≤ end) × IsCharBoundary text end
-NumberEnds text from (Err fault) = IsPlaced text fault
+NumberEnds text from (Err fault) = StartsInside text fault
 
 abbrev pub DecimalEnds : List ℕ → ℕ → Result NumberDecimal Fault → Type 0
 DecimalEnds text from (Ok (decimals.Integer value)) = Unit {0}
 DecimalEnds text from (Ok (decimals.Float end)) = (from ≤ end) × IsCharBoundary text end
-DecimalEnds text from (Err fault) = IsPlaced text fault
+DecimalEnds text from (Err fault) = StartsInside text fault
 
 abbrev pub IsPlacedFault : {A : Type 0} → List ℕ → Result A Fault → Type 0
 IsPlacedFault text (Ok found) = Unit {0}
-IsPlacedFault text (Err fault) = IsPlaced text fault
+IsPlacedFault text (Err fault) = StartsInside text fault

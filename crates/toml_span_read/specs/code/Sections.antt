@@ -9,25 +9,26 @@ use Rattle.toml_span_lex.specs.Bytes.{is_blank, MaximalRun, left_bracket}
 use Rattle.toml_span_lex.specs.Tokenizer.{FirstPlace}
 use Rattle.toml_span_read.specs.declared.fault.Fault.{Fault}
 use Rattle.toml_span_read.specs.declared.value.Assignment.{Assignment}
-use Rattle.toml_span_read.specs.Data.{event, Event, Block, block}
-use Rattle.toml_span_read.specs.Grammar.{SpellsEvent, SpellsLines, Shuts, SpellsHeader, last_end, SpellsDocument}
+use Rattle.toml_span_read.specs.Data.{key_value, KeyValue, Block, block}
+use Rattle.toml_span_read.specs.Grammar.{SpellsKeyValue, SpellsLines, ClosesHeader, SpellsHeader, last_end}
+use Rattle.toml_span_read.specs.Grammar.{SpellsDocument}
 use Rattle.toml_span_read.specs.Grammar.{first_block, SpellsSection}
-use Rattle.toml_span_read.specs.Stuck.{StuckEvent, StuckLines, StuckHeader, StuckDocument, StuckSections}
+use Rattle.toml_span_read.specs.Stuck.{StuckKeyValue, StuckLines, StuckHeader, StuckDocument, StuckSections}
 use Rattle.toml_span_read.specs.Gaps.{Tail}
-use Rattle.toml_span_read.specs.Faults.{StuckTail, NoShuts}
+use Rattle.toml_span_read.specs.Faults.{StuckTail, NoClosing}
 use Rattle.toml_span_read.specs.declared.sections.Header.{Header}
-use Rattle.toml_span_read.specs.Keys.{part}
+use Rattle.toml_span_read.specs.Keys.{simple_key}
 use Rattle.toml_span_read.specs.declared.section.Section.{Section}
-use Rattle.toml_span_read.specs.Borrowed.{AreRight, section_written}
+use Rattle.toml_span_read.specs.Borrowed.{AreWrittenRight, section_written}
 use Rattle.toml_span_read.specs.Places.{SectionInside}
 use Rattle.toml_span_read.specs.Limits.{WithinSection}
 use Rattle.toml_span_read.specs.code.Faults.{IsPlacedStop}
 use Rattle.toml_span_read.specs.code.Gaps.{Further}
 
-abbrev pub EventGives : List ℕ → ℕ → ℕ → Result (Assignment × ℕ) (Stop Fault) → Type 0
-EventGives text limit i (Ok found) = SpellsEvent (event found.0) text limit i found.1
-EventGives text limit i (Err (stops.Memory e)) = Unit {0}
-EventGives text limit i (Err (stops.Fault e)) = StuckEvent text limit i e
+abbrev pub KeyValueGives : List ℕ → ℕ → ℕ → Result (Assignment × ℕ) (Stop Fault) → Type 0
+KeyValueGives text limit i (Ok found) = SpellsKeyValue (key_value found.0) text limit i found.1
+KeyValueGives text limit i (Err (stops.Memory e)) = Unit {0}
+KeyValueGives text limit i (Err (stops.Fault e)) = StuckKeyValue text limit i e
 
 abbrev pub LineGives : List ℕ → ℕ → Result ℕ (Stop Fault) → Type 0
 LineGives text i (Ok j) = Tail text i j
@@ -35,29 +36,29 @@ LineGives text i (Err (stops.Memory e)) = Unit {0}
 LineGives text i (Err (stops.Fault e)) = StuckTail text i e
 
 abbrev pub LinesGive : List ℕ → ℕ → ℕ → Result (Vec Assignment Global × ℕ) (Stop Fault) → Type 0
-LinesGive text limit i (Ok found) = SpellsLines (map event found.0.items) text limit i found.1
+LinesGive text limit i (Ok found) = SpellsLines (map key_value found.0.items) text limit i found.1
 LinesGive text limit i (Err (stops.Memory e)) = Unit {0}
 LinesGive text limit i (Err (stops.Fault e)) = StuckLines text limit i e
 
 abbrev pub CloseGives : Bool → List ℕ → ℕ → Result ℕ (Stop Fault) → Type 0
-CloseGives array text i (Ok j) = (k : ℕ) × MaximalRun is_blank text i k × Shuts array text k j
+CloseGives array text i (Ok j) = (k : ℕ) × MaximalRun is_blank text i k × ClosesHeader array text k j
 CloseGives array text i (Err (stops.Memory e)) = Unit {0}
-CloseGives array text i (Err (stops.Fault e)) = (k : ℕ) × MaximalRun is_blank text i k × NoShuts array text k e
+CloseGives array text i (Err (stops.Fault e)) = (k : ℕ) × MaximalRun is_blank text i k × NoClosing array text k e
 
 abbrev pub HeaderGives : List ℕ → ℕ → ℕ → Result Header (Stop Fault) → Type 0
 HeaderGives text limit i (Ok h) =
-    SpellsHeader (map part h.parts.items) h.array text limit i h.extent.end × (h.extent.start ≡ i)
+    SpellsHeader (map simple_key h.parts.items) h.array text limit i h.extent.end × (h.extent.start ≡ i)
 HeaderGives text limit i (Err (stops.Memory e)) = Unit {0}
 HeaderGives text limit i (Err (stops.Fault e)) = StuckHeader text limit i e
 
 -- the section of a header and the assignments behind it
-abbrev pub block_of : Header → List Event → Block
+abbrev pub block_of : Header → List KeyValue → Block
 block_of h evs = record {
-  header = map part h.parts.items;
+  header = map simple_key h.parts.items;
   array = h.array;
   header_span = h.extent;
   extent = record { start = h.extent.start; end = last_end h.extent.end evs };
-  events = evs;
+  key_values = evs;
 }
 
 abbrev pub first_blocks : Option Section → List Block
@@ -79,7 +80,7 @@ EndsSection text j = IsCharBoundary text j × ((j ≡ length text) ⊎ (slice_in
 pub record IsReadSection (text : List ℕ) (limit : ℕ) (s : Section) : Type 0 where
   pub within : WithinSection limit s
   pub inside : SectionInside (length text) s
-  pub borrows : AreRight text (section_written s)
+  pub borrows : AreWrittenRight text (section_written s)
 
 abbrev pub IsReadFirst : List ℕ → ℕ → Option Section → Type 0
 IsReadFirst text limit None = Unit {0}
@@ -94,7 +95,7 @@ FirstReads text limit (Err stop) = IsPlacedStop text stop
 -- from the first place on stand these assignments, or the document is stuck in them
 abbrev pub FirstGives : List ℕ → ℕ → Result (Option Section × ℕ) (Stop Fault) → Type 0
 FirstGives text limit (Ok found) =
-    (start : ℕ) × (evs : List Event) × FirstPlace text start × SpellsLines evs text limit start found.1
+    (start : ℕ) × (evs : List KeyValue) × FirstPlace text start × SpellsLines evs text limit start found.1
     × (first_blocks found.0 ≡ first_block evs)
 FirstGives text limit (Err (stops.Memory e)) = Unit {0}
 FirstGives text limit (Err (stops.Fault e)) = StuckDocument text limit e

@@ -3,20 +3,20 @@ use Rattle.std.specs.Prelude.{◌≡◌, ℕ, ◌⊎◌, Bool, true, false, List
 use Rattle.toml_span_lex.specs.declared.stop.Stop.{Stop}
 use Rattle.toml_span_lex.specs.declared.stop.Stop.TheVariants as stops
 use Rattle.toml_span_tree.specs.Node.{Scalar}
-use Rattle.toml_span_read.specs.Data.{Inner, scalar, array, inline, kind_view, view, event, Node}
+use Rattle.toml_span_read.specs.Data.{ParsedInner, scalar, array, inline, kind_view, view, key_value, ParsedValue}
 use Rattle.toml_span_read.specs.declared.fault.Fault.{Fault}
 use Rattle.toml_span_read.specs.declared.value.ValKind.{ValKind}
 use Rattle.toml_span_read.specs.declared.value.Val.{Val}
 use Rattle.toml_span_read.specs.Grammar.{Spells, from_to, IsScalar, SpellsPair}
 use Rattle.toml_span_read.specs.Stuck.{StuckValue, StuckPair}
 use Rattle.toml_span_read.specs.declared.fault.FaultKind.TheVariants as kinds
-use Rattle.toml_span_read.specs.Faults.{fault_at, IsOther, NoBare}
+use Rattle.toml_span_read.specs.Faults.{fault_at, IsOtherWord, NoBare}
 use Rattle.toml_span_read.specs.declared.values.Run.{Run}
 use Rattle.toml_span_read.specs.declared.values.Run.TheVariants as runs
 use Rattle.toml_span_read.specs.declared.value.Assignment.{Assignment}
 
 -- a value that is neither an array nor an inline table
-abbrev pub is_scalar : Inner → Bool
+abbrev pub is_scalar : ParsedInner → Bool
 is_scalar (scalar s) = true
 is_scalar (array vs) = false
 is_scalar (inline ps) = false
@@ -41,7 +41,7 @@ abbrev pub IsRunOf : List ℕ → Run → Type 0
 IsRunOf bytes runs.True = bytes ≡ codes "true"
 IsRunOf bytes runs.False = bytes ≡ codes "false"
 IsRunOf bytes runs.Special = (bytes ≡ codes "inf") ⊎ (bytes ≡ codes "nan")
-IsRunOf bytes runs.Other = IsOther bytes
+IsRunOf bytes runs.Other = IsOtherWord bytes
 
 -- a number, a truth value or a date, or the fault of a bare value
 abbrev pub BareGives : List ℕ → ℕ → Result (ValKind × ℕ) (Stop Fault) → Type 0
@@ -51,12 +51,12 @@ BareGives text i (Err (stops.Fault fault)) = NoBare text i fault
 
 -- a pair, or where it is stuck
 abbrev pub PairGives : List ℕ → ℕ → ℕ → ℕ → Result (Assignment × ℕ) (Stop Fault) → Type 0
-PairGives text limit d i (Ok (a, j)) = SpellsPair (event a) text limit d i j
+PairGives text limit d i (Ok (a, j)) = SpellsPair (key_value a) text limit d i j
 PairGives text limit d i (Err (stops.Memory e)) = Unit {0}
 PairGives text limit d i (Err (stops.Fault fault)) = StuckPair text limit d i fault
 
 -- this value with this end, unless memory runs out
-abbrev pub IsReadAs : Node → ℕ → Result (Val × ℕ) (Stop Fault) → Type 0
+abbrev pub IsReadAs : ParsedValue → ℕ → Result (Val × ℕ) (Stop Fault) → Type 0
 IsReadAs v j (Ok (found, end)) = (view found ≡ v) × (end ≡ j)
 IsReadAs v j (Err (stops.Memory e)) = Unit {0}
 IsReadAs v j (Err (stops.Fault fault)) = ⊥

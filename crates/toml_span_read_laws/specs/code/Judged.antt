@@ -9,7 +9,7 @@ use Rattle.toml_span_tree.specs.declared.date.DateText.{DateText}
 use Rattle.toml_span_read.specs.declared.fault.Fault.{Fault}
 use Rattle.toml_span_read.specs.Numbers.{IsNumber, radix_at}
 use Rattle.toml_span_read.specs.Faults.{NoRadixInteger, NoDecimal, NoNumber}
-use Rattle.toml_span_read.specs.code.Gaps.{Further, DotGives, BehindGives, SignGives, EqualsGives, TailGives}
+use Rattle.toml_span_read.specs.code.Gaps.{Further, DotGives, BehindGives, SeparatorGives, EqualsGives, TailGives}
 use Rattle.toml_span_read.specs.declared.gaps.Behind.{Behind}
 use Rattle.toml_span_read.specs.Gaps.{MaximalGap}
 use Rattle.toml_span_read.specs.Dates.{begins_date}
@@ -41,7 +41,7 @@ pub record Judged (text : List ℕ) (i : ℕ) : Type 0 where
   pub dot : (found : Option ℕ) × DotGives text i found
   pub element : (found : Behind) × BehindGives right_bracket text i found
   pub pair : (found : Behind) × BehindGives right_brace text i found
-  pub sign : (found : Result ℕ ℕ) × SignGives equals text i found
+  pub sign : (found : Result ℕ ℕ) × SeparatorGives equals text i found
   pub equals : (found : Result ℕ ℕ) × EqualsGives text i found
   pub tail : (found : Result ℕ ℕ) × TailGives text i found
   pub date : begins_date text i ≡ true → (found : Result (DateText × ℕ) Fault) × DateGives text i found

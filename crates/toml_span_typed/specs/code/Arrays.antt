@@ -3,25 +3,27 @@ use Rattle.std.specs.Prelude.{◌≡◌, ⊤, List, [], ◌∷◌, ◌++◌, Res
 use Rattle.toml_span_lex.specs.declared.stop.Stop.{Stop}
 use Rattle.toml_span_lex.specs.declared.stop.Stop.TheVariants as stop
 use Rattle.toml_span_tree.specs.Node.{Node}
-use Rattle.toml_span_tree.specs.Error.{Fault}
-use Rattle.toml_span_typed.specs.Faults.{Faults}
+use Rattle.toml_span_tree.specs.Error.{ErrorContent}
+use Rattle.toml_span_typed.specs.Errors.{Errors}
 use Rattle.toml_span_typed.specs.Reads.{EachReads, elements, errors}
 
 -- the answer, if memory was there, is one that P allows
-abbrev pub Answered : {T : Type 0} → Result T (Stop Faults) → (Result T Faults → Type 0) → Type 0
+abbrev pub Answered : {T : Type 0} → Result T (Stop Errors) → (Result T Errors → Type 0) → Type 0
 Answered (Ok x) P = P (Ok x)
 Answered (Err (stop.Fault faults)) P = P (Err faults)
 Answered (Err (stop.Memory error)) P = ⊤
 
 -- the values were read, with these elements and these errors
-abbrev pub AreRead : {T : Type 0} → (Node → Result T Faults → Node → Type 0) → List Node → List T → List Fault → Type 0
+abbrev pub AreRead : {T : Type 0} → (Node → Result T Errors → Node → Type 0) → List Node → List T → List ErrorContent
+    → Type 0
 AreRead reads values xs faults =
-    (answers : List (Result _ Faults)) × EachReads reads values answers × (elements answers ≡ xs)
+    (answers : List (Result _ Errors)) × EachReads reads values answers × (elements answers ≡ xs)
     × (errors answers ≡ faults)
 
 -- one more value is read: its element comes behind the elements, or its errors behind the errors
-abbrev pub AddsRead : {T : Type 0} → (Node → Result T Faults → Node → Type 0) → Node → List T → List Fault → List T
-    → List Fault → Type 0
+abbrev pub AddsRead : {T : Type 0} → (Node → Result T Errors → Node → Type 0) → Node → List T → List ErrorContent
+    → List T
+    → List ErrorContent → Type 0
 AddsRead reads value xs faults ys more =
-    (answer : Result _ Faults) × ((after : Node) × reads value answer after)
+    (answer : Result _ Errors) × ((after : Node) × reads value answer after)
     × (ys ≡ xs ++ elements (answer ∷ [])) × (more ≡ faults ++ errors (answer ∷ []))

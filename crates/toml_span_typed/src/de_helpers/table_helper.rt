@@ -1,10 +1,10 @@
 //! A helper that reads a table field by field, and keeps the errors.
 ghost use Rattle.std.specs.Prelude.{◌≡◌, true, Some, None, IfOk, IfSome, is_some, option_map, map, string_bytes};
 ghost use Rattle.std.specs.Cow.{cow_str_bytes};
-ghost use Rattle.toml_span_tree.specs.Error.{fault_of, missing_field};
+ghost use Rattle.toml_span_tree.specs.Error.{content_of, missing_field};
 ghost use Rattle.toml_span_tree.specs.Node.{entry_at};
 ghost use Rattle.toml_span_tree.specs.Value.{is_filled, members_view, span_of, view};
-ghost use Rattle.toml_span_typed.specs.TableHelper.{Closes, names_in, without};
+ghost use Rattle.toml_span_typed.specs.TableHelper.{EndsWithErrors, remaining_keys, without};
 ghost use Rattle.toml_span_typed.specs.code.TableHelper.{key_text};
 
 mod fields;
@@ -56,9 +56,10 @@ impl<'de> From<Unfinished<'de>> for Stop<DeserError<'de>> {
 impl<'de> TableHelper<'de> {
     ghost use Rattle.std.specs.Prelude.{[], ◌∷◌, IsTrue, OnOk, OnErr, false};
     ghost use Rattle.toml_span_tree.specs.Value.{is_taken, is_whole};
-    ghost use Rattle.toml_span_typed.specs.Faults.{all};
+    ghost use Rattle.toml_span_typed.specs.Errors.{all};
     ghost use Rattle.toml_span_typed.specs.Reads.{Taken, result_map, spanned};
-    ghost use Rattle.toml_span_typed.specs.TableHelper.{AllWhole, Closes, Finalizes, HoldsRest, Leaves, Opens, Refuses};
+    ghost use Rattle.toml_span_typed.specs.TableHelper.{AllWhole, EndsWithErrors, Finalizes, HoldsRest, Leaves};
+    ghost use Rattle.toml_span_typed.specs.TableHelper.{OpensTable, Refuses};
     ghost use Rattle.toml_span_typed.specs.TableHelper.{Requires, Takes, Tries, found, fresh, keeping, missing};
     ghost use Rattle.toml_span_typed.specs.TableHelper.{state_of, unasked, unexpected_entries};
 
@@ -66,7 +67,7 @@ impl<'de> TableHelper<'de> {
     /// Of another kind, the error is `Wanted` "a table". Takes no memory.
     pub fn new(alloc: Global, value: &mut Value<'de>) -> Result<TableHelper<'de>, DeserError<'de>>
         requires { is_taken (view value.old) ≡ false }
-        ensures answer { Opens (view value.old) (result_map state_of result) }
+        ensures answer { OpensTable (view value.old) (result_map state_of result) }
         ensures taken { Taken (view value.old) (view value.new) }
         ensures whole { IsTrue (is_whole (view value.old)) → IfOk result (λ helper. AllWhole (state_of helper)) }
     {
@@ -204,7 +205,7 @@ impl<'de> TableHelper<'de> {
 
     /// Ends the reads, and puts the rest of the table back into a value.
     fn put_back(self, value: &mut Value<'de>) -> Result<(), Unfinished<'de>>
-        ensures answer { Closes (state_of self.entry).errors result }
+        ensures answer { EndsWithErrors (state_of self.entry).errors result }
         ensures rest { HoldsRest self.entry.table value.old value.new }
     {
         let TableHelper {
@@ -243,7 +244,7 @@ impl<'de> TableHelper<'de> {
 
     /// The error of the keys that remain.
     fn unexpected_keys(&self) -> Result<Error<'de>, AllocError>
-        ensures { IfOk result (λ e. fault_of e ≡ unexpected_entries (state_of self.now)) }
+        ensures { IfOk result (λ e. content_of e ≡ unexpected_entries (state_of self.now)) }
     {
         let keys = key_names(self.alloc, &self.table)?;
         let expected = copied_texts(self.alloc, self.asked.as_slice())?;
@@ -252,7 +253,7 @@ impl<'de> TableHelper<'de> {
 
     /// Keeps one error.
     fn keep(&mut self, error: Error<'de>) -> Result<(), AllocError>
-        ensures ok { OnOk result (state_of self.new ≡ keeping (fault_of error.entry ∷ []) (state_of self.old)) }
+        ensures ok { OnOk result (state_of self.new ≡ keeping (content_of error.entry ∷ []) (state_of self.old)) }
         ensures err { OnErr result (state_of self.new ≡ state_of self.old) }
     {
         match self.errors.push(error) {
@@ -263,7 +264,7 @@ impl<'de> TableHelper<'de> {
 
     /// Keeps the errors of a read, and gives a copy of the last one. Without memory it keeps none.
     fn keep_all(&mut self, faults: DeserError<'de>) -> Result<Error<'de>, AllocError>
-        ensures ok { IfOk result (λ e. (fault_of e ≡ faults.entry.last)
+        ensures ok { IfOk result (λ e. (content_of e ≡ faults.entry.last)
             × (state_of self.new ≡ keeping (all faults.entry) (state_of self.old))) }
         ensures err { OnErr result (state_of self.new ≡ state_of self.old) }
     {
@@ -285,14 +286,14 @@ fn remove<'de>(table: &mut Table<'de>, name: &'de str) -> Option<(Key<'de>, Valu
 
 /// The error of a field that is not there, in the table at this span.
 fn missing_field<'s>(name: &'s str, span: Span) -> Error<'s>
-    ensures { fault_of result ≡ record { kind = missing_field name.now; span = span; line_info = None } }
+    ensures { content_of result ≡ record { kind = missing_field name.now; span = span; line_info = None } }
 {
     Error::from((ErrorKind::MissingField(name), span))
 }
 
 /// The answer where these errors were kept.
 fn finish<'de>(errors: Vec<Error<'de>>) -> Result<(), Unfinished<'de>>
-    ensures { Closes (map fault_of errors.entry.items) result }
+    ensures { EndsWithErrors (map content_of errors.entry.items) result }
 {
     match DeserError::from_list(errors) {
         None => Ok(()),
@@ -302,7 +303,7 @@ fn finish<'de>(errors: Vec<Error<'de>>) -> Result<(), Unfinished<'de>>
 
 /// The names of a table's keys, in order, with their spans.
 fn key_names(alloc: Global, table: &Table) -> Result<Vec<(String, Span)>, AllocError>
-    ensures { IfOk result (λ names. map key_text names.items ≡ names_in (members_view table.now.entries)) }
+    ensures { IfOk result (λ names. map key_text names.items ≡ remaining_keys (members_view table.now.entries)) }
 {
     let mut names = Vec::new(alloc);
     for key in table.keys() {

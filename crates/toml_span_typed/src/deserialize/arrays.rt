@@ -2,8 +2,8 @@
 ghost use Rattle.std.specs.Prelude.{◌≡◌, ◌++◌, IsTrue, OnOk};
 ghost use Rattle.toml_span_tree.specs.Value.{all_whole, is_whole, items_view, view};
 ghost use Rattle.toml_span_typed.specs.code.Arrays.{AddsRead, Answered};
-ghost use Rattle.toml_span_typed.specs.Faults.{all};
-ghost use Rattle.toml_span_typed.specs.code.Faults.{all_of_option};
+ghost use Rattle.toml_span_typed.specs.Errors.{all};
+ghost use Rattle.toml_span_typed.specs.code.Errors.{all_of_option};
 ghost use Rattle.toml_span_typed.specs.Reads.{ReadsAll, Taken, array_reads, nodes_of, result_map};
 
 use crate::de_helpers::expected;

@@ -1,7 +1,7 @@
 //! Reads of integers.
 ghost use Rattle.std.specs.Prelude.{◌≡◌, ◌^◌, codes, Some, false};
 ghost use Rattle.toml_span_tree.specs.Value.{is_taken, view};
-ghost use Rattle.toml_span_typed.specs.Faults.{one};
+ghost use Rattle.toml_span_typed.specs.Errors.{one};
 ghost use Rattle.toml_span_typed.specs.Reads.{Answers, Gives, Never, read_integer, beyond_range, unsigned, signed};
 
 use crate::de_helpers::expected;

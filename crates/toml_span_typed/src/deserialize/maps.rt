@@ -3,7 +3,7 @@ ghost use Rattle.std.specs.Prelude.{◌≡◌, IsTrue, OnOk, map};
 ghost use Rattle.std.specs.Cow.{cow_str_bytes};
 ghost use Rattle.toml_span_tree.specs.Value.{all_members_whole, is_whole, members_view, view};
 ghost use Rattle.toml_span_typed.specs.code.Arrays.{Answered};
-ghost use Rattle.toml_span_typed.specs.code.Faults.{all_of_option};
+ghost use Rattle.toml_span_typed.specs.code.Errors.{all_of_option};
 ghost use Rattle.toml_span_typed.specs.code.Maps.{AddsEntry};
 ghost use Rattle.toml_span_typed.specs.Maps.{ReadsEntries, holding, shown_pair, table_reads};
 ghost use Rattle.toml_span_typed.specs.Reads.{Taken, result_map};

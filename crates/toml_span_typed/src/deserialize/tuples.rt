@@ -2,7 +2,8 @@
 ghost use Rattle.std.specs.Prelude.{◌≡◌, IfErr, IfOk, IsTrue};
 ghost use Rattle.toml_span_tree.specs.Value.{is_whole, view};
 ghost use Rattle.toml_span_typed.specs.Reads.{Taken};
-ghost use Rattle.toml_span_typed.specs.Tuples.{IsPair, IsReadAs, Refuses, Tells, holds_two, other_length, pair_reads};
+ghost use Rattle.toml_span_typed.specs.Tuples.{IsPairRead, IsReadAs, RefusesLength, TellsOne, holds_two, other_length};
+ghost use Rattle.toml_span_typed.specs.Tuples.{pair_reads};
 
 use crate::de_helpers::expected;
 use crate::deser_error::DeserError;
@@ -39,7 +40,7 @@ fn two<'de>(
 ) -> Result<(Value<'de>, Value<'de>), Stop<DeserError<'de>>>
     requires { IsTrue (is_whole (view value.old)) }
     ensures ok { IfOk result (λ pair. view value.old ≡ holds_two (view pair.0) (view pair.1) value.old.span) }
-    ensures err { IfErr result (Refuses 2 (view value.old)) }
+    ensures err { IfErr result (RefusesLength 2 (view value.old)) }
     ensures taken { Taken (view value.old) (view value.new) }
 {
     let span = value.span;
@@ -59,7 +60,7 @@ fn two<'de>(
 
 /// The error of an array with another number of elements, or want of memory for its text.
 fn miscounted<'s>(alloc: Global, wanted: usize, found: usize, span: Span) -> Stop<DeserError<'s>>
-    ensures { Tells (other_length wanted found span) result }
+    ensures { TellsOne (other_length wanted found span) result }
 {
     match format!(in alloc; "expected {wanted} elements, found {found}") {
         Ok(text) => {
@@ -91,7 +92,7 @@ fn both<'s, A: Drop, B: Drop>(
     first: Result<A, DeserError<'s>>,
     second: Result<B, DeserError<'s>>,
 ) -> Result<(A, B), Stop<DeserError<'s>>>
-    ensures { IsPair first.entry second.entry result }
+    ensures { IsPairRead first.entry second.entry result }
 {
     match first {
         Ok(a) => match second {

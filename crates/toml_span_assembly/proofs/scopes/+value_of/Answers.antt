@@ -14,7 +14,7 @@ use Rattle.toml_span_assembly.proofs.Borrowing as borrowing
 use Rattle.toml_span_assembly.proofs.Borrowing.{again_from, assignment_from, first_from}
 use Rattle.toml_span_assembly.proofs.Assignments.{none-left, places-one, val_span, remains-first, placing-more, placing-err, placing-none, table-gives, table-err}
 use Rattle.toml_span_assembly.proofs.Values.{elements-first, elements-more, elements-err, elements-none, string-gives, integer-gives, float-gives, boolean-gives, datetime-gives, array-gives, array-err, inline-gives, inline-err}
-use Rattle.toml_span_assembly.proofs.InsideLemmas.{assignment_inside, events_rest, events_again, items_rest, items_again, inline_inside}
+use Rattle.toml_span_assembly.proofs.InsideLemmas.{assignment_inside, key_values_rest, key_values_again, items_rest, items_again, inline_inside}
 use Rattle.toml_span_assembly.proofs.scopes.+value_of.Goals as goal
 use Rattle.toml_span_assembly.proofs.scopes.+value_of.Goals.{value_of-in-String, value_of-in-Integer, value_of-in-Float, value_of-in-Boolean, value_of-in-Datetime, value_of-in-Array+in_ok-array_of-in-Array, value_of-in-Inline+in_ok-table_of-in-Inline}
 
@@ -73,7 +73,7 @@ pub place_pairs-loop-pair-init : goal.place_pairs-loop-pair-init
 place_pairs-loop-pair-init t c = record {
   can = tt;
   ends = tt;
-  inside = λ n h. events_again n _ _ c.into_iter-pair-iterator.ensures.into_iter_gives.0 h;
+  inside = λ n h. key_values_again n _ _ c.into_iter-pair-iterator.ensures.into_iter_gives.0 h;
   borrows = λ text ps h before. (again_from text ps assignment_written _ _ c.into_iter-pair-iterator.ensures.into_iter_gives.0 h, before);
   placing = remains-first _ _ _ c.into_iter-pair-iterator.ensures.into_iter_gives.0;
 }
@@ -82,7 +82,7 @@ pub place_pairs-loop-pair-preserved : goal.place_pairs-loop-pair-preserved
 place_pairs-loop-pair-preserved t c = record {
   can = tt;
   ends = tt;
-  inside = λ n h. (events_rest n _ _ c.in-Some.pair c.in-Some.ensures.steps.0 (c.loop-pair.invariant.inside n h)).1;
+  inside = λ n h. (key_values_rest n _ _ c.in-Some.pair c.in-Some.ensures.steps.0 (c.loop-pair.invariant.inside n h)).1;
   borrows = λ text ps h node.
       let before = c.loop-pair.invariant.borrows text ps h node in
       let first = first_from text ps assignment_written _ _ c.in-Some.pair c.in-Some.ensures.steps.0 before.0 in
@@ -102,7 +102,7 @@ place_pairs-returns-clause-gives t c = placing-none c.loop-pair.node _ _ _ (none
 
 pub place_pairs-returns-in_err-place_one-clause-placed : goal.place_pairs-returns-in_err-place_one-clause-placed
 place_pairs-returns-in_err-place_one-clause-placed t c = λ n h.
-    let here = (events_rest n _ _ c.in-Some.pair c.in-Some.ensures.steps.0 (c.loop-pair.invariant.inside n h)).0 in
+    let here = (key_values_rest n _ _ c.in-Some.pair c.in-Some.ensures.steps.0 (c.loop-pair.invariant.inside n h)).0 in
     let placed = c.in_err-place_one.ensures.placed n here in
     search (rules)
 

@@ -5,7 +5,7 @@ use Rattle.std.specs.declared.collections.btree_map.Entry.{Entry}
 use Rattle.toml_span_lex.specs.declared.key.Key.{Key}
 use Rattle.toml_span_tree.specs.declared.value.Value.{Value}
 use Rattle.toml_span_read.proofs.EarlierTree.{key_cmp, same_name}
-use Rattle.toml_span_read.specs.Keys.{part}
+use Rattle.toml_span_read.specs.Keys.{simple_key}
 use Rattle.toml_span_claims.specs.Claims.{pair_mark}
 use Rattle.toml_span_claims.specs.declared.claims.Sort.TheVariants.{Assigned}
 use Rattle.toml_span_claims.specs.declared.branch.Branch.TheViews.{out-Branch}
@@ -28,7 +28,7 @@ pub returns-in_err-value-in-Vacant-clause-gives : goal.returns-in_err-value-in-V
 returns-in_err-value-in-Vacant-clause-gives c = λ v value span.
     let none = rw c.in-Vacant.is at c.in_ok-entry.ensures.found in
     assigned-err c.args.node.now _ c.args.key v c.args.value c.from_residual-in_err-value-in-Vacant.result c.in_err-value-in-Vacant.field-0.0 c.pair_mark-mark.result _
-    (ap (λ m. m.sort) c.pair_mark-mark.ensures) c.in_ok-admit_beside_table.ensures.gives.0 (entry-missing (part c.args.key).name (out-Branch c.args.node.now).values.entries none)
+    (ap (λ m. m.sort) c.pair_mark-mark.ensures) c.in_ok-admit_beside_table.ensures.gives.0 (entry-missing (simple_key c.args.key).name (out-Branch c.args.node.now).values.entries none)
     c.in_err-value-in-Vacant.was (err-of c.from_residual-in_err-value-in-Vacant.result c.in_err-value-in-Vacant.field-0.0 _ c.from_residual-in_err-value-in-Vacant.ensures.1 (λ y p. p)) value
 
 pub returns-in-Occupied-clause-gives : goal.returns-in-Occupied-clause-gives
@@ -37,17 +37,17 @@ returns-in-Occupied-clause-gives c = λ v value span before.
     let key = rw c.in-Occupied.is at c.in_ok-entry.ensures.found in
     let same = rw c.in-Occupied.is at c.in_ok-entry.ensures.same_key in
     let stands = rw c.in-Occupied.is at c.in_ok-entry.ensures.value in
-    let found = entry-found (part c.args.key).name (out-Branch c.args.node.now).values.entries (earlier, c.get.result.now) (key.1 ∙ ap (λ k. Some k) (sym c.key-earlier.ensures)) (sym stands ∙ c.get.ensures) in
-    refused-value c.args.node.now _ c.args.key earlier c.get.result.now v c.admit.result (c.pair_mark.result ∷ []) c.pair_mark-mark.result (part earlier).name _ _
-    (λ before. missing-free c.args.node.now (part c.args.key).name c.pair_mark-mark.result (part c.args.key).name before (ap (λ m. m.sort) c.pair_mark-mark.ensures) c.in_ok-admit_beside_table.ensures.gives.0)
-    found (ap (λ m. m ∷ []) c.pair_mark.ensures) (ap (λ k. (part k).name) c.key-earlier.ensures ∙ sym (same_name (part c.args.key).name _ (ap is_eq same)))
+    let found = entry-found (simple_key c.args.key).name (out-Branch c.args.node.now).values.entries (earlier, c.get.result.now) (key.1 ∙ ap (λ k. Some k) (sym c.key-earlier.ensures)) (sym stands ∙ c.get.ensures) in
+    refused-value c.args.node.now _ c.args.key earlier c.get.result.now v c.admit.result (c.pair_mark.result ∷ []) c.pair_mark-mark.result (simple_key earlier).name _ _
+    (λ before. missing-free c.args.node.now (simple_key c.args.key).name c.pair_mark-mark.result (simple_key c.args.key).name before (ap (λ m. m.sort) c.pair_mark-mark.ensures) c.in_ok-admit_beside_table.ensures.gives.0)
+    found (ap (λ m. m ∷ []) c.pair_mark.ensures) (ap (λ k. (simple_key k).name) c.key-earlier.ensures ∙ sym (same_name (simple_key c.args.key).name _ (ap is_eq same)))
     (c.pair_mark-mark.ensures ∙ ap (pair_mark Assigned c.args.key.span) span) c.admit.ensures.gives before
 
 pub returns-in_ok-value-in-Vacant-clause-gives : goal.returns-in_ok-value-in-Vacant-clause-gives
 returns-in_ok-value-in-Vacant-clause-gives c = λ v value span before.
     let n = out-Branch c.args.node.now in
     let none = rw c.in-Vacant.is at c.in_ok-entry.ensures.found in
-    let free = entry-missing (part c.args.key).name n.values.entries none in
+    let free = entry-missing (simple_key c.args.key).name n.values.entries none in
     let same = rw c.in-Vacant.is at c.in_ok-entry.ensures.same_map in
     let update = rw c.in-Vacant.is at c.in_ok-entry.ensures.update in
     let written = update.1 c.insert.result.now ∙ ap (insert_entry key_cmp n.values.entries c.args.key) c.insert.ensures.value in
@@ -65,7 +65,7 @@ pub returns-in_ok-value-in-Vacant-clause-borrows : goal.returns-in_ok-value-in-V
 returns-in_ok-value-in-Vacant-clause-borrows c = λ text ps key value before.
     let n = out-Branch c.args.node.now in
     let none = rw c.in-Vacant.is at c.in_ok-entry.ensures.found in
-    let free = entry-missing (part c.args.key).name n.values.entries none in
+    let free = entry-missing (simple_key c.args.key).name n.values.entries none in
     let same = rw c.in-Vacant.is at c.in_ok-entry.ensures.same_map in
     let update = rw c.in-Vacant.is at c.in_ok-entry.ensures.update in
     let written = update.1 c.insert.result.now ∙ ap (insert_entry key_cmp n.values.entries c.args.key) c.insert.ensures.value in

@@ -1,9 +1,9 @@
 use Rattle.std.proofs.Common.{[], map, refl, rules, subst, sym, ◌∙◌}
 use Rattle.std.proofs.lemmas.Bool.{not-false, not-true}
-use Rattle.toml_span_read.specs.Data.{event}
-use Rattle.toml_span_read.specs.Keys.{part}
+use Rattle.toml_span_read.specs.Data.{key_value}
+use Rattle.toml_span_read.specs.Keys.{simple_key}
 use Rattle.toml_span_claims.specs.declared.claims.Sort.TheVariants.{ArrayOfTables}
-use Rattle.toml_span_claims.specs.Claims.{event_claims, header_mark}
+use Rattle.toml_span_claims.specs.Claims.{key_value_claims, header_mark}
 use Rattle.toml_span_claims.specs.code.Relative.{adding, one_more}
 use Rattle.toml_span_claims.specs.code.Placing.{Reaches}
 use Rattle.toml_span_claims.specs.code.Tree.{IsHeld, IsOpen, counts}
@@ -17,23 +17,23 @@ use Rattle.toml_span_assembly.proofs.sections.end_header.Goals.{then-is_empty+in
 
 pub returns-then-not-head-clause-gives : goal.returns-then-not-head-clause-gives
 returns-then-not-head-clause-gives c =
-    end-table c.args.head (part c.args.part.now) (event_claims (map event c.args.pairs.items) []) c.args.node.now c.open_table.new.node c.open_table.result
+    end-table c.args.head (simple_key c.args.part.now) (key_value_claims (map key_value c.args.pairs.items) []) c.args.node.now c.open_table.new.node c.open_table.result
     (not-true c.args.head.array c.if-not-head.true) c.open_table.ensures.gives
 
 pub returns-in_err-claim-clause-gives : goal.returns-in_err-claim-clause-gives
 returns-in_err-claim-clause-gives c =
-    end-first-err c.args.head (part c.args.part.now) (event_claims (map event c.args.pairs.items) []) c.args.node.now _ c.from_residual.result c.in_err-claim.field-0.0 _ _
+    end-first-err c.args.head (simple_key c.args.part.now) (key_value_claims (map key_value c.args.pairs.items) []) c.args.node.now _ c.from_residual.result c.in_err-claim.field-0.0 _ _
     (not-false c.args.head.array c.if-not-head.false) (no-entries c.args.node.now (sym c.is_empty.ensures ∙ c.if-is_empty.true))
     (err-of c.from_residual.result c.in_err-claim.field-0.0 _ c.from_residual.ensures.1 (λ y p. p)) (rw c.header_mark-mark.ensures at c.in_err-claim.ensures.gives)
 
 pub returns-in_err-claim-clause-placed : goal.returns-in_err-claim-clause-placed
-returns-in_err-claim-clause-placed c = λ n part line pairs. let placed = c.in_err-claim.ensures.placed n (header_inside n _ _ _ _ _ c.header_mark-mark.ensures part line) in search (rules)
+returns-in_err-claim-clause-placed c = λ n simple_key line pairs. let placed = c.in_err-claim.ensures.placed n (header_inside n _ _ _ _ _ c.header_mark-mark.ensures simple_key line) in search (rules)
 
 pub returns-clause-gives : goal.returns-clause-gives
 returns-clause-gives c =
-    let k = part c.args.part.now in
+    let k = simple_key c.args.part.now in
     let m = header_mark c.args.head ArrayOfTables c.args.part.now.span in
-    let tail = event_claims (map event c.args.pairs.items) [] in
+    let tail = key_value_claims (map key_value c.args.pairs.items) [] in
     let array = not-false c.args.head.array c.if-not-head.false in
     elim c.if-is_empty.branch [
       | then-is_empty+in_ok-claim w ↦

@@ -1,8 +1,6 @@
-use Rattle.std.proofs.Common.{arith, ◌≡◌, [], ◌∷◌}
-use Rattle.toml_span_read.specs.declared.fault.FaultKind.TheVariants.{ExceededDepthLimit}
-use Rattle.toml_span_read.specs.Faults.{fault_at}
-use Rattle.toml_span_read.specs.Stuck.{too_many, dotted_on, onward}
-use Rattle.toml_span_read.specs.Borrowed.{IsRight, key_written, keys_written}
+use Rattle.std.proofs.Common.{arith, [], ◌∷◌, inr, refl}
+use Rattle.toml_span_read.specs.Stuck.{part_here, dotted_on}
+use Rattle.toml_span_read.specs.Borrowed.{IsWrittenRight, key_written, keys_written}
 use Rattle.toml_span_read.proofs.BorrowLemmas.{all_append, keys_more}
 use Rattle.toml_span_read.proofs.KeyLemmas.{handed_on, one_more, first_fault, part_fault, dotted_first, dotted_more, same_stuck}
 use Rattle.toml_span_read.proofs.keys.dotted_key.Goals as goal
@@ -33,7 +31,7 @@ returns-in_err-key-clause-gives c =
 pub returns-then-len-limit-clause-gives : goal.returns-then-len-limit-clause-gives
 returns-then-len-limit-clause-gives c =
     same_stuck c.fault_at.result _ c.args.text.now c.args.limit c.args.at c.fault_at.ensures
-    (c.parts.invariant.stuck _ (too_many _ _ _ _ _ c.in-Some.ensures.0 c.in_ok-key.ensures.gives (omega (arith, c.len.ensures))))
+    (c.parts.invariant.stuck _ (part_here _ _ _ _ c.in-Some.ensures.0 (inr (_, _, c.in_ok-key.ensures.gives, omega (arith, c.len.ensures), refl))))
 
 pub parts-preserved : goal.parts-preserved
 parts-preserved c =
@@ -44,7 +42,7 @@ parts-preserved c =
       forward = omega (arith, k.advances.on, d.1.on);
       boundary = k.advances.boundary;
       borrows = (
-        keys_more (IsRight c.args.text.now) c.parts.inner.items c.add.new.items.items _ c.in_default-add.ensures c.parts.invariant.borrows.0 (rw c.replace.ensures.value c.parts.invariant.borrows.1),
+        keys_more (IsWrittenRight c.args.text.now) c.parts.inner.items c.add.new.items.items _ c.in_default-add.ensures c.parts.invariant.borrows.0 (rw c.replace.ensures.value c.parts.invariant.borrows.1),
         rw c.replace.ensures.after k.borrows,
       );
       few = omega (arith, n, c.len.ensures);
@@ -53,4 +51,4 @@ parts-preserved c =
     }
 
 pub returns-clause-borrows : goal.returns-clause-borrows
-returns-clause-borrows c = all_append (IsRight c.args.text.now) (keys_written c.parts.inner.items) (key_written c.parts.last ∷ []) c.parts.invariant.borrows.0 (c.parts.invariant.borrows.1, tt)
+returns-clause-borrows c = all_append (IsWrittenRight c.args.text.now) (keys_written c.parts.inner.items) (key_written c.parts.last ∷ []) c.parts.invariant.borrows.0 (c.parts.invariant.borrows.1, tt)

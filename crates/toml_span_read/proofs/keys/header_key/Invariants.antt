@@ -1,8 +1,8 @@
-use Rattle.std.proofs.Common.{◌≡◌, ◌≤◌, ◌<◌, ◌-◌, ◌+◌, ◌++◌, ◌∷◌, ℕ, List, length, map}
+use Rattle.std.proofs.Common.{◌≤◌, ◌-◌, ◌++◌, ℕ, List, length, map}
 use Rattle.std.specs.Str.{IsCharBoundary}
 use Rattle.toml_span_read.specs.declared.fault.Fault.{Fault}
-use Rattle.toml_span_read.specs.Borrowed.{AreRight, keys_written}
-use Rattle.toml_span_read.specs.Keys.{Part, part, Dotted}
+use Rattle.toml_span_read.specs.Borrowed.{AreWrittenRight, keys_written}
+use Rattle.toml_span_read.specs.Keys.{SimpleKey, simple_key, SpellsKey}
 use Rattle.toml_span_read.specs.Stuck.{StuckHeaderKey}
 use Rattle.toml_span_read.proofs.keys.header_key.Given as goal
 
@@ -11,9 +11,9 @@ abbrev pub invariant-parts : goal.invariant-parts
 invariant-parts l = record {
   forward : l.at ≤ l.next;
   boundary : IsCharBoundary l.text l.next;
-  borrows : AreRight l.text (keys_written l.parts.items);
+  borrows : AreWrittenRight l.text (keys_written l.parts.items);
   few : length l.parts.items ≤ l.limit;
-  whole : (tail : List Part) (j : ℕ) → Dotted tail l.text l.next j → Dotted (map part l.parts.items ++ tail) l.text l.at j;
+  whole : (tail : List SimpleKey) (j : ℕ) → SpellsKey tail l.text l.next j → SpellsKey (map simple_key l.parts.items ++ tail) l.text l.at j;
   stuck : (e : Fault) → StuckHeaderKey l.text l.limit (length l.parts.items) l.next e → StuckHeaderKey l.text l.limit 0 l.at e;
 }
 

@@ -3,7 +3,7 @@ use Rattle.toml_span_read.specs.Keys.{parts}
 use Rattle.toml_span_read.proofs.BorrowLemmas.{assignment_right}
 use Rattle.toml_span_read.proofs.KeyLemmas.{handed_on, parts_length}
 use Rattle.toml_span_read.proofs.LimitLemmas.{assignment_made}
-use Rattle.toml_span_read.proofs.LineLemmas.{line_key_fault, line_equals_fault, line_value_fault, event_made}
+use Rattle.toml_span_read.proofs.LineLemmas.{line_key_fault, line_equals_fault, line_value_fault, key_value_made}
 use Rattle.toml_span_read.proofs.sections.assignment.Goals as goal
 
 pub returns-in_err-parts-clause-gives : goal.returns-in_err-parts-clause-gives
@@ -23,14 +23,14 @@ returns-in-Ok-value-clause-reads c =
     let q = c.in-Ok.ensures in
     let v = c.in-Ok-value.ensures.reads in
     let u : c.len-depth.result + 1 ≡ 0 + length (parts c.in_ok-parts.parts) = omega (arith, parts_length c.in_ok-parts.parts.inner.items c.in_ok-parts.parts.last, c.len-depth.ensures) in
-    let m = assignment_made _ _ _ _ c.args.text.now c.args.limit 0 _ c.args.at _ c.in-Ok.from c.in-Ok-value.end c.assigned.ensures.event k.gives.0 k.gives.1 (omega (arith, q.1.on)) u v.0 v.2 in
+    let m = assignment_made _ _ _ _ c.args.text.now c.args.limit 0 _ c.args.at _ c.in-Ok.from c.in-Ok-value.end c.assigned.ensures.key_value k.gives.0 k.gives.1 (omega (arith, q.1.on)) u v.0 v.2 in
     (m.0, record { on = omega (arith, k.advances.on, q.1.on, v.1.on); boundary = v.1.boundary }, m.1.0, m.1.1, m.1.2)
 
 pub returns-in-Ok-value-clause-gives : goal.returns-in-Ok-value-clause-gives
 returns-in-Ok-value-clause-gives c =
     let k = c.in_ok-parts.ensures in
     let u : c.len-depth.result + 1 ≡ length (parts c.in_ok-parts.parts) = omega (arith, parts_length c.in_ok-parts.parts.inner.items c.in_ok-parts.parts.last, c.len-depth.ensures) in
-    event_made _ _ _ c.args.text.now c.args.limit _ c.args.at _ c.in-Ok.from c.in-Ok-value.end c.assigned.ensures.event k.gives.0 k.gives.1 c.in-Ok.ensures.0 u c.in-Ok-value.ensures.gives
+    key_value_made _ _ _ c.args.text.now c.args.limit _ c.args.at _ c.in-Ok.from c.in-Ok-value.end c.assigned.ensures.key_value k.gives.0 k.gives.1 c.in-Ok.ensures.0 u c.in-Ok-value.ensures.gives
 
 pub returns-clause-gives : goal.returns-clause-gives
 returns-clause-gives c =

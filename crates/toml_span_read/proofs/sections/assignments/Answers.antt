@@ -1,8 +1,7 @@
-use Rattle.std.proofs.Common.{arith, rules, [], ◌<◌, ◌≡◌, length, false, get_or}
-use Rattle.std.specs.Prelude.{◌==◌}
-use Rattle.toml_span_read.specs.Borrowed.{IsRight, assignment_written}
+use Rattle.std.proofs.Common.{arith, rules, [], ◌<◌, length}
+use Rattle.toml_span_read.specs.Borrowed.{IsWrittenRight, assignment_written}
 use Rattle.toml_span_read.proofs.BorrowLemmas.{joined_more}
-use Rattle.toml_span_read.proofs.LimitLemmas.{crossing_placed, events_more}
+use Rattle.toml_span_read.proofs.LimitLemmas.{crossing_placed, key_values_more}
 use Rattle.toml_span_read.proofs.LineLemmas.{lines_begin, lines_more, stuck_more, lines_end, in_line_fault, newline_fault, crossing_fault}
 use Rattle.toml_span_read.proofs.sections.assignments.Goals as goal
 
@@ -52,8 +51,8 @@ lines-preserved c =
       forward = omega (arith, i.forward, v.1.on, c.in-Ok-next_line.ensures.reads.0, g.run.forward);
       begun = (i.begun.0, i.begun.1, omega (arith, i.begun.2, v.1.on, c.in-Ok-next_line.ensures.reads.0, g.run.forward));
       boundary = g.boundary;
-      borrows = joined_more (IsRight c.args.text.now) assignment_written c.lines.found.items c.add_clear.new.values.items c.in-Ok.read.0 a.0 i.borrows c.in-Ok.ensures.borrows;
-      within = events_more c.args.limit c.lines.found.items c.add_clear.new.values.items c.in-Ok.read.0 a.0 i.within v.0;
+      borrows = joined_more (IsWrittenRight c.args.text.now) assignment_written c.lines.found.items c.add_clear.new.values.items c.in-Ok.read.0 a.0 i.borrows c.in-Ok.ensures.borrows;
+      within = key_values_more c.args.limit c.lines.found.items c.add_clear.new.values.items c.in-Ok.read.0 a.0 i.within v.0;
       knows = c.in_default.ensures.knows;
       whole = lines_more c.lines.found.items c.add_clear.new.values.items c.in-Ok.read.0 c.args.text.now c.args.limit c.args.from c.lines.at _ _ _ a.0 i.whole s t a.1 g.run;
       stuck = stuck_more c.lines.found.items c.add_clear.new.values.items c.in-Ok.read.0 c.args.text.now c.args.limit c.args.from c.lines.at _ _ _ a.0 i.stuck s t a.1 g.run;

@@ -1,7 +1,7 @@
-use Rattle.std.proofs.Common.{rules, arith, ◌≡◌, true, false}
+use Rattle.std.proofs.Common.{rules}
 use Rattle.toml_span_read.proofs.LineLemmas.{close_second}
 use Rattle.toml_span_read.proofs.sections.header_close.Goals as goal
 
 pub returns-then-byte_at-ne93-2-clause-gives : goal.returns-then-byte_at-ne93-2-clause-gives
 returns-then-byte_at-ne93-2-clause-gives c =
-    close_second c.args.array c.wanted-then-byte_at-ne93-2.result c.args.text.now c.args.at _ _ (search rules) c.blanks_end-close.ensures.run (search rules) c.behind_sign-behind.ensures.value (search rules) c.wanted-then-byte_at-ne93-2.ensures.gives
+    close_second c.args.array c.wanted-then-byte_at-ne93-2.result c.args.text.now c.args.at _ _ (search rules) c.blanks_end-close.ensures.run (search rules) c.behind_byte-behind.ensures.value (search rules) c.wanted-then-byte_at-ne93-2.ensures.gives

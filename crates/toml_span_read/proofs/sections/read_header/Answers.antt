@@ -1,5 +1,4 @@
 use Rattle.std.proofs.Common.{refl}
-use Rattle.toml_span_read.specs.Keys.{part}
 use Rattle.toml_span_read.proofs.KeyLemmas.{handed_on}
 use Rattle.toml_span_read.proofs.LineLemmas.{header_key_fault, header_close_fault, header_rest_fault, header_made, few_parts}
 use Rattle.toml_span_read.proofs.sections.read_header.Goals as goal

@@ -1,4 +1,4 @@
-use Rattle.std.proofs.Common.{arith, length}
+use Rattle.std.proofs.Common.{arith}
 use Rattle.toml_span_read.proofs.BorrowLemmas.{section_right}
 use Rattle.toml_span_read.proofs.InsideLemmas.{section_block}
 use Rattle.toml_span_read.proofs.KeyLemmas.{handed_on}

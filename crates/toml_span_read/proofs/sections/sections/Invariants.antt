@@ -1,6 +1,6 @@
-use Rattle.std.proofs.Common.{◌≡◌, ◌≤◌, ◌-◌, ◌⊎◌, length, get_or}
+use Rattle.std.proofs.Common.{◌≡◌, ◌-◌, ◌⊎◌, length, get_or}
 use Rattle.std.specs.Str.{IsCharBoundary}
-use Rattle.toml_span_read.specs.Borrowed.{AreRight, sections_written}
+use Rattle.toml_span_read.specs.Borrowed.{AreWrittenRight, sections_written}
 use Rattle.toml_span_read.specs.Limits.{WithinSections}
 use Rattle.toml_span_read.proofs.LineLemmas.{WholeSections, StuckFrom}
 use Rattle.toml_span_read.proofs.MemoryLemmas.{Begun}
@@ -12,7 +12,7 @@ invariant-sections l = record {
   boundary : IsCharBoundary l.text l.at;
   begun : Begun l.text l.at;
   header : (l.at ≡ length l.text) ⊎ (get_or l.text l.at 0 ≡ 91);
-  borrows : AreRight l.text (sections_written l.found.items);
+  borrows : AreWrittenRight l.text (sections_written l.found.items);
   within : WithinSections l.limit l.found.items;
   whole : WholeSections l.found.items l.text l.limit l.at;
   stuck : StuckFrom l.text l.limit l.at;

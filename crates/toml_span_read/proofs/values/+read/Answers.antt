@@ -4,7 +4,7 @@ use Rattle.toml_span_read.specs.Keys.{parts}
 use Rattle.toml_span_read.specs.Faults.{opens_nested}
 use Rattle.toml_span_read.specs.Stuck.{item_on}
 use Rattle.toml_span_read.proofs.KeyLemmas.{handed_on, parts_length}
-use Rattle.toml_span_read.specs.Borrowed.{IsRight, written, assignment_written}
+use Rattle.toml_span_read.specs.Borrowed.{IsWrittenRight, written, assignment_written}
 use Rattle.toml_span_read.proofs.BorrowLemmas.{joined_more, assignment_right}
 use Rattle.toml_span_read.specs.Data.{no_items, no_pairs}
 use Rattle.toml_span_read.proofs.LimitLemmas.{items_more, array_made, pairs_more, inline_made, crossing_placed, assignment_made}
@@ -31,7 +31,7 @@ array-items-preserved t c =
     record {
       forward = omega (arith, v.1.on, s.1.on, c.items.invariant.forward);
       boundary = s.1.boundary;
-      borrows = joined_more (IsRight c.args.text.now) written c.items.items.items c.add.new.items.items c.in-Ok.found.0 c.in_default.ensures c.items.invariant.borrows c.in-Ok.ensures.borrows;
+      borrows = joined_more (IsWrittenRight c.args.text.now) written c.items.items.items c.add.new.items.items c.in-Ok.found.0 c.in_default.ensures c.items.invariant.borrows c.in-Ok.ensures.borrows;
       whole = items_more c.items.items.items c.add.new.items.items c.in-Ok.found.0 c.args.limit (c.args.depth + 1) c.in_default.ensures c.items.invariant.whole v.0;
       spells = items_go c.items.items.items c.add.new.items.items c.in-Ok.found.0 c.args.text.now c.args.limit (c.args.depth + 1) _ c.items.next _ _ c.in_default.ensures c.items.invariant.spells g s.0;
       stuck = λ e h. c.items.invariant.stuck e (item_on _ _ _ _ _ _ g s.0 h);
@@ -49,7 +49,7 @@ array-returns-in-Closed-clause-reads t c =
 pub array-returns-in-Closed-clause-borrows : goal.array-returns-in-Closed-clause-borrows
 array-returns-in-Closed-clause-borrows t c =
     rw c.array_of-in-Closed.ensures.written
-    (joined_more (IsRight c.args.text.now) written c.items.items.items c.add.new.items.items c.in-Ok.found.0 c.in_default.ensures c.items.invariant.borrows c.in-Ok.ensures.borrows)
+    (joined_more (IsWrittenRight c.args.text.now) written c.items.items.items c.add.new.items.items c.in-Ok.found.0 c.in_default.ensures c.items.invariant.borrows c.in-Ok.ensures.borrows)
 
 pub array-returns-in-Closed-clause-gives : goal.array-returns-in-Closed-clause-gives
 array-returns-in-Closed-clause-gives t c =
@@ -86,7 +86,7 @@ inline_table-pairs-preserved t c =
     record {
       forward = omega (arith, v.1.on, s.1.on, c.pairs.invariant.forward);
       boundary = s.1.boundary;
-      borrows = joined_more (IsRight c.args.text.now) assignment_written c.pairs.pairs.items c.add_clear.new.values.items c.in-Ok.found.0 a.0 c.pairs.invariant.borrows c.in-Ok.ensures.borrows;
+      borrows = joined_more (IsWrittenRight c.args.text.now) assignment_written c.pairs.pairs.items c.add_clear.new.values.items c.in-Ok.found.0 a.0 c.pairs.invariant.borrows c.in-Ok.ensures.borrows;
       knows = c.in_default.ensures.knows;
       whole = pairs_more c.pairs.pairs.items c.add_clear.new.values.items c.in-Ok.found.0 c.args.limit (c.args.depth + 1) a.0 c.pairs.invariant.whole v.0;
       spells = pairs_go c.pairs.pairs.items c.add_clear.new.values.items c.in-Ok.found.0 c.args.text.now c.args.limit (c.args.depth + 1) _ c.pairs.next _ _ a.0 c.pairs.invariant.spells g a.1 s.0;
@@ -105,7 +105,7 @@ inline_table-returns-in-Closed-clause-reads t c =
 pub inline_table-returns-in-Closed-clause-borrows : goal.inline_table-returns-in-Closed-clause-borrows
 inline_table-returns-in-Closed-clause-borrows t c =
     rw c.inline_of-in-Closed.ensures.written
-    (joined_more (IsRight c.args.text.now) assignment_written c.pairs.pairs.items c.add_clear.new.values.items c.in-Ok.found.0 c.in_default.ensures.adds.0 c.pairs.invariant.borrows c.in-Ok.ensures.borrows)
+    (joined_more (IsWrittenRight c.args.text.now) assignment_written c.pairs.pairs.items c.add_clear.new.values.items c.in-Ok.found.0 c.in_default.ensures.adds.0 c.pairs.invariant.borrows c.in-Ok.ensures.borrows)
 
 pub inline_table-returns-in-Closed-clause-gives : goal.inline_table-returns-in-Closed-clause-gives
 inline_table-returns-in-Closed-clause-gives t c =
@@ -137,7 +137,7 @@ pair-returns-in-Ok-value-clause-reads t c =
     let q = c.in-Ok.ensures in
     let v = c.in-Ok-value.ensures.reads in
     let u : c.args.depth + (c.len.result + 1) ≡ c.args.depth + length (parts c.in_ok-parts.parts) = omega (arith, parts_length c.in_ok-parts.parts.inner.items c.in_ok-parts.parts.last, c.len.ensures) in
-    let m = assignment_made _ _ _ _ c.args.text.now c.args.limit c.args.depth _ c.args.at _ c.in-Ok.from c.in-Ok-value.end c.assigned.ensures.event k.gives.0 k.gives.1 (omega (arith, q.1.on)) u v.0 v.2 in
+    let m = assignment_made _ _ _ _ c.args.text.now c.args.limit c.args.depth _ c.args.at _ c.in-Ok.from c.in-Ok-value.end c.assigned.ensures.key_value k.gives.0 k.gives.1 (omega (arith, q.1.on)) u v.0 v.2 in
     (m.0, record { on = omega (arith, k.advances.on, q.1.on, v.1.on); boundary = v.1.boundary }, m.1.0, m.1.1, m.1.2)
 
 pub pair-returns-in-Ok-value-clause-borrows : goal.pair-returns-in-Ok-value-clause-borrows
@@ -148,7 +148,7 @@ pair-returns-in-Ok-value-clause-gives t c =
     let k = c.in_ok-parts.ensures.gives in
     let q = c.in-Ok.ensures in
     let u : c.args.depth + (c.len.result + 1) ≡ c.args.depth + length (parts c.in_ok-parts.parts) = omega (arith, parts_length c.in_ok-parts.parts.inner.items c.in_ok-parts.parts.last, c.len.ensures) in
-    pair_spelled _ _ _ c.args.text.now c.args.limit c.args.depth _ c.args.at c.in_ok-parts.key_end c.in-Ok.from c.in-Ok-value.end c.assigned.ensures.event k.0 k.1 q.0 u c.in-Ok-value.ensures.gives
+    pair_spelled _ _ _ c.args.text.now c.args.limit c.args.depth _ c.args.at c.in_ok-parts.key_end c.in-Ok.from c.in-Ok-value.end c.assigned.ensures.key_value k.0 k.1 q.0 u c.in-Ok-value.ensures.gives
 
 pub pair-returns-clause-gives : goal.pair-returns-clause-gives
 pair-returns-clause-gives t c =

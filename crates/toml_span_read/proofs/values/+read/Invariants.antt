@@ -1,8 +1,8 @@
-use Rattle.std.proofs.Common.{◌≡◌, ◌≤◌, ◌<◌, ◌+◌, ◌-◌, ◌*◌, ℕ, length, map, []}
+use Rattle.std.proofs.Common.{◌<◌, ◌+◌, ◌-◌, ◌*◌, ℕ, length, map, []}
 use Rattle.std.specs.Str.{IsCharBoundary}
 use Rattle.toml_span_read.specs.declared.fault.Fault.{Fault}
-use Rattle.toml_span_read.specs.Data.{Items, Pairs, view, event, onto, pairs_onto}
-use Rattle.toml_span_read.specs.Borrowed.{AreRight, joined, written, assignments_written}
+use Rattle.toml_span_read.specs.Data.{ParsedItems, ParsedPairs, view, key_value, onto, pairs_onto}
+use Rattle.toml_span_read.specs.Borrowed.{AreWrittenRight, joined, written, assignments_written}
 use Rattle.toml_span_read.specs.Limits.{WithinItems, WithinPairs}
 use Rattle.toml_span_read.specs.code.Earlier.{Knows}
 use Rattle.toml_span_read.specs.Grammar.{SpellsItems, SpellsPairs}
@@ -27,9 +27,9 @@ abbrev pub invariant-array-items : goal.invariant-array-items
 invariant-array-items l = record {
   forward : l.at < l.next;
   boundary : IsCharBoundary l.text l.next;
-  borrows : AreRight l.text (joined (map written l.items.items));
-  whole : (tail : Items) → WithinItems l.limit (l.depth + 1) tail → WithinItems l.limit (l.depth + 1) (onto (map view l.items.items) tail);
-  spells : (tail : Items) (j : ℕ) → SpellsItems tail l.text l.limit (l.depth + 1) l.next j → SpellsItems (onto (map view l.items.items) tail) l.text l.limit (l.depth + 1) l.initial.next j;
+  borrows : AreWrittenRight l.text (joined (map written l.items.items));
+  whole : (tail : ParsedItems) → WithinItems l.limit (l.depth + 1) tail → WithinItems l.limit (l.depth + 1) (onto (map view l.items.items) tail);
+  spells : (tail : ParsedItems) (j : ℕ) → SpellsItems tail l.text l.limit (l.depth + 1) l.next j → SpellsItems (onto (map view l.items.items) tail) l.text l.limit (l.depth + 1) l.initial.next j;
   stuck : (e : Fault) → StuckItems l.text l.limit (l.depth + 1) l.next e → StuckItems l.text l.limit (l.depth + 1) l.initial.next e;
 }
 
@@ -40,12 +40,12 @@ abbrev pub invariant-inline_table-pairs : goal.invariant-inline_table-pairs
 invariant-inline_table-pairs l = record {
   forward : l.at < l.next;
   boundary : IsCharBoundary l.text l.next;
-  borrows : AreRight l.text (assignments_written l.pairs.items);
-  knows : Knows l.earlier (map event l.pairs.items);
-  whole : (tail : Pairs) → WithinPairs l.limit (l.depth + 1) tail → WithinPairs l.limit (l.depth + 1) (pairs_onto (map event l.pairs.items) tail);
-  spells : (tail : Pairs) (j : ℕ) → SpellsPairs tail (map event l.pairs.items) l.text l.limit (l.depth + 1) l.next j
-      → SpellsPairs (pairs_onto (map event l.pairs.items) tail) [] l.text l.limit (l.depth + 1) l.initial.next j;
-  stuck : (e : Fault) → StuckPairs l.text l.limit (map event l.pairs.items) (l.depth + 1) l.next e → StuckPairs l.text l.limit [] (l.depth + 1) l.initial.next e;
+  borrows : AreWrittenRight l.text (assignments_written l.pairs.items);
+  knows : Knows l.earlier (map key_value l.pairs.items);
+  whole : (tail : ParsedPairs) → WithinPairs l.limit (l.depth + 1) tail → WithinPairs l.limit (l.depth + 1) (pairs_onto (map key_value l.pairs.items) tail);
+  spells : (tail : ParsedPairs) (j : ℕ) → SpellsPairs tail (map key_value l.pairs.items) l.text l.limit (l.depth + 1) l.next j
+      → SpellsPairs (pairs_onto (map key_value l.pairs.items) tail) [] l.text l.limit (l.depth + 1) l.initial.next j;
+  stuck : (e : Fault) → StuckPairs l.text l.limit (map key_value l.pairs.items) (l.depth + 1) l.next e → StuckPairs l.text l.limit [] (l.depth + 1) l.initial.next e;
 }
 
 abbrev pub decreases-inline_table-pairs : goal.decreases-inline_table-pairs

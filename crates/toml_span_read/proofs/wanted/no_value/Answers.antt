@@ -1,4 +1,3 @@
-use Rattle.std.proofs.Common.{arith}
 use Rattle.toml_span_read.proofs.FaultPlaces.{found_forward}
 use Rattle.toml_span_read.proofs.wanted.no_value.Goals as goal
 

@@ -1,8 +1,8 @@
-use Rattle.toml_span_read_laws.proofs.LineFaults.{event_one, tail_one, header_one}
+use Rattle.toml_span_read_laws.proofs.LineFaults.{key_value_one, tail_one, header_one}
 use Rattle.toml_span_read_laws.proofs.lines.one_line_fault.Goals as goal
 
 pub returns-clause-assignment : goal.returns-clause-assignment
-returns-clause-assignment c = event_one
+returns-clause-assignment c = key_value_one
 
 pub returns-clause-rest : goal.returns-clause-rest
 returns-clause-rest c = tail_one

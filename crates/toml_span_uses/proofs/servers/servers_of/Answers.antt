@@ -1,4 +1,4 @@
-use Rattle.std.proofs.Common.{ap, is_some, List, Vec}
+use Rattle.std.proofs.Common.{ap, is_some, Vec}
 use Rattle.std.specs.Global.{Global}
 use Rattle.toml_span_typed.specs.TableHelper.{state_of}
 use Rattle.toml_span_uses.specs.declared.servers.Server.{Server}

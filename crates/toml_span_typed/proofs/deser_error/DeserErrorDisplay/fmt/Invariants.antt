@@ -1,9 +1,9 @@
 use Rattle.std.proofs.Common.{map, take}
 use Rattle.std.specs.Fmt.{HasWritten, IsPlainFormatter}
-use Rattle.toml_span_tree.specs.Error.{fault_of}
-use Rattle.toml_span_typed.specs.Faults.{lines}
+use Rattle.toml_span_tree.specs.Error.{content_of}
+use Rattle.toml_span_typed.specs.Errors.{lines}
 use Rattle.toml_span_typed.proofs.deser_error.DeserErrorDisplay.fmt.Given as goal
 
 abbrev pub invariant-loop-error : goal.invariant-loop-error
 invariant-loop-error g l =
-    IsPlainFormatter l.initial.f → HasWritten g.W.Write.write_str_gives l.initial.f (lines (map fault_of (take l.error-index l.error-items))) l.f
+    IsPlainFormatter l.initial.f → HasWritten g.W.Write.write_str_gives l.initial.f (lines (map content_of (take l.error-index l.error-items))) l.f

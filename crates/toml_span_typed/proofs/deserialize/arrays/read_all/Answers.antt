@@ -3,7 +3,7 @@ use Rattle.std.proofs.lemmas.Grind.{common_steps}
 use Rattle.std.proofs.lemmas.List.{map-append}
 use Rattle.std.specs.Vec.Iter.{into_iter_items}
 use Rattle.toml_span_tree.specs.Value.{all_whole, items_view, view}
-use Rattle.toml_span_typed.specs.code.Faults.{all_of_option}
+use Rattle.toml_span_typed.specs.code.Errors.{all_of_option}
 use Rattle.toml_span_typed.proofs.Arrays.{joined_elements, joined_errors, read_more}
 use Rattle.toml_span_typed.proofs.Whole.{rest_whole}
 use Rattle.toml_span_typed.proofs.deserialize.arrays.read_all.Goals as goal

@@ -2,7 +2,7 @@ use Rattle.std.proofs.Common.{◌≡◌, IsTrue, ◌++◌, map}
 use Rattle.std.specs.Vec.Iter.{into_iter_items}
 use Rattle.toml_span_tree.specs.Value.{all_whole, items_view, view}
 use Rattle.toml_span_typed.specs.code.Arrays.{AreRead}
-use Rattle.toml_span_typed.specs.code.Faults.{all_of_option}
+use Rattle.toml_span_typed.specs.code.Errors.{all_of_option}
 use Rattle.toml_span_typed.proofs.deserialize.arrays.read_all.Given as goal
 
 abbrev pub invariant-loop-item : goal.invariant-loop-item

@@ -2,7 +2,7 @@ use Rattle.std.proofs.Common.{◌≡◌, List, IsTrue, [], ◌∷◌, ◌++◌, 
 use Rattle.std.proofs.lemmas.Grind.{common_steps}
 use Rattle.toml_span_tree.specs.Value.{all_members_whole, members_view}
 use Rattle.toml_span_tree.proofs.Values.{Entry}
-use Rattle.toml_span_typed.specs.code.Faults.{all_of_option}
+use Rattle.toml_span_typed.specs.code.Errors.{all_of_option}
 use Rattle.toml_span_typed.proofs.Maps.{entry_more, entry_whole, read_as_members}
 use Rattle.toml_span_typed.proofs.deserialize.maps.read_entries.Goals as goal
 

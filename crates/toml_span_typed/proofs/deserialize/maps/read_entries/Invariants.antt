@@ -1,6 +1,6 @@
 use Rattle.std.proofs.Common.{◌≡◌, IsTrue, ◌++◌, map}
 use Rattle.toml_span_tree.specs.Value.{all_members_whole, members_view}
-use Rattle.toml_span_typed.specs.code.Faults.{all_of_option}
+use Rattle.toml_span_typed.specs.code.Errors.{all_of_option}
 use Rattle.toml_span_typed.specs.Maps.{EntriesRead, shown_pair}
 use Rattle.toml_span_typed.proofs.Maps.{entry_names, entry_values}
 use Rattle.toml_span_typed.proofs.deserialize.maps.read_entries.Given as goal

@@ -1,8 +1,7 @@
 use Rattle.std.proofs.Common.{◌≡◌, [], ◌∷◌, List, sym, subst, ap, ◌∙◌, OnOk, OnErr, Result, Ok, Err}
 use Rattle.std.proofs.lemmas.Bool.{false≢true}
-use Rattle.toml_span_tree.specs.Error.{Fault}
+use Rattle.toml_span_tree.specs.Error.{ErrorContent}
 use Rattle.toml_span_typed.specs.TableHelper.{State, keeping, state_of, unasked, unexpected_entries}
-use Rattle.toml_span_tree.specs.Value.{is_filled, members_view}
 use Rattle.toml_span_typed.proofs.Tables.{filled-of_entries, unasked-of_entries}
 use Rattle.toml_span_typed.proofs.de_helpers.table_helper.TableHelper.keep_unasked.Goals as goal
 
@@ -10,7 +9,7 @@ pub returns-clause-ok : goal.returns-clause-ok
 returns-clause-ok c =
     let before = state_of c.args.self.now in
     let some = unasked-of_entries c.args.self.now.table.entries (unexpected_entries before ∷ []) (λ none. false≢true (sym c.if-is_empty.false ∙ c.is_empty.ensures.1 none)) in
-    let same : keeping (_ ∷ []) before ≡ keeping (unasked before) before = ap (λ (fs : List Fault). keeping fs before) (ap (λ (f : Fault). f ∷ []) c.in_ok-error.ensures ∙ sym some) in
+    let same : keeping (_ ∷ []) before ≡ keeping (unasked before) before = ap (λ (fs : List ErrorContent). keeping fs before) (ap (λ (f : ErrorContent). f ∷ []) c.in_ok-error.ensures ∙ sym some) in
     let P = λ (s : State). OnOk c.keep.result (state_of c.keep.new.self ≡ s) in
     subst P same c.keep.ensures.ok
 
