@@ -71,7 +71,10 @@ macro_rules! read_table {
     };
     (@read $helper:ident, $ty:ty, $key:expr, parsed, optional) => {
         match $helper.read_optional::<$crate::Parsed<$ty>>($key)? {
-            Some(field) => Some(field.value),
+            Some(field) => {
+                let value = field.value;
+                Some(value)
+            }
             None => None,
         }
     };
@@ -83,6 +86,9 @@ macro_rules! read_table {
     };
 
     (@field $field:ident) => { $field.unwrap() };
-    (@field $field:ident parsed) => { $field.unwrap().value };
+    (@field $field:ident parsed) => {{
+        let value = $field.unwrap().value;
+        value
+    }};
     (@field $field:ident $($how:ident)+) => { $field };
 }
