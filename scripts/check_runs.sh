@@ -77,29 +77,9 @@ if [ "$status" -ne 3 ]; then
     echo "check runs: a write that fails ended with status $status (wanted: 3)"
 fi
 
-# each request for memory refused in turn: status 4 and nothing is written, or else the whole answer. The requests are
-# counted before the C library has them, by a library that the kit's clang makes; fd 9 is told how many they are.
-cat >"$work/refuse.c" <<'END'
-extern void *__libc_malloc(unsigned long);
-extern void *__libc_realloc(void *, unsigned long);
-extern char *getenv(const char *);
-extern int dprintf(int, const char *, ...);
-static long made;
-static long refused = -1;
-static int is_refused(void) {
-    if (refused < 0) {
-        refused = 0;
-        for (const char *digit = getenv("REFUSED"); *digit; digit++) refused = refused * 10 + (*digit - '0');
-    }
-    return ++made == refused;
-}
-void *malloc(unsigned long size) { return is_refused() ? 0 : __libc_malloc(size); }
-void *realloc(void *block, unsigned long size) { return is_refused() ? 0 : __libc_realloc(block, size); }
-__attribute__((destructor)) static void tell(void) { dprintf(9, "%ld\n", made); }
-END
-kit=$(dirname "$(rt doc)")/toolchain/bin
-"$kit/clang" --target=x86_64-unknown-linux-gnu -O1 -fPIC -c "$work/refuse.c" -o "$work/refuse.o"
-"$kit/ld.lld" -shared "$work/refuse.o" -o "$work/refuse.so"
+# each request for memory refused in turn: status 4 and nothing is written, or else the whole answer
+source ../../scripts/refuse.sh
+make_refusals "$work"
 
 # ask NUMBER WORD..: runs the program on these words, with the request of this number refused
 ask() {

@@ -38,6 +38,7 @@ run "no handles" grep -qx 'Handles allowed: none.' HANDLES
 run "stored runs of the program" bash scripts/runs.sh
 run "stored runs of the checker" bash scripts/check_runs.sh
 run "refusals of memory" bash scripts/refusals.sh
+run "runs with each request for memory refused" bash scripts/refused_runs.sh
 run "the repository stands alone" bash scripts/stands_alone.sh
 run "each edit names its clause" python3 scripts/edits.py --check
 run "pages quote the sources" python3 scripts/pages.py --check

@@ -10,7 +10,7 @@ pub use toml_span_lex::span::Span;
 pub use toml_span_lex::spanned::Spanned;
 pub use toml_span_lex::stop::Stop;
 pub use toml_span_tree::{Diagnostic, Error, ErrorKind, Label, Value};
-pub use toml_span_typed::{DeserError, Deserialize, ErrorIter, Parsed, Unmerged};
+pub use toml_span_typed::{DeserError, Deserialize, ErrorIter, Parsed, Unmerged, read_table};
 
 /// Reads a document into a tree.
 pub mod de {

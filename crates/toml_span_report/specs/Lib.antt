@@ -1,5 +1,6 @@
 pub mod Characters
 pub mod Colours
+pub mod Errors
 pub mod Places
 pub mod Report
 pub mod Strips

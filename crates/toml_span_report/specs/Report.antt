@@ -3,7 +3,9 @@ use Rattle.std.specs.Prelude.{ℕ, ◌-◌, max, Bool, true, false, ◌==◌, Li
 use Rattle.std.specs.Prelude.{None, if◌then◌else◌, replicate}
 use Rattle.std.specs.Fmt.{decimal}
 use Rattle.std.specs.List.{fold}
-use Rattle.toml_span_tree.specs.Diagnostic.{LabelContent}
+use Rattle.toml_span_tree.specs.Diagnostic.{LabelContent, labels_of}
+use Rattle.toml_span_tree.specs.Error.{ErrorContent}
+use Rattle.toml_span_tree.specs.Message.{code_of, display_text}
 use Rattle.toml_span_report.specs.Characters.{shown, columns}
 use Rattle.toml_span_report.specs.Colours.{painted}
 use Rattle.toml_span_report.specs.Strips.{MarkedLine, all_marked_lines}
@@ -106,6 +108,11 @@ report_of style code message name parts =
 
 abbrev pub report : {F : Type 0} → Style → List ℕ → List ℕ → List (LabelContent F) → List ℕ → List ℕ → List ℕ
 report style code message marks name text = report_of style code message name (all_marked_lines text marks)
+
+-- the text that shows an error
+abbrev pub report_of_fault : Style → List ℕ → List ℕ → ErrorContent → List ℕ
+report_of_fault style name text f =
+    report {F = ℕ} style (code_of f.kind) (display_text f.kind) (labels_of 0 f.span f.kind) name text
 
 -- one line: `name:line:column: code: message`
 abbrev pub brief_of : List ℕ → List ℕ → List ℕ → List MarkedLine → List ℕ

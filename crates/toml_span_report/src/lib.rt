@@ -3,10 +3,12 @@
 
 mod characters;
 mod colours;
+mod errors;
 mod places;
 mod report;
 mod strips;
 
 pub use colours::Style;
+pub use errors::{render_errors, render_stop};
 pub use places::line_column;
 pub use report::{render, render_error, render_line};

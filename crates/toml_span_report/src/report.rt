@@ -1,8 +1,7 @@
 //! The text that shows a diagnostic.
-ghost use Rattle.std.specs.Prelude.{◌≡◌, ℕ, ◌++◌, IfOk, OnOk, map, length, None, option_map, string_bytes};
-ghost use Rattle.toml_span_tree.specs.Diagnostic.{labels_of, label_content};
-ghost use Rattle.toml_span_tree.specs.Error.{content_of, kind_of};
-ghost use Rattle.toml_span_tree.specs.Message.{code_of, display_text};
+ghost use Rattle.std.specs.Prelude.{◌≡◌, ◌++◌, IfOk, OnOk, map, length, None, option_map, string_bytes};
+ghost use Rattle.toml_span_tree.specs.Diagnostic.{label_content};
+ghost use Rattle.toml_span_tree.specs.Error.{content_of};
 ghost use Rattle.toml_span_report.specs.Report as spec;
 ghost use Rattle.toml_span_report.specs.Strips.{marked_line_of};
 
@@ -318,9 +317,8 @@ pub fn render_error(
     name: &str,
     text: &str,
 ) -> Result<String, AllocError>
-    ensures { IfOk result (λ out. string_bytes out
-        ≡ spec.report {F = ℕ} style (code_of (kind_of error.now.kind)) (display_text (kind_of error.now.kind))
-        (labels_of 0 error.now.span (kind_of error.now.kind)) name.now text.now) }
+    ensures { IfOk result
+        (λ out. string_bytes out ≡ spec.report_of_fault style name.now text.now (content_of error.now)) }
 {
     let diagnostic = error.to_diagnostic(alloc, 0usize)?;
     let message = error.to_string(alloc)?;

@@ -1,13 +1,13 @@
-//! A table whose fields are an `Option`, what `FromStr` makes of a string, and an array of two.
+//! A table whose fields are an `Option`, what `FromStr` makes of strings, and an array of two.
 use std::alloc::Global;
-use toml_span::{DeserError, Deserialize, Stop, Value};
-use toml_span_typed::{Parsed, read_table};
+use toml_span::{DeserError, Deserialize, Stop, Value, read_table};
 
 #[derive(Debug, Drop)]
 pub struct Holders {
     some: Option<u8>,
     each: Vec<Option<u8>>,
-    parsed: Parsed<char>,
+    parsed: char,
+    maybe: Option<char>,
     pair: (u8, String),
 }
 
@@ -16,7 +16,8 @@ impl<'de> Deserialize<'de> for Holders {
         read_table!(alloc, value, Holders {
             some: Option<u8>;
             each: Vec<Option<u8>> = "all", or(Vec::new(alloc));
-            parsed: Parsed<char>;
+            parsed: char, parsed;
+            maybe: Option<char>, parsed;
             pair: (u8, String);
         })
     }

@@ -3,7 +3,7 @@
 //! A row is a word and a document on one line, with `;` for a line feed. `settings` is read as `Settings`, by derive;
 //! of `limits` the tree is read, as a map of numbers and their places. The answer is the value, or the code, the place,
 //! the line and the column of what is refused, the path to it, and why. `show` shows the settings, or an error with its
-//! lines.
+//! lines. Of a row for which memory is wanting it says so, and goes on.
 #![tactic(auto)]
 
 mod settings;
@@ -12,9 +12,13 @@ use settings::{Settings, show};
 use std::alloc::Global;
 use std::collections::BTreeMap;
 use std::fmt::Debug;
-use std::io;
+use std::io::{self, ErrorKind};
 use toml_span::{Span, Stop, parse};
 use toml_span_serde::{Error, Spanned, from_str, from_value};
+
+fn tell_no_memory(rt: &impl Print) -> io::Result<()> {
+    println!(rt; "  no memory")
+}
 
 /// Writes what was read, or why nothing was.
 fn tell<T: Debug + Drop>(
@@ -24,7 +28,7 @@ fn tell<T: Debug + Drop>(
 ) -> io::Result<()> {
     match read {
         Ok(value) => println!(rt; "  {value:?}"),
-        Err(Stop::Memory(_)) => println!(rt; "  no memory"),
+        Err(Stop::Memory(_)) => tell_no_memory(rt),
         Err(Stop::Fault(error)) => tell_error(rt, alloc, &error),
     }
 }
@@ -35,7 +39,7 @@ fn tell_error(rt: &impl Print, alloc: Global, error: &Error<'_>) -> io::Result<(
     let (line, column) = error.line_info().unwrap_or((0, 0));
     match error.to_diagnostic(alloc, ()) {
         Ok(shown) => println!(rt; "  {} {start}..{end} {line}:{column} {error}", shown.code),
-        Err(_) => println!(rt; "  no memory"),
+        Err(_) => tell_no_memory(rt),
     }
 }
 
@@ -65,11 +69,15 @@ fn main(rt: HostRuntime) -> io::Result<()> {
             continue;
         };
         let Ok(text) = document.replace(alloc, ";", "\n") else {
+            tell_no_memory(&rt)?;
             continue;
         };
         match word {
             "settings" => tell(&rt, alloc, from_str::<Settings<'_>>(alloc, text.as_str()))?,
-            "show" => show(&rt, alloc, text.as_str())?,
+            "show" => match show(&rt, alloc, text.as_str()) {
+                Err(error) if error.kind() == ErrorKind::OutOfMemory => tell_no_memory(&rt)?,
+                shown => shown?,
+            },
             "limits" => tell(&rt, alloc, limits_of(alloc, text.as_str()))?,
             _ => println!(rt; "  no such word")?,
         }

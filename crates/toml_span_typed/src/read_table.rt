@@ -11,7 +11,8 @@
 ///   for a type that is written in another way;
 /// - `port: u16, or(80);` is the value in brackets where the key is not there, which is evaluated only
 ///   then;
-/// - `port: u16 = "listen-port", or(80);` is both.
+/// - `port: u16 = "listen-port", or(80);` is both;
+/// - `level: Level, parsed;` is what `FromStr` makes of a string; `or(..)` may stand behind it.
 ///
 /// Other keys are an error; with `..` behind the last field they are put back into the value. All errors
 /// are told, in the order of the fields.
@@ -25,11 +26,14 @@ macro_rules! read_table {
     (@fields $read:tt [$($done:tt)*] $field:ident: Option<$ty:ty> $(= $key:literal)?; $($rest:tt)*) => {
         $crate::read_table!(@fields $read [$($done)* $field: $ty $(= $key)?, optional;] $($rest)*)
     };
+    (@fields $read:tt [$($done:tt)*] $field:ident: Option<$ty:ty> $(= $key:literal)?, parsed; $($rest:tt)*) => {
+        $crate::read_table!(@fields $read [$($done)* $field: $ty $(= $key)?, parsed, optional;] $($rest)*)
+    };
     (@fields $read:tt [$($done:tt)*]
-        $field:ident: $ty:ty $(= $key:literal)? $(, $how:ident $(($default:expr))?)?; $($rest:tt)*
+        $field:ident: $ty:ty $(= $key:literal)? $(, $how:ident $(($default:expr))?)*; $($rest:tt)*
     ) => {
         $crate::read_table!(
-            @fields $read [$($done)* $field: $ty $(= $key)? $(, $how $(($default))?)?;] $($rest)*
+            @fields $read [$($done)* $field: $ty $(= $key)? $(, $how $(($default))?)*;] $($rest)*
         )
     };
     (@fields $read:tt $fields:tt) => { $crate::read_table!(@table $read finish() $fields) };
@@ -38,15 +42,15 @@ macro_rules! read_table {
     };
 
     (@table [$alloc:expr, $value:expr, $table:ident] $finish:ident($($rest:expr)?) [
-        $($field:ident: $ty:ty $(= $key:literal)? $(, $how:ident $(($default:expr))?)?;)*
+        $($field:ident: $ty:ty $(= $key:literal)? $(, $how:ident $(($default:expr))?)*;)*
     ]) => {{
         let mut helper = $crate::de_helpers::TableHelper::new($alloc, $value)?;
         $(let $field = $crate::read_table!(
-            @read helper, $ty, $crate::read_table!(@key $field $($key)?) $(, $how $($default)?)?
+            @read helper, $ty, $crate::read_table!(@key $field $($key)?) $(, $how $($default)?)*
         );)*
         helper.$finish($($rest)?)?;
         Ok($table {
-            $($field: $crate::read_table!(@field $field $($how)?),)*
+            $($field: $crate::read_table!(@field $field $($how)*),)*
         })
     }};
 
@@ -62,6 +66,29 @@ macro_rules! read_table {
         }
     };
 
+    (@read $helper:ident, $ty:ty, $key:expr, parsed) => {
+        $helper.read::<$crate::Parsed<$ty>>($key)?
+    };
+    (@read $helper:ident, $ty:ty, $key:expr, parsed, optional) => {
+        match $helper.read_optional::<$crate::Parsed<$ty>>($key)? {
+            Some(field) => {
+                let value = field.value;
+                Some(value)
+            }
+            None => None,
+        }
+    };
+    (@read $helper:ident, $ty:ty, $key:expr, parsed, or $default:expr) => {
+        match $helper.read_optional::<$crate::Parsed<$ty>>($key)? {
+            Some(field) => field.value,
+            None => $default,
+        }
+    };
+
     (@field $field:ident) => { $field.unwrap() };
-    (@field $field:ident $how:ident) => { $field };
+    (@field $field:ident parsed) => {{
+        let value = $field.unwrap().value;
+        value
+    }};
+    (@field $field:ident $($how:ident)+) => { $field };
 }

@@ -1,0 +1,29 @@
+# For scripts that run a native program with one of its requests for memory refused; they source this file.
+
+# make_refusals FOLDER: makes FOLDER/refuse.so, by the kit's clang. A program that is run with it (LD_PRELOAD) has its
+# request number $REFUSED refused, none for 0, and tells file descriptor 9 how many it made. They are counted before
+# the C library has them.
+make_refusals() {
+    local kit
+    kit=$(dirname "$(rt doc)")/toolchain/bin
+    cat >"$1/refuse.c" <<'END'
+extern void *__libc_malloc(unsigned long);
+extern void *__libc_realloc(void *, unsigned long);
+extern char *getenv(const char *);
+extern int dprintf(int, const char *, ...);
+static long made;
+static long refused = -1;
+static int is_refused(void) {
+    if (refused < 0) {
+        refused = 0;
+        for (const char *digit = getenv("REFUSED"); *digit; digit++) refused = refused * 10 + (*digit - '0');
+    }
+    return ++made == refused;
+}
+void *malloc(unsigned long size) { return is_refused() ? 0 : __libc_malloc(size); }
+void *realloc(void *block, unsigned long size) { return is_refused() ? 0 : __libc_realloc(block, size); }
+__attribute__((destructor)) static void tell(void) { dprintf(9, "%ld\n", made); }
+END
+    "$kit/clang" --target=x86_64-unknown-linux-gnu -O1 -fPIC -c "$1/refuse.c" -o "$1/refuse.o" &&
+        "$kit/ld.lld" -shared "$1/refuse.o" -o "$1/refuse.so"
+}
