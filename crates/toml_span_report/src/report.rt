@@ -317,7 +317,8 @@ pub fn render_error(
     name: &str,
     text: &str,
 ) -> Result<String, AllocError>
-    ensures { IfOk result (λ out. string_bytes out ≡ spec.report_of_fault style name.now text.now (fault_of error.now)) }
+    ensures { IfOk result (λ out.
+        string_bytes out ≡ spec.report_of_fault style name.now text.now (fault_of error.now)) }
 {
     let diagnostic = error.to_diagnostic(alloc, 0usize)?;
     let message = error.to_string(alloc)?;
