@@ -12,7 +12,8 @@
 /// - `port: u16, or(80);` is the value in brackets where the key is not there, which is evaluated only
 ///   then;
 /// - `port: u16 = "listen-port", or(80);` is both;
-/// - `level: Level, parsed;` is what `FromStr` makes of a string; `or(..)` may stand behind it.
+/// - `level: Level, parsed;` is what `FromStr` makes of a string; the type may be an `Option`, and `or(..)`
+///   may stand behind it.
 ///
 /// Other keys are an error; with `..` behind the last field they are put back into the value. All errors
 /// are told, in the order of the fields.
