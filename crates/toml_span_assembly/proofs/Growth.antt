@@ -12,7 +12,7 @@ use Rattle.toml_span_lex.specs.Tokenizer.{FirstPlace}
 use Rattle.toml_span_lex.specs.declared.stop.Stop.{Stop}
 use Rattle.toml_span_lex.specs.declared.stop.Stop.TheVariants as stops
 use Rattle.toml_span_read.specs.Borrowed.{IsRight as IsRightRead, AreRight as AreRightRead, section_written, sections_written}
-use Rattle.toml_span_read.specs.Data.{Event, Block, block}
+use Rattle.toml_span_read.specs.Data.{Block, block}
 use Rattle.toml_span_read.specs.Places.{IsInside, SectionInside}
 use Rattle.toml_span_read.specs.Keys.{Part}
 use Rattle.toml_span_read.specs.Grammar.{first_block}
