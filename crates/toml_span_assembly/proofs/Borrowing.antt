@@ -5,7 +5,7 @@ use Rattle.std.specs.BTreeMap.{insert_entry}
 use Rattle.std.specs.Box.{box_value}
 use Rattle.std.specs.Cow.{cow_str_bytes, IsBorrowedStr}
 use Rattle.std.specs.Global.{Box}
-use Rattle.std.specs.Map.{lookup, lookup_entry, set_value}
+use Rattle.std.specs.Map.{lookup, lookup_entry}
 use Rattle.std.specs.Result.{IsErrAnd}
 use Rattle.std.specs.declared.borrow.CowStr.{CowStr}
 use Rattle.std.proofs.lemmas.Option.{none-some}
@@ -38,7 +38,7 @@ use Rattle.toml_span_read.specs.Data.{block}
 use Rattle.toml_span_claims.specs.code.Machine.{Gives, met}
 use Rattle.toml_span_assembly.specs.Parsing.{IsBorrowedTree}
 use Rattle.toml_span_claims.specs.code.Tree.{is_named, entries}
-use Rattle.toml_span_claims.proofs.BorrowLemmas.{held_is, made_table, made_array, of_node, node_of, insert_new, box_found, box_set, box_insert}
+use Rattle.toml_span_claims.proofs.BorrowLemmas.{held_is, made_table, made_array, of_node, node_of, insert_new, box_found, box_insert}
 
 -- ---- results
 
@@ -133,14 +133,17 @@ module _ (text : List ℕ) (ps : List SimpleKey) where
   pub keeps_same : (a n new : Branch) (r : Result (Unit {0}) Halt) → a ≡ n → Keeps text ps a new r → Keeps text ps n new r
   keeps_same a n new r is keep = subst (λ x. Keeps text ps x new r) is keep
 
-  pub keeps_found : (n : Branch) (b : Branch-F Branch) (k : List ℕ) (x w : Box Branch) (r : Result (Unit {0}) Halt) → lookup (is_named k) (out-Branch n).tables.entries ≡ Some x
-      → b.entries.items ≡ entries n → b.values ≡ (out-Branch n).values → b.tables.entries ≡ set_value (is_named k) (out-Branch n).tables.entries w
-      → Keeps text ps (box_value x) (box_value w) r → Keeps text ps n (roll-Branch b) r
-  keeps_found n b k x w r found items values written keep h =
+  pub keeps_entered : (n : Branch) (b : Branch-F Branch) (k c : Key) (x w : Box Branch) (r : Result (Unit {0}) Halt)
+      → cow_str_bytes c.name ≡ cow_str_bytes k.name → (IsBorrowedStr k.name → IsBorrowedStr c.name) → (IsBorrowedStr c.name → IsBorrowedStr k.name)
+      → lookup (is_named (cow_str_bytes c.name)) (out-Branch n).tables.entries ≡ Some x
+      → b.entries.items ≡ entries n → b.values ≡ (out-Branch n).values → b.tables.entries ≡ insert_entry key_cmp (out-Branch n).tables.entries c w
+      → IsFrom text ps (key_written k) → Keeps text ps (box_value x) (box_value w) r → Keeps text ps n (roll-Branch b) r
+  keeps_entered n b k c x w r same forth back found items values inserted key keep h =
       let inside = of_node text ps n h in
       ok_map r (AreRight text ps (standing (box_value w))) (AreRight text ps (standing (roll-Branch b)))
-      (λ made. node_of text ps b (rw values inside.0) (rw written (box_set text ps (is_named k) w (out-Branch n).tables.entries made inside.1)) (rw items inside.2))
-      (keep (box_found text ps (is_named k) x (out-Branch n).tables.entries found inside.1))
+      (λ made. node_of text ps b (rw values inside.0)
+      (rw inserted (box_insert text ps c w (out-Branch n).tables.entries (clone_named k c same forth back key) made inside.1)) (rw items inside.2))
+      (keep (box_found text ps (is_named (cow_str_bytes c.name)) x (out-Branch n).tables.entries found inside.1))
 
   pub keeps_new : (n : Branch) (b : Branch-F Branch) (k c : Key) (x w : Branch) (box : Box Branch) → standing x ≡ []
       → cow_str_bytes c.name ≡ cow_str_bytes k.name → (IsBorrowedStr k.name → IsBorrowedStr c.name) → (IsBorrowedStr c.name → IsBorrowedStr k.name) → box_value box ≡ w

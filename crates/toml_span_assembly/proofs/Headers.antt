@@ -273,12 +273,12 @@ module _ (h : Head) (k : SimpleKey) where
     section-found rest n new x w r found sets placed =
         rw (section_at-through, grown-through) (places-found n new x w k.name r (λ f. through f h k rest tail) (λ f. grown_through f h rest) found sets placed)
 
-    pub section-new : (rest : List SimpleKey) (n new x w v : Branch) → child k.name n ≡ None → closed k.name n ≡ None → IsFresh x → v ≡ w → SetsChild k.name v n new
+    pub section-new : (rest : List SimpleKey) (n new x w : Branch) → child k.name n ≡ None → closed k.name n ≡ None → IsFresh x → SetsChild k.name w n new
         → Passes x w (Ok tt) (through (counts x) h k rest tail) (grown_through (counts x) h rest)
         → Places n new (Ok tt) (section_at (counts n) h (k ∷ rest) tail) (grown (counts n) h (k ∷ rest))
-    section-new rest n new x w v missing free fresh same sets placed =
+    section-new rest n new x w missing free fresh sets placed =
         rw (section_at-through, grown-through)
-        (places-new n new x w k.name (λ f. through f h k rest tail) (λ f. grown_through f h rest) missing free fresh (subst (λ a. SetsChild k.name a n new) same sets) placed)
+        (places-new n new x w k.name (λ f. through f h k rest tail) (λ f. grown_through f h rest) missing free fresh sets placed)
 
     pub section-new-err : (rest : List SimpleKey) (n new x w : Branch) (r q : Result (Unit {0}) Halt) (e : Halt) (d : Path → ℕ) → child k.name n ≡ None → closed k.name n ≡ None → IsFresh x
         → r ≡ Err e → q ≡ Err e → Passes x w r (through (counts x) h k rest tail) (grown_through (counts x) h rest)

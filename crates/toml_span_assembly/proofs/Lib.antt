@@ -10,6 +10,7 @@ pub mod Closed
 pub mod Assigned
 pub mod DottedKeys
 pub mod Entries
+pub mod Named
 pub mod Headers
 pub mod EachClaim
 pub mod WholeTree

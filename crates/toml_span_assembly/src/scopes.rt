@@ -140,19 +140,16 @@ fn place_pair<'de>(
     let [part, rest @ ..] = inner else {
         return assign(alloc, node, last, value, span);
     };
-    match node.tables.get_mut(part) {
-        Some(child) => pass_child(alloc, child, part, rest, last, value, span),
-        None => {
-            admit_beside_value(
-                alloc,
-                &node.values,
-                pair_mark(Sort::Dotted, part, span),
-                part,
-            )?;
-            let mut child = Branch::new(alloc);
-            pass_pair(alloc, &mut child, part, rest, last, value, span)?;
-            node.tables
-                .insert(part.clone(alloc)?, Box::new(alloc, child)?)?;
+    match node.tables.entry(part.clone(alloc)?)? {
+        Entry::Occupied(entry) => {
+            pass_child(alloc, entry.into_mut(), part, rest, last, value, span)
+        }
+        Entry::Vacant(entry) => {
+            let mark = pair_mark(Sort::Dotted, part, span);
+            admit_beside_value(alloc, &node.values, mark, part)?;
+            let mut child = Box::new(alloc, Branch::new(alloc))?;
+            pass_child(alloc, &mut child, part, rest, last, value, span)?;
+            entry.insert(child);
             Ok(())
         }
     }

@@ -19,6 +19,7 @@ ghost use Rattle.toml_span_assembly.specs.Parsing.{IsRoot};
 
 use crate::scopes::{admit_beside_value, place_all};
 use std::alloc::{AllocError, Global};
+use std::collections::btree_map::Entry;
 use toml_span_claims::branch::{Branch, into_table};
 use toml_span_claims::claims::{Clash, Halt, Head, Mark, Sort, claim};
 use toml_span_lex::key::Key;
@@ -72,15 +73,14 @@ fn place_section<'de>(
     let [part, rest @ ..] = parts else {
         return place_all(alloc, pairs, node);
     };
-    match node.tables.get_mut(part) {
-        Some(child) => pass_child(alloc, child, part, rest, head, pairs),
-        None => {
+    match node.tables.entry(part.clone(alloc)?)? {
+        Entry::Occupied(entry) => pass_child(alloc, entry.into_mut(), part, rest, head, pairs),
+        Entry::Vacant(entry) => {
             let mark = header_mark(head, sort_of(head, rest), part);
             admit_beside_value(alloc, &node.values, mark, part)?;
-            let mut child = Branch::new(alloc);
-            pass_header(alloc, &mut child, part, rest, head, pairs)?;
-            node.tables
-                .insert(part.clone(alloc)?, Box::new(alloc, child)?)?;
+            let mut child = Box::new(alloc, Branch::new(alloc))?;
+            pass_child(alloc, &mut child, part, rest, head, pairs)?;
+            entry.insert(child);
             Ok(())
         }
     }

@@ -4,7 +4,7 @@ use Rattle.std.specs.BTreeMap.{insert_entry}
 use Rattle.std.specs.Box.{box_value}
 use Rattle.std.specs.Cow.{cow_str_bytes}
 use Rattle.std.specs.Global.{Box}
-use Rattle.std.specs.Map.{lookup, lookup_entry, set_value}
+use Rattle.std.specs.Map.{lookup, lookup_entry}
 use Rattle.std.proofs.lemmas.Bool.{cases_Bool, false≢true}
 use Rattle.std.proofs.lemmas.Option.{none-some, same_Some}
 use Rattle.toml_span_lex.specs.declared.key.Key.{Key}
@@ -133,17 +133,6 @@ module _ (text : List ℕ) (ps : List SimpleKey) where
         let same : Some e.1 ≡ Some x = rw here at found in
         subst (λ (y : Box Branch). AreRight text ps (standing (box_value y))) (same_Some e.1 x same) (all_front Right (standing (box_value e.1)) (boxes_standing es) h.1)
     | inr off ↦ box_found test x es (rw off at found) (all_behind Right (standing (box_value e.1)) (boxes_standing es) h.1)
-  ]
-
-  pub box_set : (test : Key → Bool) (w : Box Branch) (es : List (Key × Box Branch)) → AreRight text ps (standing (box_value w)) → AreRight text ps (boxes_standing es) → AreRight text ps (boxes_standing (set_value test es w))
-  box_set test w [] inside h = tt
-  box_set test w (e ∷ es) inside h = elim (cases_Bool (test e.0)) [
-    | inl here ↦ rw here (h.0, all_append Right (standing (box_value w)) (boxes_standing es) inside (all_behind Right (standing (box_value e.1)) (boxes_standing es) h.1))
-    | inr off ↦ rw off (
-      h.0,
-      all_append Right (standing (box_value e.1)) (boxes_standing (set_value test es w)) (all_front Right (standing (box_value e.1)) (boxes_standing es) h.1)
-          (box_set test w es inside (all_behind Right (standing (box_value e.1)) (boxes_standing es) h.1)),
-    )
   ]
 
   pub box_insert : (k : Key) (w : Box Branch) (es : List (Key × Box Branch)) → IsNamedBy text ps k.name → AreRight text ps (standing (box_value w)) → AreRight text ps (boxes_standing es)

@@ -296,6 +296,11 @@ finished-ordered t left n none h ascend good =
     rw (inner_view-Table t) (members-ordered t.entries ascend
     (λ name e is. name-ordered _ _ _ e (finished _ _ _ _ name none h) (node-named n good name) (sound-ordered n good name) is))
 
+-- where there are none
+pub filled-none : (tables : List (Key × Box Branch)) (values : List (Key × Value)) → tables ≡ [] → Filled tables [] values values
+unfolding IsStrictlySortedBy
+filled-none tables values none = record { sorted = tt; stands = λ name. rw none refl }
+
 -- where all branches are finished
 pub filled-finishes : (tables : BTreeMap Key (Box Branch)) (values t : Table) (left : List (Key × Box Branch)) → left ≡ [] → Filled tables.entries left values.entries t.entries → NamesAscend t
     → Finishes tables values (Ok t)

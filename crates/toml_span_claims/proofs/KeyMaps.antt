@@ -3,7 +3,7 @@ use Rattle.std.proofs.Common.{◌≡◌, ℕ, false, cond, List, [], ◌∷◌, 
 use Rattle.std.specs.BTreeMap.{insert_entry}
 use Rattle.std.specs.Cmp.Lexicographic.{slice_cmp}
 use Rattle.std.specs.Cow.{cow_str_bytes}
-use Rattle.std.specs.Map.{lookup, lookup_entry, lookup_key, set_value}
+use Rattle.std.specs.Map.{lookup, lookup_entry, lookup_key}
 use Rattle.std.proofs.lemmas.Bool.{cases_Bool}
 use Rattle.std.proofs.lemmas.Option.{none-some}
 use Rattle.toml_span_lex.specs.declared.key.Key.{Key}
@@ -20,27 +20,6 @@ module _ {X : Type 0} where
   -- the values after w was put under the name k
   abbrev pub Puts : List ℕ → X → List (Key × X) → List (Key × X) → Type 0
   Puts k w es fs = (l : List ℕ) → lookup (is_named l) fs ≡ cond (same k l) (Some w) (lookup (is_named l) es)
-
-  pub puts-set_value : (k : List ℕ) (w x : X) (es : List (Key × X)) → lookup (is_named k) es ≡ Some x → Puts k w es (set_value (is_named k) es w)
-  puts-set_value k w x [] h l = absurd (none-some x h)
-  puts-set_value k w x (e ∷ es) h l =
-      elim (cases_Bool (is_named k e.0)) [
-        | inl here ↦ rw here (found l (same_name k (cow_str_bytes e.0.name) here))
-        | inr other ↦ rw other (elim (cases_Bool (same k l)) [
-          | inl at ↦
-              let apart : same l (cow_str_bytes e.0.name) ≡ false = rw (same_name k l at) at other in
-              rw (at, apart) (puts-set_value k w x es (rw other at h) l ∙ ap (λ b. cond b (Some w) (lookup (is_named l) es)) at)
-          | inr off ↦ rw off (ap (cond (is_named l e.0) (Some e.1)) (puts-set_value k w x es (rw other at h) l ∙ ap (λ b. cond b (Some w) (lookup (is_named l) es)) off))
-        ])
-      ]
-    where
-      found : (l : List ℕ) → k ≡ cow_str_bytes e.0.name → cond (is_named l e.0) (Some w) (lookup (is_named l) es) ≡ cond (same k l) (Some w) (cond (is_named l e.0) (Some e.1) (lookup (is_named l) es))
-      found l here =
-          rw (here, same-sym (cow_str_bytes e.0.name) l)
-          (elim (cases_Bool (is_named l e.0)) [
-            | inl a ↦ rw a
-            | inr a ↦ rw a
-          ])
 
   pub puts-insert : (key : Key) (w : X) (es : List (Key × X)) → Puts (cow_str_bytes key.name) w es (insert_entry key_cmp es key w)
   puts-insert key w [] l = ap (λ b. cond b (Some w) None) (same-sym l (cow_str_bytes key.name))

@@ -1,12 +1,10 @@
 -- One placing after another, and below a name.
-use Rattle.std.proofs.Common.{BTreeMap, MutBor, nat_cmp, rules, ◌≡◌, ℕ, Bool, true, false, List, [], ◌∷◌, Option, Some, None, option_map, Result, Ok, Err, cond, length, refl, sym, ap, ◌∙◌, ◌⊎◌, subst, inl, inr}
+use Rattle.std.proofs.Common.{rules, ◌≡◌, ℕ, Bool, true, false, List, [], ◌∷◌, Option, Some, None, option_map, Result, Ok, Err, cond, length, refl, sym, ap, ◌∙◌, ◌⊎◌, subst, inl, inr}
 use Rattle.std.specs.Box.{box_value}
-use Rattle.std.specs.BTreeMap.{insert_entry, get_by}
-use Rattle.std.specs.Cmp.Lexicographic.{slice_cmp}
+use Rattle.std.specs.BTreeMap.{insert_entry}
 use Rattle.std.specs.Cow.{cow_str_bytes}
 use Rattle.std.specs.Global.{Box}
-use Rattle.std.specs.Map.{lookup, set_value}
-use Rattle.std.specs.Option.{option_copied_mut}
+use Rattle.std.specs.Map.{lookup}
 use Rattle.std.specs.Result.{IsErrAnd}
 use Rattle.std.specs.Str.{bytes_eq}
 use Rattle.std.proofs.lemmas.Map.Text.{is_eq-slice_cmp}
@@ -35,7 +33,7 @@ use Rattle.toml_span_claims.specs.code.Placing.{Reaches, Places, Passes}
 use Rattle.toml_span_claims.specs.code.Relative.{under}
 use Rattle.toml_span_claims.specs.code.Tree.{is_named, marks, entries, child, closed, closed_in, closed_marks, closed_cell, or_closed, or_nothing, or_zero, item, cells, cell_at, counts, count_at, own_cell, is_entry_sort, IsFresh, IsNamed, IsTableOrArray, AreNamed, HoldsOrderedValues, NoArray, IsScope, IsChild, IsHeld, Sound, sound}
 use Rattle.toml_span_claims.proofs.Grafts.{fun_ext, told-followed, put_all-followed, told-under, put_all-under}
-use Rattle.toml_span_claims.proofs.KeyMaps.{Puts, puts-set_value, puts-insert}
+use Rattle.toml_span_claims.proofs.KeyMaps.{Puts, puts-insert}
 use Rattle.toml_span_claims.proofs.Nodes.{cells-child, cells-closed, counts-child, counts-missing, cells-fresh, counts-fresh, sound-fresh}
 
 -- ---- what is given
@@ -107,36 +105,13 @@ sets-put n b k w marks entries values puts = record {
       ∙ ap (option_map box_value) (puts name) ∙ child-put k name w (lookup (is_named name) (out-Branch n).tables.entries);
 }
 
--- written through what `get_mut` lent
-pub sets-found : (n : Branch) (b : Branch-F Branch) (k : List ℕ) (x w : Box Branch) → lookup (is_named k) (out-Branch n).tables.entries ≡ Some x
-    → b.marks.items ≡ marks n → b.entries.items ≡ entries n → b.values ≡ (out-Branch n).values
-    → b.tables.entries ≡ set_value (is_named k) (out-Branch n).tables.entries w → SetsChild k (box_value w) n (roll-Branch b)
-sets-found n b k x w found marks entries values written =
-    sets-put n b k w marks entries values (λ l. ap (lookup (is_named l)) written ∙ puts-set_value k w x (out-Branch n).tables.entries found l)
-
--- inserted
+-- put into the map, which may have the name
 pub sets-new : (n : Branch) (b : Branch-F Branch) (k : List ℕ) (name : Key) (w : Box Branch) → cow_str_bytes name.name ≡ k
     → b.marks.items ≡ marks n → b.entries.items ≡ entries n → b.values ≡ (out-Branch n).values
     → b.tables.entries ≡ insert_entry key_cmp (out-Branch n).tables.entries name w → SetsChild k (box_value w) n (roll-Branch b)
 sets-new n b k name w is marks entries values written =
     sets-put n b k w marks entries values
     (λ l. ap (lookup (is_named l)) written ∙ puts-insert name w (out-Branch n).tables.entries l ∙ ap (λ q. cond (same q l) (Some w) (lookup (is_named l) (out-Branch n).tables.entries)) is)
-
--- inserted in a box of its own
-pub sets-boxed : (n : Branch) (b : Branch-F Branch) (k : List ℕ) (name : Key) (box : Box Branch) (w : Branch) → cow_str_bytes name.name ≡ k → box_value box ≡ w
-    → b.marks.items ≡ marks n → b.entries.items ≡ entries n → b.values ≡ (out-Branch n).values
-    → b.tables.entries ≡ insert_entry key_cmp (out-Branch n).tables.entries name box → SetsChild k w n (roll-Branch b)
-sets-boxed n b k name box w is holds marks entries values written =
-    subst (λ w. SetsChild k w n (roll-Branch b)) holds (sets-new n b k name box is marks entries values written)
-
--- what `get_mut` finds
-pub found-box : (k : List ℕ) (m : BTreeMap Key (Box Branch)) (r : Option (MutBor (Box Branch))) (slot : MutBor (Box Branch)) → r ≡ Some slot
-    → option_copied_mut r ≡ get_by (λ x. slice_cmp nat_cmp k (cow_str_bytes x.name)) m → lookup (is_named k) m.entries ≡ Some slot.now
-found-box k m r slot is value = sym value ∙ ap option_copied_mut is
-
-pub missing-box : (k : List ℕ) (m : BTreeMap Key (Box Branch)) (r : Option (MutBor (Box Branch))) → r ≡ None
-    → option_copied_mut r ≡ get_by (λ x. slice_cmp nat_cmp k (cow_str_bytes x.name)) m → lookup (is_named k) m.entries ≡ None
-missing-box k m r is value = sym value ∙ ap option_copied_mut is
 
 cells-set : (n new w : Branch) (k : List ℕ) → SetsChild k w n new → cells new ≡ graft (key k) (cells n) (cells w)
 unfolding cell_at graft

@@ -101,6 +101,11 @@ pub fn into_table<'de>(
     // Where there are no branches, no memory is wanted.
     ensures bare { tables.entry.entries ≡ [] → IsOk result }
 {
+    if tables.is_empty() {
+        drop(tables);
+        in_order(&values);
+        return Ok(values);
+    }
     for (key, child) in tables {
         let (span, value) = into_value(Box::into_inner(child))?;
         let key = Key {

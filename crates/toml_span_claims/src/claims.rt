@@ -1,5 +1,5 @@
 //! What headers and assignments claim of a path, and which claims clash.
-ghost use Rattle.std.specs.Prelude.{◌≡◌, ⊤, ℕ, string_bytes, IfErr};
+ghost use Rattle.std.specs.Prelude.{◌≡◌, ⊤, ℕ, None, Some, string_bytes, IfOk, IfErr};
 ghost use Rattle.std.specs.List.{list_any};
 ghost use Rattle.std.specs.Cow.{cow_str_bytes};
 ghost use Rattle.toml_span_tree.specs.Error.{content_of};
@@ -72,7 +72,9 @@ fn blame_of(earlier: Sort, later: Sort) -> Option<Blame>
 {
     match (earlier, later) {
         (Sort::Passed, Sort::ArrayOfTables) => Some(Blame::RedefineAsArray),
-        (Sort::StandardTable, Sort::StandardTable | Sort::ArrayOfTables) => Some(Blame::DuplicateTable),
+        (Sort::StandardTable, Sort::StandardTable | Sort::ArrayOfTables) => Some(
+            Blame::DuplicateTable,
+        ),
         (Sort::ArrayOfTables, Sort::StandardTable) => Some(Blame::DuplicateTable),
         (Sort::Dotted, Sort::StandardTable | Sort::ArrayOfTables) => Some(Blame::DuplicateKey),
         (Sort::StandardTable | Sort::ArrayOfTables, Sort::Dotted) => Some(Blame::DuplicateKey),
@@ -178,28 +180,26 @@ impl<T: Drop> From<AllocFailed<T>> for Halt {
 /// on their sorts alone.
 pub type Marks = SmallVec<Mark, 1>;
 
-/// The clash of a claim with the earliest of those on its path.
-fn first_meeting(marks: &[Mark], mark: Mark) -> Option<Meeting>
-    ensures { result ≡ clashes.partner marks.now mark }
-{
-    for seen in marks {
-        if let Some(meeting) = meets(*seen, mark) {
-            return Some(meeting);
-        }
-    }
-    None
-}
-
 fn same_sort(a: Sort, b: Sort) -> bool
     ensures { result ≡ kept.same_sort a b }
 {
     a as u8 == b as u8
 }
 
-fn knows(marks: &[Mark], sort: Sort) -> bool
-    ensures { result ≡ list_any (λ seen. kept.same_sort seen.sort sort) marks.now }
+/// Whether a claim of its sort is among these, unless it clashes with one of them: then its clash with the earliest.
+fn knows(marks: &[Mark], mark: Mark) -> Result<bool, Meeting>
+    ensures known { IfOk result (λ known. (clashes.partner marks.now mark ≡ None)
+        × (known ≡ list_any (λ seen. kept.same_sort seen.sort mark.sort) marks.now)) }
+    ensures clash { IfErr result (λ meeting. clashes.partner marks.now mark ≡ Some meeting) }
 {
-    marks.iter().any(|seen| same_sort(seen.sort, sort))
+    let mut known = false;
+    for seen in marks {
+        if let Some(meeting) = meets(*seen, mark) {
+            return Err(meeting);
+        }
+        known = known || same_sort(seen.sort, mark.sort);
+    }
+    Ok(known)
 }
 
 /// Halts at a clash over a key.
@@ -217,9 +217,9 @@ pub fn admit(alloc: Global, marks: &[Mark], mark: Mark, key: &Key<'_>) -> Result
     ensures gives { Gives result (met marks.now mark (cow_str_bytes key.now.name)) (λ _. ⊤) }
     ensures placed { (n : ℕ) → IsMarkInside n mark → IfErr result (IsHaltInside n) }
 {
-    match first_meeting(marks, mark) {
-        Some(meeting) => Err(halted(alloc, meeting, key)),
-        None => Ok(()),
+    match knows(marks, mark) {
+        Ok(_) => Ok(()),
+        Err(meeting) => Err(halted(alloc, meeting, key)),
     }
 }
 
@@ -229,9 +229,12 @@ pub fn claim(alloc: Global, marks: &mut Marks, mark: Mark, key: &Key<'_>) -> Res
         (λ _. marks.new.items ≡ kept.remember marks.old.items mark) }
     ensures placed { (n : ℕ) → IsMarkInside n mark → IfErr result (IsHaltInside n) }
 {
-    admit(alloc, marks.as_slice(), mark, key)?;
-    if !knows(marks.as_slice(), mark.sort) {
-        marks.push(mark)?;
+    match knows(marks.as_slice(), mark) {
+        Ok(true) => Ok(()),
+        Ok(false) => {
+            marks.push(mark)?;
+            Ok(())
+        }
+        Err(meeting) => Err(halted(alloc, meeting, key)),
     }
-    Ok(())
 }

@@ -1,8 +1,8 @@
-use Rattle.std.proofs.Common.{map, BTreeMap, option_map, rules, refl, ap, ◌∙◌}
+use Rattle.std.proofs.Common.{map, BTreeMap, ◌≡◌, rules, refl, sym, ap, ◌∙◌, subst}
 use Rattle.std.specs.BTreeMap.{insert_entry}
-use Rattle.std.specs.Box.{box_value}
+use Rattle.std.specs.BTreeMap.Entry.{map_with_value}
 use Rattle.std.specs.Global.{Box}
-use Rattle.std.specs.Cow.{cow_str_bytes}
+use Rattle.std.specs.declared.collections.btree_map.Entry.{Entry}
 use Rattle.toml_span_lex.specs.declared.key.Key.{Key}
 use Rattle.toml_span_claims.specs.declared.branch.Branch.{Branch}
 use Rattle.toml_span_read.specs.Keys.{simple_key}
@@ -12,10 +12,13 @@ use Rattle.toml_span_claims.specs.declared.claims.Sort.TheVariants.{Dotted}
 use Rattle.toml_span_claims.specs.declared.branch.Branch.TheViews.{out-Branch}
 use Rattle.toml_span_claims.proofs.Claimed.{marked-roll}
 use Rattle.toml_span_assembly.proofs.DottedKeys.{passes-dotted, passes-dotted-err, pair-found, pair-new, pair-new-err, pair-beside}
-use Rattle.toml_span_claims.proofs.Placed.{err-of, out-roll, found-box, missing-box, sets-found, sets-boxed}
+use Rattle.toml_span_claims.proofs.Placed.{err-of, sets-new}
 use Rattle.toml_span_claims.proofs.PlaceLemmas.{pair_inside}
-use Rattle.toml_span_assembly.proofs.Borrowing.{front_from, keeps_found, keeps_marked, keeps_new, keeps_same}
+use Rattle.toml_span_assembly.proofs.Borrowing.{front_from, keeps_entered, keeps_marked, keeps_new, keeps_same}
 use Rattle.toml_span_assembly.proofs.InsideLemmas.{front_inside}
+use Rattle.toml_span_claims.specs.code.Tree.{IsFresh}
+use Rattle.toml_span_claims.specs.code.Borrowed.{standing}
+use Rattle.toml_span_assembly.proofs.Named.{looked}
 use Rattle.toml_span_assembly.proofs.scopes.+place_pair.Goals as goal
 
 pub pass_pair-returns-in_err-claim-clause-placed : goal.pass_pair-returns-in_err-claim-clause-placed
@@ -26,17 +29,6 @@ pass_pair-returns-clause-placed t c = λ n simple_key rest last value. c.place_p
 
 pub place_pair-returns-in_default-clause-placed : goal.place_pair-returns-in_default-clause-placed
 place_pair-returns-in_default-clause-placed t c = λ n parts last value. c.assign.ensures.placed n last value
-
-pub place_pair-returns-in_err-pass_pair-in-None-clause-placed : goal.place_pair-returns-in_err-pass_pair-in-None-clause-placed
-place_pair-returns-in_err-pass_pair-in-None-clause-placed t c = λ n parts last value.
-    let front = front_inside n c.args.inner.now c.part-item.result _ c.in-len1-up.len_at_least c.part-item.is parts in
-    let h = c.in_err-pass_pair-in-None.ensures.placed n front.0 front.1 last value in
-    search (rules)
-
-pub place_pair-returns-in-Some-clause-placed : goal.place_pair-returns-in-Some-clause-placed
-place_pair-returns-in-Some-clause-placed t c = λ n parts last value.
-    let front = front_inside n c.args.inner.now c.part-item.result _ c.in-len1-up.len_at_least c.part-item.is parts in
-    c.pass_child.ensures.placed n front.0 front.1 last value
 
 pub pass_pair-returns-in_err-claim-clause-gives : goal.pass_pair-returns-in_err-claim-clause-gives
 pass_pair-returns-in_err-claim-clause-gives t c = λ v value span.
@@ -49,47 +41,6 @@ pass_pair-returns-clause-gives t c = λ v value span.
     (c.pair_mark.ensures ∙ ap (pair_mark Dotted c.args.part.now.span) span) c.in_ok-claim.ensures.gives.0
     (marked-roll c.pair_mark.result c.args.node.now _ c.in_ok-claim.ensures.gives.1 refl refl refl) (c.place_pair.ensures.gives v value span)
 
-pub place_pair-returns-in_err-admit_beside_value-in-None-clause-gives : goal.place_pair-returns-in_err-admit_beside_value-in-None-clause-gives
-place_pair-returns-in_err-admit_beside_value-in-None-clause-gives t c = λ v value span.
-    let front = parts-first c.args.inner.now c.part-item.result _ c.in-len1-up.len_at_least c.part-item.is in
-    let missing = missing-box (cow_str_bytes c.part-item.result.name) (out-Branch c.args.node.now).tables c.get_mut.result c.in-None.is c.get_mut.ensures.value in
-    rw front
-    (pair-beside c.args.node.now _ (simple_key c.part-item.result) _ (simple_key c.args.last) v c.pair_mark.result c.from_residual.result c.in_err-admit_beside_value-in-None.field-0.0 _ _
-    (ap (option_map box_value) missing) (c.pair_mark.ensures ∙ ap (pair_mark Dotted c.part-item.result.span) span)
-    (err-of c.from_residual.result c.in_err-admit_beside_value-in-None.field-0.0 _ c.from_residual.ensures.1 (λ y p. p)) (rw out-roll at c.in_err-admit_beside_value-in-None.ensures.gives))
-
-pub place_pair-returns-in_err-pass_pair-in-None-clause-gives : goal.place_pair-returns-in_err-pass_pair-in-None-clause-gives
-place_pair-returns-in_err-pass_pair-in-None-clause-gives t c = λ v value span.
-    let front = parts-first c.args.inner.now c.part-item.result _ c.in-len1-up.len_at_least c.part-item.is in
-    let missing = missing-box (cow_str_bytes c.part-item.result.name) (out-Branch c.args.node.now).tables c.get_mut.result c.in-None.is c.get_mut.ensures.value in
-    rw front
-    (pair-new-err c.args.node.now _ c.new-child.result _ (simple_key c.part-item.result) _ (simple_key c.args.last) v c.pair_mark.result c.pass_pair.result c.from_residual-in_err-pass_pair-in-None.result c.in_err-pass_pair-in-None.field-0.0 _
-    (ap (option_map box_value) missing) (c.pair_mark.ensures ∙ ap (pair_mark Dotted c.part-item.result.span) span) (rw out-roll at c.in_ok-admit_beside_value-in-None.ensures.gives.0)
-    c.new-child.ensures.fresh c.in_err-pass_pair-in-None.was
-    (err-of c.from_residual-in_err-pass_pair-in-None.result c.in_err-pass_pair-in-None.field-0.0 _ c.from_residual-in_err-pass_pair-in-None.ensures.1 (λ y p. p)) (c.pass_pair.ensures.gives v value span))
-
-pub place_pair-returns-in-Some-clause-gives : goal.place_pair-returns-in-Some-clause-gives
-place_pair-returns-in-Some-clause-gives t c = λ v value span.
-    let front = parts-first c.args.inner.now c.part-item.result _ c.in-len1-up.len_at_least c.part-item.is in
-    let found = found-box (cow_str_bytes c.part-item.result.name) (out-Branch c.args.node.now).tables c.get_mut.result c.in-Some.child c.in-Some.is c.get_mut.ensures.value in
-    let box = c.pass_child.new.child in
-    rw front
-    (pair-found c.args.node.now _ c.in-Some.child.now.value box.value (simple_key c.part-item.result) _ (simple_key c.args.last) v c.pass_child.result
-    (ap (option_map box_value) found) (sets-found c.args.node.now _ (simple_key c.part-item.result).name c.in-Some.child.now box found refl refl refl (c.get_mut.follows.holds box).0) (c.pass_child.ensures.gives v value span))
-
-pub place_pair-returns-in_ok-insert-in-None-clause-gives : goal.place_pair-returns-in_ok-insert-in-None-clause-gives
-place_pair-returns-in_ok-insert-in-None-clause-gives t c = λ v value span.
-    let front = parts-first c.args.inner.now c.part-item.result _ c.in-len1-up.len_at_least c.part-item.is in
-    let missing = missing-box (cow_str_bytes c.part-item.result.name) (out-Branch c.args.node.now).tables c.get_mut.result c.in-None.is c.get_mut.ensures.value in
-    let box = c.in_ok-new-in-None.field-0 in
-    let name = c.in_ok-clone-in-None.field-0 in
-    let inserted = (rw out-roll at c.in_ok-insert-in-None.ensures.entries) ∙ ap (λ (m : BTreeMap Key (Box Branch)). insert_entry key_cmp m.entries name box) c.get_mut.follows.holds-at-none in
-    rw (front, out-roll)
-    (pair-new c.args.node.now _ c.new-child.result c.pass_pair.new.node (simple_key c.part-item.result) _ (simple_key c.args.last) v c.pair_mark.result
-    (ap (option_map box_value) missing) (c.pair_mark.ensures ∙ ap (pair_mark Dotted c.part-item.result.span) span) (rw out-roll at c.in_ok-admit_beside_value-in-None.ensures.gives.0)
-    c.new-child.ensures.fresh (sets-boxed c.args.node.now _ (simple_key c.part-item.result).name name box c.pass_pair.new.node c.in_ok-clone-in-None.ensures.name c.in_ok-new-in-None.ensures.ok refl refl refl inserted)
-    (c.in_ok-pass_pair-in-None.ensures.gives v value span))
-
 pub pass_pair-returns-clause-borrows : goal.pass_pair-returns-clause-borrows
 pass_pair-returns-clause-borrows t c = λ text ps simple_key rest last value.
     keeps_marked text ps c.args.node.now _ _ c.place_pair.result refl refl refl (c.place_pair.ensures.borrows text ps rest last value)
@@ -101,21 +52,98 @@ pass_child-returns-clause-borrows t c = λ text ps simple_key rest last value.
 pub place_pair-returns-in_default-clause-borrows : goal.place_pair-returns-in_default-clause-borrows
 place_pair-returns-in_default-clause-borrows t c = λ text ps parts last value. c.assign.ensures.borrows text ps last value
 
-pub place_pair-returns-in-Some-clause-borrows : goal.place_pair-returns-in-Some-clause-borrows
-place_pair-returns-in-Some-clause-borrows t c = λ text ps parts last value.
-    let front = front_from text ps c.args.inner.now c.part-item.result _ c.in-len1-up.len_at_least c.part-item.is parts in
-    let found = found-box (cow_str_bytes c.part-item.result.name) (out-Branch c.args.node.now).tables c.get_mut.result c.in-Some.child c.in-Some.is c.get_mut.ensures.value in
-    let box = c.pass_child.new.child in
-    keeps_found text ps c.args.node.now _ (simple_key c.part-item.result).name c.in-Some.child.now box c.pass_child.result found refl refl (c.get_mut.follows.holds box).0
-    (c.pass_child.ensures.borrows text ps front.0 front.1 last value)
+pub place_pair-returns-in_err-pass_child-in-Vacant-clause-placed : goal.place_pair-returns-in_err-pass_child-in-Vacant-clause-placed
+place_pair-returns-in_err-pass_child-in-Vacant-clause-placed t c = λ n parts last value.
+    let front = front_inside n c.args.inner.now c.part-item.result _ c.in-len1-up.len_at_least c.part-item.is parts in
+    let h = c.in_err-pass_child-in-Vacant.ensures.placed n front.0 front.1 last value in
+    search (rules)
 
-pub place_pair-returns-in_ok-insert-in-None-clause-borrows : goal.place_pair-returns-in_ok-insert-in-None-clause-borrows
-place_pair-returns-in_ok-insert-in-None-clause-borrows t c = λ text ps parts last value before.
+pub place_pair-returns-in-Occupied-clause-placed : goal.place_pair-returns-in-Occupied-clause-placed
+place_pair-returns-in-Occupied-clause-placed t c = λ n parts last value.
+    let front = front_inside n c.args.inner.now c.part-item.result _ c.in-len1-up.len_at_least c.part-item.is parts in
+    c.pass_child.ensures.placed n front.0 front.1 last value
+
+pub place_pair-returns-in_err-admit_beside_value-in-Vacant-clause-gives : goal.place_pair-returns-in_err-admit_beside_value-in-Vacant-clause-gives
+place_pair-returns-in_err-admit_beside_value-in-Vacant-clause-gives t c = λ v value span.
+    let n = out-Branch c.args.node.now in
+    let front = parts-first c.args.inner.now c.part-item.result _ c.in-len1-up.len_at_least c.part-item.is in
+    let missing = looked (simple_key c.part-item.result).name c.in_ok-clone.field-0 n.tables _ c.in_ok-clone.ensures.name (rw c.in-Vacant.is at c.in_ok-entry.ensures.found) in
+    let q = c.from_residual-in_err-admit_beside_value-in-Vacant in
+    let e = c.in_err-admit_beside_value-in-Vacant.field-0.0 in
+    rw front
+    (pair-beside c.args.node.now _ (simple_key c.part-item.result) _ (simple_key c.args.last) v c.pair_mark-mark.result q.result e _ _ missing (c.pair_mark-mark.ensures ∙ ap (pair_mark Dotted c.part-item.result.span) span)
+    (err-of q.result e _ q.ensures.1 (λ y p. p)) c.in_err-admit_beside_value-in-Vacant.ensures.gives)
+
+pub place_pair-returns-in_err-pass_child-in-Vacant-clause-gives : goal.place_pair-returns-in_err-pass_child-in-Vacant-clause-gives
+place_pair-returns-in_err-pass_child-in-Vacant-clause-gives t c = λ v value span.
+    let n = out-Branch c.args.node.now in
+    let front = parts-first c.args.inner.now c.part-item.result _ c.in-len1-up.len_at_least c.part-item.is in
+    let missing = looked (simple_key c.part-item.result).name c.in_ok-clone.field-0 n.tables _ c.in_ok-clone.ensures.name (rw c.in-Vacant.is at c.in_ok-entry.ensures.found) in
+    let q = c.from_residual-in_err-pass_child-in-Vacant in
+    let e = c.in_err-pass_child-in-Vacant.field-0.0 in
+    rw front
+    (pair-new-err c.args.node.now _ c.in_ok-child-in-Vacant.child.value _ (simple_key c.part-item.result) _ (simple_key c.args.last) v c.pair_mark-mark.result c.pass_child-in-Vacant.result q.result e _ missing (c.pair_mark-mark.ensures ∙ ap (pair_mark Dotted c.part-item.result.span) span)
+    c.in_ok-admit_beside_value-in-Vacant.ensures.gives.0 (subst IsFresh (sym c.in_ok-child-in-Vacant.ensures.ok) c.new.ensures.fresh) c.in_err-pass_child-in-Vacant.was (err-of q.result e _ q.ensures.1 (λ y p. p)) (c.pass_child-in-Vacant.ensures.gives v value span))
+
+pub place_pair-returns-in-Occupied-clause-gives : goal.place_pair-returns-in-Occupied-clause-gives
+place_pair-returns-in-Occupied-clause-gives t c = λ v value span.
+    let n = out-Branch c.args.node.now in
+    let front = parts-first c.args.inner.now c.part-item.result _ c.in-len1-up.len_at_least c.part-item.is in
+    let clone = c.in_ok-clone in
+    let stands = rw c.in-Occupied.is at c.in_ok-entry.ensures.value in
+    let found = looked (simple_key c.part-item.result).name clone.field-0 n.tables _ clone.ensures.name (sym stands ∙ c.into_mut.ensures.value) in
+    let update = rw c.in-Occupied.is at c.in_ok-entry.ensures.update in
+    let same = rw c.in-Occupied.is at c.in_ok-entry.ensures.same_map in
+    let box = c.pass_child.new.child in
+    let places = λ (tables : BTreeMap Key (Box Branch)) (is : tables ≡ map_with_value (Entry.Occupied c.in-Occupied.entry) box).
+    pair-found c.args.node.now _ c.into_mut.result.now.value box.value (simple_key c.part-item.result) _ (simple_key c.args.last) v c.pass_child.result found
+    (sets-new c.args.node.now (record { marks = n.marks; values = n.values; tables = tables; entries = n.entries }) (simple_key c.part-item.result).name clone.field-0 box clone.ensures.name refl refl refl
+    (ap (λ (m : BTreeMap Key (Box Branch)). m.entries) is ∙ update.1 box)) (c.pass_child.ensures.gives v value span) in
+    rw front (places _ (search (rules, same)))
+
+pub place_pair-returns-in_ok-pass_child-in-Vacant-clause-gives : goal.place_pair-returns-in_ok-pass_child-in-Vacant-clause-gives
+place_pair-returns-in_ok-pass_child-in-Vacant-clause-gives t c = λ v value span.
+    let n = out-Branch c.args.node.now in
+    let front = parts-first c.args.inner.now c.part-item.result _ c.in-len1-up.len_at_least c.part-item.is in
+    let missing = looked (simple_key c.part-item.result).name c.in_ok-clone.field-0 n.tables _ c.in_ok-clone.ensures.name (rw c.in-Vacant.is at c.in_ok-entry.ensures.found) in
+    let clone = c.in_ok-clone in
+    let update = rw c.in-Vacant.is at c.in_ok-entry.ensures.update in
+    let same = rw c.in-Vacant.is at c.in_ok-entry.ensures.same_map in
+    let box = c.pass_child-in-Vacant.new.child in
+    let written = update.1 c.insert.result.now ∙ ap (insert_entry key_cmp n.tables.entries clone.field-0) c.insert.ensures.value in
+    let places = λ (tables : BTreeMap Key (Box Branch)) (is : tables ≡ map_with_value (Entry.Vacant c.in-Vacant.entry) c.insert.result.now).
+    pair-new c.args.node.now _ c.in_ok-child-in-Vacant.child.value box.value (simple_key c.part-item.result) _ (simple_key c.args.last) v c.pair_mark-mark.result missing (c.pair_mark-mark.ensures ∙ ap (pair_mark Dotted c.part-item.result.span) span)
+    c.in_ok-admit_beside_value-in-Vacant.ensures.gives.0 (subst IsFresh (sym c.in_ok-child-in-Vacant.ensures.ok) c.new.ensures.fresh)
+    (sets-new c.args.node.now (record { marks = n.marks; values = n.values; tables = tables; entries = n.entries }) (simple_key c.part-item.result).name clone.field-0 box clone.ensures.name refl refl refl
+    (ap (λ (m : BTreeMap Key (Box Branch)). m.entries) is ∙ written)) (c.in_ok-pass_child-in-Vacant.ensures.gives v value span) in
+    rw front (places _ (search (rules, same)))
+
+pub place_pair-returns-in-Occupied-clause-borrows : goal.place_pair-returns-in-Occupied-clause-borrows
+place_pair-returns-in-Occupied-clause-borrows t c = λ text ps parts last value.
+    let n = out-Branch c.args.node.now in
     let front = front_from text ps c.args.inner.now c.part-item.result _ c.in-len1-up.len_at_least c.part-item.is parts in
-    let box = c.in_ok-new-in-None.field-0 in
-    let name = c.in_ok-clone-in-None.field-0 in
-    let clone = c.in_ok-clone-in-None.ensures in
-    let inserted = (rw out-roll at c.in_ok-insert-in-None.ensures.entries) ∙ ap (λ (m : BTreeMap Key (Box Branch)). insert_entry key_cmp m.entries name box) c.get_mut.follows.holds-at-none in
-    rw out-roll
-    (keeps_new text ps c.args.node.now _ c.part-item.result name c.new-child.result c.pass_pair.new.node box c.new-child.ensures.bare clone.name clone.borrowed clone.owned c.in_ok-new-in-None.ensures.ok refl refl inserted front.0
-    (c.in_ok-pass_pair-in-None.ensures.borrows text ps front.0 front.1 last value) before)
+    let clone = c.in_ok-clone in
+    let stands = rw c.in-Occupied.is at c.in_ok-entry.ensures.value in
+    let update = rw c.in-Occupied.is at c.in_ok-entry.ensures.update in
+    let same = rw c.in-Occupied.is at c.in_ok-entry.ensures.same_map in
+    let box = c.pass_child.new.child in
+    let keeps = λ (tables : BTreeMap Key (Box Branch)) (is : tables ≡ map_with_value (Entry.Occupied c.in-Occupied.entry) box).
+    keeps_entered text ps c.args.node.now (record { marks = n.marks; values = n.values; tables = tables; entries = n.entries }) c.part-item.result clone.field-0 c.into_mut.result.now box c.pass_child.result
+    clone.ensures.name clone.ensures.borrowed clone.ensures.owned (sym stands ∙ c.into_mut.ensures.value) refl refl (ap (λ (m : BTreeMap Key (Box Branch)). m.entries) is ∙ update.1 box) front.0
+    (c.pass_child.ensures.borrows text ps front.0 front.1 last value) in
+    keeps _ (search (rules, same))
+
+pub place_pair-returns-in_ok-pass_child-in-Vacant-clause-borrows : goal.place_pair-returns-in_ok-pass_child-in-Vacant-clause-borrows
+place_pair-returns-in_ok-pass_child-in-Vacant-clause-borrows t c = λ text ps parts last value before.
+    let n = out-Branch c.args.node.now in
+    let front = front_from text ps c.args.inner.now c.part-item.result _ c.in-len1-up.len_at_least c.part-item.is parts in
+    let clone = c.in_ok-clone in
+    let update = rw c.in-Vacant.is at c.in_ok-entry.ensures.update in
+    let same = rw c.in-Vacant.is at c.in_ok-entry.ensures.same_map in
+    let box = c.pass_child-in-Vacant.new.child in
+    let written = update.1 c.insert.result.now ∙ ap (insert_entry key_cmp n.tables.entries clone.field-0) c.insert.ensures.value in
+    let keeps = λ (tables : BTreeMap Key (Box Branch)) (is : tables ≡ map_with_value (Entry.Vacant c.in-Vacant.entry) c.insert.result.now).
+    keeps_new text ps c.args.node.now (record { marks = n.marks; values = n.values; tables = tables; entries = n.entries }) c.part-item.result clone.field-0 c.in_ok-child-in-Vacant.child.value box.value box
+    (ap standing c.in_ok-child-in-Vacant.ensures.ok ∙ c.new.ensures.bare) clone.ensures.name clone.ensures.borrowed clone.ensures.owned refl refl refl (ap (λ (m : BTreeMap Key (Box Branch)). m.entries) is ∙ written)
+    front.0 (c.in_ok-pass_child-in-Vacant.ensures.borrows text ps front.0 front.1 last value) before in
+    keeps _ (search (rules, same))

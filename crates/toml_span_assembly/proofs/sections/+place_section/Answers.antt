@@ -1,10 +1,9 @@
-use Rattle.std.proofs.Common.{BTreeMap, arith, ◌≡◌, ◌-◌, ◌<◌, length, vec_len, ◌∙◌, [], ap, map, option_map, refl, rules, sym}
-use Rattle.std.proofs.lemmas.Grind.{common_steps}
+use Rattle.std.proofs.Common.{BTreeMap, arith, ◌≡◌, ◌-◌, ◌<◌, length, vec_len, ◌∙◌, [], ap, map, refl, rules, subst, sym}
 use Rattle.std.specs.BTreeMap.{insert_entry}
+use Rattle.std.specs.BTreeMap.Entry.{map_with_value}
 use Rattle.std.proofs.lemmas.Bool.{false≢true}
-use Rattle.std.specs.Box.{box_value}
-use Rattle.std.specs.Cow.{cow_str_bytes}
 use Rattle.std.specs.Global.{Box}
+use Rattle.std.specs.declared.collections.btree_map.Entry.{Entry}
 use Rattle.toml_span_lex.specs.declared.key.Key.{Key}
 use Rattle.toml_span_read.proofs.EarlierTree.{key_cmp}
 use Rattle.toml_span_read.specs.Data.{key_value}
@@ -13,14 +12,16 @@ use Rattle.toml_span_claims.specs.declared.claims.Sort.TheVariants.{Passed}
 use Rattle.toml_span_claims.specs.declared.branch.Branch.{Branch}
 use Rattle.toml_span_claims.specs.declared.branch.Branch.TheViews.{out-Branch}
 use Rattle.toml_span_claims.specs.Claims.{key_value_claims, header_mark}
-use Rattle.toml_span_claims.specs.code.Tree.{entries}
+use Rattle.toml_span_claims.specs.code.Borrowed.{standing}
+use Rattle.toml_span_claims.specs.code.Tree.{entries, IsFresh}
 use Rattle.toml_span_claims.proofs.Claimed.{marked-roll}
 use Rattle.toml_span_claims.proofs.Placed.{roll-out}
 use Rattle.toml_span_assembly.proofs.Headers.{descended, descended-err, no-latest, parts-below, parts-front, parts-none, parts-some, pass-again, pass-end, pass-lent, pass-vec, section-beside, section-end, section-found, section-free, section-new, section-new-err}
-use Rattle.toml_span_assembly.proofs.Borrowing.{front_from, keeps_entry, keeps_found, keeps_marked, keeps_new, keeps_same}
+use Rattle.toml_span_assembly.proofs.Borrowing.{front_from, keeps_entered, keeps_entry, keeps_marked, keeps_new, keeps_same}
 use Rattle.toml_span_assembly.proofs.InsideLemmas.{front_inside}
 use Rattle.toml_span_claims.proofs.PlaceLemmas.{header_inside}
-use Rattle.toml_span_claims.proofs.Placed.{err-of, found-box, missing-box, out-roll, sets-found, sets-new}
+use Rattle.toml_span_claims.proofs.Placed.{err-of, sets-new}
+use Rattle.toml_span_assembly.proofs.Named.{looked}
 use Rattle.toml_span_assembly.proofs.sections.+place_section.Goals as goal
 
 pub descend-returns-in_err-claim-clause-placed : goal.descend-returns-in_err-claim-clause-placed
@@ -35,20 +36,20 @@ pass_header-returns-then-is_empty-clause-placed t c = λ n simple_key rest line 
 pub place_section-returns-in_default-clause-placed : goal.place_section-returns-in_default-clause-placed
 place_section-returns-in_default-clause-placed t c = λ n parts line pairs. c.place_all.ensures.placed n pairs
 
-pub place_section-returns-in_err-admit_beside_value-in-None-clause-placed : goal.place_section-returns-in_err-admit_beside_value-in-None-clause-placed
-place_section-returns-in_err-admit_beside_value-in-None-clause-placed t c = λ n parts line pairs.
+pub place_section-returns-in_err-admit_beside_value-in-Vacant-clause-placed : goal.place_section-returns-in_err-admit_beside_value-in-Vacant-clause-placed
+place_section-returns-in_err-admit_beside_value-in-Vacant-clause-placed t c = λ n parts line pairs.
     let front = front_inside n c.args.parts.now c.part-item.result _ c.in-len1-up.len_at_least c.part-item.is parts in
-    let placed = c.in_err-admit_beside_value-in-None.ensures.placed n (header_inside n _ _ _ _ _ c.header_mark-mark.ensures front.0 line) in
+    let placed = c.in_err-admit_beside_value-in-Vacant.ensures.placed n (header_inside n _ _ _ _ _ c.header_mark-mark.ensures front.0 line) in
     search (rules)
 
-pub place_section-returns-in_err-pass_header-in-None-clause-placed : goal.place_section-returns-in_err-pass_header-in-None-clause-placed
-place_section-returns-in_err-pass_header-in-None-clause-placed t c = λ n parts line pairs.
+pub place_section-returns-in_err-pass_child-in-Vacant-clause-placed : goal.place_section-returns-in_err-pass_child-in-Vacant-clause-placed
+place_section-returns-in_err-pass_child-in-Vacant-clause-placed t c = λ n parts line pairs.
     let front = front_inside n c.args.parts.now c.part-item.result _ c.in-len1-up.len_at_least c.part-item.is parts in
-    let placed = c.in_err-pass_header-in-None.ensures.placed n front.0 front.1 line pairs in
+    let placed = c.in_err-pass_child-in-Vacant.ensures.placed n front.0 front.1 line pairs in
     search (rules)
 
-pub place_section-returns-in-Some-clause-placed : goal.place_section-returns-in-Some-clause-placed
-place_section-returns-in-Some-clause-placed t c = λ n parts line pairs.
+pub place_section-returns-in-Occupied-clause-placed : goal.place_section-returns-in-Occupied-clause-placed
+place_section-returns-in-Occupied-clause-placed t c = λ n parts line pairs.
     let front = front_inside n c.args.parts.now c.part-item.result _ c.in-len1-up.len_at_least c.part-item.is parts in
     c.pass_child.ensures.placed n front.0 front.1 line pairs
 
@@ -83,53 +84,60 @@ place_section-returns-in_default-clause-gives t c =
     section-end c.args.head (key_value_claims (map key_value c.args.pairs.items) []) (map simple_key c.args.parts.now) c.args.node.now c.place_all.new.node c.place_all.result
     (parts-below c.args.parts.now c.in_default.len_below) c.place_all.ensures.gives
 
-pub place_section-returns-in_err-admit_beside_value-in-None-clause-gives : goal.place_section-returns-in_err-admit_beside_value-in-None-clause-gives
-place_section-returns-in_err-admit_beside_value-in-None-clause-gives t c =
-    let k = cow_str_bytes c.part-item.result.name in
+pub place_section-returns-in_err-admit_beside_value-in-Vacant-clause-gives : goal.place_section-returns-in_err-admit_beside_value-in-Vacant-clause-gives
+place_section-returns-in_err-admit_beside_value-in-Vacant-clause-gives t c =
+    let n = out-Branch c.args.node.now in
     let front = parts-front c.args.parts.now c.part-item.result _ c.in-len1-up.len_at_least c.part-item.is in
-    let missing = missing-box k (out-Branch c.args.node.now).tables c.get_mut.result c.in-None.is c.get_mut.ensures.value in
-    let clash = rw (c.header_mark-mark.ensures, c.sort_of.ensures, out-roll) at c.in_err-admit_beside_value-in-None.ensures.gives in
-    rw front
-    (section-beside c.args.head (simple_key c.part-item.result) (key_value_claims (map key_value c.args.pairs.items) []) _ c.args.node.now _ c.from_residual.result c.in_err-admit_beside_value-in-None.field-0.0 _ _
-    (ap (option_map box_value) missing) (err-of c.from_residual.result c.in_err-admit_beside_value-in-None.field-0.0 _ c.from_residual.ensures.1 (λ y p. p)) clash)
+    let missing = looked (simple_key c.part-item.result).name c.in_ok-clone.field-0 n.tables _ c.in_ok-clone.ensures.name (rw c.in-Vacant.is at c.in_ok-entry.ensures.found) in
+    let clash = rw (c.header_mark-mark.ensures, c.sort_of.ensures) at c.in_err-admit_beside_value-in-Vacant.ensures.gives in
+    let q = c.from_residual-in_err-admit_beside_value-in-Vacant in
+    let e = c.in_err-admit_beside_value-in-Vacant.field-0.0 in
+    rw front (section-beside c.args.head (simple_key c.part-item.result) (key_value_claims (map key_value c.args.pairs.items) []) _ c.args.node.now _ q.result e _ _ missing (err-of q.result e _ q.ensures.1 (λ y p. p)) clash)
 
-pub place_section-returns-in_err-pass_header-in-None-clause-gives : goal.place_section-returns-in_err-pass_header-in-None-clause-gives
-place_section-returns-in_err-pass_header-in-None-clause-gives t c =
-    let k = cow_str_bytes c.part-item.result.name in
+pub place_section-returns-in_err-pass_child-in-Vacant-clause-gives : goal.place_section-returns-in_err-pass_child-in-Vacant-clause-gives
+place_section-returns-in_err-pass_child-in-Vacant-clause-gives t c =
+    let n = out-Branch c.args.node.now in
     let front = parts-front c.args.parts.now c.part-item.result _ c.in-len1-up.len_at_least c.part-item.is in
-    let missing = missing-box k (out-Branch c.args.node.now).tables c.get_mut.result c.in-None.is c.get_mut.ensures.value in
-    let free = rw (c.header_mark-mark.ensures, c.sort_of.ensures, out-roll) at c.in_ok-admit_beside_value-in-None.ensures.gives in
-    let q = c.from_residual-in_err-pass_header-in-None.result in
-    let e = c.in_err-pass_header-in-None.field-0.0 in
+    let missing = looked (simple_key c.part-item.result).name c.in_ok-clone.field-0 n.tables _ c.in_ok-clone.ensures.name (rw c.in-Vacant.is at c.in_ok-entry.ensures.found) in
+    let free = rw (c.header_mark-mark.ensures, c.sort_of.ensures) at c.in_ok-admit_beside_value-in-Vacant.ensures.gives in
+    let q = c.from_residual-in_err-pass_child-in-Vacant in
+    let e = c.in_err-pass_child-in-Vacant.field-0.0 in
     rw front
-    (section-new-err c.args.head (simple_key c.part-item.result) (key_value_claims (map key_value c.args.pairs.items) []) _ c.args.node.now _ c.new-child.result c.pass_header.new.node c.pass_header.result q e _
-    (ap (option_map box_value) missing) (section-free c.args.head (simple_key c.part-item.result) (key_value_claims (map key_value c.args.pairs.items) []) _ c.args.node.now free.0) c.new-child.ensures.fresh
-    c.in_err-pass_header-in-None.was (err-of q e _ c.from_residual-in_err-pass_header-in-None.ensures.1 (λ y p. p)) c.pass_header.ensures.gives)
+    (section-new-err c.args.head (simple_key c.part-item.result) (key_value_claims (map key_value c.args.pairs.items) []) _ c.args.node.now _ c.in_ok-child-in-Vacant.child.value c.pass_child-in-Vacant.new.child.value c.pass_child-in-Vacant.result q.result e _ missing
+    (section-free c.args.head (simple_key c.part-item.result) (key_value_claims (map key_value c.args.pairs.items) []) _ c.args.node.now free.0) (subst IsFresh (sym c.in_ok-child-in-Vacant.ensures.ok) c.new.ensures.fresh) c.in_err-pass_child-in-Vacant.was (err-of q.result e _ q.ensures.1 (λ y p. p)) c.pass_child-in-Vacant.ensures.gives)
 
-pub place_section-returns-in-Some-clause-gives : goal.place_section-returns-in-Some-clause-gives
-place_section-returns-in-Some-clause-gives t c =
-    let k = cow_str_bytes c.part-item.result.name in
+pub place_section-returns-in-Occupied-clause-gives : goal.place_section-returns-in-Occupied-clause-gives
+place_section-returns-in-Occupied-clause-gives t c =
+    let n = out-Branch c.args.node.now in
     let front = parts-front c.args.parts.now c.part-item.result _ c.in-len1-up.len_at_least c.part-item.is in
-    let found = found-box k (out-Branch c.args.node.now).tables c.get_mut.result c.in-Some.child c.in-Some.is c.get_mut.ensures.value in
-    let n = c.args.node.now in
-    rw front
-    (section-found c.args.head (simple_key c.part-item.result) (key_value_claims (map key_value c.args.pairs.items) []) _ n _ (box_value c.in-Some.child.now) (box_value c.pass_child.new.child) c.pass_child.result
-    (ap (option_map box_value) found) (sets-found n _ k _ c.pass_child.new.child found refl refl refl (c.get_mut.follows.holds c.pass_child.new.child).0) c.pass_child.ensures.gives)
+    let clone = c.in_ok-clone in
+    let stands = rw c.in-Occupied.is at c.in_ok-entry.ensures.value in
+    let found = looked (simple_key c.part-item.result).name clone.field-0 n.tables _ clone.ensures.name (sym stands ∙ c.into_mut.ensures.value) in
+    let update = rw c.in-Occupied.is at c.in_ok-entry.ensures.update in
+    let same = rw c.in-Occupied.is at c.in_ok-entry.ensures.same_map in
+    let box = c.pass_child.new.child in
+    let places = λ (tables : BTreeMap Key (Box Branch)) (is : tables ≡ map_with_value (Entry.Occupied c.in-Occupied.entry) box).
+    section-found c.args.head (simple_key c.part-item.result) (key_value_claims (map key_value c.args.pairs.items) []) _ c.args.node.now _ c.into_mut.result.now.value box.value c.pass_child.result found
+    (sets-new c.args.node.now (record { marks = n.marks; values = n.values; tables = tables; entries = n.entries }) (simple_key c.part-item.result).name clone.field-0 box clone.ensures.name refl refl refl
+    (ap (λ (m : BTreeMap Key (Box Branch)). m.entries) is ∙ update.1 box)) c.pass_child.ensures.gives in
+    rw front (places _ (search (rules, same)))
 
-pub place_section-returns-in_ok-insert-in-None-clause-gives : goal.place_section-returns-in_ok-insert-in-None-clause-gives
-place_section-returns-in_ok-insert-in-None-clause-gives t c =
-    let k = cow_str_bytes c.part-item.result.name in
+pub place_section-returns-in_ok-pass_child-in-Vacant-clause-gives : goal.place_section-returns-in_ok-pass_child-in-Vacant-clause-gives
+place_section-returns-in_ok-pass_child-in-Vacant-clause-gives t c =
+    let n = out-Branch c.args.node.now in
     let front = parts-front c.args.parts.now c.part-item.result _ c.in-len1-up.len_at_least c.part-item.is in
-    let missing = missing-box k (out-Branch c.args.node.now).tables c.get_mut.result c.in-None.is c.get_mut.ensures.value in
-    let free = rw (c.header_mark-mark.ensures, c.sort_of.ensures, out-roll) at c.in_ok-admit_beside_value-in-None.ensures.gives in
-    let name = c.in_ok-clone-in-None.field-0 in
-    let same : cow_str_bytes name.name ≡ k = grind (arith, common_steps) in
-    let w = c.in_ok-new-in-None.field-0 in
-    let written = (rw out-roll at c.in_ok-insert-in-None.ensures.entries) ∙ ap (λ (m : BTreeMap Key (Box Branch)). insert_entry key_cmp m.entries name w) c.get_mut.follows.holds-at-none in
-    rw (front, out-roll)
-    (section-new c.args.head (simple_key c.part-item.result) (key_value_claims (map key_value c.args.pairs.items) []) _ c.args.node.now _ c.new-child.result c.pass_header.new.node (box_value w)
-    (ap (option_map box_value) missing) (section-free c.args.head (simple_key c.part-item.result) (key_value_claims (map key_value c.args.pairs.items) []) _ c.args.node.now free.0) c.new-child.ensures.fresh
-    c.in_ok-new-in-None.ensures.ok (sets-new c.args.node.now _ k name w same refl refl refl written) c.in_ok-pass_header-in-None.ensures.gives)
+    let missing = looked (simple_key c.part-item.result).name c.in_ok-clone.field-0 n.tables _ c.in_ok-clone.ensures.name (rw c.in-Vacant.is at c.in_ok-entry.ensures.found) in
+    let free = rw (c.header_mark-mark.ensures, c.sort_of.ensures) at c.in_ok-admit_beside_value-in-Vacant.ensures.gives in
+    let clone = c.in_ok-clone in
+    let update = rw c.in-Vacant.is at c.in_ok-entry.ensures.update in
+    let same = rw c.in-Vacant.is at c.in_ok-entry.ensures.same_map in
+    let box = c.pass_child-in-Vacant.new.child in
+    let written = update.1 c.insert.result.now ∙ ap (insert_entry key_cmp n.tables.entries clone.field-0) c.insert.ensures.value in
+    let places = λ (tables : BTreeMap Key (Box Branch)) (is : tables ≡ map_with_value (Entry.Vacant c.in-Vacant.entry) c.insert.result.now).
+    section-new c.args.head (simple_key c.part-item.result) (key_value_claims (map key_value c.args.pairs.items) []) _ c.args.node.now _ c.in_ok-child-in-Vacant.child.value box.value missing (section-free c.args.head (simple_key c.part-item.result) (key_value_claims (map key_value c.args.pairs.items) []) _ c.args.node.now free.0) (subst IsFresh (sym c.in_ok-child-in-Vacant.ensures.ok) c.new.ensures.fresh)
+    (sets-new c.args.node.now (record { marks = n.marks; values = n.values; tables = tables; entries = n.entries }) (simple_key c.part-item.result).name clone.field-0 box clone.ensures.name refl refl refl
+    (ap (λ (m : BTreeMap Key (Box Branch)). m.entries) is ∙ written)) c.in_ok-pass_child-in-Vacant.ensures.gives in
+    rw front (places _ (search (rules, same)))
 
 pub pass_child-returns-clause-gives : goal.pass_child-returns-clause-gives
 pass_child-returns-clause-gives t c =
@@ -163,22 +171,32 @@ pass_child-returns-clause-borrows t c = λ text ps simple_key rest pairs.
 pub place_section-returns-in_default-clause-borrows : goal.place_section-returns-in_default-clause-borrows
 place_section-returns-in_default-clause-borrows t c = λ text ps parts pairs. c.place_all.ensures.borrows text ps pairs
 
-pub place_section-returns-in-Some-clause-borrows : goal.place_section-returns-in-Some-clause-borrows
-place_section-returns-in-Some-clause-borrows t c = λ text ps parts pairs.
-    let k = cow_str_bytes c.part-item.result.name in
+pub place_section-returns-in-Occupied-clause-borrows : goal.place_section-returns-in-Occupied-clause-borrows
+place_section-returns-in-Occupied-clause-borrows t c = λ text ps parts pairs.
+    let n = out-Branch c.args.node.now in
     let front = front_from text ps c.args.parts.now c.part-item.result _ c.in-len1-up.len_at_least c.part-item.is parts in
-    let found = found-box k (out-Branch c.args.node.now).tables c.get_mut.result c.in-Some.child c.in-Some.is c.get_mut.ensures.value in
+    let clone = c.in_ok-clone in
+    let stands = rw c.in-Occupied.is at c.in_ok-entry.ensures.value in
+    let update = rw c.in-Occupied.is at c.in_ok-entry.ensures.update in
+    let same = rw c.in-Occupied.is at c.in_ok-entry.ensures.same_map in
     let box = c.pass_child.new.child in
-    keeps_found text ps c.args.node.now _ k c.in-Some.child.now box c.pass_child.result found refl refl (c.get_mut.follows.holds box).0
-    (c.pass_child.ensures.borrows text ps front.0 front.1 pairs)
+    let keeps = λ (tables : BTreeMap Key (Box Branch)) (is : tables ≡ map_with_value (Entry.Occupied c.in-Occupied.entry) box).
+    keeps_entered text ps c.args.node.now (record { marks = n.marks; values = n.values; tables = tables; entries = n.entries }) c.part-item.result clone.field-0 c.into_mut.result.now box c.pass_child.result
+    clone.ensures.name clone.ensures.borrowed clone.ensures.owned (sym stands ∙ c.into_mut.ensures.value) refl refl (ap (λ (m : BTreeMap Key (Box Branch)). m.entries) is ∙ update.1 box) front.0
+    (c.pass_child.ensures.borrows text ps front.0 front.1 pairs) in
+    keeps _ (search (rules, same))
 
-pub place_section-returns-in_ok-insert-in-None-clause-borrows : goal.place_section-returns-in_ok-insert-in-None-clause-borrows
-place_section-returns-in_ok-insert-in-None-clause-borrows t c = λ text ps parts pairs before.
+pub place_section-returns-in_ok-pass_child-in-Vacant-clause-borrows : goal.place_section-returns-in_ok-pass_child-in-Vacant-clause-borrows
+place_section-returns-in_ok-pass_child-in-Vacant-clause-borrows t c = λ text ps parts pairs before.
+    let n = out-Branch c.args.node.now in
     let front = front_from text ps c.args.parts.now c.part-item.result _ c.in-len1-up.len_at_least c.part-item.is parts in
-    let box = c.in_ok-new-in-None.field-0 in
-    let name = c.in_ok-clone-in-None.field-0 in
-    let clone = c.in_ok-clone-in-None.ensures in
-    let inserted = (rw out-roll at c.in_ok-insert-in-None.ensures.entries) ∙ ap (λ (m : BTreeMap Key (Box Branch)). insert_entry key_cmp m.entries name box) c.get_mut.follows.holds-at-none in
-    rw out-roll
-    (keeps_new text ps c.args.node.now _ c.part-item.result name c.new-child.result c.pass_header.new.node box c.new-child.ensures.bare clone.name clone.borrowed clone.owned c.in_ok-new-in-None.ensures.ok refl refl inserted front.0
-    (c.in_ok-pass_header-in-None.ensures.borrows text ps front.0 front.1 pairs) before)
+    let clone = c.in_ok-clone in
+    let update = rw c.in-Vacant.is at c.in_ok-entry.ensures.update in
+    let same = rw c.in-Vacant.is at c.in_ok-entry.ensures.same_map in
+    let box = c.pass_child-in-Vacant.new.child in
+    let written = update.1 c.insert.result.now ∙ ap (insert_entry key_cmp n.tables.entries clone.field-0) c.insert.ensures.value in
+    let keeps = λ (tables : BTreeMap Key (Box Branch)) (is : tables ≡ map_with_value (Entry.Vacant c.in-Vacant.entry) c.insert.result.now).
+    keeps_new text ps c.args.node.now (record { marks = n.marks; values = n.values; tables = tables; entries = n.entries }) c.part-item.result clone.field-0 c.in_ok-child-in-Vacant.child.value box.value box
+    (ap standing c.in_ok-child-in-Vacant.ensures.ok ∙ c.new.ensures.bare) clone.ensures.name clone.ensures.borrowed clone.ensures.owned refl refl refl (ap (λ (m : BTreeMap Key (Box Branch)). m.entries) is ∙ written)
+    front.0 (c.in_ok-pass_child-in-Vacant.ensures.borrows text ps front.0 front.1 pairs) before in
+    keeps _ (search (rules, same))

@@ -1,6 +1,7 @@
-use Rattle.std.proofs.Common.{refl}
+use Rattle.std.proofs.Common.{[], refl}
+use Rattle.std.proofs.lemmas.List.{nil_from_length}
 use Rattle.toml_span_claims.proofs.BorrowLemmas.{box_first, entry_first, element_push, insert_title, of_node, made_table, made_array}
-use Rattle.toml_span_claims.proofs.Finishing.{no_entries, some_entries, never-empty, entries-more, filled-more, filled-finishes, became-table, became-array}
+use Rattle.toml_span_claims.proofs.Finishing.{no_entries, some_entries, never-empty, entries-more, filled-more, filled-none, filled-finishes, became-table, became-array}
 use Rattle.toml_span_claims.proofs.branch.+finish.Goals as goal
 
 pub into_array-loop-entry-preserved : goal.into_array-loop-entry-preserved
@@ -28,7 +29,11 @@ into_table-loop-key-preserved t c = record {
 }
 
 pub into_table-returns-clause-finishes : goal.into_table-returns-clause-finishes
-into_table-returns-clause-finishes t c = filled-finishes _ _ _ c.loop-key.key-iterator c.in-None.ensures.steps.0 c.loop-key.invariant.filled c.in_order.ensures
+into_table-returns-clause-finishes t c = filled-finishes _ _ _ c.loop-key.key-iterator c.in-None.ensures.steps.0 c.loop-key.invariant.filled c.in_order-2.ensures
+
+pub into_table-returns-then-is_empty-clause-finishes : goal.into_table-returns-then-is_empty-clause-finishes
+into_table-returns-then-is_empty-clause-finishes t c =
+    filled-finishes _ _ _ [] refl (filled-none _ _ (nil_from_length _ (c.is_empty.ensures.0 c.if-is_empty.true))) c.in_order.ensures
 
 pub into_table-returns-clause-borrows : goal.into_table-returns-clause-borrows
 into_table-returns-clause-borrows t c = λ text ps tables values. (c.loop-key.invariant.borrows text ps tables values).1

@@ -1,5 +1,6 @@
-use Rattle.std.proofs.Common.{rules}
+use Rattle.std.proofs.Common.{refl}
+use Rattle.toml_span_claims.proofs.PlaceLemmas.{halt_inside}
 use Rattle.toml_span_claims.proofs.claims.claim.Goals as goal
 
-pub returns-in_err-admit-clause-placed : goal.returns-in_err-admit-clause-placed
-returns-in_err-admit-clause-placed c = λ n inside. let h = c.in_err-admit.ensures.placed n inside in search (rules)
+pub returns-in-Err-clause-placed : goal.returns-in-Err-clause-placed
+returns-in-Err-clause-placed c = λ n inside. halt_inside n c.as_slice.result.now c.args.mark _ _ _ _ (rw c.in-Err.is at c.knows.ensures.clash) refl c.halted.ensures inside
