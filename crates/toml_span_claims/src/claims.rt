@@ -72,7 +72,9 @@ fn blame_of(earlier: Sort, later: Sort) -> Option<Blame>
 {
     match (earlier, later) {
         (Sort::Passed, Sort::ArrayOfTables) => Some(Blame::RedefineAsArray),
-        (Sort::StandardTable, Sort::StandardTable | Sort::ArrayOfTables) => Some(Blame::DuplicateTable),
+        (Sort::StandardTable, Sort::StandardTable | Sort::ArrayOfTables) => Some(
+            Blame::DuplicateTable,
+        ),
         (Sort::ArrayOfTables, Sort::StandardTable) => Some(Blame::DuplicateTable),
         (Sort::Dotted, Sort::StandardTable | Sort::ArrayOfTables) => Some(Blame::DuplicateKey),
         (Sort::StandardTable | Sort::ArrayOfTables, Sort::Dotted) => Some(Blame::DuplicateKey),
