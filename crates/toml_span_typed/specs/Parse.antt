@@ -26,6 +26,6 @@ Parses gives output value (Ok parsed) =
 Parses gives output value (Err (stop.Fault error)) = MatchOption (text_in (inner_of value))
     (content_of error ≡ wrong_kind (codes "a string") value)
     (λ text. (refusal : _) × gives text (Err refusal)
-        × TellsRefusal (output refusal) (span_of value) (content_of error))
+    × TellsRefusal (output refusal) (span_of value) (content_of error))
 Parses gives output value (Err (stop.Memory error)) =
     (text : List ℕ) × (text_in (inner_of value) ≡ Some text) × ((refusal : _) × gives text (Err refusal))
