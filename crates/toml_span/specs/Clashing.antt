@@ -19,9 +19,8 @@ IsPair earlier no_claims c d = ⊥
 IsPair earlier (claimed x cs) c d = ((d ≡ x) × IsIn c earlier × DoClash c d) ⊎ IsPair (earlier ++ (x ∷ [])) cs c d
 IsPair earlier (scope inner cs) c d = IsPair [] inner c d ⊎ IsPair earlier cs c d
 
--- The two clash. The later one starts before every other claim that clashes with an earlier one of its scope, and
--- the earlier
--- one before every other claim with which the later one clashes.
+-- The two clash. The later one starts before every other claim that clashes with an earlier one of its scope, and the
+-- earlier one before every other claim with which the later one clashes.
 pub record IsFirstPair (earlier : List Claim) (cs : Claims) (c d : Claim) : Type 0 where
   pub pair : IsPair earlier cs c d
   pub first : (e f : Claim) → IsPair earlier cs e f → (f ≡ d) ⊎ (claim_start d < claim_start f)

@@ -31,7 +31,7 @@ use Rattle.toml_span_claims.specs.declared.claims.Sort.TheVariants.{Assigned}
 use Rattle.toml_span_claims.specs.declared.branch.Branch.{Branch}
 use Rattle.toml_span_claims.specs.declared.branch.Branch.TheOpen.{Branch-F}
 use Rattle.toml_span_claims.specs.declared.branch.Branch.TheViews.{roll-Branch, out-Branch}
-use Rattle.toml_span_claims.specs.Borrowed.{string as string_standing, Held, held, key_standing, value_standing, IsKeyOf, IsNamedBy, IsRight, AreRight, keys_of}
+use Rattle.toml_span_claims.specs.Borrowed.{string as string_standing, Held, held, key_standing, value_standing, IsKeyOf, IsNamedBy, IsBorrowedRight, AreBorrowedRight, keys_of}
 use Rattle.toml_span_claims.specs.code.Borrowed.{inner_held, standing, entries_of, array_standing, table_standing, IsFrom, AreFrom, Keeps}
 use Rattle.toml_span_read.specs.Grammar.{SpellsDocument}
 use Rattle.toml_span_read.specs.Data.{block}
@@ -66,7 +66,7 @@ pub all_from : (text : List ℕ) (ws : List Written) → AreRightRead text ws �
 all_from text ws h = from_more text (keys_of ws) ws (λ p q. q) h
 
 pub tree_borrows : {E : Type 0} (found : List Section) (text : List ℕ) (limit : ℕ) (r : Result Value E) → SpellsDocument (map block found) text limit
-    → IfOk r (λ root. AreRight text (keys_of (sections_written found)) (value_standing root)) → IfOk r (IsBorrowedTree text limit)
+    → IfOk r (λ root. AreBorrowedRight text (keys_of (sections_written found)) (value_standing root)) → IfOk r (IsBorrowedTree text limit)
 tree_borrows found text limit (Ok root) spells h = (found, spells, h)
 tree_borrows found text limit (Err e) spells h = tt
 
@@ -107,7 +107,7 @@ module _ (text : List ℕ) (ps : List SimpleKey) where
   pub keys_again : (old new : List Key) → new ≡ old → AreFrom text ps (keys_written old) → AreFrom text ps (keys_written new)
   keys_again old new is h = rw is h
 
-  pub from_key : (key : Key) → IsFrom text ps (key_written key) → (b : Bool) → IsRight text ps (key_standing b key)
+  pub from_key : (key : Key) → IsFrom text ps (key_written key) → (b : Bool) → IsBorrowedRight text ps (key_standing b key)
   from_key key h true = h
   from_key key h false = (key.span, h.1, h.0)
 
@@ -121,7 +121,7 @@ module _ (text : List ℕ) (ps : List SimpleKey) where
 
   -- ---- nodes
 
-  pub remarked : (n : Branch) (b : Branch-F Branch) → b.values ≡ (out-Branch n).values → b.tables ≡ (out-Branch n).tables → b.entries.items ≡ entries n → AreRight text ps (standing n) → AreRight text ps (standing (roll-Branch b))
+  pub remarked : (n : Branch) (b : Branch-F Branch) → b.values ≡ (out-Branch n).values → b.tables ≡ (out-Branch n).tables → b.entries.items ≡ entries n → AreBorrowedRight text ps (standing n) → AreBorrowedRight text ps (standing (roll-Branch b))
   remarked n b values tables items h =
       let inside = of_node text ps n h in
       node_of text ps b (rw values inside.0) (rw tables inside.1) (rw items inside.2)
@@ -140,7 +140,7 @@ module _ (text : List ℕ) (ps : List SimpleKey) where
       → IsFrom text ps (key_written k) → Keeps text ps (box_value x) (box_value w) r → Keeps text ps n (roll-Branch b) r
   keeps_entered n b k c x w r same forth back found items values inserted key keep h =
       let inside = of_node text ps n h in
-      ok_map r (AreRight text ps (standing (box_value w))) (AreRight text ps (standing (roll-Branch b)))
+      ok_map r (AreBorrowedRight text ps (standing (box_value w))) (AreBorrowedRight text ps (standing (roll-Branch b)))
       (λ made. node_of text ps b (rw values inside.0)
       (rw inserted (box_insert text ps c w (out-Branch n).tables.entries (clone_named k c same forth back key) made inside.1)) (rw items inside.2))
       (keep (box_found text ps (is_named (cow_str_bytes c.name)) x (out-Branch n).tables.entries found inside.1))
@@ -148,16 +148,16 @@ module _ (text : List ℕ) (ps : List SimpleKey) where
   pub keeps_new : (n : Branch) (b : Branch-F Branch) (k c : Key) (x w : Branch) (box : Box Branch) → standing x ≡ []
       → cow_str_bytes c.name ≡ cow_str_bytes k.name → (IsBorrowedStr k.name → IsBorrowedStr c.name) → (IsBorrowedStr c.name → IsBorrowedStr k.name) → box_value box ≡ w
       → b.entries.items ≡ entries n → b.values ≡ (out-Branch n).values → b.tables.entries ≡ insert_entry key_cmp (out-Branch n).tables.entries c box
-      → IsFrom text ps (key_written k) → Keeps text ps x w (Ok tt) → AreRight text ps (standing n) → AreRight text ps (standing (roll-Branch b))
+      → IsFrom text ps (key_written k) → Keeps text ps x w (Ok tt) → AreBorrowedRight text ps (standing n) → AreBorrowedRight text ps (standing (roll-Branch b))
   keeps_new n b k c x w box bare same forth back holds items values inserted key keep h =
       let inside = of_node text ps n h in
-      let made : AreRight text ps (standing w) = keep (rw bare tt) in
+      let made : AreBorrowedRight text ps (standing w) = keep (rw bare tt) in
       node_of text ps b (rw values inside.0)
       (rw inserted (box_insert text ps c box (out-Branch n).tables.entries (clone_named k c same forth back key) (rw holds made) inside.1)) (rw items inside.2)
 
   pub keeps_value : (n : Branch) (b : Branch-F Branch) (k : Key) (v : Value) → lookup_entry (is_named (cow_str_bytes k.name)) (out-Branch n).values.entries ≡ None
       → b.tables ≡ (out-Branch n).tables → b.entries.items ≡ entries n → b.values.entries ≡ insert_entry key_cmp (out-Branch n).values.entries k v
-      → IsFrom text ps (key_written k) → AreRight text ps (value_standing v) → AreRight text ps (standing n) → AreRight text ps (standing (roll-Branch b))
+      → IsFrom text ps (key_written k) → AreBorrowedRight text ps (value_standing v) → AreBorrowedRight text ps (standing n) → AreBorrowedRight text ps (standing (roll-Branch b))
   keeps_value n b k v free tables items inserted key right h =
       let inside = of_node text ps n h in
       node_of text ps b (rw inserted (insert_new text ps k v (out-Branch n).values.entries free (from_key k key) right inside.0)) (rw tables inside.1) (rw items inside.2)
@@ -165,39 +165,39 @@ module _ (text : List ℕ) (ps : List SimpleKey) where
   -- ---- entries
 
   abbrev Right : List Branch → Type 0
-  Right ns = AreRight text ps (entries_of ns)
+  Right ns = AreBorrowedRight text ps (entries_of ns)
 
-  entry_at : (m : ℕ) (ns : List Branch) (x : Branch) → m < length ns → x ≡ get_or ns m x → Right ns → AreRight text ps (standing x)
+  entry_at : (m : ℕ) (ns : List Branch) (x : Branch) → m < length ns → x ≡ get_or ns m x → Right ns → AreBorrowedRight text ps (standing x)
   entry_at m [] x within is h = absurd (omega arith)
-  entry_at zero (n ∷ ns) x within is h = subst (λ y. AreRight text ps (standing y)) (sym is) (all_front (IsRight text ps) (standing n) (entries_of ns) h)
-  entry_at (suc m) (n ∷ ns) x within is h = entry_at m ns x (omega arith) is (all_behind (IsRight text ps) (standing n) (entries_of ns) h)
+  entry_at zero (n ∷ ns) x within is h = subst (λ y. AreBorrowedRight text ps (standing y)) (sym is) (all_front (IsBorrowedRight text ps) (standing n) (entries_of ns) h)
+  entry_at (suc m) (n ∷ ns) x within is h = entry_at m ns x (omega arith) is (all_behind (IsBorrowedRight text ps) (standing n) (entries_of ns) h)
 
-  entries_set : (m : ℕ) (ns : List Branch) (w : Branch) → AreRight text ps (standing w) → Right ns → Right (set ns m w)
+  entries_set : (m : ℕ) (ns : List Branch) (w : Branch) → AreBorrowedRight text ps (standing w) → Right ns → Right (set ns m w)
   entries_set m [] w right h = h
-  entries_set zero (n ∷ ns) w right h = all_append (IsRight text ps) (standing w) (entries_of ns) right (all_behind (IsRight text ps) (standing n) (entries_of ns) h)
+  entries_set zero (n ∷ ns) w right h = all_append (IsBorrowedRight text ps) (standing w) (entries_of ns) right (all_behind (IsBorrowedRight text ps) (standing n) (entries_of ns) h)
   entries_set (suc m) (n ∷ ns) w right h =
-      all_append (IsRight text ps) (standing n) (entries_of (set ns m w)) (all_front (IsRight text ps) (standing n) (entries_of ns) h)
-      (entries_set m ns w right (all_behind (IsRight text ps) (standing n) (entries_of ns) h))
+      all_append (IsBorrowedRight text ps) (standing n) (entries_of (set ns m w)) (all_front (IsBorrowedRight text ps) (standing n) (entries_of ns) h)
+      (entries_set m ns w right (all_behind (IsBorrowedRight text ps) (standing n) (entries_of ns) h))
 
-  entries_push : (ns : List Branch) (w : Branch) → AreRight text ps (standing w) → Right ns → Right (ns ++ (w ∷ []))
-  entries_push [] w right h = all_append (IsRight text ps) (standing w) [] right tt
+  entries_push : (ns : List Branch) (w : Branch) → AreBorrowedRight text ps (standing w) → Right ns → Right (ns ++ (w ∷ []))
+  entries_push [] w right h = all_append (IsBorrowedRight text ps) (standing w) [] right tt
   entries_push (n ∷ ns) w right h =
-      all_append (IsRight text ps) (standing n) (entries_of (ns ++ (w ∷ []))) (all_front (IsRight text ps) (standing n) (entries_of ns) h)
-      (entries_push ns w right (all_behind (IsRight text ps) (standing n) (entries_of ns) h))
+      all_append (IsBorrowedRight text ps) (standing n) (entries_of (ns ++ (w ∷ []))) (all_front (IsBorrowedRight text ps) (standing n) (entries_of ns) h)
+      (entries_push ns w right (all_behind (IsBorrowedRight text ps) (standing n) (entries_of ns) h))
 
   pub keeps_entry : (n : Branch) (b : Branch-F Branch) (m : ℕ) (x w : Branch) (r : Result (Unit {0}) Halt) → b.values ≡ (out-Branch n).values → b.tables ≡ (out-Branch n).tables
       → b.entries.items ≡ set (entries n) m w → m < length (entries n) → x ≡ get_or (entries n) m x → Keeps text ps x w r → Keeps text ps n (roll-Branch b) r
   keeps_entry n b m x w r values tables items within is keep h =
       let inside = of_node text ps n h in
-      ok_map r (AreRight text ps (standing w)) (AreRight text ps (standing (roll-Branch b)))
+      ok_map r (AreBorrowedRight text ps (standing w)) (AreBorrowedRight text ps (standing (roll-Branch b)))
       (λ made. node_of text ps b (rw values inside.0) (rw tables inside.1) (rw items (entries_set m (entries n) w made inside.2)))
       (keep (entry_at m (entries n) x within is inside.2))
 
   pub keeps_pushed : (n : Branch) (b : Branch-F Branch) (x w : Branch) → standing x ≡ [] → b.values ≡ (out-Branch n).values → b.tables ≡ (out-Branch n).tables → b.entries.items ≡ entries n ++ (w ∷ [])
-      → Keeps text ps x w (Ok tt) → AreRight text ps (standing n) → AreRight text ps (standing (roll-Branch b))
+      → Keeps text ps x w (Ok tt) → AreBorrowedRight text ps (standing n) → AreBorrowedRight text ps (standing (roll-Branch b))
   keeps_pushed n b x w bare values tables items keep h =
       let inside = of_node text ps n h in
-      let made : AreRight text ps (standing w) = keep (rw bare tt) in
+      let made : AreBorrowedRight text ps (standing w) = keep (rw bare tt) in
       node_of text ps b (rw values inside.0) (rw tables inside.1) (rw items (entries_push (entries n) w made inside.2))
 
   -- ---- values
@@ -208,30 +208,30 @@ module _ (text : List ℕ) (ps : List SimpleKey) where
   held_by : (x : Value) (i inner : ValueInner) (span : Span) → (x.value ≡ Some i) × (x.span ≡ span) → i ≡ inner → held x ≡ inner_held inner span
   held_by x i inner span kept is = held_is x ∙ rw (kept.0, kept.1, is) refl
 
-  from_held : (x : Value) (h : Held) → held x ≡ h → AreRight text ps h.1 → AreRight text ps (value_standing x)
-  from_held x h is right = subst (λ (y : Held). AreRight text ps y.1) (sym is) right
+  from_held : (x : Value) (h : Held) → held x ≡ h → AreBorrowedRight text ps h.1 → AreBorrowedRight text ps (value_standing x)
+  from_held x h is right = subst (λ (y : Held). AreBorrowedRight text ps y.1) (sym is) right
 
   pub string_from : (v : Val) (x : Value) (i : ValueInner) (s : CowStr Global) → v.kind ≡ kinds.String s → i ≡ inners.String s → (x.value ≡ Some i) × (x.span ≡ v.span)
-      → AreFrom text ps (written v) → AreRight text ps (value_standing x)
+      → AreFrom text ps (written v) → AreBorrowedRight text ps (value_standing x)
   string_from v x i s kind is kept h =
       let read : kind_written (kinds.String s) v.span ≡ string_written s v.span ∷ [] = search (rules, read_lemmas) in
       let right = rw read at (kind_from v (kinds.String s) kind h) in
       let made : inner_held (inners.String s) v.span ≡ (true, string_standing s v.span ∷ []) = search (rules, tree_lemmas) in
       from_held x (true, string_standing s v.span ∷ []) (held_by x i (inners.String s) v.span kept is ∙ made) (right.0, tt)
 
-  plain_right : (x : Value) (i inner : ValueInner) (span : Span) → (x.value ≡ Some i) × (x.span ≡ span) → i ≡ inner → inner_held inner span ≡ (true, []) → AreRight text ps (value_standing x)
+  plain_right : (x : Value) (i inner : ValueInner) (span : Span) → (x.value ≡ Some i) × (x.span ≡ span) → i ≡ inner → inner_held inner span ≡ (true, []) → AreBorrowedRight text ps (value_standing x)
   plain_right x i inner span kept is made = from_held x (true, []) (held_by x i inner span kept is ∙ made) tt
 
-  pub integer_right : (x : Value) (i : ValueInner) (n : ℤ) (span : Span) → (x.value ≡ Some i) × (x.span ≡ span) → i ≡ inners.Integer n → AreRight text ps (value_standing x)
+  pub integer_right : (x : Value) (i : ValueInner) (n : ℤ) (span : Span) → (x.value ≡ Some i) × (x.span ≡ span) → i ≡ inners.Integer n → AreBorrowedRight text ps (value_standing x)
   integer_right x i n span kept is = plain_right x i (inners.Integer n) span kept is (search (rules, tree_lemmas))
 
-  pub float_right : (x : Value) (i : ValueInner) (f : FloatText) (span : Span) → (x.value ≡ Some i) × (x.span ≡ span) → i ≡ inners.Float f → AreRight text ps (value_standing x)
+  pub float_right : (x : Value) (i : ValueInner) (f : FloatText) (span : Span) → (x.value ≡ Some i) × (x.span ≡ span) → i ≡ inners.Float f → AreBorrowedRight text ps (value_standing x)
   float_right x i f span kept is = plain_right x i (inners.Float f) span kept is (search (rules, tree_lemmas))
 
-  pub boolean_right : (x : Value) (i : ValueInner) (b : Bool) (span : Span) → (x.value ≡ Some i) × (x.span ≡ span) → i ≡ inners.Boolean b → AreRight text ps (value_standing x)
+  pub boolean_right : (x : Value) (i : ValueInner) (b : Bool) (span : Span) → (x.value ≡ Some i) × (x.span ≡ span) → i ≡ inners.Boolean b → AreBorrowedRight text ps (value_standing x)
   boolean_right x i b span kept is = plain_right x i (inners.Boolean b) span kept is (search (rules, tree_lemmas))
 
-  pub datetime_right : (x : Value) (i : ValueInner) (d : DateText) (span : Span) → (x.value ≡ Some i) × (x.span ≡ span) → i ≡ inners.Datetime d → AreRight text ps (value_standing x)
+  pub datetime_right : (x : Value) (i : ValueInner) (d : DateText) (span : Span) → (x.value ≡ Some i) × (x.span ≡ span) → i ≡ inners.Datetime d → AreBorrowedRight text ps (value_standing x)
   datetime_right x i d span kept is = plain_right x i (inners.Datetime d) span kept is (search (rules, tree_lemmas))
 
   pub array_from : (v : Val) (vs : Vec Val Global) → v.kind ≡ kinds.Array vs → AreFrom text ps (written v) → AreFrom text ps (joined (map written vs.items))
@@ -244,8 +244,8 @@ module _ (text : List ℕ) (ps : List SimpleKey) where
       let read : kind_written (kinds.Inline found) v.span ≡ assignments_written found.items = search (rules, read_lemmas) in
       rw read at (kind_from v (kinds.Inline found) kind h)
 
-  pub array_right : (x : Value) (i : ValueInner) (a : Vec Value Global) (span : Span) → (x.value ≡ Some i) × (x.span ≡ span) → i ≡ inners.Array a → AreRight text ps (array_standing a.items) → AreRight text ps (value_standing x)
+  pub array_right : (x : Value) (i : ValueInner) (a : Vec Value Global) (span : Span) → (x.value ≡ Some i) × (x.span ≡ span) → i ≡ inners.Array a → AreBorrowedRight text ps (array_standing a.items) → AreBorrowedRight text ps (value_standing x)
   array_right x i a span kept is h = (made_array text ps x a span (kept.0 ∙ ap (λ i. Some i) is, kept.1) h).1
 
-  pub table_right : (x : Value) (i : ValueInner) (t : BTreeMap Key Value) (span : Span) → (x.value ≡ Some i) × (x.span ≡ span) → i ≡ inners.Table t → AreRight text ps (table_standing t.entries) → AreRight text ps (value_standing x)
+  pub table_right : (x : Value) (i : ValueInner) (t : BTreeMap Key Value) (span : Span) → (x.value ≡ Some i) × (x.span ≡ span) → i ≡ inners.Table t → AreBorrowedRight text ps (table_standing t.entries) → AreBorrowedRight text ps (value_standing x)
   table_right x i t span kept is h = (made_table text ps x t span (kept.0 ∙ ap (λ i. Some i) is, kept.1) h).1

@@ -25,7 +25,7 @@ use Rattle.toml_span_read.proofs.MemoryLemmas.{Begun, begun_by_lines}
 use Rattle.toml_span_read.proofs.StepLemmas.{first_keeps}
 use Rattle.toml_span_read.proofs.LineLemmas.{StuckFrom, WholeSections, sections_begin, sections_end, sections_more}
 use Rattle.toml_span_claims.specs.code.Borrowed.{AreFrom, IsFrom, standing}
-use Rattle.toml_span_claims.specs.Borrowed.{AreRight}
+use Rattle.toml_span_claims.specs.Borrowed.{AreBorrowedRight}
 use Rattle.toml_span_claims.specs.declared.claims.Clash.{Clash}
 use Rattle.toml_span_claims.specs.declared.claims.Halt.{Halt}
 use Rattle.toml_span_claims.specs.declared.claims.Halt.TheVariants as halts
@@ -58,8 +58,8 @@ grows-clash bs b root new None halt c none is headed grows placed = λ rest are.
     subst (λ all. TellsFirst [] (claims all) (clash_told c)) (sym (append_assoc bs (b ∷ []) rest))
     (assembles-err (bs ++ (b ∷ rest)) (b ∷ rest) rest 0 b root new (Err (halts.Clash c)) (halts.Clash c) refl (grows (b ∷ rest) (headed.0, are)) refl (rw is at placed))
 
-pub right-more : (text : List ℕ) (ps : List SimpleKey) (root new : Branch) (o : Option Clash) → is_some o ≡ false → IfNone o (AreRight text ps (standing root)) → (AreRight text ps (standing root) → AreRight text ps (standing new))
-    → IfNone o (AreRight text ps (standing new))
+pub right-more : (text : List ℕ) (ps : List SimpleKey) (root new : Branch) (o : Option Clash) → is_some o ≡ false → IfNone o (AreBorrowedRight text ps (standing root)) → (AreBorrowedRight text ps (standing root) → AreBorrowedRight text ps (standing new))
+    → IfNone o (AreBorrowedRight text ps (standing new))
 right-more text ps root new None none right keeps = keeps right
 right-more text ps root new (Some c) none right keeps = tt
 

@@ -15,7 +15,7 @@ use Rattle.toml_span_read.specs.Data.{KeyValue, Block, block}
 use Rattle.toml_span_read.specs.Gaps.{MaximalGap}
 use Rattle.toml_span_read.specs.Keys.{SimpleKey, SpellsKey}
 use Rattle.toml_span_read.specs.Grammar.{first_block, OpensHeader, SpellsDocument, SpellsKeyValues, SpellsSection, SpellsSections}
-use Rattle.toml_span_read.specs.Stuck.{HoldsForm, KeepsForm}
+use Rattle.toml_span_read.specs.Stuck.{HoldsForm, OnlyFormsTakeMemory}
 use Rattle.toml_span_read.proofs.InsideLemmas.{ascend_forward}
 use Rattle.toml_span_read.proofs.KeyOrder.{dotted_ascend}
 
@@ -47,13 +47,13 @@ no-blocks (s ∷ ss) none = cc
 
 -- a tree that needs no memory where there are no sections
 pub keeps-placed : (ss : List Section) (text : List ℕ) (limit : ℕ) (r : Result Value (Stop Error)) → SpellsDocument (map block ss) text limit → (ss ≡ [] → IsOk r)
-    → (start : ℕ) × FirstPlace text start × KeepsForm text start r
+    → (start : ℕ) × FirstPlace text start × OnlyFormsTakeMemory text start r
 keeps-placed ss text limit (Ok root) h bare = (h.start, h.begins, tt)
 keeps-placed ss text limit (Err (stops.Fault error)) h bare = (h.start, h.begins, tt)
 keeps-placed ss text limit (Err (stops.Memory e)) h bare =
     (h.start, h.begins, sections-hold h.first h.rest text limit h.start h.lines.0 h.end h.lines.1 h.lines.2 h.sections (λ none. false≢true (bare (no-blocks ss (h.all ∙ none)))))
 
 -- want of memory is handed on
-pub keeps-on : (text : List ℕ) (stop : Stop Fault) (e : AllocError) → stop ≡ stops.Memory e → ((start : ℕ) × FirstPlace text start × KeepsForm {A = Grown} text start (Err stop))
-    → (start : ℕ) × FirstPlace text start × KeepsForm {A = Value} {E = Error} text start (Err (stops.Memory e))
+pub keeps-on : (text : List ℕ) (stop : Stop Fault) (e : AllocError) → stop ≡ stops.Memory e → ((start : ℕ) × FirstPlace text start × OnlyFormsTakeMemory {A = Grown} text start (Err stop))
+    → (start : ℕ) × FirstPlace text start × OnlyFormsTakeMemory {A = Value} {E = Error} text start (Err (stops.Memory e))
 keeps-on text stop e is h = rw is at h

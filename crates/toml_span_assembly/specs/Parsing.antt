@@ -18,14 +18,14 @@ use Rattle.toml_span_read.specs.Stuck.{StuckDocument}
 use Rattle.toml_span_claims.specs.Claims.{claims}
 use Rattle.toml_span_claims.specs.Clashes.{Resolves, NamedClash, TellsFirst, content_of_clash}
 use Rattle.toml_span_claims.specs.Flat.{flat, Shows}
-use Rattle.toml_span_claims.specs.Borrowed.{AreRight, keys_of, value_standing}
+use Rattle.toml_span_claims.specs.Borrowed.{AreBorrowedRight, keys_of, value_standing}
 
 -- ---- the tree
 
 -- No two claims of these sections clash, and the tree shows their flat document, which is so many bytes long.
-pub record IsTreeOf (blocks : List Block) (length : ℕ) (root : Value) : Type 0 where
+pub record IsTreeOf (blocks : List Block) (size : ℕ) (root : Value) : Type 0 where
   pub resolves : Resolves [] (claims blocks)
-  pub shows : Shows (view root) (flat length (claims blocks))
+  pub shows : Shows (view root) (flat size (claims blocks))
 
 -- The text spells sections within the limit, and this is their tree.
 abbrev pub IsTree : List ℕ → ℕ → Value → Type 0
@@ -33,7 +33,7 @@ IsTree text limit root = (blocks : List Block) × SpellsDocument blocks text lim
 
 -- a table that spans the whole document, which is so many bytes long
 abbrev pub IsRoot : ℕ → Value → Type 0
-IsRoot length root = (members : Members) × (view root ≡ node (table members) (record { start = 0; end = length }))
+IsRoot size root = (members : Members) × (view root ≡ node (table members) (record { start = 0; end = size }))
 
 -- Each string value is borrowed exactly where it equals the text at its span, and so is the key of each scalar. For the
 -- name of a table or of an array there is some key of that name, such that the name is borrowed exactly where it equals
@@ -41,7 +41,7 @@ IsRoot length root = (members : Members) × (view root ≡ node (table members) 
 abbrev pub IsBorrowedTree : List ℕ → ℕ → Value → Type 0
 IsBorrowedTree text limit root =
     (sections : List Section) × SpellsDocument (map block sections) text limit
-    × AreRight text (keys_of (sections_written sections)) (value_standing root)
+    × AreBorrowedRight text (keys_of (sections_written sections)) (value_standing root)
 
 -- ---- refusals
 

@@ -4,10 +4,10 @@ ghost use Rattle.toml_span_lex.specs.Tokenizer.{FirstPlace};
 ghost use Rattle.toml_span_read.specs.code.Faults.{IsPlacedStop};
 ghost use Rattle.toml_span_read.specs.Keys.{SimpleKey};
 ghost use Rattle.toml_span_read.specs.Data.{Block};
-ghost use Rattle.toml_span_read.specs.Stuck.{KeepsForm};
+ghost use Rattle.toml_span_read.specs.Stuck.{OnlyFormsTakeMemory};
 ghost use Rattle.toml_span_read.specs.Limits.{depth_limit};
 ghost use Rattle.toml_span_tree.specs.Value.{is_whole, view};
-ghost use Rattle.toml_span_claims.specs.Borrowed.{AreRight, value_standing};
+ghost use Rattle.toml_span_claims.specs.Borrowed.{AreBorrowedRight, value_standing};
 ghost use Rattle.toml_span_claims.specs.Ordered.{IsOrdered};
 ghost use Rattle.toml_span_assembly.specs.code.Growing.{GrownGives, GrownRight, Grows, IsBare, IsGrownInside};
 ghost use Rattle.toml_span_assembly.specs.code.Growing.{IsClashStop};
@@ -30,7 +30,7 @@ fn grown_of<'de>(alloc: Global, text: &'de str, limit: usize) -> Result<Grown<'d
     requires small { limit ≤ depth_limit }
     ensures placed { IfErr result (IsPlacedStop text.now) }
     ensures gives { GrownGives text.now limit result }
-    ensures memory { (start : ℕ) × FirstPlace text.now start × KeepsForm text.now start result }
+    ensures memory { (start : ℕ) × FirstPlace text.now start × OnlyFormsTakeMemory text.now start result }
 {
     let (first, start) = read_first(alloc, text, limit)?;
     let mut grown = match begin(alloc, first) {
@@ -56,7 +56,7 @@ fn tree_of<'de>(grown: Grown<'de>, text: &'de str) -> Result<Value<'de>, Stop<Er
     ensures ordered { (bs : List Block) → Grows bs grown.entry → IfOk result (λ root. IsOrdered (view root)) }
     ensures whole { (bs : List Block) → Grows bs grown.entry → IfOk result (λ root. is_whole (view root) ≡ true) }
     ensures borrows { (ps : List SimpleKey) → GrownRight text.now ps grown.entry
-        → IfOk result (λ root. AreRight text.now ps (value_standing root)) }
+        → IfOk result (λ root. AreBorrowedRight text.now ps (value_standing root)) }
     ensures refused { (bs : List Block) → Grows bs grown.entry → IfErr result (IsClashStop bs text.now) }
     ensures bare { IsBare grown.entry → IsOk result }
 {
@@ -82,7 +82,7 @@ pub fn parse<'de>(alloc: Global, s: &'de str) -> Result<Value<'de>, Stop<Error<'
     ensures borrows { IfOk result (IsBorrowedTree s.now depth_limit) }
     ensures refused { IfErr result (IsRefusal s.now depth_limit) }
     // Memory is wanted only where more than comments and blank lines stand in the text.
-    ensures memory { (start : ℕ) × FirstPlace s.now start × KeepsForm s.now start result }
+    ensures memory { (start : ℕ) × FirstPlace s.now start × OnlyFormsTakeMemory s.now start result }
 {
     parse_with_limit(alloc, s, LIMIT)
 }
@@ -104,7 +104,7 @@ pub fn parse_with_limit<'de>(
     ensures borrows { IfOk result (IsBorrowedTree s.now limit) }
     ensures refused { IfErr result (IsRefusal s.now limit) }
     // Memory is wanted only where more than comments and blank lines stand in the text.
-    ensures memory { (start : ℕ) × FirstPlace s.now start × KeepsForm s.now start result }
+    ensures memory { (start : ℕ) × FirstPlace s.now start × OnlyFormsTakeMemory s.now start result }
 {
     match grown_of(alloc, s, limit) {
         Ok(grown) => tree_of(grown, s),

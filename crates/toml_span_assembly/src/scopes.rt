@@ -12,7 +12,7 @@ ghost use Rattle.toml_span_read.specs.Places.{ItemKeysInside};
 ghost use Rattle.toml_span_read.specs.Keys.{SimpleKey, simple_key as part_of};
 ghost use Rattle.toml_span_claims.specs.code.Borrowed.{AreFrom, IsFrom, Keeps, ValueRight, array_standing};
 ghost use Rattle.toml_span_claims.specs.code.Borrowed.{table_standing};
-ghost use Rattle.toml_span_claims.specs.Borrowed.{AreRight};
+ghost use Rattle.toml_span_claims.specs.Borrowed.{AreBorrowedRight};
 ghost use Rattle.toml_span_claims.specs.Claims.{assignment_claims, key_value_claims, item_claims};
 ghost use Rattle.toml_span_claims.specs.code.Machine.{Gives, met};
 ghost use Rattle.toml_span_claims.specs.code.Placing.{Places, Passes, ValueGives, ScopeGives};
@@ -275,7 +275,7 @@ fn table_of<'de>(alloc: Global, pairs: Vec<Assignment<'de>>) -> Result<Table<'de
         (key_value_claims (map key_value pairs.entry.items) []) }
     ensures placed { (n : ℕ) → KeyValuesInside n (map key_value pairs.entry.items) → IfErr result (IsHaltInside n) }
     ensures borrows { (text : List ℕ) → (ps : List SimpleKey) → AreFrom text ps (assignments_written pairs.entry.items)
-        → IfOk result (λ table. AreRight text ps (table_standing table.entries)) }
+        → IfOk result (λ table. AreBorrowedRight text ps (table_standing table.entries)) }
 {
     let mut scope = Branch::new(alloc);
     place_pairs(alloc, pairs, &mut scope)?;
@@ -291,7 +291,7 @@ fn array_of<'de>(alloc: Global, elements: Vec<Val<'de>>) -> Result<Array<'de>, H
         → IfErr result (IsHaltInside n) }
     ensures borrows { (text : List ℕ) → (ps : List SimpleKey)
         → AreFrom text ps (joined (map written elements.entry.items))
-        → IfOk result (λ array. AreRight text ps (array_standing array.items)) }
+        → IfOk result (λ array. AreBorrowedRight text ps (array_standing array.items)) }
 {
     let mut array = Vec::with_capacity(alloc, elements.len())?;
     for element in elements {

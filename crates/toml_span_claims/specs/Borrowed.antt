@@ -21,7 +21,7 @@ use Rattle.toml_span_read.specs.Borrowed.{Written, string as string_written, nam
 pub data Standing : Type 0 where
   string : CowStr Global → Span → Standing
   key : CowStr Global → Span → Standing
-  title : CowStr Global → Standing
+  table_name : CowStr Global → Standing
 
 -- whether a value is a scalar, and what stands in it
 abbrev pub Held : Type 0
@@ -29,7 +29,7 @@ Held = Bool × List Standing
 
 abbrev pub key_standing : Bool → Key → Standing
 key_standing true k = key k.name k.span
-key_standing false k = title k.name
+key_standing false k = table_name k.name
 
 abbrev pub elements_standing : List Held → List Standing
 elements_standing [] = []
@@ -75,14 +75,14 @@ IsNamedBy text ps s =
     (at : Span) × IsKeyOf (record { name = cow_str_bytes s; span = at }) ps × BorrowsWhereSame text at s
 
 -- in a tree whose keys are of these
-abbrev pub IsRight : List ℕ → List SimpleKey → Standing → Type 0
-IsRight text ps (string s span) = BorrowsWhereSame text span s
-IsRight text ps (key s span) =
+abbrev pub IsBorrowedRight : List ℕ → List SimpleKey → Standing → Type 0
+IsBorrowedRight text ps (string s span) = BorrowsWhereSame text span s
+IsBorrowedRight text ps (key s span) =
     BorrowsWhereSame text span s × IsKeyOf (record { name = cow_str_bytes s; span = span }) ps
-IsRight text ps (title s) = IsNamedBy text ps s
+IsBorrowedRight text ps (table_name s) = IsNamedBy text ps s
 
-abbrev pub AreRight : List ℕ → List SimpleKey → List Standing → Type 0
-AreRight text ps xs = AllByRecursion (IsRight text ps) xs
+abbrev pub AreBorrowedRight : List ℕ → List SimpleKey → List Standing → Type 0
+AreBorrowedRight text ps xs = AllByRecursion (IsBorrowedRight text ps) xs
 
 -- the keys of what was read
 abbrev pub keys_of : List Written → List SimpleKey

@@ -72,7 +72,7 @@ abbrev pub IsFree : List Claim → Claim → Type 0
 IsFree [] later = ⊤
 IsFree (c ∷ earlier) later = (clash c later ≡ None) × IsFree earlier later
 
--- No claim clashes with an earlier one of its scope. Of the outer scope these stand before.
+-- No claim clashes with an earlier one of its scope. In the outer scope these claims are earlier than all of them.
 abbrev pub Resolves : List Claim → Claims → Type 0
 Resolves earlier no_claims = ⊤
 Resolves earlier (claimed c cs) = IsFree earlier c × Resolves (earlier ++ (c ∷ [])) cs

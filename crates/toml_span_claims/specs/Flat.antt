@@ -41,8 +41,8 @@ deciding_claim cs = or_else (first_claim_by_header cs) (first_claim cs)
 -- What stands at each path of a document that is so many bytes long: at the empty path the root, at another one what is
 -- claimed there.
 unfoldable pub flat : ℕ → Claims → Path → Option Place
-flat length cs [] = Some (record { shape = shape_table; key_span = None; span = record { start = 0; end = length } })
-flat length cs (s ∷ p) = option_map (λ c. c.place) (deciding_claim (claims_at (s ∷ p) (all_claims cs)))
+flat size cs [] = Some (record { shape = shape_table; key_span = None; span = record { start = 0; end = size } })
+flat size cs (s ∷ p) = option_map (λ c. c.place) (deciding_claim (claims_at (s ∷ p) (all_claims cs)))
 
 -- the tree has just these nodes
 abbrev pub Shows : Node → (Path → Option Place) → Type 0

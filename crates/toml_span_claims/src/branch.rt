@@ -3,7 +3,7 @@ ghost use Rattle.std.specs.Prelude.{◌≡◌, ℕ, List, [], false, IfOk, IfSom
 ghost use Rattle.toml_span_read.specs.Keys.{SimpleKey};
 ghost use Rattle.toml_span_claims.specs.Flat as kept;
 ghost use Rattle.toml_span_claims.specs.code.Marks as code;
-ghost use Rattle.toml_span_claims.specs.Borrowed.{AreRight, held, value_standing};
+ghost use Rattle.toml_span_claims.specs.Borrowed.{AreBorrowedRight, held, value_standing};
 ghost use Rattle.toml_span_claims.specs.code.Borrowed.{array_standing, boxes_standing, entries_of, standing};
 ghost use Rattle.toml_span_claims.specs.code.Borrowed.{table_standing};
 ghost use Rattle.toml_span_claims.specs.code.Tree.{IsFresh};
@@ -95,9 +95,10 @@ pub fn into_table<'de>(
     mut values: Table<'de>,
 ) -> Result<Table<'de>, AllocError>
     ensures finishes { Finishes tables.entry values.entry result }
-    ensures borrows { (text : List ℕ) → (ps : List SimpleKey) → AreRight text ps (boxes_standing tables.entry.entries)
-        → AreRight text ps (table_standing values.entry.entries)
-        → IfOk result (λ table. AreRight text ps (table_standing table.entries)) }
+    ensures borrows { (text : List ℕ) → (ps : List SimpleKey)
+        → AreBorrowedRight text ps (boxes_standing tables.entry.entries)
+        → AreBorrowedRight text ps (table_standing values.entry.entries)
+        → IfOk result (λ table. AreBorrowedRight text ps (table_standing table.entries)) }
     // Where there are no branches, no memory is wanted.
     ensures bare { tables.entry.entries ≡ [] → IsOk result }
 {
@@ -122,8 +123,8 @@ pub fn into_table<'de>(
 #[cycle(finish)]
 fn into_value<'de>(node: Branch<'de>) -> Result<(Span, Value<'de>), AllocError>
     ensures becomes { Becomes node.entry result }
-    ensures borrows { (text : List ℕ) → (ps : List SimpleKey) → AreRight text ps (standing node.entry)
-        → IfOk result (λ found. ((held found.1).0 ≡ false) × AreRight text ps (value_standing found.1)) }
+    ensures borrows { (text : List ℕ) → (ps : List SimpleKey) → AreBorrowedRight text ps (standing node.entry)
+        → IfOk result (λ found. ((held found.1).0 ≡ false) × AreBorrowedRight text ps (value_standing found.1)) }
 {
     let Branch {
         marks,
@@ -147,8 +148,9 @@ fn into_value<'de>(node: Branch<'de>) -> Result<(Span, Value<'de>), AllocError>
 #[cycle(finish)]
 fn into_array<'de>(entries: Vec<Branch<'de>>) -> Result<Array<'de>, AllocError>
     ensures becomes { EachBecomes entries.entry.items result }
-    ensures borrows { (text : List ℕ) → (ps : List SimpleKey) → AreRight text ps (entries_of entries.entry.items)
-        → IfOk result (λ array. AreRight text ps (array_standing array.items)) }
+    ensures borrows { (text : List ℕ) → (ps : List SimpleKey)
+        → AreBorrowedRight text ps (entries_of entries.entry.items)
+        → IfOk result (λ array. AreBorrowedRight text ps (array_standing array.items)) }
 {
     let mut array = Vec::with_capacity(*entries.allocator(), entries.len())?;
     for entry in entries {

@@ -22,7 +22,7 @@ use Rattle.toml_span_read.specs.declared.value.DottedKey.{DottedKey}
 use Rattle.toml_span_read.specs.Borrowed.{Written, IsWrittenRight, AreWrittenRight, joined, key_written, keys_written, dotted_written, written, kind_written, assignment_written, assignments_written, section_written, sections_written}
 use Rattle.toml_span_read.specs.Data.{ParsedInner, scalar, kind_view}
 use Rattle.toml_span_read.specs.code.Values.{is_scalar, BareGives}
-use Rattle.toml_span_read.specs.Grammar.{from_to, IsScalar}
+use Rattle.toml_span_read.specs.Grammar.{from_to, SpellsScalar}
 use Rattle.toml_span_read.specs.Faults.{begins_bare}
 
 -- ---- lists
@@ -71,9 +71,9 @@ written_is v = search (rules, the_lemmas)
 pub assignment_written_is : (a : Assignment) → assignment_written a ≡ dotted_written a.parts ++ written a.value
 assignment_written_is a = search (rules, the_lemmas)
 
-not_text : (v text : List ℕ) (s : Scalar) (span : Span) (i j : ℕ) → begins_bare (get_or text i 0) ≡ true → s ≡ text_scalar v → IsScalar s span text i j → ⊥
+not_text : (v text : List ℕ) (s : Scalar) (span : Span) (i j : ℕ) → begins_bare (get_or text i 0) ≡ true → s ≡ text_scalar v → SpellsScalar s span text i j → ⊥
 not_text v text s span i j b e h =
-    let is : IsScalar (text_scalar v) span text i j = rw e at h in
+    let is : SpellsScalar (text_scalar v) span text i j = rw e at h in
     elim is.2.quote [
       | inl q ↦ (let c : begins_bare 34 ≡ true = rw q at b in search (rules))
       | inr q ↦ (let c : begins_bare 39 ≡ true = rw q at b in search (rules))

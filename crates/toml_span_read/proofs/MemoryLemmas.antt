@@ -9,7 +9,7 @@ use Rattle.toml_span_read.specs.Gaps.{MaximalGap}
 use Rattle.toml_span_read.specs.Keys.{SimpleKey, SpellsKey}
 use Rattle.toml_span_read.specs.Grammar.{SpellsKeyValue, SpellsKeyValues, SpellsLines, first_block}
 use Rattle.toml_span_read.specs.code.Sections.{first_blocks}
-use Rattle.toml_span_read.specs.Stuck.{HoldsForm, KeepsForm}
+use Rattle.toml_span_read.specs.Stuck.{HoldsForm, OnlyFormsTakeMemory}
 use Rattle.toml_span_read.proofs.InsideLemmas.{ascend_forward, tail_inside}
 use Rattle.toml_span_read.proofs.KeyOrder.{dotted_ascend}
 use Rattle.toml_span_read.proofs.SpanLaws.{value_lies}
@@ -42,7 +42,7 @@ pub begun_on : (text : List ℕ) (at next : ℕ) → Begun text at → at ≤ ne
 begun_on text at next (start, k, first, g, l) on = (start, k, first, g, omega (arith, l, on))
 
 pub keeps : (A E : Type 0) → (stop : Stop E) (text : List ℕ) (at : ℕ) → Begun text at → at < length text
-    → (start : ℕ) × FirstPlace text start × KeepsForm {A = A} {E = E} text start (Err stop)
+    → (start : ℕ) × FirstPlace text start × OnlyFormsTakeMemory {A = A} {E = E} text start (Err stop)
 keeps A E (stops.Memory e) text at (start, k, first, g, l) under = (start, first, (k, g, omega (arith, l, under)))
 keeps A E (stops.Fault e) text at (start, k, first, g, l) under = (start, first, tt)
 

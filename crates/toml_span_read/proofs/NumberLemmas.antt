@@ -19,7 +19,7 @@ use Rattle.toml_span_tree.specs.declared.float.FloatText.{FloatText}
 use Rattle.toml_span_tree.specs.Value.{float_value}
 use Rattle.toml_span_read.specs.declared.value.ValKind.{ValKind}
 use Rattle.std.specs.Char.{is_ascii_hexdigit, digit_value}
-use Rattle.toml_span_read.specs.Numbers.{is_digit, is_figure, Digits, behind_sign, is_negative, is_exponent, radix_at, IsNumber, FloatLiteral, Exponent, Fraction, sum_of_digits, cleaned, magnitude, goes_on}
+use Rattle.toml_span_read.specs.Numbers.{is_digit_in, is_figure, Digits, behind_sign, is_negative, is_exponent, radix_at, IsNumber, FloatLiteral, Exponent, Fraction, sum_of_digits, cleaned, magnitude, goes_on}
 use Rattle.toml_span_read.specs.code.Numbers.{DigitGives, SpecialGives, UnsignedGives, NumberGives, ExponentDigitsGive, ExponentGives, FractionGives, IntegerGives, RadixIntegerGives}
 
 -- ---- bytes
@@ -68,10 +68,10 @@ hex_keylike c h = grind arith
 underscore_keylike : (c : ℕ) → c ≡ 95 → is_keylike c ≡ true
 underscore_keylike c e = rw e refl
 
-pub digit_keylike : (radix c : ℕ) → is_digit radix c ≡ true → is_keylike c ≡ true
+pub digit_keylike : (radix c : ℕ) → is_digit_in radix c ≡ true → is_keylike c ≡ true
 digit_keylike radix c h = hex_keylike c (and_left _ _ h)
 
-pub digit_figure : (radix c : ℕ) → is_digit radix c ≡ true → is_figure radix c ≡ true
+pub digit_figure : (radix c : ℕ) → is_digit_in radix c ≡ true → is_figure radix c ≡ true
 digit_figure radix c h = rw h refl
 
 pub underscore_figure : (radix c : ℕ) → c ≡ 95 → is_figure radix c ≡ true
@@ -83,28 +83,28 @@ figure_keylike radix c h = elim (or_cases _ _ h) [ inl d ↦ digit_keylike radix
 pub no_keylike_figure : (radix c : ℕ) → is_keylike c ≡ false → is_figure radix c ≡ false
 no_keylike_figure radix c h = is_false _ (λ f. false≢true (sym h ∙ figure_keylike radix c f))
 
-pub no_keylike_digit : (radix c : ℕ) → is_keylike c ≡ false → is_digit radix c ≡ false
+pub no_keylike_digit : (radix c : ℕ) → is_keylike c ≡ false → is_digit_in radix c ≡ false
 no_keylike_digit radix c h = is_false _ (λ d. false≢true (sym h ∙ digit_keylike radix c d))
 
-pub no_figure : (radix c : ℕ) → is_digit radix c ≡ false → (c == 95) ≡ false → is_figure radix c ≡ false
+pub no_figure : (radix c : ℕ) → is_digit_in radix c ≡ false → (c == 95) ≡ false → is_figure radix c ≡ false
 no_figure radix c h u = or_none _ _ h u
 
-pub digit_no_underscore : (radix c : ℕ) → is_digit radix c ≡ true → c ≡ 95 → ⊥
-digit_no_underscore radix c h e = clash (is_digit radix) c 95 h e refl
+pub digit_no_underscore : (radix c : ℕ) → is_digit_in radix c ≡ true → c ≡ 95 → ⊥
+digit_no_underscore radix c h e = clash (is_digit_in radix) c 95 h e refl
 
-figure_underscore : (radix c : ℕ) → is_figure radix c ≡ true → is_digit radix c ≡ false → c ≡ 95
+figure_underscore : (radix c : ℕ) → is_figure radix c ≡ true → is_digit_in radix c ≡ false → c ≡ 95
 figure_underscore radix c h d = elim (or_cases _ _ h) [ inl t ↦ absurd (false≢true (sym d ∙ t)) | inr u ↦ byte_is c 95 u ]
 
-pub figure_digit : (radix c : ℕ) → is_figure radix c ≡ true → (c == 95) ≡ false → is_digit radix c ≡ true
+pub figure_digit : (radix c : ℕ) → is_figure radix c ≡ true → (c == 95) ≡ false → is_digit_in radix c ≡ true
 figure_digit radix c h u = elim (or_cases _ _ h) [ inl t ↦ t | inr x ↦ absurd (false≢true (sym u ∙ x)) ]
 
 -- ---- digits
 
-pub digit_some : (radix c : ℕ) (o : Option ℕ) → DigitGives radix c o → is_some o ≡ true → is_digit radix c ≡ true
+pub digit_some : (radix c : ℕ) (o : Option ℕ) → DigitGives radix c o → is_some o ≡ true → is_digit_in radix c ≡ true
 digit_some radix c (Some v) h e = h.0
 digit_some radix c None h e = absurd (false≢true e)
 
-pub digit_none : (radix c : ℕ) (o : Option ℕ) → DigitGives radix c o → is_some o ≡ false → is_digit radix c ≡ false
+pub digit_none : (radix c : ℕ) (o : Option ℕ) → DigitGives radix c o → is_some o ≡ false → is_digit_in radix c ≡ false
 digit_none radix c (Some v) h e = absurd (false≢true (sym e))
 digit_none radix c None h e = h
 
@@ -112,9 +112,9 @@ digit_none radix c None h e = h
 pub record Reading (radix : ℕ) (text : List ℕ) (from end at : ℕ) (was_digit : Bool) : Type 0 where
   pub first : from < end → (get_or text from 0 == 95) ≡ false
   pub figures : (l : ℕ) → from ≤ l → l < at → is_figure radix (get_or text l 0) ≡ true
-  pub between : (l : ℕ) → from ≤ l → l + 1 < at → get_or text l 0 ≡ 95 → is_digit radix (get_or text (l + 1) 0) ≡ true
-  pub last : (l : ℕ) → from ≤ l → l + 1 ≡ at → is_digit radix (get_or text l 0) ≡ was_digit
-  pub begins : from < at → is_digit radix (get_or text from 0) ≡ true
+  pub between : (l : ℕ) → from ≤ l → l + 1 < at → get_or text l 0 ≡ 95 → is_digit_in radix (get_or text (l + 1) 0) ≡ true
+  pub last : (l : ℕ) → from ≤ l → l + 1 ≡ at → is_digit_in radix (get_or text l 0) ≡ was_digit
+  pub begins : from < at → is_digit_in radix (get_or text from 0) ≡ true
   pub none : at ≡ from → was_digit ≡ false
 
 pub reading_starts : (radix : ℕ) (text : List ℕ) (from end : ℕ) → (from < end → (get_or text from 0 == 95) ≡ false) → Reading radix text from end from false
@@ -127,7 +127,7 @@ reading_starts radix text from end f = record {
   none = λ e. refl;
 }
 
-pub reading_digit : (radix : ℕ) (text : List ℕ) (from end at : ℕ) (was : Bool) → Reading radix text from end at was → from ≤ at → is_digit radix (get_or text at 0) ≡ true
+pub reading_digit : (radix : ℕ) (text : List ℕ) (from end at : ℕ) (was : Bool) → Reading radix text from end at was → from ≤ at → is_digit_in radix (get_or text at 0) ≡ true
     → Reading radix text from end (at + 1) true
 reading_digit radix text from end at was r g h = record {
   first = r.first;
@@ -165,7 +165,7 @@ digits_read radix text from end at r g w h =
       ];
     }
 
-pub no_digits_read : (radix : ℕ) (text : List ℕ) (start from end at : ℕ) → Reading radix text from end at false → from ≤ at → is_digit radix (get_or text at 0) ≡ false
+pub no_digits_read : (radix : ℕ) (text : List ℕ) (start from end at : ℕ) → Reading radix text from end at false → from ≤ at → is_digit_in radix (get_or text at 0) ≡ false
     → (at ≡ from → is_figure radix (get_or text at 0) ≡ false) → NoDigits radix text start from end (invalid_number start end)
 no_digits_read radix text start from end at r g h f =
     elim (cases_lt from at) [
@@ -180,7 +180,7 @@ no_digits_read radix text start from end at r g h f =
     ]
 
 pub no_digits_inside : (radix : ℕ) (text : List ℕ) (start from end at : ℕ) (was : Bool) → Reading radix text from end at was → was ≡ false → from ≤ at → at < end
-    → is_digit radix (get_or text at 0) ≡ false → NoDigits radix text start from end (invalid_number start end)
+    → is_digit_in radix (get_or text at 0) ≡ false → NoDigits radix text start from end (invalid_number start end)
 no_digits_inside radix text start from end at was r w g l h =
     no_digits_read radix text start from end at (rw w at r) g h
     (λ e. let u : (get_or text from 0 == 95) ≡ false = r.first (omega arith) in no_figure radix (get_or text at 0) h (rw e u))
@@ -265,33 +265,33 @@ regroup v r d p s =
     omega (arith, e, f)
 
 -- one digit more
-pub sum_step : (radix v c : ℕ) (cs : List ℕ) → is_digit radix c ≡ true
-    → v * radix ^ length (filter (is_digit radix) (c ∷ cs)) + sum_of_digits radix (filter (is_digit radix) (c ∷ cs))
-    ≡ (v * radix + digit_value c) * radix ^ length (filter (is_digit radix) cs) + sum_of_digits radix (filter (is_digit radix) cs)
+pub sum_step : (radix v c : ℕ) (cs : List ℕ) → is_digit_in radix c ≡ true
+    → v * radix ^ length (filter (is_digit_in radix) (c ∷ cs)) + sum_of_digits radix (filter (is_digit_in radix) (c ∷ cs))
+    ≡ (v * radix + digit_value c) * radix ^ length (filter (is_digit_in radix) cs) + sum_of_digits radix (filter (is_digit_in radix) cs)
 sum_step radix v c cs h =
-    let fs : List ℕ = filter (is_digit radix) cs in
-    let e : filter (is_digit radix) (c ∷ cs) ≡ c ∷ fs = rw h refl in
+    let fs : List ℕ = filter (is_digit_in radix) cs in
+    let e : filter (is_digit_in radix) (c ∷ cs) ≡ c ∷ fs = rw h refl in
     let p : radix ^ length (c ∷ fs) ≡ radix * radix ^ length fs = pow-succ' radix (length fs) in
     rw (e, p) (regroup v radix (digit_value c) (radix ^ length fs) (sum_of_digits radix fs))
 
-pub sum_skip : (radix v c : ℕ) (cs : List ℕ) → is_digit radix c ≡ false
-    → v * radix ^ length (filter (is_digit radix) (c ∷ cs)) + sum_of_digits radix (filter (is_digit radix) (c ∷ cs))
-    ≡ v * radix ^ length (filter (is_digit radix) cs) + sum_of_digits radix (filter (is_digit radix) cs)
+pub sum_skip : (radix v c : ℕ) (cs : List ℕ) → is_digit_in radix c ≡ false
+    → v * radix ^ length (filter (is_digit_in radix) (c ∷ cs)) + sum_of_digits radix (filter (is_digit_in radix) (c ∷ cs))
+    ≡ v * radix ^ length (filter (is_digit_in radix) cs) + sum_of_digits radix (filter (is_digit_in radix) cs)
 sum_skip radix v c cs h =
-    let e : filter (is_digit radix) (c ∷ cs) ≡ filter (is_digit radix) cs = rw h refl in rw e refl
+    let e : filter (is_digit_in radix) (c ∷ cs) ≡ filter (is_digit_in radix) cs = rw h refl in rw e refl
 
 -- v is what the digits before `rest` come to
 abbrev pub Summed : ℕ → ℕ → List ℕ → List ℕ → Type 0
-Summed radix v rest all = v * radix ^ length (filter (is_digit radix) rest) + sum_of_digits radix (filter (is_digit radix) rest) ≡ sum_of_digits radix (filter (is_digit radix) all)
+Summed radix v rest all = v * radix ^ length (filter (is_digit_in radix) rest) + sum_of_digits radix (filter (is_digit_in radix) rest) ≡ sum_of_digits radix (filter (is_digit_in radix) all)
 
-pub sum_goes_on : (radix v w i : ℕ) (digits : List ℕ) → i < length digits → is_digit radix (get_or digits i 0) ≡ true → w ≡ v * radix + digit_value (get_or digits i 0)
+pub sum_goes_on : (radix v w i : ℕ) (digits : List ℕ) → i < length digits → is_digit_in radix (get_or digits i 0) ≡ true → w ≡ v * radix + digit_value (get_or digits i 0)
     → Summed radix v (drop i digits) digits → Summed radix w (drop (i + 1) digits) digits
 sum_goes_on radix v w i digits l h e s =
     let d : Summed radix v (get_or digits i 0 ∷ drop (i + 1) digits) digits = rw (drop_more digits i 0 l) at s in
     let g : Summed radix (v * radix + digit_value (get_or digits i 0)) (drop (i + 1) digits) digits = sym (sum_step radix v (get_or digits i 0) (drop (i + 1) digits) h) ∙ d in
     rw e g
 
-pub sum_passes : (radix v i : ℕ) (digits : List ℕ) → i < length digits → is_digit radix (get_or digits i 0) ≡ false
+pub sum_passes : (radix v i : ℕ) (digits : List ℕ) → i < length digits → is_digit_in radix (get_or digits i 0) ≡ false
     → Summed radix v (drop i digits) digits → Summed radix v (drop (i + 1) digits) digits
 sum_passes radix v i digits l h s =
     let d : Summed radix v (get_or digits i 0 ∷ drop (i + 1) digits) digits = rw (drop_more digits i 0 l) at s in
@@ -301,21 +301,21 @@ pub and_right : (a b : Bool) → (a && b) ≡ true → b ≡ true
 and_right true b h = h
 and_right false b h = absurd (false≢true h)
 
-radix_some : (radix c : ℕ) → is_digit radix c ≡ true → 0 < radix
+radix_some : (radix c : ℕ) → is_digit_in radix c ≡ true → 0 < radix
 radix_some radix c h =
     let l : nat_lt (digit_value c) radix ≡ true = and_right _ _ h in grind (arith, nat_tests)
 
 -- what is past 64 bits stays so, however many digits follow
-pub past_with_digits : (radix c n s k : ℕ) → is_digit radix c ≡ true → 2 ^ 64 ≤ n → 2 ^ 64 ≤ n * radix ^ k + s
+pub past_with_digits : (radix c n s k : ℕ) → is_digit_in radix c ≡ true → 2 ^ 64 ≤ n → 2 ^ 64 ≤ n * radix ^ k + s
 past_with_digits radix c n s k h l =
     let o : 1 ≤ radix ^ k = one-le-pow k radix (radix_some radix c h) in
     let m : n ≤ n * radix ^ k = le-mul_of_pos_right n (omega arith) in
     omega arith
 
-pub sum_past : (radix v i d : ℕ) (digits : List ℕ) → i < length digits → is_digit radix (get_or digits i 0) ≡ true → d ≡ digit_value (get_or digits i 0)
-    → Summed radix v (drop i digits) digits → 2 ^ 64 ≤ v * radix + d → 2 ^ 64 ≤ sum_of_digits radix (filter (is_digit radix) digits)
+pub sum_past : (radix v i d : ℕ) (digits : List ℕ) → i < length digits → is_digit_in radix (get_or digits i 0) ≡ true → d ≡ digit_value (get_or digits i 0)
+    → Summed radix v (drop i digits) digits → 2 ^ 64 ≤ v * radix + d → 2 ^ 64 ≤ sum_of_digits radix (filter (is_digit_in radix) digits)
 sum_past radix v i d digits l h e s b =
-    let rest : List ℕ = filter (is_digit radix) (drop (i + 1) digits) in
+    let rest : List ℕ = filter (is_digit_in radix) (drop (i + 1) digits) in
     let g : Summed radix (v * radix + d) (drop (i + 1) digits) digits = sum_goes_on radix v (v * radix + d) i digits l h (rw e refl) s in
     let p : 2 ^ 64 ≤ (v * radix + d) * radix ^ length rest + sum_of_digits radix rest =
     past_with_digits radix (get_or digits i 0) (v * radix + d) (sum_of_digits radix rest) (length rest) h b in

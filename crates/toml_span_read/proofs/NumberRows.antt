@@ -5,7 +5,7 @@ use Rattle.std.proofs.lemmas.Bool.{cases_lt}
 use Rattle.toml_span_lex.specs.Bytes.{is_keylike, MaximalRun}
 use Rattle.toml_span_tree.specs.Node.{integer}
 use Rattle.toml_span_read.specs.Faults.{invalid_number, no_integer_exponent, behind_plus, no_exponent_digits, Run, NoNumber, plus_alone, no_decimal, no_radix_integer, no_integer_part, no_integer_digits, zero_underscore_before, no_radix_digits, no_digit, loose_underscore}
-use Rattle.toml_span_read.specs.Numbers.{is_digit, is_figure, Digits, IsNumber, magnitude, cleaned, radix_at}
+use Rattle.toml_span_read.specs.Numbers.{is_digit_in, is_figure, Digits, IsNumber, magnitude, cleaned, radix_at}
 use Rattle.toml_span_read.proofs.NumberLemmas.{and_left, and_right, cons_parts, digit_no_underscore}
 
 -- values and cleaned texts
@@ -82,12 +82,12 @@ digits_before_zero =
     (no_integer_digits _ (loose_underscore 6 refl (omega arith) (λ l a b. passes (is_figure 10) (codes "a = 01__2") 4 3 refl l a (omega arith)) refl refl)))
 
 -- the digits of a text, where no underscore stands among them
-plain_digits : (radix : ℕ) (text : List ℕ) (i n : ℕ) → is_digit radix (get_or text i 0) ≡ true → pass_all (is_digit radix) text i n ≡ true → pass_all (is_figure radix) text i n ≡ true
+plain_digits : (radix : ℕ) (text : List ℕ) (i n : ℕ) → is_digit_in radix (get_or text i 0) ≡ true → pass_all (is_digit_in radix) text i n ≡ true → pass_all (is_figure radix) text i n ≡ true
     → i + n ≤ length text → is_figure radix (get_or text (i + n) 0) ≡ false → Digits radix text i (i + n)
 plain_digits radix text i n b d h w e = record {
   begins = b;
   run = maximal_at (is_figure radix) text i n h w e;
-  between = λ k x y u. absurd (digit_no_underscore radix (get_or text k 0) (passes (is_digit radix) text i n d k x y) u);
+  between = λ k x y u. absurd (digit_no_underscore radix (get_or text k 0) (passes (is_digit_in radix) text i n d k x y) u);
 }
 
 -- `a = 1e+x` gives 7..8

@@ -13,13 +13,13 @@ use Rattle.toml_span_read.specs.Data.{kind_view, scalar}
 use Rattle.std.specs.Char.{is_ascii_digit, digit_value}
 use Rattle.toml_span_read.specs.Dates.{begins_date}
 use Rattle.toml_span_read.specs.code.Gaps.{Further}
-use Rattle.toml_span_read.specs.Numbers.{is_digit, Digits, magnitude, DecimalInteger, IsSigned, behind_sign}
+use Rattle.toml_span_read.specs.Numbers.{is_digit_in, Digits, magnitude, DecimalInteger, IsSigned, behind_sign}
 use Rattle.toml_span_read.specs.code.Values.{BareGives}
 use Rattle.toml_span_read.proofs.NumberLemmas.{is_false, byte_is, and_left, and_right, digit_figure, no_keylike_figure, digit_no_underscore, no_sign, stands_alone, Summed, sum_goes_on}
 
 -- ---- digits
 
-pub decimal_digit : (c : ℕ) → is_ascii_digit c ≡ true → is_digit 10 c ≡ true
+pub decimal_digit : (c : ℕ) → is_ascii_digit c ≡ true → is_digit_in 10 c ≡ true
 decimal_digit c h = grind (arith, nat_tests)
 
 pub decimal_value : (c : ℕ) → is_ascii_digit c ≡ true → digit_value c ≡ c - 48
@@ -114,7 +114,7 @@ few_more text from at v w f h e s = record {
       let is : get_or ds (at - from) 0 ≡ get_or text at 0 = range_at text from j at f (omega arith) in
       let below : at - from < length ds = omega (arith, range_length text from j l) in
       let next : (at + 1) - from ≡ (at - from) + 1 = omega arith in
-      let digit : is_digit 10 (get_or ds (at - from) 0) ≡ true = rw is (decimal_digit (get_or text at 0) h) in
+      let digit : is_digit_in 10 (get_or ds (at - from) 0) ≡ true = rw is (decimal_digit (get_or text at 0) h) in
       let value : w ≡ v * 10 + digit_value (get_or ds (at - from) 0) = rw (is, decimal_value (get_or text at 0) h) e in
       rw next (sum_goes_on 10 v w (at - from) ds below digit value (s.sum j (omega arith) l))
       );

@@ -12,7 +12,7 @@ use Rattle.toml_span_read.specs.Places.{Ascend, Inside, InsideItems, InsidePairs
 use Rattle.toml_span_read.specs.Dates.{IsCandidate}
 use Rattle.toml_span_read.specs.Numbers.{IsNumber, behind_sign, UnsignedDecimal, Exponent, Fraction, FloatLiteral, SpecialFloat}
 use Rattle.toml_span_read.specs.Data.{ParsedValue, parsed, ParsedInner, scalar, array, inline, ParsedItems, no_items, item, ParsedPairs, no_pairs, pair, KeyValue}
-use Rattle.toml_span_read.specs.Grammar.{from_to, IsScalar, Spells, SpellsInner, SpellsItems, SpellsPairs}
+use Rattle.toml_span_read.specs.Grammar.{from_to, SpellsScalar, Spells, SpellsInner, SpellsItems, SpellsPairs}
 use Rattle.toml_span_read.proofs.Places.{read_within}
 use Rattle.toml_span_read.proofs.KeyOrder.{dotted_ascend}
 
@@ -84,7 +84,7 @@ candidate_on : (text : List ℕ) (i j : ℕ) → IsCandidate text i j → (i ≤
 candidate_on text i j (inl h) = (h.0.forward, h.0.within)
 candidate_on text i j (inr h) = (omega (arith, h.2.forward), h.2.within)
 
-scalar_lies : (s : Scalar) (span : Span) (t : List ℕ) (i j : ℕ) → IsScalar s span t i j → Lies t i j span
+scalar_lies : (s : Scalar) (span : Span) (t : List ℕ) (i j : ℕ) → SpellsScalar s span t i j → Lies t i j span
 scalar_lies (text_scalar v) span t i j (src, m, h) = string_lies t v src i j span m h
 scalar_lies (boolean b) span t i j (run, e) = whole t i j span e (run.1.forward, run.1.within)
 scalar_lies (datetime d) span t i j (b, c, is, same, e) = whole t i j span e (candidate_on t i j c)

@@ -18,7 +18,7 @@ use Rattle.toml_span_read.specs.Data.{ParsedValue, parsed, scalar, array, inline
 use Rattle.toml_span_read.specs.Dates.{begins_date, IsCandidate}
 use Rattle.toml_span_read.specs.Numbers.{IsNumber}
 use Rattle.toml_span_read.specs.code.Numbers.{NumberGives}
-use Rattle.toml_span_read.specs.Grammar.{from_to, truth_text, IsScalar, Spells, SpellsPair, SpellsItems, SpellsPairs}
+use Rattle.toml_span_read.specs.Grammar.{from_to, truth_text, SpellsScalar, Spells, SpellsPair, SpellsItems, SpellsPairs}
 use Rattle.toml_span_read.specs.Faults.{opens_nested, begins_bare, begins_number, Begins, BeginsNumber, IsOtherWord, NoBare}
 use Rattle.toml_span_read.specs.code.Values.{IsTooDeep, BareGives, ValueGives, PairGives}
 use Rattle.toml_span_read.specs.Stuck.{value_here, in_array, in_inline, StuckItems, in_item, behind_item, StuckPairs, in_pair, crosses, behind_pair, pair_on, in_key, no_equals, in_value}
@@ -33,7 +33,7 @@ use Rattle.std.specs.Cow.{cow_str_bytes}
 
 -- ---- bare values
 
-pub number_scalar : (s : Scalar) (text : List ℕ) (i j : ℕ) → begins_date text i ≡ false → IsNumber s text i j → IsScalar s (from_to i j) text i j
+pub number_scalar : (s : Scalar) (text : List ℕ) (i j : ℕ) → begins_date text i ≡ false → IsNumber s text i j → SpellsScalar s (from_to i j) text i j
 number_scalar (integer n) text i j b h = (b, h, refl)
 number_scalar (float x) text i j b h = (b, h, refl)
 number_scalar (text_scalar s) text i j b h = absurd h

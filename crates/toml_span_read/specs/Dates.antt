@@ -3,10 +3,8 @@ use Rattle.std.specs.Prelude.{◌≡◌, ℕ, ◌+◌, ◌⊎◌, Bool, true, fa
 use Rattle.std.specs.Char.{is_ascii_digit}
 use Rattle.toml_span_lex.specs.Bytes.{is_keylike, MaximalRun, colon, dash, period, plus, space}
 
--- four digits and a dash, or two digits and a colon: how `full-date` and `partial-time` begin
---
--- `full-date = date-fullyear "-" date-month "-" date-mday`, `date-fullyear = 4DIGIT`,
--- `partial-time = time-hour ":" time-minute [ ":" time-second [ time-secfrac ] ]`, `time-hour = 2DIGIT`
+-- four digits and a dash, as every `full-date` begins, or two digits and a colon, as every `partial-time` does:
+-- `date-fullyear = 4DIGIT`, `time-hour = 2DIGIT`
 abbrev pub begins_date : List ℕ → ℕ → Bool
 begins_date text i =
     (is_ascii_digit (slice_index text i) && is_ascii_digit (slice_index text (i + 1)))
@@ -24,9 +22,8 @@ abbrev pub continues_date : List ℕ → ℕ → Bool
 continues_date text i = slice_index text i == space && is_ascii_digit (slice_index text (i + 1))
 
 -- The text from i to j is to be a date or a time: all such bytes from i on, and where ten of them are followed by a
--- space with a digit behind it, those from that digit on.
---
--- `date-time = offset-date-time / local-date-time / local-date / local-time`
+-- space with a digit behind it, those from that digit on. Which of these texts are a `date-time` of the standard says
+-- `IsDateText` of toml_span_tree.
 abbrev pub IsCandidate : List ℕ → ℕ → ℕ → Type 0
 IsCandidate text i j =
     (MaximalRun is_date_byte text i j × (((j == i + 10) && continues_date text j) ≡ false))

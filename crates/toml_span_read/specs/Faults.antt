@@ -23,7 +23,8 @@ use Rattle.toml_span_read.specs.declared.fault.FaultKind.{FaultKind}
 use Rattle.toml_span_read.specs.declared.fault.FaultKind.TheVariants as kinds
 use Rattle.toml_span_read.specs.Places.{IsLineInfo}
 use Rattle.toml_span_read.specs.Keys.{opens_string, SimpleKey, SpellsSimpleKey}
-use Rattle.toml_span_read.specs.Numbers.{is_digit, is_figure, Digits, behind_sign, is_exponent, magnitude, is_negative}
+use Rattle.toml_span_read.specs.Numbers.{is_digit_in, is_figure, Digits, behind_sign, is_exponent, magnitude}
+use Rattle.toml_span_read.specs.Numbers.{is_negative}
 use Rattle.toml_span_read.specs.Numbers.{UnsignedDecimal, radix_at}
 use Rattle.toml_span_read.specs.Dates.{IsCandidate, begins_date}
 use Rattle.toml_span_read.specs.Grammar.{from_to}
@@ -197,6 +198,8 @@ abbrev pub NoEquals : List ℕ → ℕ → Fault → Type 0
 NoEquals text i e = ((slice_index text i == equals) ≡ false) × IsWanted text i dues.Equals e
 
 -- ---- where a number is due: the forms before the fault, and what stands there
+--
+-- The standard says nothing of where and how a wrong number is told: these fix it.
 
 -- all the letters, digits, dashes and underscores from i on, of which there is one
 pub record Run (text : List ℕ) (i j : ℕ) : Type 0 where
@@ -213,9 +216,9 @@ pub data NoDigits (radix : ℕ) (text : List ℕ) (start from end : ℕ) : Fault
   no_digit : is_figure radix (slice_index text from) ≡ false
       → NoDigits radix text start from end (invalid_number start end)
   -- two underscores in a row, or an underscore as the last of the digits
-  loose_underscore : (k : ℕ) → is_digit radix (slice_index text from) ≡ true → from ≤ k
+  loose_underscore : (k : ℕ) → is_digit_in radix (slice_index text from) ≡ true → from ≤ k
       → ((l : ℕ) → from ≤ l → l ≤ k → is_figure radix (slice_index text l) ≡ true)
-      → slice_index text k ≡ underscore → is_digit radix (slice_index text (k + 1)) ≡ false
+      → slice_index text k ≡ underscore → is_digit_in radix (slice_index text (k + 1)) ≡ false
       → NoDigits radix text start from end (invalid_number start end)
 
 -- no integer part is read in the run that begins at `start`, behind its minus, if it has one, at `from`
@@ -226,11 +229,11 @@ pub data NoIntegerPart (text : List ℕ) (start from end : ℕ) : Fault → Type
   -- The digits stand as those of a literal do, and behind a leading 0 stands a digit, with an underscore between them
   -- or not: an underscore that is out of place among the digits is told before a 0 that leads them.
   zero_before : (m : ℕ) → Digits 10 text from m → slice_index text from ≡ digit_zero
-      → is_digit 10 (slice_index text (from + 1)) ≡ true
+      → is_digit_in 10 (slice_index text (from + 1)) ≡ true
       → NoIntegerPart text start from end (invalid_number (from + 1) end)
   zero_underscore_before : (m : ℕ) → Digits 10 text from m → slice_index text from ≡ digit_zero
       → slice_index text (from + 1) ≡ underscore
-      → is_digit 10 (slice_index text (from + 2)) ≡ true
+      → is_digit_in 10 (slice_index text (from + 2)) ≡ true
       → NoIntegerPart text start from end (invalid_number (from + 2) end)
 
 -- a piece of an exponent is not digits throughout; the integer part is the run from a to b

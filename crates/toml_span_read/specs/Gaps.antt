@@ -23,9 +23,9 @@ abbrev pub GapBy : List ℕ → ℕ → List ℕ → ℕ → Type 0
 GapBy text i [] j = i ≡ j
 GapBy text i (k ∷ ks) j = GapPiece text i k × GapBy text k ks j
 
--- all the spaces, tabs, line ends and comments from i on
---
--- `ws-comment-newline = *( wschar / [ comment ] newline )`
+-- All the spaces, tabs, line ends and comments from i on: `ws-comment-newline = *( wschar / [ comment ] newline )`, and
+-- perhaps one more comment, which no line end follows. Behind that the text ends or has a control character, so that no
+-- form can stand there.
 pub record MaximalGap (text : List ℕ) (i j : ℕ) : Type 0 where
   pub ends : List ℕ
   pub pieces : GapBy text i ends j
@@ -73,7 +73,8 @@ pub record NoDot (text : List ℕ) (i : ℕ) : Type 0 where
   pub before : MaximalRun is_blank text i at
   pub here : (slice_index text at == period) ≡ false
 
--- this byte, with gaps round it: `array-sep = %x2C`, `inline-table-sep = %x2C`, and the `%x3D` of a pair
+-- this byte, with gaps round it: `array-sep = %x2C`, `inline-table-sep = %x2C`, and the `%x3D` of a pair, round
+-- which the standard has only `ws`
 pub record Separator (c : ℕ) (text : List ℕ) (i j : ℕ) : Type 0 where
   pub at : ℕ
   pub before : MaximalGap text i at

@@ -35,13 +35,14 @@ from_to i j = record { start = i; end = j }
 --
 -- `string = ml-basic-string / basic-string / ml-literal-string / literal-string`, `boolean = true / false`,
 -- `date-time = offset-date-time / local-date-time / local-date / local-time`
-abbrev pub IsScalar : Scalar → Span → List ℕ → ℕ → ℕ → Type 0
-IsScalar (text_scalar value) span t i j = (source : List ℕ) × (multi : Bool) × IsString t i j span source value multi
-IsScalar (boolean b) span t i j = RunAt is_keylike t i j (truth_text b) × (span ≡ from_to i j)
-IsScalar (datetime date) span t i j =
+abbrev pub SpellsScalar : Scalar → Span → List ℕ → ℕ → ℕ → Type 0
+SpellsScalar (text_scalar value) span t i j =
+    (source : List ℕ) × (multi : Bool) × IsString t i j span source value multi
+SpellsScalar (boolean b) span t i j = RunAt is_keylike t i j (truth_text b) × (span ≡ from_to i j)
+SpellsScalar (datetime date) span t i j =
     (begins_date t i ≡ true) × IsCandidate t i j × IsDateText date × (date ≡ slice_range t i j) × (span ≡ from_to i j)
-IsScalar (integer n) span t i j = (begins_date t i ≡ false) × IsNumber (integer n) t i j × (span ≡ from_to i j)
-IsScalar (float x) span t i j = (begins_date t i ≡ false) × IsNumber (float x) t i j × (span ≡ from_to i j)
+SpellsScalar (integer n) span t i j = (begins_date t i ≡ false) × IsNumber (integer n) t i j × (span ≡ from_to i j)
+SpellsScalar (float x) span t i j = (begins_date t i ≡ false) × IsNumber (float x) t i j × (span ≡ from_to i j)
 
 -- which scalars the text spells from one place to another, with their spans
 abbrev pub Scalars : Type 1
@@ -77,9 +78,10 @@ abbrev mutual
       × (((vs ≡ no_items) × Closes right_bracket t m j)
       ⊎ ((p : ℕ) × Separator comma t m p × ItemsWith S vs t limit d p j))
 
-  -- `keyval = key keyval-sep val`, with gaps round the equals sign: pairs behind these earlier ones, each a key of at
-  -- most limit parts that goes through the value of no earlier pair, and its value, with commas between them, one more
-  -- comma or none, and the closing brace
+  -- Pairs behind these earlier ones, each a key of at most limit parts that goes through the value of no earlier pair,
+  -- and its value, with commas between them, one more comma or none, and the closing brace. Unlike the standard's
+  -- `keyval = key keyval-sep val`, where `keyval-sep = ws %x3D ws`, a pair may have line ends and comments round its
+  -- equals sign.
   --
   -- `inline-table-keyvals =  ws-comment-newline keyval ws-comment-newline inline-table-sep inline-table-keyvals`
   -- `inline-table-keyvals =/ ws-comment-newline keyval ws-comment-newline [ inline-table-sep ]`
@@ -96,16 +98,16 @@ abbrev mutual
 
 -- TOML's own values: with dates
 abbrev pub Spells : ParsedValue → List ℕ → ℕ → ℕ → ℕ → ℕ → Type 0
-Spells = SpellsWith IsScalar
+Spells = SpellsWith SpellsScalar
 
 abbrev pub SpellsInner : ParsedInner → Span → List ℕ → ℕ → ℕ → ℕ → ℕ → Type 0
-SpellsInner = InnerWith IsScalar
+SpellsInner = InnerWith SpellsScalar
 
 abbrev pub SpellsItems : ParsedItems → List ℕ → ℕ → ℕ → ℕ → ℕ → Type 0
-SpellsItems = ItemsWith IsScalar
+SpellsItems = ItemsWith SpellsScalar
 
 abbrev pub SpellsPairs : ParsedPairs → List KeyValue → List ℕ → ℕ → ℕ → ℕ → ℕ → Type 0
-SpellsPairs = PairsWith IsScalar
+SpellsPairs = PairsWith SpellsScalar
 
 -- a pair from i to j: a key of at most limit parts, an equals sign, and a value; its extent runs from the key to behind
 -- the value
@@ -142,13 +144,13 @@ LinesWith S evs text limit i j = (k : ℕ) × MaximalGap text i k × KeyValuesWi
 
 -- with dates
 abbrev pub SpellsKeyValue : KeyValue → List ℕ → ℕ → ℕ → ℕ → Type 0
-SpellsKeyValue = KeyValueWith IsScalar
+SpellsKeyValue = KeyValueWith SpellsScalar
 
 abbrev pub SpellsKeyValues : List KeyValue → List KeyValue → List ℕ → ℕ → ℕ → ℕ → Type 0
-SpellsKeyValues = KeyValuesWith IsScalar
+SpellsKeyValues = KeyValuesWith SpellsScalar
 
 abbrev pub SpellsLines : List KeyValue → List ℕ → ℕ → ℕ → ℕ → Type 0
-SpellsLines = LinesWith IsScalar
+SpellsLines = LinesWith SpellsScalar
 
 -- ---- headers
 
@@ -225,7 +227,8 @@ abbrev pub SectionsWith : Scalars → List Block → List ℕ → ℕ → ℕ �
 SectionsWith S [] text limit i = i ≡ length text
 SectionsWith S (b ∷ bs) text limit i = (j : ℕ) × SectionWith S b text limit i j × SectionsWith S bs text limit j
 
--- the text, behind a byte order mark, spells these sections: `toml = expression *( newline expression )`
+-- the text, behind a byte order mark, which no production has, spells these sections:
+-- `toml = expression *( newline expression )`
 pub record DocumentWith (S : Scalars) (bs : List Block) (text : List ℕ) (limit : ℕ) : Type 0 where
   pub start : ℕ
   pub end : ℕ
@@ -238,10 +241,10 @@ pub record DocumentWith (S : Scalars) (bs : List Block) (text : List ℕ) (limit
 
 -- with dates
 abbrev pub SpellsSection : Block → List ℕ → ℕ → ℕ → ℕ → Type 0
-SpellsSection = SectionWith IsScalar
+SpellsSection = SectionWith SpellsScalar
 
 abbrev pub SpellsSections : List Block → List ℕ → ℕ → ℕ → Type 0
-SpellsSections = SectionsWith IsScalar
+SpellsSections = SectionsWith SpellsScalar
 
 abbrev pub SpellsDocument : List Block → List ℕ → ℕ → Type 0
-SpellsDocument = DocumentWith IsScalar
+SpellsDocument = DocumentWith SpellsScalar

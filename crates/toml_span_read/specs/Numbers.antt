@@ -19,22 +19,22 @@ small_o = 111
 -- ---- digits
 
 -- a digit of this radix: `DIGIT` for 10, `HEXDIG` for 16, `digit0-7` for 8, `digit0-1` for 2
-abbrev pub is_digit : ℕ → ℕ → Bool
-is_digit radix c = is_ascii_hexdigit c && nat_lt (digit_value c) radix
+abbrev pub is_digit_in : ℕ → ℕ → Bool
+is_digit_in radix c = is_ascii_hexdigit c && nat_lt (digit_value c) radix
 
 -- a digit or an underscore
 abbrev pub is_figure : ℕ → ℕ → Bool
-is_figure radix c = is_digit radix c || c == underscore
+is_figure radix c = is_digit_in radix c || c == underscore
 
 -- all the digits and underscores from i on, which end at j; the first is a digit, and behind each underscore stands a
 -- digit
 --
 -- `zero-prefixable-int = DIGIT *( DIGIT / underscore DIGIT )`, and the same of another radix
 pub record Digits (radix : ℕ) (text : List ℕ) (i j : ℕ) : Type 0 where
-  pub begins : is_digit radix (slice_index text i) ≡ true
+  pub begins : is_digit_in radix (slice_index text i) ≡ true
   pub run : MaximalRun (is_figure radix) text i j
   pub between : (k : ℕ) → i ≤ k → k < j → slice_index text k ≡ underscore
-      → is_digit radix (slice_index text (k + 1)) ≡ true
+      → is_digit_in radix (slice_index text (k + 1)) ≡ true
 
 -- the sum of digits times the powers of the radix
 abbrev pub sum_of_digits : ℕ → List ℕ → ℕ
@@ -43,7 +43,7 @@ sum_of_digits radix (c ∷ cs) = digit_value c * radix ^ length cs + sum_of_digi
 
 -- what the digits from i to j write, underscores left out
 abbrev pub magnitude : ℕ → List ℕ → ℕ → ℕ → ℕ
-magnitude radix text i j = sum_of_digits radix (filter (is_digit radix) (slice_range text i j))
+magnitude radix text i j = sum_of_digits radix (filter (is_digit_in radix) (slice_range text i j))
 
 -- ---- integers
 

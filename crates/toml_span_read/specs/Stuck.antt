@@ -186,7 +186,7 @@ abbrev pub HoldsForm : List ℕ → ℕ → Type 0
 HoldsForm text i = (k : ℕ) × MaximalGap text i k × (k < length text)
 
 -- memory is wanted only where there is something to keep
-abbrev pub KeepsForm : {A E : Type 0} → List ℕ → ℕ → Result A (Stop E) → Type 0
-KeepsForm text i (Err (stops.Memory e)) = HoldsForm text i
-KeepsForm text i (Err (stops.Fault fault)) = Unit {0}
-KeepsForm text i (Ok found) = Unit {0}
+abbrev pub OnlyFormsTakeMemory : {A E : Type 0} → List ℕ → ℕ → Result A (Stop E) → Type 0
+OnlyFormsTakeMemory text i (Err (stops.Memory e)) = HoldsForm text i
+OnlyFormsTakeMemory text i (Err (stops.Fault fault)) = Unit {0}
+OnlyFormsTakeMemory text i (Ok found) = Unit {0}

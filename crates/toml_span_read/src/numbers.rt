@@ -18,7 +18,7 @@ ghost use Rattle.toml_span_read.specs.code.Numbers.{RadixIntegerGives, IntegerPa
 ghost use Rattle.toml_span_read.specs.code.Numbers.{ExponentGives, FractionGives, DecimalGives, SpecialGives};
 ghost use Rattle.toml_span_read.specs.code.Numbers.{UnsignedGives, NumberGives};
 ghost use Rattle.toml_span_read.specs.Faults.{Run, IsSpecial, NoDecimal};
-ghost use Rattle.toml_span_read.specs.Numbers.{UnsignedDecimal, sum_of_digits, is_digit, behind_sign, is_negative};
+ghost use Rattle.toml_span_read.specs.Numbers.{UnsignedDecimal, sum_of_digits, is_digit_in, behind_sign, is_negative};
 
 use crate::fault::{Fault, invalid_number};
 use crate::gaps::byte_at;
@@ -90,7 +90,7 @@ fn with_digit(number: u64, radix: u8, digit: u8) -> Option<u64>
 
 /// The number that digits write, underscores left out, if it is below 2^64.
 fn magnitude(digits: &[u8], radix: u8) -> Option<u64>
-    ensures { WithinGives (sum_of_digits radix (filter (is_digit radix) digits.now)) result }
+    ensures { WithinGives (sum_of_digits radix (filter (is_digit_in radix) digits.now)) result }
 {
     let mut value: u64 = 0;
     for byte in digits {

@@ -9,7 +9,7 @@ ghost use Rattle.toml_span_read.specs.Grammar.{OpensHeader, first_block};
 ghost use Rattle.toml_span_read.specs.code.Sections.{KeyValueGives, LineGives, LinesGive, CloseGives, HeaderGives};
 ghost use Rattle.toml_span_read.specs.code.Sections.{SectionsGive, block_of, first_blocks, FirstReads, FirstGives};
 ghost use Rattle.toml_span_read.specs.code.Sections.{SectionReads, SectionGives};
-ghost use Rattle.toml_span_read.specs.Stuck.{KeepsForm, ReadsDocument, RefusedInside};
+ghost use Rattle.toml_span_read.specs.Stuck.{OnlyFormsTakeMemory, ReadsDocument, RefusedInside};
 ghost use Rattle.toml_span_read.specs.code.Gaps.{Further};
 ghost use Rattle.toml_span_lex.specs.Bytes.{left_bracket};
 ghost use Rattle.toml_span_lex.specs.Tokenizer.{FirstPlace};
@@ -90,7 +90,7 @@ fn assignments<'de>(
     ensures header { EndsAtHeader text.now result }
     ensures gives { LinesGive text.now limit from result }
     ensures borrows { IfOk result (λ found. AreWrittenRight text.now (assignments_written found.0.items)) }
-    ensures memory { KeepsForm text.now from result }
+    ensures memory { OnlyFormsTakeMemory text.now from result }
 {
     let mut found = Vec::new(alloc);
     let mut earlier = Earlier::new(alloc);
@@ -259,7 +259,7 @@ pub fn read_first<'de>(
     requires small { limit ≤ depth_limit }
     ensures reads { FirstReads text.now limit result }
     ensures gives { FirstGives text.now limit result }
-    ensures memory { (start : ℕ) × FirstPlace text.now start × KeepsForm text.now start result }
+    ensures memory { (start : ℕ) × FirstPlace text.now start × OnlyFormsTakeMemory text.now start result }
 {
     let (before, end) = assignments(alloc, text, first_place(text), limit)?;
     Ok((first_section(alloc, before), end))
@@ -297,7 +297,7 @@ fn sections<'de>(
     ensures reads { SectionsRead text.now limit result }
     ensures gives { SectionsGive text.now limit result }
     ensures borrows { IfOk result (λ found. AreWrittenRight text.now (sections_written found.items)) }
-    ensures memory { (start : ℕ) × FirstPlace text.now start × KeepsForm text.now start result }
+    ensures memory { (start : ℕ) × FirstPlace text.now start × OnlyFormsTakeMemory text.now start result }
 {
     let mut found = Vec::new(alloc);
     let (first, mut at) = read_first(alloc, text, limit)?;
@@ -333,7 +333,7 @@ pub fn read_sections<'de>(
     ensures document { ReadsDocument text.now limit result }
     ensures placed { RefusedInside text.now result }
     // Memory is wanted only where more than comments and blank lines stand in the text.
-    ensures memory { (start : ℕ) × FirstPlace text.now start × KeepsForm text.now start result }
+    ensures memory { (start : ℕ) × FirstPlace text.now start × OnlyFormsTakeMemory text.now start result }
     // Strings and keys are borrowed exactly where they equal the text at their span. Empty ones on one line are
     // borrowed.
     ensures borrows { IfOk result (λ found. AreWrittenRight text.now (sections_written found.items)) }

@@ -9,8 +9,8 @@ use Rattle.toml_span_lex.specs.Bytes.{is_keylike, MaximalRun}
 use Rattle.toml_span_tree.specs.Node.{Scalar, text as text_scalar, integer, float, boolean, datetime, finite, infinite, not_a_number}
 use Rattle.std.specs.Char.{is_ascii_digit}
 use Rattle.toml_span_read.specs.Dates.{is_date_byte, begins_date, continues_date, IsCandidate}
-use Rattle.toml_span_read.specs.Numbers.{is_digit, is_figure, Digits, sum_of_digits, magnitude, behind_sign, is_negative, UnsignedDecimal, DecimalInteger, radix_at, RadixInteger, Exponent, Fraction, FloatLiteral, SpecialFloat, IsNumber}
-use Rattle.toml_span_read.specs.Grammar.{IsScalar}
+use Rattle.toml_span_read.specs.Numbers.{is_digit_in, is_figure, Digits, sum_of_digits, magnitude, behind_sign, is_negative, UnsignedDecimal, DecimalInteger, radix_at, RadixInteger, Exponent, Fraction, FloatLiteral, SpecialFloat, IsNumber}
+use Rattle.toml_span_read.specs.Grammar.{SpellsScalar}
 use Rattle.toml_span_read_laws.specs.Again.{moved_span}
 use Rattle.toml_span_read.proofs.Places.{run_some}
 use Rattle.toml_span_read.proofs.NumberLemmas.{is_false, digit_figure}
@@ -22,30 +22,30 @@ use Rattle.toml_span_read_laws.proofs.AgainStrings.{string, span_moved, equal_mo
 digits_some : (radix : ℕ) (a : List ℕ) (i j : ℕ) → Digits radix a i j → i < j
 digits_some radix a i j h = run_some (is_figure radix) a i j refl (digit_figure radix (get_or a i 0) h.begins) h.run
 
-digit_within : (radix : ℕ) (a : List ℕ) (i : ℕ) → is_digit radix (get_or a i 0) ≡ true → i < length a
+digit_within : (radix : ℕ) (a : List ℕ) (i : ℕ) → is_digit_in radix (get_or a i 0) ≡ true → i < length a
 digit_within radix a i h = elim (cases_lt i (length a)) [ inl l ↦ l | inr g ↦ absurd (false≢true (rw (get_or_past a i 0 g) at h)) ]
 
 -- digits do not end before a digit
-no_more : (radix : ℕ) (a : List ℕ) (i j : ℕ) → Digits radix a i j → is_digit radix (get_or a j 0) ≡ true → ⊥
+no_more : (radix : ℕ) (a : List ℕ) (i j : ℕ) → Digits radix a i j → is_digit_in radix (get_or a j 0) ≡ true → ⊥
 no_more radix a i j h d = false≢true (sym (h.run.stops (digit_within radix a j d)) ∙ digit_figure radix (get_or a j 0) d)
 
 digits : (a b : List ℕ) (s t radix : ℕ) → Copied a b s t → (i j k l : ℕ) → s ≤ i → i + t ≡ k + s → j + t ≡ l + s → l ≤ length b → Digits radix a i j → Digits radix b k l
 digits a b s t radix w i j k l o e f u h =
     let some = digits_some radix a i j h in
     record {
-      begins = passes a b s t w (is_digit radix) true i k o e (omega arith) h.begins;
+      begins = passes a b s t w (is_digit_in radix) true i k o e (omega arith) h.begins;
       run = run a b s t w (is_figure radix) i j k l o e f u h.run;
       between = λ n x y z.
           let m : ((n + s) - t) + t ≡ n + s = omega arith in
           let d = h.between ((n + s) - t) (omega arith) (omega arith) (w.same ((n + s) - t) n (omega arith) m (omega arith) ∙ z) in
           elim (cases_lt (n + 1) (length b)) [
-            | inl v ↦ passes a b s t w (is_digit radix) true (((n + s) - t) + 1) (n + 1) (omega arith) (omega arith) v d
+            | inl v ↦ passes a b s t w (is_digit_in radix) true (((n + s) - t) + 1) (n + 1) (omega arith) (omega arith) v d
             | inr v ↦ let q : ((n + s) - t) + 1 ≡ j = omega arith in absurd (no_more radix a i j h (rw q at d))
           ];
     }
 
 magnitude_same : (a b : List ℕ) (s t radix : ℕ) → Copied a b s t → (i j k l : ℕ) → s ≤ i → i ≤ j → i + t ≡ k + s → j + t ≡ l + s → l ≤ length b → magnitude radix a i j ≡ magnitude radix b k l
-magnitude_same a b s t radix w i j k l o on e f u = ap (λ (r : List ℕ). sum_of_digits radix (filter (is_digit radix) r)) (same_range a b s t w i j k l o on e f u)
+magnitude_same a b s t radix w i j k l o on e f u = ap (λ (r : List ℕ). sum_of_digits radix (filter (is_digit_in radix) r)) (same_range a b s t w i j k l o on e f u)
 
 -- ---- signs
 
@@ -337,7 +337,7 @@ first_run a i j (inr (r, c, more)) = (i + 10, r, omega (arith, second_run a i j 
 
 -- ---- scalars
 
-pub scalar_copied : (a b : List ℕ) (s t : ℕ) → Copied a b s t → (x : Scalar) (span : Span) (i j k l : ℕ) → s ≤ i → i + t ≡ k + s → j + t ≡ l + s → l ≤ length b → IsScalar x span a i j → IsScalar x (moved_span s t span) b k l
+pub scalar_copied : (a b : List ℕ) (s t : ℕ) → Copied a b s t → (x : Scalar) (span : Span) (i j k l : ℕ) → s ≤ i → i + t ≡ k + s → j + t ≡ l + s → l ≤ length b → SpellsScalar x span a i j → SpellsScalar x (moved_span s t span) b k l
 scalar_copied a b s t w (text_scalar v) span i j k l o e f u (src, m, h) = (src, m, string a b s t w i j k l span src v m o e f u h)
 scalar_copied a b s t w (boolean c) span i j k l o e f u (h, z) =
     let some = h.0 in ((omega arith, run a b s t w is_keylike i j k l o e f u h.1, h.2 ∙ same_range a b s t w i j k l o (omega arith) e f u), (rw z (span_moved s t i j k l e f)))

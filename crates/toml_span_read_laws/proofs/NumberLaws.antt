@@ -8,7 +8,7 @@ use Rattle.std.proofs.lemmas.List.{get_or_past, length-drop, length-take-le}
 use Rattle.toml_span_lex.specs.Bytes.{is_keylike, MaximalRun}
 use Rattle.toml_span_tree.specs.Node.{finite, infinite, not_a_number, Scalar, text as text_scalar, integer, float, boolean, datetime}
 use Rattle.toml_span_read.specs.declared.fault.Fault.{Fault}
-use Rattle.toml_span_read.specs.Numbers.{is_digit, is_figure, Digits, magnitude, behind_sign, is_negative, IsSigned, UnsignedDecimal, goes_on, radix_at, RadixInteger, is_exponent, Exponent, Fraction, FloatLiteral, SpecialFloat, IsNumber}
+use Rattle.toml_span_read.specs.Numbers.{is_digit_in, is_figure, Digits, magnitude, behind_sign, is_negative, IsSigned, UnsignedDecimal, goes_on, radix_at, RadixInteger, is_exponent, Exponent, Fraction, FloatLiteral, SpecialFloat, IsNumber}
 use Rattle.toml_span_read.specs.code.Numbers.{NumberGives, IsReadAs}
 use Rattle.toml_span_read.specs.Faults.{NoDigits, underscore_first, no_digit, loose_underscore, NoIntegerPart, no_integer_digits, zero_before, zero_underscore_before, NoExponentDigits, no_exponent_digits, left_in_exponent, NoExponent, letter_last, in_run, behind_plus, NoFraction, dot_alone, no_fraction_digits, left_in_fraction, no_fraction_exponent, IsOutside, NoDecimal, no_integer_part, left_in_integer, no_integer_exponent, no_fraction, outside, special_dot_alone, special_dot, NoRadixInteger, no_radix_digits, left_in_radix, outside_radix, NoNumber, plus_alone, plus_before_minus, plus_before_prefix, no_radix_integer, no_decimal, no_decimal_behind_plus}
 use Rattle.toml_span_lex.specs.declared.stop.Stop.{Stop}
@@ -172,9 +172,9 @@ data Body (text : List ℕ) (k : ℕ) (negative : Bool) : Type 0 where
   letters : (j : ℕ) → (slice_range text k j ≡ codes "inf") ⊎ (slice_range text k j ≡ codes "nan") → k < j → j ≤ length text → goes_on text j ≡ false → Body text k negative
 
 -- the first byte of letters is no digit
-letters_digit : (text : List ℕ) (k j m : ℕ) → (slice_range text k j ≡ codes "inf") ⊎ (slice_range text k j ≡ codes "nan") → k < j → j ≤ length text → is_digit 10 (get_or text k 0) ≡ true → ⊥
-letters_digit text k j m (inl e) l w d = clash (is_digit 10) (get_or text k 0) 105 d (slice_first text k j 105 _ l w e).0 refl
-letters_digit text k j m (inr e) l w d = clash (is_digit 10) (get_or text k 0) 110 d (slice_first text k j 110 _ l w e).0 refl
+letters_digit : (text : List ℕ) (k j m : ℕ) → (slice_range text k j ≡ codes "inf") ⊎ (slice_range text k j ≡ codes "nan") → k < j → j ≤ length text → is_digit_in 10 (get_or text k 0) ≡ true → ⊥
+letters_digit text k j m (inl e) l w d = clash (is_digit_in 10) (get_or text k 0) 105 d (slice_first text k j 105 _ l w e).0 refl
+letters_digit text k j m (inr e) l w d = clash (is_digit_in 10) (get_or text k 0) 110 d (slice_first text k j 110 _ l w e).0 refl
 
 slice_length : (text : List ℕ) (k j : ℕ) → j ≤ length text → length (slice_range text k j) ≡ j - k
 slice_length text k j w =
@@ -206,7 +206,7 @@ letters_keylike text k j l (inl e) o w a b =
 letters_keylike text k j l (inr e) o w a b =
     let t = three_letters text k j 110 97 110 e o w in third text k l (t.1, t.2, t.3) a (omega (arith, t.0)) refl refl refl
 
-pub special_digit : (text : List ℕ) (k b : ℕ) → (slice_range text k b ≡ codes "inf") ⊎ (slice_range text k b ≡ codes "nan") → MaximalRun is_keylike text k b → is_digit 10 (get_or text k 0) ≡ true → ⊥
+pub special_digit : (text : List ℕ) (k b : ℕ) → (slice_range text k b ≡ codes "inf") ⊎ (slice_range text k b ≡ codes "nan") → MaximalRun is_keylike text k b → is_digit_in 10 (get_or text k 0) ≡ true → ⊥
 special_digit text k b (inl e) u d = letters_digit text k b b (inl e) (slice_some text k b _ _ e) u.within d
 special_digit text k b (inr e) u d = letters_digit text k b b (inr e) (slice_some text k b _ _ e) u.within d
 
@@ -283,8 +283,8 @@ decimal_excluded text i a b u (letters j e l w g) (special_dot s p h) =
 -- ---- numbers, or none
 
 -- the first byte behind the sign is of a run, and no minus
-digit_first : (c : ℕ) → is_digit 10 c ≡ true → (is_keylike c ≡ true) × ((c == 45) ≡ false)
-digit_first c d = (digit_keylike 10 c d, is_false _ (λ e. clash (is_digit 10) c 45 d (byte_is c 45 e) refl))
+digit_first : (c : ℕ) → is_digit_in 10 c ≡ true → (is_keylike c ≡ true) × ((c == 45) ≡ false)
+digit_first c d = (digit_keylike 10 c d, is_false _ (λ e. clash (is_digit_in 10) c 45 d (byte_is c 45 e) refl))
 
 pub some_same : (a b : ℕ) → Some a ≡ Some b → a ≡ b
 some_same a b e = cc
@@ -424,7 +424,7 @@ prefix_or_body : (text : List ℕ) (n : ℤ) (i j : ℕ) → RadixInteger n text
 prefix_or_body text n i j x y =
     let z : Body text i (is_negative text i) = rw (zero_no_sign text i (zero_first text i x.radix x.prefix)) at y in no_prefix text i x.radix (is_negative text i) z x.prefix
 
-letters_or_digit : (text : List ℕ) (word : List ℕ) (i j : ℕ) → (word ≡ codes "inf") ⊎ (word ≡ codes "nan") → SpecialFloat word text i j → is_digit 10 (get_or text (behind_sign text i) 0) ≡ true → ⊥
+letters_or_digit : (text : List ℕ) (word : List ℕ) (i j : ℕ) → (word ≡ codes "inf") ⊎ (word ≡ codes "nan") → SpecialFloat word text i j → is_digit_in 10 (get_or text (behind_sign text i) 0) ≡ true → ⊥
 letters_or_digit text word i j (inl e) s d = letters_digit text (behind_sign text i) j j (inl (s.letters ∙ e)) s.some s.within d
 letters_or_digit text word i j (inr e) s d = letters_digit text (behind_sign text i) j j (inr (s.letters ∙ e)) s.some s.within d
 
@@ -494,7 +494,7 @@ capital_past c h v = grind arith
 small_past : (c : ℕ) → is_in_range 97 102 c ≡ true → nat_lt (digit_value c) 10 ≡ true → ⊥
 small_past c h v = grind arith
 
-digit_begins : (c : ℕ) → is_digit 10 c ≡ true → is_ascii_digit c ≡ true
+digit_begins : (c : ℕ) → is_digit_in 10 c ≡ true → is_ascii_digit c ≡ true
 digit_begins c h = elim (either (is_in_range 48 57 c || is_in_range 65 70 c) (is_in_range 97 102 c) (and_left _ _ h)) [
   | inl d ↦ elim (either (is_in_range 48 57 c) (is_in_range 65 70 c) d) [ inl e ↦ e | inr u ↦ absurd (capital_past c u (and_right _ _ h)) ]
   | inr l ↦ absurd (small_past c l (and_right _ _ h))

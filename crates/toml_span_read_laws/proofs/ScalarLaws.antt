@@ -18,8 +18,8 @@ use Rattle.toml_span_read.specs.Faults.{IsTokenFault, begins_bare, begins_number
 use Rattle.toml_span_read.specs.Keys.{opens_string}
 use Rattle.std.specs.Char.{is_ascii_digit}
 use Rattle.toml_span_read.specs.Dates.{is_date_byte, begins_date, continues_date, IsCandidate}
-use Rattle.toml_span_read.specs.Numbers.{IsNumber, is_digit, behind_sign, UnsignedDecimal, radix_at, SpecialFloat, goes_on}
-use Rattle.toml_span_read.specs.Grammar.{from_to, truth_text, IsScalar}
+use Rattle.toml_span_read.specs.Numbers.{IsNumber, is_digit_in, behind_sign, UnsignedDecimal, radix_at, SpecialFloat, goes_on}
+use Rattle.toml_span_read.specs.Grammar.{from_to, truth_text, SpellsScalar}
 use Rattle.toml_span_read_laws.proofs.NumberLaws.{number_unique, number_excluded}
 use Rattle.toml_span_read_laws.proofs.KeyLaws.{clash, token_or_token_fault}
 
@@ -60,7 +60,7 @@ truth_byte false text i j r = inr (first_byte text (truth_text false) i j (sym r
 
 -- ---- numbers
 
-digit_decimal : (c : ℕ) → is_digit 10 c ≡ true → is_ascii_digit c ≡ true
+digit_decimal : (c : ℕ) → is_digit_in 10 c ≡ true → is_ascii_digit c ≡ true
 digit_decimal c h = grind (arith, nat_tests)
 
 sign_case : (c i : ℕ) (b : Bool) → (c == 43 || c == 45) ≡ b → (begins_number c ≡ true) ⊎ ((if b then i + 1 else i) ≡ i)
@@ -184,7 +184,7 @@ data ScalarCase (s : Scalar) (span : Span) (t : List ℕ) (i j : ℕ) : Type 0 w
   a_date : (date : List ℕ) → s ≡ datetime date → begins_date t i ≡ true → IsCandidate t i j → IsDateText date → date ≡ slice_range t i j → span ≡ from_to i j → ScalarCase s span t i j
   a_number : begins_date t i ≡ false → IsNumber s t i j → span ≡ from_to i j → ScalarCase s span t i j
 
-scalar_case : (s : Scalar) (span : Span) (t : List ℕ) (i j : ℕ) → IsScalar s span t i j → ScalarCase s span t i j
+scalar_case : (s : Scalar) (span : Span) (t : List ℕ) (i j : ℕ) → SpellsScalar s span t i j → ScalarCase s span t i j
 scalar_case (text_scalar v) span t i j (src, m, h) = a_string v src m refl h
 scalar_case (boolean b) span t i j (run, e) = a_truth b refl run e
 scalar_case (datetime d) span t i j (b, c, is, same, e) = a_date d refl b c is same e
@@ -259,7 +259,7 @@ case_unique s r span other t i j k (a_number b g y) (a_date d e begins c is same
 case_unique s r span other t i j k (a_number b g x) (a_number c h y) =
     let u = number_unique t i j k s r g h in (u.0, x ∙ (rw u.1 (sym y)), u.1)
 
-pub scalar_unique : (s r : Scalar) (span other : Span) (t : List ℕ) (i j k : ℕ) → IsScalar s span t i j → IsScalar r other t i k → (s ≡ r) × (span ≡ other) × (j ≡ k)
+pub scalar_unique : (s r : Scalar) (span other : Span) (t : List ℕ) (i j k : ℕ) → SpellsScalar s span t i j → SpellsScalar r other t i k → (s ≡ r) × (span ≡ other) × (j ≡ k)
 scalar_unique s r span other t i j k a b = case_unique s r span other t i j k (scalar_case s span t i j a) (scalar_case r other t i k b)
 
 -- ---- the first byte of a scalar
@@ -281,7 +281,7 @@ case_byte s span t i j (a_truth b e run x) = rw (keylike_bare (get_or t i 0) (ru
 case_byte s span t i j (a_date d e b c is same x) = rw (decimal_bare (get_or t i 0) (date_byte t i b)) refl
 case_byte s span t i j (a_number b h x) = rw (any_bare (get_or t i 0) (number_any s t i j h)) refl
 
-pub scalar_byte : (s : Scalar) (span : Span) (t : List ℕ) (i j : ℕ) → IsScalar s span t i j → (begins_bare (get_or t i 0) || opens_string (get_or t i 0)) ≡ true
+pub scalar_byte : (s : Scalar) (span : Span) (t : List ℕ) (i j : ℕ) → SpellsScalar s span t i j → (begins_bare (get_or t i 0) || opens_string (get_or t i 0)) ≡ true
 scalar_byte s span t i j h = case_byte s span t i j (scalar_case s span t i j h)
 
 -- ---- where a scalar is spelled, no fault stands
@@ -292,7 +292,7 @@ quoted_fault s span t i j e (a_truth b f run y) o x = string_clash is_keylike t 
 quoted_fault s span t i j e (a_date d f b c is same y) o x = string_clash is_ascii_digit t i refl refl o (date_byte t i b)
 quoted_fault s span t i j e (a_number b h y) o x = any_not_string s t i j o h
 
-pub quoted_or_fault : (s : Scalar) (span : Span) (t : List ℕ) (i j : ℕ) (e : Fault) → IsScalar s span t i j → opens_string (get_or t i 0) ≡ true → IsTokenFault t i e → ⊥
+pub quoted_or_fault : (s : Scalar) (span : Span) (t : List ℕ) (i j : ℕ) (e : Fault) → SpellsScalar s span t i j → opens_string (get_or t i 0) ≡ true → IsTokenFault t i e → ⊥
 quoted_or_fault s span t i j e h o x = quoted_fault s span t i j e (scalar_case s span t i j h) o x
 
 word_bare : (t word : List ℕ) (i j : ℕ) → RunAt is_keylike t i j word → begins_bare (get_or t i 0) ≡ true
@@ -348,5 +348,5 @@ bare_fault s span t i j e (a_number b h x) (inl n) = false≢true (sym b ∙ n.0
 bare_fault s span t i j e (a_number b h x) (inr (inl n)) = number_excluded t i j s e h n.1
 bare_fault s span t i j e (a_number b h x) (inr (inr n)) = unquoted_number s t i j e h n
 
-pub bare_or_fault : (s : Scalar) (span : Span) (t : List ℕ) (i j : ℕ) (e : Fault) → IsScalar s span t i j → NoBare t i e → ⊥
+pub bare_or_fault : (s : Scalar) (span : Span) (t : List ℕ) (i j : ℕ) (e : Fault) → SpellsScalar s span t i j → NoBare t i e → ⊥
 bare_or_fault s span t i j e h n = bare_fault s span t i j e (scalar_case s span t i j h) n

@@ -18,7 +18,7 @@ use Rattle.toml_span_read.specs.code.Dates.{DateGives}
 use Rattle.toml_span_read.specs.Faults.{fault_at, begins_bare, opens_nested, begins_number, NoBare}
 use Rattle.toml_span_read.specs.code.Gaps.{Further, BehindGives, SeparatorGives}
 use Rattle.toml_span_read.specs.Gaps.{MaximalGap, Separator, Closes, Neither}
-use Rattle.toml_span_read.specs.Grammar.{from_to, IsScalar, Spells, SpellsItems, SpellsPairs, SpellsPair}
+use Rattle.toml_span_read.specs.Grammar.{from_to, SpellsScalar, Spells, SpellsItems, SpellsPairs, SpellsPair}
 use Rattle.toml_span_read_laws.specs.code.Judged.{Judged, NumberStands, EndsFurther}
 use Rattle.toml_span_read.specs.Keys.{opens_string}
 use Rattle.toml_span_read.specs.Numbers.{IsNumber}
@@ -44,9 +44,9 @@ sign_sum c text i (Err j, h) = inr (j, h.0, h.1, h.2)
 -- ---- numbers, truth values and dates
 
 abbrev BareAt : List ℕ → ℕ → Type 0
-BareAt text i = ((s : Scalar) × (j : ℕ) × IsScalar s (from_to i j) text i j × Further text i j) ⊎ ((fault : Fault) × NoBare text i fault)
+BareAt text i = ((s : Scalar) × (j : ℕ) × SpellsScalar s (from_to i j) text i j × Further text i j) ⊎ ((fault : Fault) × NoBare text i fault)
 
-number_scalar : (s : Scalar) (text : List ℕ) (i j : ℕ) → begins_date text i ≡ false → IsNumber s text i j → IsScalar s (from_to i j) text i j
+number_scalar : (s : Scalar) (text : List ℕ) (i j : ℕ) → begins_date text i ≡ false → IsNumber s text i j → SpellsScalar s (from_to i j) text i j
 number_scalar (integer n) text i j d h = (d, h, refl)
 number_scalar (float x) text i j d h = (d, h, refl)
 number_scalar (text_scalar x) text i j d h = absurd h

@@ -12,7 +12,7 @@ use Rattle.toml_span_read.specs.Data.{ParsedValue, parsed, ParsedInner, scalar, 
 use Rattle.std.specs.Char.{is_ascii_digit}
 use Rattle.toml_span_read.specs.Dates.{begins_date}
 use Rattle.toml_span_read.specs.Gaps.{GapPiece, GapBy, Separator, Closes, Tail}
-use Rattle.toml_span_read.specs.Grammar.{IsScalar, Spells, SpellsInner, SpellsItems, SpellsPairs, SpellsKeyValue, SpellsKeyValues, SpellsLines, SpellsSection, SpellsSections, SpellsDocument, InnerWith, ItemsWith, PairsWith, KeyValueWith, KeyValuesWith, LinesWith, SectionWith, SectionsWith}
+use Rattle.toml_span_read.specs.Grammar.{SpellsScalar, Spells, SpellsInner, SpellsItems, SpellsPairs, SpellsKeyValue, SpellsKeyValues, SpellsLines, SpellsSection, SpellsSections, SpellsDocument, InnerWith, ItemsWith, PairsWith, KeyValueWith, KeyValuesWith, LinesWith, SectionWith, SectionsWith}
 use Rattle.toml_span_read.specs.Numbers.{is_figure, is_exponent, behind_sign, Digits, Exponent, Fraction, goes_on, radix_at, SpecialFloat, IsNumber}
 use Rattle.toml_span_read_laws.specs.Undated.{UndatedScalar, SpellsUndated, SpellsUndatedDocument}
 use Rattle.toml_span_read.proofs.NumberLemmas.{is_false, and_left, byte_is, bool_cases, clash, none_some, slice_first}
@@ -138,7 +138,7 @@ no_date s text i j h n = is_false _ (λ b.
     let e : get_or text j 0 ≡ 58 = number_front s text i j (and_left _ _ d) (and_right _ _ d) (date_front text i b) h in
     false≢true (sym (rw e at n)))
 
-scalar_dated : (s : Scalar) (span : Span) (text : List ℕ) (i j : ℕ) → (get_or text j 0 == 58) ≡ false → UndatedScalar s span text i j → IsScalar s span text i j
+scalar_dated : (s : Scalar) (span : Span) (text : List ℕ) (i j : ℕ) → (get_or text j 0 == 58) ≡ false → UndatedScalar s span text i j → SpellsScalar s span text i j
 scalar_dated (text_scalar v) span text i j n h = h
 scalar_dated (boolean b) span text i j n h = h
 scalar_dated (datetime d) span text i j n h = absurd h

@@ -13,7 +13,7 @@ use Rattle.toml_span_read.specs.Gaps.{MaximalGap, Separator}
 use Rattle.toml_span_read.specs.Keys.{SimpleKey, opens_string, SpellsKey}
 use Rattle.toml_span_read.specs.Data.{ParsedValue, parsed, ParsedInner, scalar, array, inline, ParsedItems, no_items, item, ParsedPairs, no_pairs, pair, KeyValue, view}
 use Rattle.toml_span_read.specs.Earlier.{Clear}
-use Rattle.toml_span_read.specs.Grammar.{IsScalar, Spells, SpellsInner, SpellsItems, SpellsPairs, SpellsPair}
+use Rattle.toml_span_read.specs.Grammar.{SpellsScalar, Spells, SpellsInner, SpellsItems, SpellsPairs, SpellsPair}
 use Rattle.toml_span_read.specs.Faults.{begins_bare, opens_nested, NoBare}
 use Rattle.toml_span_read.specs.code.Values.{ValueGives, IsReadAs}
 use Rattle.toml_span_read.specs.Stuck.{StuckValue, value_here, in_array, in_inline, StuckItems, in_item, behind_item, item_on, StuckPairs, in_pair, crosses, behind_pair, pair_on, StuckPair, in_key, no_equals, in_value}
@@ -45,7 +45,7 @@ value_byte (parsed (scalar x) s) text limit d i j h = one_of (opens_nested (get_
 value_byte (parsed (array vs) s) text limit d i j h = rw h.1.0 refl
 value_byte (parsed (inline ps) s) text limit d i j h = rw h.1.0 refl
 
-no_scalar : (x : Scalar) (s : Span) (text : List ℕ) (i j c : ℕ) → begins_scalar c ≡ false → get_or text i 0 ≡ c → IsScalar x s text i j → ⊥
+no_scalar : (x : Scalar) (s : Span) (text : List ℕ) (i j c : ℕ) → begins_scalar c ≡ false → get_or text i 0 ≡ c → SpellsScalar x s text i j → ⊥
 no_scalar x s text i j c n e h = clash begins_scalar (get_or text i 0) c (scalar_byte x s text i j h) e n
 
 no_value_at : (v : ParsedValue) (text : List ℕ) (limit d i j c : ℕ) → begins c ≡ false → get_or text i 0 ≡ c → Spells v text limit d i j → ⊥
@@ -138,7 +138,7 @@ pair_unique e f text limit d i m n (a, b, key, few, eq, val, ext) (a', b', key',
 
 -- ---- where a value is spelled, nothing is stuck
 
-no_quoted : (x : ParsedInner) (s : Span) (text : List ℕ) (limit d i j : ℕ) (e : Fault) → SpellsInner x s text limit d i j → opens_string (get_or text i 0) ≡ true → (IsScalar-Fault : (y : Scalar) → IsScalar y s text i j → ⊥) → ⊥
+no_quoted : (x : ParsedInner) (s : Span) (text : List ℕ) (limit d i j : ℕ) (e : Fault) → SpellsInner x s text limit d i j → opens_string (get_or text i 0) ≡ true → (IsScalar-Fault : (y : Scalar) → SpellsScalar y s text i j → ⊥) → ⊥
 no_quoted (scalar y) s text limit d i j e h o f = f y h
 no_quoted (array vs) s text limit d i j e h o f = clash opens_string (get_or text i 0) 91 o h.0 refl
 no_quoted (inline ps) s text limit d i j e h o f = clash opens_string (get_or text i 0) 123 o h.0 refl

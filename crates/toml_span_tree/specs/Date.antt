@@ -50,7 +50,7 @@ abbrev pub is_time_secfrac : List ℕ → Bool
 is_time_secfrac text =
     slice_index text 0 == period && nat_lt 1 (length text) && list_all is_ascii_digit (drop 1 text)
 
--- [ ":" time-second [ time-secfrac ] ]
+-- [ ":" time-second [ time-secfrac ] ]; a second may be 60 in any minute, since leap seconds are not looked up
 abbrev pub is_seconds : List ℕ → Bool
 is_seconds text =
     length text == 0

@@ -22,7 +22,7 @@ use Rattle.toml_span_claims.specs.code.Machine.{nothing, first_clash, put_all, c
 use Rattle.toml_span_claims.specs.Paths.{elements_added, opened_by}
 use Rattle.toml_span_claims.specs.declared.claims.Clash.{Clash}
 use Rattle.toml_span_claims.specs.Clashes.{TellsFirst}
-use Rattle.toml_span_claims.specs.Borrowed.{AreRight}
+use Rattle.toml_span_claims.specs.Borrowed.{AreBorrowedRight}
 use Rattle.toml_span_claims.specs.code.Borrowed.{standing, AreFrom}
 use Rattle.toml_span_claims.specs.declared.branch.Branch.TheViews.{out-Branch}
 use Rattle.toml_span_assembly.specs.declared.sections.Grown.{Grown}
@@ -57,7 +57,7 @@ IsGrownInside n g = IfSome g.clash (λ c. IsInside n c.meeting.place)
 
 -- what stands in the tree is borrowed as it was read
 abbrev pub GrownRight : List ℕ → List SimpleKey → Grown → Type 0
-GrownRight text ps g = IfNone g.clash (AreRight text ps (standing g.root))
+GrownRight text ps g = IfNone g.clash (AreBorrowedRight text ps (standing g.root))
 
 -- no two clash, and no table is to be finished
 abbrev pub IsBare : Grown → Type 0

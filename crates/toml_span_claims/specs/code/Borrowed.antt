@@ -13,7 +13,7 @@ use Rattle.toml_span_tree.specs.declared.value.Value.{Value}
 use Rattle.toml_span_read.specs.Borrowed.{Written, joined, string as string_written, name as name_written}
 use Rattle.toml_span_read.specs.Keys.{SimpleKey}
 use Rattle.toml_span_claims.specs.Borrowed.{Held, inner_step, value_step, Standing, elements_standing, held}
-use Rattle.toml_span_claims.specs.Borrowed.{entries_standing, title, IsKeyOf, AreRight, value_standing}
+use Rattle.toml_span_claims.specs.Borrowed.{entries_standing, table_name, IsKeyOf, AreBorrowedRight, value_standing}
 use Rattle.toml_span_claims.specs.declared.branch.Branch.TheOpen.{Branch-F}
 use Rattle.toml_span_claims.specs.declared.branch.Branch.{Branch, fold-Branch}
 use Rattle.toml_span_claims.specs.declared.claims.Halt.{Halt}
@@ -31,7 +31,7 @@ table_standing es = entries_standing (map (λ e. (e.0, held e.1)) es)
 
 abbrev pub nodes_standing : List (Key × Box (List Standing)) → List Standing
 nodes_standing [] = []
-nodes_standing (e ∷ es) = title e.0.name ∷ (box_value e.1 ++ nodes_standing es)
+nodes_standing (e ∷ es) = table_name e.0.name ∷ (box_value e.1 ++ nodes_standing es)
 
 abbrev pub node_step : Branch-F (List Standing) → List Standing
 node_step n = table_standing n.values.entries ++ (nodes_standing n.tables.entries ++ joined n.entries.items)
@@ -41,7 +41,7 @@ standing = fold-Branch (List Standing) node_step
 
 abbrev pub boxes_standing : List (Key × Box Branch) → List Standing
 boxes_standing [] = []
-boxes_standing (e ∷ es) = title e.0.name ∷ (standing (box_value e.1) ++ boxes_standing es)
+boxes_standing (e ∷ es) = table_name e.0.name ∷ (standing (box_value e.1) ++ boxes_standing es)
 
 abbrev pub entries_of : List Branch → List Standing
 entries_of ns = joined (map standing ns)
@@ -61,8 +61,8 @@ AreFrom text ps ws = AllByRecursion (IsFrom text ps) ws
 
 -- where nothing goes wrong, what is right of the branch stays so
 abbrev pub Keeps : List ℕ → List SimpleKey → Branch → Branch → Result (Unit {0}) Halt → Type 0
-Keeps text ps old new r = AreRight text ps (standing old) → OnOk r (AreRight text ps (standing new))
+Keeps text ps old new r = AreBorrowedRight text ps (standing old) → OnOk r (AreBorrowedRight text ps (standing new))
 
 -- the value, if there is one, is right
 abbrev pub ValueRight : List ℕ → List SimpleKey → Result Value Halt → Type 0
-ValueRight text ps r = IfOk r (λ v. AreRight text ps (value_standing v))
+ValueRight text ps r = IfOk r (λ v. AreBorrowedRight text ps (value_standing v))

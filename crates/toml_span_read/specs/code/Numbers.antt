@@ -10,7 +10,7 @@ use Rattle.toml_span_lex.specs.declared.span.Span.{Span}
 use Rattle.toml_span_tree.specs.Node.{infinite, not_a_number, Scalar}
 use Rattle.toml_span_tree.specs.declared.float.FloatText.{FloatText}
 use Rattle.toml_span_tree.specs.Value.{float_value}
-use Rattle.toml_span_read.specs.Numbers.{is_digit, Digits, IsSigned, magnitude, UnsignedDecimal, Exponent, Fraction}
+use Rattle.toml_span_read.specs.Numbers.{is_digit_in, Digits, IsSigned, magnitude, UnsignedDecimal, Exponent, Fraction}
 use Rattle.toml_span_read.specs.Numbers.{DecimalInteger, FloatLiteral, radix_at, IsNumber}
 use Rattle.toml_span_read.specs.declared.fault.Fault.{Fault}
 use Rattle.toml_span_read.specs.Faults.{NoDigits, IsOutside, invalid_number, NoRadixInteger, NoIntegerPart}
@@ -22,8 +22,8 @@ use Rattle.toml_span_read.specs.Data.{kind_view, scalar}
 use Rattle.toml_span_read.specs.Places.{StartsInside}
 
 abbrev pub DigitGives : ℕ → ℕ → Option ℕ → Type 0
-DigitGives radix c None = is_digit radix c ≡ false
-DigitGives radix c (Some value) = (is_digit radix c ≡ true) × (value ≡ digit_value c)
+DigitGives radix c None = is_digit_in radix c ≡ false
+DigitGives radix c (Some value) = (is_digit_in radix c ≡ true) × (value ≡ digit_value c)
 
 abbrev pub DigitsGive : ℕ → List ℕ → ℕ → ℕ → ℕ → Result ℕ Fault → Type 0
 DigitsGive radix text start from end (Ok j) = Digits radix text from j

@@ -7,7 +7,7 @@ use Rattle.toml_span_read.specs.Data.{ParsedInner, scalar, array, inline, kind_v
 use Rattle.toml_span_read.specs.declared.fault.Fault.{Fault}
 use Rattle.toml_span_read.specs.declared.value.ValKind.{ValKind}
 use Rattle.toml_span_read.specs.declared.value.Val.{Val}
-use Rattle.toml_span_read.specs.Grammar.{Spells, from_to, IsScalar, SpellsPair}
+use Rattle.toml_span_read.specs.Grammar.{Spells, from_to, SpellsScalar, SpellsPair}
 use Rattle.toml_span_read.specs.Stuck.{StuckValue, StuckPair}
 use Rattle.toml_span_read.specs.declared.fault.FaultKind.TheVariants as kinds
 use Rattle.toml_span_read.specs.Faults.{fault_at, IsOtherWord, NoBare}
@@ -45,7 +45,7 @@ IsRunOf bytes runs.Other = IsOtherWord bytes
 
 -- a number, a truth value or a date, or the fault of a bare value
 abbrev pub BareGives : List ℕ → ℕ → Result (ValKind × ℕ) (Stop Fault) → Type 0
-BareGives text i (Ok (kind, j)) = (s : Scalar) × (kind_view kind ≡ scalar s) × IsScalar s (from_to i j) text i j
+BareGives text i (Ok (kind, j)) = (s : Scalar) × (kind_view kind ≡ scalar s) × SpellsScalar s (from_to i j) text i j
 BareGives text i (Err (stops.Memory e)) = Unit {0}
 BareGives text i (Err (stops.Fault fault)) = NoBare text i fault
 

@@ -1,7 +1,7 @@
 use Rattle.std.proofs.Common.{rules, arith, ◌≡◌, ◌≤◌, ◌<◌, sym, ◌∙◌, true, false, get_or, length}
 use Rattle.std.specs.Prelude.{◌==◌}
 use Rattle.std.proofs.lemmas.Bool.{false≢true}
-use Rattle.toml_span_read.specs.Numbers.{is_digit}
+use Rattle.toml_span_read.specs.Numbers.{is_digit_in}
 use Rattle.toml_span_read.specs.Faults.{underscore_first}
 use Rattle.toml_span_read.proofs.NumberLemmas.{digit_some, digit_none, no_figure, reading_digit, reading_underscore, digits_read, no_digits_inside, no_digits_at_end, no_keylike_figure}
 use Rattle.toml_span_read.proofs.numbers.digits_end.Goals as goal
@@ -15,7 +15,7 @@ returns-then-bytes-from-eq95-clause-gives c =
 pub returns-then-was_digit-2-clause-gives : goal.returns-then-was_digit-2-clause-gives
 returns-then-was_digit-2-clause-gives c =
     let g : c.args.from ≤ c.loop-at.at = search rules in
-    let d : is_digit c.args.radix (get_or c.args.text.now c.loop-at.at 0) ≡ false = search (rules, digit_none) in
+    let d : is_digit_in c.args.radix (get_or c.args.text.now c.loop-at.at 0) ≡ false = search (rules, digit_none) in
     let u : (get_or c.args.text.now c.loop-at.at 0 == 95) ≡ false = elim c.else-bytes-at-eq95.branch [
       | else-bytes-at-eq95-via-then-bytes-at-eq95+else-was_digit w ↦ absurd (false≢true (sym w.if-was_digit.false ∙ c.if-was_digit-2.true))
       | else-bytes-at-eq95-via-else-bytes-at-eq95 w ↦ search rules
@@ -27,7 +27,7 @@ pub returns-else-was_digit-2-clause-gives : goal.returns-else-was_digit-2-clause
 returns-else-was_digit-2-clause-gives c =
     let g : c.args.from ≤ c.loop-at.at = search rules in
     let l : c.loop-at.at < c.args.piece.end = search rules in
-    let d : is_digit c.args.radix (get_or c.args.text.now c.loop-at.at 0) ≡ false = search (rules, digit_none) in
+    let d : is_digit_in c.args.radix (get_or c.args.text.now c.loop-at.at 0) ≡ false = search (rules, digit_none) in
     rw c.invalid_number-else-was_digit-2.ensures (no_digits_inside _ _ _ _ _ _ _ c.loop-at.invariant c.if-was_digit-2.false g l d)
 
 pub loop-at-preserved : goal.loop-at-preserved
@@ -35,7 +35,7 @@ loop-at-preserved c =
     let g : c.args.from ≤ c.loop-at.at = search rules in
     elim c.if-is_some.branch [
       | then-is_some w ↦
-          let d : is_digit c.args.radix (get_or c.args.text.now c.loop-at.at 0) ≡ true = search (rules, digit_some) in
+          let d : is_digit_in c.args.radix (get_or c.args.text.now c.loop-at.at 0) ≡ true = search (rules, digit_some) in
           rw w.was_digit-is (reading_digit _ _ _ _ _ _ c.loop-at.invariant g d)
       | else-is_some+then-bytes-at-eq95+then-was_digit w ↦
           let u : get_or c.args.text.now c.loop-at.at 0 ≡ 95 = search rules in

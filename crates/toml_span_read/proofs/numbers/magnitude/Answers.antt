@@ -1,6 +1,6 @@
 use Rattle.std.proofs.Common.{rules, ◌≡◌, ◌≤◌, ◌^◌, false, get_or, refl}
 use Rattle.std.specs.Prelude.{filter}
-use Rattle.toml_span_read.specs.Numbers.{is_digit, sum_of_digits}
+use Rattle.toml_span_read.specs.Numbers.{is_digit_in, sum_of_digits}
 use Rattle.toml_span_read.proofs.NumberLemmas.{sum_goes_on, sum_passes, sum_past}
 use Rattle.toml_span_read.proofs.numbers.magnitude.Goals as goal
 use Rattle.toml_span_read.proofs.numbers.magnitude.Goals.{in-Some+in_ok-value, in_default}
@@ -10,12 +10,12 @@ loop-byte-preserved c = elim c.match-digit.branch [
   | in-Some+in_ok-value w ↦
       sum_goes_on _ _ _ _ _ c.loop-byte-test.true w.in-Some.ensures.0 (rw (w.value-is, w.in_ok-value.ensures, w.in-Some.ensures.1) refl) c.loop-byte.invariant
   | in_default w ↦
-      let n : is_digit c.args.radix (get_or c.args.digits.now c.loop-byte.byte-index 0) ≡ false = search rules in
+      let n : is_digit_in c.args.radix (get_or c.args.digits.now c.loop-byte.byte-index 0) ≡ false = search rules in
       rw w.value-is (sum_passes _ _ _ _ c.loop-byte-test.true n c.loop-byte.invariant)
 ]
 
 pub returns-in_err-value : goal.returns-in_err-value
 returns-in_err-value c =
-    let h : 2 ^ 64 ≤ sum_of_digits c.args.radix (filter (is_digit c.args.radix) c.args.digits.now) =
+    let h : 2 ^ 64 ≤ sum_of_digits c.args.radix (filter (is_digit_in c.args.radix) c.args.digits.now) =
     sum_past _ _ _ _ _ c.loop-byte-test.true c.in-Some.ensures.0 c.in-Some.ensures.1 c.loop-byte.invariant c.in_err-value.ensures in
     search (rules, h)
