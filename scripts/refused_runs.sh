@@ -80,7 +80,7 @@ silent() {
 while IFS= read -r row; do twice "$row"; done <crates/toml_span_serde_rows/stdin
 if [ "$count" -eq 0 ]; then told "there are no rows"; fi
 silent "$example" crates/toml_span_example/stdin
-grep -E '^(nodes|looks|text_order|holders|typed_root)' crates/toml_span_rows/stdin >"$work/calls"
+grep -E '^(nodes|text_order|holders|typed_root|write[^:]*(look|at)=)' crates/toml_span_rows/stdin >"$work/calls"
 silent "$rows" "$work/calls"
 
 echo "refused runs: $((count - wrong)) of $count right"
