@@ -20,24 +20,24 @@ use Rattle.toml_span_read_laws.proofs.LineFaults.{document_one}
 use Rattle.toml_span_read_laws.proofs.LineLaws.{document_unique, document_excluded}
 use Rattle.toml_span_read_laws.proofs.ValueLaws.{value_unique, value_excluded}
 use Rattle.toml_span_claims.specs.Claims.{Claims, claims}
-use Rattle.toml_span_claims.specs.Clashes.{content_of_clash, NamedClash, Resolves, TellsFirst}
+use Rattle.toml_span_claims.specs.Clashes.{content_of_clash, NamedClash, Resolves, IsFirstClash}
 use Rattle.toml_span_claims.specs.Flat.{flat}
 use Rattle.toml_span_claims.specs.code.Machine.{nothing, first_clash}
 use Rattle.toml_span_assembly.specs.Parsing.{IsTreeOf, IsTree, IsFault, IsClashOf, IsClash, IsRefusal}
 use Rattle.toml_span.specs.Outcomes.{Outcome, resolved, clashed, stuck_at, HasOutcome, IsAnswered, TellsClash, IsAnswerOf, IsAlike}
 use Rattle.toml_span_assembly.proofs.Judged.{told-none, told-some, resolves-told, first-told}
 
-judged : (cs : Claims) (o : Option NamedClash) → first_clash nothing cs ≡ o → Resolves [] cs ⊎ ((clash : NamedClash) × TellsFirst [] cs clash)
+judged : (cs : Claims) (o : Option NamedClash) → first_clash nothing cs ≡ o → Resolves [] cs ⊎ ((clash : NamedClash) × IsFirstClash [] cs clash)
 judged cs None is = inl (told-none cs is)
 judged cs (Some t) is = inr (t, told-some cs t is)
 
-pub resolves-or-told : (cs : Claims) → Resolves [] cs ⊎ ((clash : NamedClash) × TellsFirst [] cs clash)
+pub resolves-or-told : (cs : Claims) → Resolves [] cs ⊎ ((clash : NamedClash) × IsFirstClash [] cs clash)
 resolves-or-told cs = judged cs (first_clash nothing cs) refl
 
-pub one-first : (cs : Claims) (t u : NamedClash) → TellsFirst [] cs t → TellsFirst [] cs u → t ≡ u
+pub one-first : (cs : Claims) (t u : NamedClash) → IsFirstClash [] cs t → IsFirstClash [] cs u → t ≡ u
 one-first cs t u h g = same_Some t u (sym (first-told cs t h) ∙ first-told cs u g)
 
-pub none-first : (cs : Claims) (t : NamedClash) → Resolves [] cs → TellsFirst [] cs t → ⊥
+pub none-first : (cs : Claims) (t : NamedClash) → Resolves [] cs → IsFirstClash [] cs t → ⊥
 none-first cs t h g = none-some t (sym (resolves-told cs h) ∙ first-told cs t g)
 
 -- ---- texts
@@ -52,7 +52,7 @@ never-stuck text limit bs fault h g =
 pub tree-or-refusal : (text : List ℕ) (limit : ℕ) (root : Value) (error : Error) → IsTree text limit root → IsRefusal text limit (stops.Fault error) → ⊥
 tree-or-refusal text limit root error (bs, spelled, tree) (inl (fault, stuck, placed, tells)) = never-stuck text limit bs fault spelled stuck
 tree-or-refusal text limit root error (bs, spelled, tree) (inr (cs, others, clash)) =
-    none-first (claims bs) clash.clash tree.resolves (subst (λ l. TellsFirst [] (claims l) clash.clash) (one-document text limit cs bs others spelled) clash.first)
+    none-first (claims bs) clash.clash tree.resolves (subst (λ l. IsFirstClash [] (claims l) clash.clash) (one-document text limit cs bs others spelled) clash.first)
 
 pub one-tree : (text : List ℕ) (limit : ℕ) (root other : Value) (p : Path) → IsTree text limit root → IsTree text limit other → place_at p (view root) ≡ place_at p (view other)
 one-tree text limit root other p (bs, spelled, tree) (cs, others, same) =
@@ -127,12 +127,12 @@ alike text limit (Err (stops.Fault e)) (Err (stops.Fault f)) a b = one-refusal t
 -- ---- one outcome
 
 resolved-or-clashed : (text : List ℕ) (limit : ℕ) (bs cs : List Block) (t : NamedClash) → HasOutcome text limit (resolved bs) → HasOutcome text limit (clashed cs t) → ⊥
-resolved-or-clashed text limit bs cs t a b = none-first (claims bs) t a.1 (subst (λ l. TellsFirst [] (claims l) t) (one-document text limit cs bs b.0 a.0) b.1)
+resolved-or-clashed text limit bs cs t a b = none-first (claims bs) t a.1 (subst (λ l. IsFirstClash [] (claims l) t) (one-document text limit cs bs b.0 a.0) b.1)
 
 same-clashed : (text : List ℕ) (limit : ℕ) (bs cs : List Block) (t u : NamedClash) → HasOutcome text limit (clashed bs t) → HasOutcome text limit (clashed cs u) → clashed bs t ≡ clashed cs u
 same-clashed text limit bs cs t u a b =
     let same : cs ≡ bs = one-document text limit cs bs b.0 a.0 in
-    let first : t ≡ u = one-first (claims bs) t u a.1 (subst (λ l. TellsFirst [] (claims l) u) same b.1) in
+    let first : t ≡ u = one-first (claims bs) t u a.1 (subst (λ l. IsFirstClash [] (claims l) u) same b.1) in
     ap (λ l. clashed l t) (sym same) ∙ ap (λ x. clashed cs x) first
 
 pub one-outcome : (text : List ℕ) (limit : ℕ) (x y : Outcome) → HasOutcome text limit x → HasOutcome text limit y → x ≡ y
@@ -148,7 +148,7 @@ one-outcome text limit (stuck_at e) (stuck_at f) a b = ap (λ x. stuck_at x) (do
 
 same-first : (text : List ℕ) (limit : ℕ) (bs : List Block) (t : NamedClash) (e : Error) → HasOutcome text limit (clashed bs t) → IsClash text limit e → TellsClash text t e
 same-first text limit bs t e h (cs, spelled, c) =
-    let first = subst (λ l. TellsFirst [] (claims l) c.clash) (one-document text limit cs bs spelled h.0) c.first in
+    let first = subst (λ l. IsFirstClash [] (claims l) c.clash) (one-document text limit cs bs spelled h.0) c.first in
     let same : c.clash ≡ t = one-first (claims bs) c.clash t first h.1 in
     subst (λ x. TellsClash text x e) same (c.line, c.column, c.place, c.tells)
 
@@ -169,11 +169,11 @@ decides text limit (stuck_at f) (Err (stops.Fault e)) h (inr (bs, spelled, c)) =
 -- ---- every text
 
 pub text-judged : (text : List ℕ) (limit : ℕ) → ((bs : List Block) × SpellsDocument bs text limit) ⊎ ((fault : Fault) × StuckDocument text limit fault)
-    → ((bs : List Block) × SpellsDocument bs text limit × (Resolves [] (claims bs) ⊎ ((clash : NamedClash) × TellsFirst [] (claims bs) clash))) ⊎ ((fault : Fault) × StuckDocument text limit fault)
+    → ((bs : List Block) × SpellsDocument bs text limit × (Resolves [] (claims bs) ⊎ ((clash : NamedClash) × IsFirstClash [] (claims bs) clash))) ⊎ ((fault : Fault) × StuckDocument text limit fault)
 text-judged text limit (inl (bs, spelled)) = inl (bs, spelled, resolves-or-told (claims bs))
 text-judged text limit (inr stuck) = inr stuck
 
-read-outcome : (text : List ℕ) (limit : ℕ) (bs : List Block) → SpellsDocument bs text limit → Resolves [] (claims bs) ⊎ ((clash : NamedClash) × TellsFirst [] (claims bs) clash)
+read-outcome : (text : List ℕ) (limit : ℕ) (bs : List Block) → SpellsDocument bs text limit → Resolves [] (claims bs) ⊎ ((clash : NamedClash) × IsFirstClash [] (claims bs) clash)
     → (x : Outcome) × HasOutcome text limit x
 read-outcome text limit bs spelled (inl resolves) = (resolved bs, (spelled, resolves))
 read-outcome text limit bs spelled (inr (clash, first)) = (clashed bs clash, (spelled, first))

@@ -15,7 +15,7 @@ use Rattle.toml_span_claims.specs.declared.claims.Blame.{Blame}
 use Rattle.toml_span_claims.specs.declared.claims.Blame.TheVariants.{DuplicateTable, DuplicateKey, RedefineAsArray}
 use Rattle.toml_span_claims.specs.Paths.{same_path, enter, target, opened_by}
 use Rattle.toml_span_claims.specs.Claims.{Claim, Claims, no_claims, claimed, scope, table_claim, followed, key_claims, value_claims, inner_claims, item_claims, pair_claims, key_value_claims, end_claims, header_claims, section_claims, claims_behind, claims}
-use Rattle.toml_span_claims.specs.Clashes.{NamedClash, Resolves, TellsFirst, content_of_clash}
+use Rattle.toml_span_claims.specs.Clashes.{NamedClash, Resolves, IsFirstClash, content_of_clash}
 use Rattle.toml_span_claims.specs.Flat.{all_claims, claims_at, first_claim_by_header, flat}
 use Rattle.toml_span_claims.specs.code.Machine.{change, show_all, first_clash}
 use Rattle.toml_span_assembly.proofs.Judged.{told-none, told-some}
@@ -319,7 +319,7 @@ through = entry_and (headed 26 34 (part a 27 ∷ part t 29 ∷ part y 31 ∷ [])
 abbrev t_again : NamedClash
 t_again = tells DuplicateKey t (at 6 7) (at 29 30)
 
-through-told : TellsFirst [] (claims through) t_again
+through-told : IsFirstClash [] (claims through) t_again
 unfolding computed
 through-told = told-some (claims through) t_again refl
 
@@ -336,7 +336,7 @@ twice =
     ∷ headed 14 18 (part x 15 ∷ []) (key_value 18 23 (part a 18 ∷ []) (digit 1 22) ∷ key_value 24 29 (part a 24 ∷ []) (digit 2 28) ∷ [])
     ∷ []
 
-twice-told : TellsFirst [] (claims twice) (tells DuplicateKey a (at 3 4) (at 18 19))
+twice-told : IsFirstClash [] (claims twice) (tells DuplicateKey a (at 3 4) (at 18 19))
 unfolding computed
 twice-told = told-some (claims twice) (tells DuplicateKey a (at 3 4) (at 18 19)) refl
 
@@ -431,7 +431,7 @@ dotted_then_section =
     ∷ headed 16 20 (part a 17 ∷ []) (key_value 20 27 (part b 20 ∷ part y 22 ∷ []) (digit 2 26) ∷ [])
     ∷ []
 
-dotted_then_section-told : TellsFirst [] (claims dotted_then_section) (tells DuplicateKey a (at 0 1) (at 17 18))
+dotted_then_section-told : IsFirstClash [] (claims dotted_then_section) (tells DuplicateKey a (at 0 1) (at 17 18))
 unfolding computed
 dotted_then_section-told = told-some (claims dotted_then_section) (tells DuplicateKey a (at 0 1) (at 17 18)) refl
 
@@ -439,7 +439,7 @@ dotted_then_section-told = told-some (claims dotted_then_section) (tells Duplica
 abbrev dotted_then_assigned : List Block
 dotted_then_assigned = first_block (key_value 0 7 (part a 0 ∷ part b 2 ∷ []) (digit 1 6) ∷ key_value 8 13 (part a 8 ∷ []) (digit 2 12) ∷ [])
 
-dotted_then_assigned-told : TellsFirst [] (claims dotted_then_assigned) (tells DuplicateKey a (at 0 1) (at 8 9))
+dotted_then_assigned-told : IsFirstClash [] (claims dotted_then_assigned) (tells DuplicateKey a (at 0 1) (at 8 9))
 unfolding computed
 dotted_then_assigned-told = told-some (claims dotted_then_assigned) (tells DuplicateKey a (at 0 1) (at 8 9)) refl
 
@@ -447,7 +447,7 @@ dotted_then_assigned-told = told-some (claims dotted_then_assigned) (tells Dupli
 abbrev passed_then_array : List Block
 passed_then_array = headed 0 6 (part a 1 ∷ part b 3 ∷ []) [] ∷ entry 6 12 (part a 8 ∷ []) [] ∷ []
 
-passed_then_array-told : TellsFirst [] (claims passed_then_array) (tells RedefineAsArray a (at 0 6) (at 6 12))
+passed_then_array-told : IsFirstClash [] (claims passed_then_array) (tells RedefineAsArray a (at 0 6) (at 6 12))
 unfolding computed
 passed_then_array-told = told-some (claims passed_then_array) (tells RedefineAsArray a (at 0 6) (at 6 12)) refl
 
@@ -455,7 +455,7 @@ passed_then_array-told = told-some (claims passed_then_array) (tells RedefineAsA
 abbrev array_then_section : List Block
 array_then_section = entry 0 6 (part a 2 ∷ []) [] ∷ entry 6 12 (part a 8 ∷ []) [] ∷ headed 12 16 (part a 13 ∷ []) [] ∷ []
 
-array_then_section-told : TellsFirst [] (claims array_then_section) (tells DuplicateTable a (at 0 6) (at 12 16))
+array_then_section-told : IsFirstClash [] (claims array_then_section) (tells DuplicateTable a (at 0 6) (at 12 16))
 unfolding computed
 array_then_section-told = told-some (claims array_then_section) (tells DuplicateTable a (at 0 6) (at 12 16)) refl
 
@@ -463,7 +463,7 @@ array_then_section-told = told-some (claims array_then_section) (tells Duplicate
 abbrev assigned_then_passed : List Block
 assigned_then_passed = first_block (key_value 0 5 (part a 0 ∷ []) (digit 1 4) ∷ []) ++ headed 6 12 (part a 7 ∷ part b 9 ∷ []) [] ∷ []
 
-assigned_then_passed-told : TellsFirst [] (claims assigned_then_passed) (tells DuplicateKey a (at 0 1) (at 7 8))
+assigned_then_passed-told : IsFirstClash [] (claims assigned_then_passed) (tells DuplicateKey a (at 0 1) (at 7 8))
 unfolding computed
 assigned_then_passed-told = told-some (claims assigned_then_passed) (tells DuplicateKey a (at 0 1) (at 7 8)) refl
 
@@ -471,7 +471,7 @@ assigned_then_passed-told = told-some (claims assigned_then_passed) (tells Dupli
 abbrev section_then_assigned : List Block
 section_then_assigned = headed 0 6 (part a 1 ∷ part b 3 ∷ []) [] ∷ headed 6 10 (part a 7 ∷ []) (key_value 10 15 (part b 10 ∷ []) (digit 1 14) ∷ []) ∷ []
 
-section_then_assigned-told : TellsFirst [] (claims section_then_assigned) (tells DuplicateKey b (at 3 4) (at 10 11))
+section_then_assigned-told : IsFirstClash [] (claims section_then_assigned) (tells DuplicateKey b (at 3 4) (at 10 11))
 unfolding computed
 section_then_assigned-told = told-some (claims section_then_assigned) (tells DuplicateKey b (at 3 4) (at 10 11)) refl
 
@@ -514,7 +514,7 @@ apple_and next = first_block (key_value 0 19 (part apple 0 ∷ part color 6 ∷ 
 abbrev apple_section : List Block
 apple_section = apple_and (headed 20 28 (part apple 21 ∷ []) [])
 
-apple_section-told : TellsFirst [] (claims apple_section) (tells DuplicateKey apple (at 0 5) (at 21 26))
+apple_section-told : IsFirstClash [] (claims apple_section) (tells DuplicateKey apple (at 0 5) (at 21 26))
 unfolding computed
 apple_section-told = told-some (claims apple_section) (tells DuplicateKey apple (at 0 5) (at 21 26)) refl
 
@@ -542,7 +542,7 @@ apple_passed-at-apple-texture = refl
 abbrev twice_inline : List Block
 twice_inline = first_block (key_value 0 18 (part a 0 ∷ []) (parsed (inline (pair (part b 5 ∷ []) (digit 1 9) (at 5 10) (pair (part b 12 ∷ []) (digit 2 16) (at 12 17) no_pairs))) (at 4 18)) ∷ [])
 
-twice_inline-told : TellsFirst [] (claims twice_inline) (tells DuplicateKey b (at 5 6) (at 12 13))
+twice_inline-told : IsFirstClash [] (claims twice_inline) (tells DuplicateKey b (at 5 6) (at 12 13))
 unfolding computed
 twice_inline-told = told-some (claims twice_inline) (tells DuplicateKey b (at 5 6) (at 12 13)) refl
 

@@ -9,7 +9,7 @@ use Rattle.toml_span_claims.specs.declared.claims.Blame.{Blame}
 use Rattle.toml_span_claims.specs.declared.claims.Sort.{Sort}
 use Rattle.toml_span_claims.specs.declared.claims.Sort.TheVariants.{Passed, StandardTable, ArrayOfTables, TableElement, Dotted, Assigned}
 use Rattle.toml_span_claims.specs.Claims.{Claim, Claims, no_claims, claimed, scope, claims}
-use Rattle.toml_span_claims.specs.Clashes.{NamedClash, named, blame, meeting, meets, clash, IsFree, Resolves, TellsFirst, told_here, told_behind, told_inside, told_after}
+use Rattle.toml_span_claims.specs.Clashes.{NamedClash, named, blame, meeting, meets, clash, IsFree, Resolves, IsFirstClash, clash_here, clash_behind, clash_in_scope, clash_after}
 use Rattle.toml_span_claims.specs.Flat.{all_claims}
 use Rattle.toml_span_claims.specs.Paths.{same_path}
 use Rattle.toml_span.specs.Clashing.{IsIn, DoClash, IsPair, IsFirstPair}
@@ -239,15 +239,15 @@ pair-after earlier inner cs t ok p = record {
   };
 }
 
-told-pair : (earlier : List Claim) (cs : Claims) (t : NamedClash) → TellsFirst earlier cs t → Rises (earlier ++ all_claims cs) → Pair earlier cs t
+told-pair : (earlier : List Claim) (cs : Claims) (t : NamedClash) → IsFirstClash earlier cs t → Rises (earlier ++ all_claims cs) → Pair earlier cs t
 unfolding all_claims
-told-pair _ _ _ (told_here before after c d cs t free is) r = pair-here before after c d cs t free is r
-told-pair _ _ _ (told_behind earlier c cs t free rest) r =
+told-pair _ _ _ (clash_here before after c d cs t free is) r = pair-here before after c d cs t free is r
+told-pair _ _ _ (clash_behind earlier c cs t free rest) r =
     pair-behind earlier c cs t free (told-pair (earlier ++ (c ∷ [])) cs t rest (rw (append_assoc earlier (c ∷ []) (all_claims cs)) r))
-told-pair _ _ _ (told_inside earlier inner cs t inside) r =
+told-pair _ _ _ (clash_in_scope earlier inner cs t inside) r =
     let both = rises-right earlier (all_claims inner ++ all_claims cs) r in
     pair-inside earlier inner cs t both (told-pair [] inner t inside (rises-left (all_claims inner) (all_claims cs) both))
-told-pair _ _ _ (told_after earlier inner cs t ok rest) r =
+told-pair _ _ _ (clash_after earlier inner cs t ok rest) r =
     pair-after earlier inner cs t ok (told-pair earlier cs t rest (rises-without earlier (all_claims inner) (all_claims cs) r))
 
 -- ---- one first pair
@@ -272,22 +272,22 @@ one-pair earlier cs c d e f a b =
 
 -- ---- documents
 
-document-pair : (text : List ℕ) (limit : ℕ) (bs : List Block) (t : NamedClash) → SpellsDocument bs text limit → TellsFirst [] (claims bs) t → Pair [] (claims bs) t
+document-pair : (text : List ℕ) (limit : ℕ) (bs : List Block) (t : NamedClash) → SpellsDocument bs text limit → IsFirstClash [] (claims bs) t → Pair [] (claims bs) t
 document-pair text limit bs t h first = told-pair [] (claims bs) t first (rising-rises (all_claims (claims bs)) 0 (length text) (document-rises bs text limit h))
 
-pub first-pair : (text : List ℕ) (limit : ℕ) (bs : List Block) (t : NamedClash) → SpellsDocument bs text limit → TellsFirst [] (claims bs) t
+pub first-pair : (text : List ℕ) (limit : ℕ) (bs : List Block) (t : NamedClash) → SpellsDocument bs text limit → IsFirstClash [] (claims bs) t
     → (c d : Claim) × IsFirstPair [] (claims bs) c d × (clash c d ≡ Some t)
 first-pair text limit bs t h first = let p = document-pair text limit bs t h first in (p.c, p.d, p.is, p.told)
 
 pair-told : (text : List ℕ) (limit : ℕ) (bs : List Block) (t : NamedClash) (c d : Claim) → SpellsDocument bs text limit → IsFirstPair [] (claims bs) c d → clash c d ≡ Some t
-    → Resolves [] (claims bs) ⊎ ((u : NamedClash) × TellsFirst [] (claims bs) u) → TellsFirst [] (claims bs) t
+    → Resolves [] (claims bs) ⊎ ((u : NamedClash) × IsFirstClash [] (claims bs) u) → IsFirstClash [] (claims bs) t
 pair-told text limit bs t c d h is told (inl ok) = absurd (no-pair [] (claims bs) c d ok is.pair)
 pair-told text limit bs t c d h is told (inr (u, first)) =
     let p = document-pair text limit bs u h first in
     let same = one-pair [] (claims bs) p.c p.d c d p.is is in
     let now : u ≡ t = same_Some u t (sym p.told ∙ ap (λ x. clash x p.d) same.0 ∙ ap (λ x. clash c x) same.1 ∙ told) in
-    subst (λ x. TellsFirst [] (claims bs) x) now first
+    subst (λ x. IsFirstClash [] (claims bs) x) now first
 
 pub told-first : (text : List ℕ) (limit : ℕ) (bs : List Block) (t : NamedClash) → SpellsDocument bs text limit → (c d : Claim) × IsFirstPair [] (claims bs) c d × (clash c d ≡ Some t)
-    → TellsFirst [] (claims bs) t
+    → IsFirstClash [] (claims bs) t
 told-first text limit bs t h (c, d, is, told) = pair-told text limit bs t c d h is told (resolves-or-told (claims bs))

@@ -10,8 +10,7 @@ abbrev pub claim_start : Claim → ℕ
 claim_start c = c.mark.key.start
 
 -- the second claim starts behind the first; or the first is an array of tables and the second its element, which one
--- key
--- claims
+-- key claims
 abbrev pub Follows : Claim → Claim → Type 0
 Follows c d =
     (claim_start c < claim_start d)

@@ -13,7 +13,7 @@ use Rattle.toml_span_read.specs.Grammar.{SpellsDocument}
 use Rattle.toml_span_read.specs.Stuck.{StuckDocument}
 use Rattle.toml_span_read.specs.Places.{IsLineInfo}
 use Rattle.toml_span_read.specs.Faults.{Tells}
-use Rattle.toml_span_claims.specs.Clashes.{NamedClash, Resolves, TellsFirst, content_of_clash}
+use Rattle.toml_span_claims.specs.Clashes.{NamedClash, Resolves, IsFirstClash, content_of_clash}
 use Rattle.toml_span_claims.specs.Claims.{claims}
 use Rattle.toml_span_assembly.specs.Parsing.{IsTree, IsRefusal, IsTreeOf}
 
@@ -27,7 +27,7 @@ pub data Outcome : Type 0 where
 -- or it is stuck at this fault.
 abbrev pub HasOutcome : List ℕ → ℕ → Outcome → Type 0
 HasOutcome text limit (resolved blocks) = SpellsDocument blocks text limit × Resolves [] (claims blocks)
-HasOutcome text limit (clashed blocks clash) = SpellsDocument blocks text limit × TellsFirst [] (claims blocks) clash
+HasOutcome text limit (clashed blocks clash) = SpellsDocument blocks text limit × IsFirstClash [] (claims blocks) clash
 HasOutcome text limit (stuck_at fault) = StuckDocument text limit fault
 
 -- the text's tree, or its refusal

@@ -26,7 +26,7 @@ ghost use Rattle.toml_span_tree.specs.Value.{is_taken, is_whole, view};
 ghost use Rattle.toml_span_tree.specs.declared.error.Error.{Error};
 ghost use Rattle.toml_span_tree.specs.declared.value.Value.{Value};
 ghost use Rattle.toml_span_claims.specs.Claims.{Claim, Claims, claims};
-ghost use Rattle.toml_span_claims.specs.Clashes.{NamedClash, Resolves, TellsFirst};
+ghost use Rattle.toml_span_claims.specs.Clashes.{NamedClash, Resolves, IsFirstClash};
 ghost use Rattle.toml_span_claims.specs.Flat.{Shows, all_claims, flat};
 ghost use Rattle.toml_span_claims.specs.Ordered.{HasOneEach, IsOrdered};
 ghost use Rattle.toml_span.specs.Again.{AssignsBrackets, StandsMoved, at_x, text_again};
@@ -44,14 +44,14 @@ use toml_span_typed::Deserialize;
 
 /// Either no two claims of one scope clash, or there is a first clash.
 pub fn resolves_or_told()
-    ensures { (cs : Claims) → Resolves [] cs ⊎ ((clash : NamedClash) × TellsFirst [] cs clash) }
+    ensures { (cs : Claims) → Resolves [] cs ⊎ ((clash : NamedClash) × IsFirstClash [] cs clash) }
 {}
 
 /// There is one first clash at most, and none where no two claims clash.
 pub fn one_first_clash()
-    ensures one { (cs : Claims) (clash other : NamedClash) → TellsFirst [] cs clash → TellsFirst [] cs other
+    ensures one { (cs : Claims) (clash other : NamedClash) → IsFirstClash [] cs clash → IsFirstClash [] cs other
         → clash ≡ other }
-    ensures none { (cs : Claims) (clash : NamedClash) → Resolves [] cs → TellsFirst [] cs clash → ⊥ }
+    ensures none { (cs : Claims) (clash : NamedClash) → Resolves [] cs → IsFirstClash [] cs clash → ⊥ }
 {}
 
 /// A text that has a tree is not refused, and one with a clash has no fault of reading. All trees of a text
@@ -95,7 +95,7 @@ pub fn outcome_decides()
 /// is stuck.
 pub fn each_text_is_judged(text: &str)
     ensures { (limit : ℕ) → 1 ≤ limit → ((blocks : List Block) × SpellsDocument blocks text.now limit
-        × (Resolves [] (claims blocks) ⊎ ((clash : NamedClash) × TellsFirst [] (claims blocks) clash)))
+        × (Resolves [] (claims blocks) ⊎ ((clash : NamedClash) × IsFirstClash [] (claims blocks) clash)))
         ⊎ ((fault : Fault) × StuckDocument text.now limit fault) }
 {
     document_or_stuck(text);

@@ -11,7 +11,7 @@ use Rattle.toml_span_claims.specs.declared.claims.Mark.{Mark}
 use Rattle.toml_span_claims.specs.declared.claims.Meeting.{Meeting}
 use Rattle.toml_span_claims.specs.Paths.{same_path}
 use Rattle.toml_span_claims.specs.Claims.{Claim, Claims, no_claims, claimed, scope}
-use Rattle.toml_span_claims.specs.Clashes.{NamedClash, named, blame, meeting, meets, or_else, partner, clash, IsFree, Resolves, TellsFirst, told_here, told_behind, told_inside, told_after}
+use Rattle.toml_span_claims.specs.Clashes.{NamedClash, named, blame, meeting, meets, or_else, partner, clash, IsFree, Resolves, IsFirstClash, clash_here, clash_behind, clash_in_scope, clash_after}
 use Rattle.toml_span_claims.specs.code.Marks.{sort_number, same_sort, remember}
 use Rattle.toml_span_claims.specs.code.Machine.{State, nothing, change, with_claim, show_all, met, first_clash}
 use Rattle.toml_span_assembly.proofs.Shown.{show_all-marks}
@@ -152,26 +152,26 @@ partner-splits (c ∷ earlier) later t e =
       | inr clashes ↦ ([], earlier, c, refl, tt, clashes.1 ∙ (rw clashes.1 at e))
     ]
 
-tells-partner : (earlier : List Claim) (later : Claim) (cs : Claims) (t : NamedClash) → first_partner earlier later ≡ Some t → TellsFirst earlier (claimed later cs) t
+tells-partner : (earlier : List Claim) (later : Claim) (cs : Claims) (t : NamedClash) → first_partner earlier later ≡ Some t → IsFirstClash earlier (claimed later cs) t
 tells-partner earlier later cs t e =
     let (before, after, c, split, front, clashes) = partner-splits earlier later t e in
-    rw split (told_here before after c later cs t front clashes)
+    rw split (clash_here before after c later cs t front clashes)
 
 -- ---- what is told
 
 -- no clash is told where there is none
 abbrev Judges : List Claim → Claims → Option NamedClash → Type 0
 Judges earlier cs None = Resolves earlier cs
-Judges earlier cs (Some t) = TellsFirst earlier cs t
+Judges earlier cs (Some t) = IsFirstClash earlier cs t
 
 judges-behind : (earlier : List Claim) (c : Claim) (cs : Claims) (o : Option NamedClash) → IsFree earlier c → Judges (earlier ++ (c ∷ [])) cs o → Judges earlier (claimed c cs) o
 judges-behind earlier c cs None free rest = (free, rest)
-judges-behind earlier c cs (Some t) free rest = told_behind earlier c cs t free rest
+judges-behind earlier c cs (Some t) free rest = clash_behind earlier c cs t free rest
 
 judges-scope : (earlier : List Claim) (inner cs : Claims) (o p : Option NamedClash) → Judges [] inner o → Judges earlier cs p → Judges earlier (scope inner cs) (or_else o p)
-judges-scope earlier inner cs (Some t) p inside rest = told_inside earlier inner cs t inside
+judges-scope earlier inner cs (Some t) p inside rest = clash_in_scope earlier inner cs t inside
 judges-scope earlier inner cs None None inside rest = (inside, rest)
-judges-scope earlier inner cs None (Some t) inside rest = told_after earlier inner cs t inside rest
+judges-scope earlier inner cs None (Some t) inside rest = clash_after earlier inner cs t inside rest
 
 told-judges : (st : State) (earlier : List Claim) (cs : Claims) → Keeps st earlier → Judges earlier cs (first_clash st cs)
 unfolding first_clash
@@ -192,7 +192,7 @@ told-judges st earlier (scope inner cs) keeps =
 pub told-none : (cs : Claims) → first_clash nothing cs ≡ None → Resolves [] cs
 told-none cs h = rw h at (told-judges nothing [] cs keeps-nothing)
 
-pub told-some : (cs : Claims) (t : NamedClash) → first_clash nothing cs ≡ Some t → TellsFirst [] cs t
+pub told-some : (cs : Claims) (t : NamedClash) → first_clash nothing cs ≡ Some t → IsFirstClash [] cs t
 told-some cs t h = rw h at (told-judges nothing [] cs keeps-nothing)
 
 -- ---- and nothing else
@@ -205,18 +205,18 @@ resolved st earlier (claimed c cs) keeps ok =
 resolved st earlier (scope inner cs) keeps ok =
     rw (resolved nothing [] inner keeps-nothing ok.0) (resolved (show_all st inner) earlier cs (keeps-inner st earlier inner keeps) ok.1)
 
-tells : (st : State) (earlier : List Claim) (cs : Claims) (t : NamedClash) → TellsFirst earlier cs t → Keeps st earlier → first_clash st cs ≡ Some t
+tells : (st : State) (earlier : List Claim) (cs : Claims) (t : NamedClash) → IsFirstClash earlier cs t → Keeps st earlier → first_clash st cs ≡ Some t
 unfolding first_clash
-tells st _ _ _ (told_here before after c later cs t free clashes) keeps =
+tells st _ _ _ (clash_here before after c later cs t free clashes) keeps =
     rw (keeps later, partner-found before after c later t free clashes)
-tells st _ _ _ (told_behind earlier c cs t free rest) keeps =
+tells st _ _ _ (clash_behind earlier c cs t free rest) keeps =
     rw (keeps c, free-none earlier c free) (tells (change st c.path (with_claim c)) (earlier ++ (c ∷ [])) cs t rest (keeps-claim st earlier c keeps))
-tells st _ _ _ (told_inside earlier inner cs t inside) keeps = rw (tells nothing [] inner t inside keeps-nothing)
-tells st _ _ _ (told_after earlier inner cs t ok rest) keeps =
+tells st _ _ _ (clash_in_scope earlier inner cs t inside) keeps = rw (tells nothing [] inner t inside keeps-nothing)
+tells st _ _ _ (clash_after earlier inner cs t ok rest) keeps =
     rw (resolved nothing [] inner keeps-nothing ok) (tells (show_all st inner) earlier cs t rest (keeps-inner st earlier inner keeps))
 
 pub resolves-told : (cs : Claims) → Resolves [] cs → first_clash nothing cs ≡ None
 resolves-told cs ok = resolved nothing [] cs keeps-nothing ok
 
-pub first-told : (cs : Claims) (t : NamedClash) → TellsFirst [] cs t → first_clash nothing cs ≡ Some t
+pub first-told : (cs : Claims) (t : NamedClash) → IsFirstClash [] cs t → first_clash nothing cs ≡ Some t
 first-told cs t first = tells nothing [] cs t first keeps-nothing

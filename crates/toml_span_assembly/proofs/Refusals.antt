@@ -16,7 +16,7 @@ use Rattle.toml_span_claims.specs.declared.claims.Clash.{Clash}
 use Rattle.toml_span_claims.specs.declared.claims.Halt.{Halt}
 use Rattle.toml_span_claims.specs.declared.claims.Halt.TheVariants as halts
 use Rattle.toml_span_claims.specs.Claims.{claims}
-use Rattle.toml_span_claims.specs.Clashes.{TellsFirst}
+use Rattle.toml_span_claims.specs.Clashes.{IsFirstClash}
 use Rattle.toml_span_claims.specs.code.Machine.{clash_told}
 use Rattle.toml_span_assembly.specs.code.Growing.{GrownGives, IsClashStop}
 use Rattle.toml_span_assembly.specs.Parsing.{IsTreeOf, IsTree, IsRefusal}
@@ -64,5 +64,5 @@ refusals-clash text limit bs (Ok v) spelled h = tt
 refusals-clash text limit bs (Err stop) spelled h = refusal-clash text limit bs stop spelled h
 
 -- where the assembly ends at a clash it is the first one
-pub first-of-halt : (bs : List Block) (n : ℕ) (halt : Halt) (c : Clash) → halt ≡ halts.Clash c → Assembles bs n (Err halt) → TellsFirst [] (claims bs) (clash_told c)
+pub first-of-halt : (bs : List Block) (n : ℕ) (halt : Halt) (c : Clash) → halt ≡ halts.Clash c → Assembles bs n (Err halt) → IsFirstClash [] (claims bs) (clash_told c)
 first-of-halt bs n halt c is h = rw is at h

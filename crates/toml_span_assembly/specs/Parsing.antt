@@ -16,7 +16,7 @@ use Rattle.toml_span_read.specs.Places.{StartsInside, IsLineInfo}
 use Rattle.toml_span_read.specs.Faults.{Tells}
 use Rattle.toml_span_read.specs.Stuck.{StuckDocument}
 use Rattle.toml_span_claims.specs.Claims.{claims}
-use Rattle.toml_span_claims.specs.Clashes.{Resolves, NamedClash, TellsFirst, content_of_clash}
+use Rattle.toml_span_claims.specs.Clashes.{Resolves, NamedClash, IsFirstClash, content_of_clash}
 use Rattle.toml_span_claims.specs.Flat.{flat, Shows}
 use Rattle.toml_span_claims.specs.Borrowed.{AreBorrowedRight, keys_of, value_standing}
 
@@ -55,7 +55,7 @@ pub record IsClashOf (blocks : List Block) (text : List ℕ) (error : Error) : T
   pub clash : NamedClash
   pub line : ℕ
   pub column : ℕ
-  pub first : TellsFirst [] (claims blocks) clash
+  pub first : IsFirstClash [] (claims blocks) clash
   pub tells : content_of error ≡ content_of_clash clash.meeting clash.name (line, column)
   pub within : clash.meeting.place.start ≤ length text
   pub forward : clash.meeting.place.start ≤ clash.meeting.place.end

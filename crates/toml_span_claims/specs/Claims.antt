@@ -15,7 +15,7 @@ use Rattle.toml_span_claims.specs.Paths.{with_key, with_position, enter, section
 use Rattle.toml_span_claims.specs.declared.claims.Head.{Head}
 
 -- A path is claimed by a key of this name. The mark says in which way, and the place is what stands there if this claim
--- decides.
+-- decides. An element of an array in brackets has no key: its name is empty, and the key's span is that of its value.
 pub record Claim : Type 0 where
   pub path : Path
   pub name : List ℕ

@@ -80,17 +80,18 @@ Resolves earlier (scope inner cs) = Resolves [] inner × Resolves earlier cs
 
 -- Behind these earlier claims of the scope this is the first clash in the order of the text: that of the first claim
 -- which clashes with an earlier one of its scope, and with the earliest of those.
-pub data TellsFirst : List Claim → Claims → NamedClash → Type 0 where
-  told_here : (before after : List Claim) (earlier later : Claim) (cs : Claims) (t : NamedClash) → IsFree before later
+pub data IsFirstClash : List Claim → Claims → NamedClash → Type 0 where
+  clash_here : (before after : List Claim) (earlier later : Claim) (cs : Claims) (t : NamedClash) → IsFree before later
       → clash earlier later ≡ Some t
-      → TellsFirst (before ++ (earlier ∷ after)) (claimed later cs) t
-  told_behind : (earlier : List Claim) (c : Claim) (cs : Claims) (t : NamedClash) → IsFree earlier c
-      → TellsFirst (earlier ++ (c ∷ [])) cs t
-      → TellsFirst earlier (claimed c cs) t
-  told_inside : (earlier : List Claim) (inner cs : Claims) (t : NamedClash) → TellsFirst [] inner t
-      → TellsFirst earlier (scope inner cs) t
-  told_after : (earlier : List Claim) (inner cs : Claims) (t : NamedClash) → Resolves [] inner → TellsFirst earlier cs t
-      → TellsFirst earlier (scope inner cs) t
+      → IsFirstClash (before ++ (earlier ∷ after)) (claimed later cs) t
+  clash_behind : (earlier : List Claim) (c : Claim) (cs : Claims) (t : NamedClash) → IsFree earlier c
+      → IsFirstClash (earlier ++ (c ∷ [])) cs t
+      → IsFirstClash earlier (claimed c cs) t
+  clash_in_scope : (earlier : List Claim) (inner cs : Claims) (t : NamedClash) → IsFirstClash [] inner t
+      → IsFirstClash earlier (scope inner cs) t
+  clash_after : (earlier : List Claim) (inner cs : Claims) (t : NamedClash) → Resolves [] inner
+      → IsFirstClash earlier cs t
+      → IsFirstClash earlier (scope inner cs) t
 
 -- the kind of the error that tells of a clash over a name
 abbrev pub kind_of_clash : Blame → List ℕ → Meeting → Kind

@@ -44,6 +44,7 @@ unfoldable pub flat : ℕ → Claims → Path → Option Place
 flat size cs [] = Some (record { shape = shape_table; key_span = None; span = record { start = 0; end = size } })
 flat size cs (s ∷ p) = option_map (λ c. c.place) (deciding_claim (claims_at (s ∷ p) (all_claims cs)))
 
--- the tree has just these nodes
+-- At each path the tree shows this place, or nothing where there is none. That no name stands twice in a table says
+-- `IsOrdered`.
 abbrev pub Shows : Node → (Path → Option Place) → Type 0
 Shows n places = (p : Path) → place_at p n ≡ places p

@@ -10,8 +10,8 @@ use Rattle.toml_span_lex.specs.Text.{CharAt}
 use Rattle.toml_span_lex.specs.declared.tokens.Error.{Error}
 use Rattle.toml_span_lex.specs.declared.tokens.Error.TheVariants as errors
 
--- the character that one letter stands for behind a backslash: `escape-seq-char =  %x22`, `escape-seq-char =/` `%x5C`,
--- `%x62`, `%x65`, `%x66`, `%x6E`, `%x72`, `%x74`, and those of `hex_len`
+-- the character that one letter stands for behind a backslash, of the standard's
+-- `escape-seq-char = %x22 / %x5C / %x62 / %x65 / %x66 / %x6E / %x72 / %x74` and those of `hex_len`
 abbrev pub simple_escape : ℕ → Option ℕ
 simple_escape c =
     if c == quotation_mark then Some quotation_mark

@@ -8,7 +8,7 @@ use Rattle.std.specs.Str.{IsUtf8, is_utf8}
 use Rattle.toml_span_tree.specs.Error.{content_of}
 use Rattle.toml_span_tree.specs.declared.error.Error.{Error}
 use Rattle.toml_span_claims.specs.Claims.{claims}
-use Rattle.toml_span_claims.specs.Clashes.{TellsFirst}
+use Rattle.toml_span_claims.specs.Clashes.{IsFirstClash}
 use Rattle.toml_span_claims.specs.Flat.{flat}
 use Rattle.toml_span_assembly.specs.Parsing.{IsClash}
 use Rattle.toml_span.proofs.Answered.{never-stuck, none-first, one-clash, one-document, one-refusal, stuck-or-clash}
@@ -26,7 +26,7 @@ pub not-refused : (bytes : List ℕ) (limit : ℕ) (text other : List ℕ) → S
 not-refused bytes limit text other d (error, inl (fault, stuck, placed, tells), is) = never-stuck bytes limit d.blocks fault d.spelled stuck
 not-refused bytes limit text other d (error, inr (cs, spelled, clash), is) =
     none-first (claims d.blocks) clash.clash d.resolves
-    (subst (λ l. TellsFirst [] (claims l) clash.clash) (one-document bytes limit cs d.blocks spelled d.spelled) clash.first)
+    (subst (λ l. IsFirstClash [] (claims l) clash.clash) (one-document bytes limit cs d.blocks spelled d.spelled) clash.first)
 
 pub one-told : (bytes : List ℕ) (limit : ℕ) (error : Error) (text : List ℕ) → IsClash bytes limit error → ShowsRefusal bytes limit text → text ≡ error_line (content_of error)
 one-told bytes limit error text c (other, inl fault, is) = absurd (stuck-or-clash bytes limit other error fault c)

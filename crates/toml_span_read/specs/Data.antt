@@ -42,7 +42,9 @@ pub record KeyValue : Type 0 where
 abbrev pub parsed_span : ParsedValue → Span
 parsed_span (parsed inner span) = span
 
--- a section as plain data
+-- A section as plain data: the parts of its header, none before the first header; whether the header stands in double
+-- brackets; its line, with the rest of the line; where the section stands, from its header, or its first assignment, to
+-- its last assignment; and its assignments.
 pub record Block : Type 0 where
   pub header : List SimpleKey
   pub array : Bool

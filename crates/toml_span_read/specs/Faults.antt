@@ -4,7 +4,7 @@ use Rattle.std.specs.Prelude.{length, slice_index, slice_range, Some, None, code
 use Rattle.std.specs.Char.{is_ascii_digit}
 use Rattle.toml_span_lex.specs.Text.{NoLineEnd}
 use Rattle.toml_span_lex.specs.declared.tokens.Error.{Error}
-use Rattle.toml_span_lex.specs.declared.tokens.Error.TheVariants as tokens
+use Rattle.toml_span_lex.specs.declared.tokens.Error.TheVariants as errors
 use Rattle.toml_span_lex.specs.Tokens.{IsNoToken, Lexeme, whitespace, newline, comment, punctuator, keylike, string}
 use Rattle.toml_span_lex.specs.Tokens.{Stands}
 use Rattle.toml_span_lex.specs.Tokens.{RunAt}
@@ -96,17 +96,17 @@ Tells text fault error =
 
 -- the fault that a token's refusal is (a multi-line key and a wanted token are no token's fault, and don't occur here)
 abbrev pub token_fault : Error → Fault
-token_fault (tokens.InvalidCharInString at c) = fault_at (kinds.InvalidCharInString c) at
-token_fault (tokens.InvalidEscape at c) = fault_at (kinds.InvalidEscape c) at
-token_fault (tokens.InvalidHexEscape at c) = fault_at (kinds.InvalidHexEscape c) at
-token_fault (tokens.InvalidEscapeValue at len value) =
+token_fault (errors.InvalidCharInString at c) = fault_at (kinds.InvalidCharInString c) at
+token_fault (errors.InvalidEscape at c) = fault_at (kinds.InvalidEscape c) at
+token_fault (errors.InvalidHexEscape at c) = fault_at (kinds.InvalidHexEscape c) at
+token_fault (errors.InvalidEscapeValue at len value) =
     record { kind = kinds.InvalidEscapeValue value; span = record { start = at; end = at + len } }
-token_fault (tokens.NewlineInString at) = fault_at (kinds.InvalidCharInString line_feed) at
-token_fault (tokens.Unexpected at c) = fault_at (kinds.Unexpected c) at
-token_fault (tokens.UnterminatedString at) = fault_at kinds.UnterminatedString at
-token_fault (tokens.MultilineStringKey start end) =
+token_fault (errors.NewlineInString at) = fault_at (kinds.InvalidCharInString line_feed) at
+token_fault (errors.Unexpected at c) = fault_at (kinds.Unexpected c) at
+token_fault (errors.UnterminatedString at) = fault_at kinds.UnterminatedString at
+token_fault (errors.MultilineStringKey start end) =
     record { kind = kinds.MultilineStringKey; span = record { start = start; end = end } }
-token_fault (tokens.Wanted at expected found) = fault_at kinds.UnexpectedEof at
+token_fault (errors.Wanted at expected found) = fault_at kinds.UnexpectedEof at
 
 -- No token stands at i: this fault does. A quote opens a string that breaks one of its productions, such as
 -- `basic-char = basic-unescaped / escaped`, `escape-seq-char` or `literal-char`, or ends none; or the character at i
@@ -193,7 +193,7 @@ NoHeaderPart text limit n i e =
 
 -- behind a key stands no equals sign
 --
--- broken: `keyval-sep = ws %x3D ws`
+-- broken: `keyval-sep = ws %x3D ws`, or, of a pair, what we take in its place: line ends and comments too
 abbrev pub NoEquals : List ℕ → ℕ → Fault → Type 0
 NoEquals text i e = ((slice_index text i == equals) ≡ false) × IsWanted text i dues.Equals e
 

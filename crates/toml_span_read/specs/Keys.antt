@@ -39,7 +39,7 @@ abbrev pub Onward : List SimpleKey → List ℕ → ℕ → ℕ → Type 0
 Onward [] text m j = (j ≡ m) × NoDot text m
 Onward (s ∷ ss) text m j = (p q : ℕ) × Dot text m p × SpellsSimpleKey s text p q × Onward ss text q j
 
--- the text from i to j is a dotted key of these parts
+-- the text from i to j is a key of these parts: a simple key, which is one part, or a dotted key, which has two or more
 --
 -- `key = simple-key / dotted-key`, `dotted-key = simple-key 1*( dot-sep simple-key )`
 abbrev pub SpellsKey : List SimpleKey → List ℕ → ℕ → ℕ → Type 0

@@ -1,5 +1,4 @@
--- Where a document gets stuck: the forms before the fault, and the fault of the tables (`Faults`) that stands behind
--- them.
+-- Where a document gets stuck: the forms before the fault, and that one of `Faults` that stands behind them.
 use Rattle.std.specs.Prelude.{◌≡◌, ℕ, ◌+◌, ◌<◌, ◌≤◌, Bool, false, ◌==◌, List, [], ◌∷◌, ◌++◌, map, length}
 use Rattle.std.specs.Prelude.{slice_index, Vec, Result, Ok, Err}
 use Rattle.std.specs.Global.{Global}

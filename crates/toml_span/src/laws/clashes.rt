@@ -4,7 +4,7 @@ ghost use Rattle.toml_span_tree.specs.Path.{Path, position};
 ghost use Rattle.toml_span_claims.specs.declared.claims.Sort.TheVariants.{Assigned, Dotted, Passed};
 ghost use Rattle.toml_span_claims.specs.Flat.{all_claims, claims_at, deciding_claim};
 ghost use Rattle.toml_span_claims.specs.Claims.{Claim, claims};
-ghost use Rattle.toml_span_claims.specs.Clashes.{NamedClash, Resolves, TellsFirst, clash};
+ghost use Rattle.toml_span_claims.specs.Clashes.{NamedClash, Resolves, IsFirstClash, clash};
 ghost use Rattle.toml_span_read.specs.Data.{Block};
 ghost use Rattle.toml_span_read.specs.Grammar.{SpellsDocument};
 ghost use Rattle.toml_span.specs.Clashing.{IsFirstPair, IsIn, ShareScope};
@@ -14,7 +14,7 @@ ghost use Rattle.toml_span.specs.Clashing.{IsFirstPair, IsIn, ShareScope};
 /// other one that it clashes with.
 pub fn told_is_first_by_place()
     ensures { (text : List ℕ) (limit : ℕ) (blocks : List Block) (told : NamedClash) → SpellsDocument blocks text limit
-        → TellsFirst [] (claims blocks) told ↔ ((c d : Claim) × IsFirstPair [] (claims blocks) c d
+        → IsFirstClash [] (claims blocks) told ↔ ((c d : Claim) × IsFirstPair [] (claims blocks) c d
         × (clash c d ≡ Some told)) }
 {}
 

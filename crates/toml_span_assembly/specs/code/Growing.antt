@@ -21,7 +21,7 @@ use Rattle.toml_span_claims.specs.code.Tree.{counts, cells, IsScope}
 use Rattle.toml_span_claims.specs.code.Machine.{nothing, first_clash, put_all, clash_told}
 use Rattle.toml_span_claims.specs.Paths.{elements_added, opened_by}
 use Rattle.toml_span_claims.specs.declared.claims.Clash.{Clash}
-use Rattle.toml_span_claims.specs.Clashes.{TellsFirst}
+use Rattle.toml_span_claims.specs.Clashes.{IsFirstClash}
 use Rattle.toml_span_claims.specs.Borrowed.{AreBorrowedRight}
 use Rattle.toml_span_claims.specs.code.Borrowed.{standing, AreFrom}
 use Rattle.toml_span_claims.specs.declared.branch.Branch.TheViews.{out-Branch}
@@ -46,7 +46,7 @@ pub record Remaining (all rest : List Block) (root : Branch) : Type 0 where
 -- The tree has what these sections claim, and those that follow are left to place. Or this is their first clash.
 abbrev pub GrowsTo : List Block → Branch → Option Clash → Type 0
 GrowsTo bs root None = (rest : List Block) → AreSections rest → Remaining (bs ++ rest) rest root
-GrowsTo bs root (Some c) = (rest : List Block) → AreSections rest → TellsFirst [] (claims (bs ++ rest)) (clash_told c)
+GrowsTo bs root (Some c) = (rest : List Block) → AreSections rest → IsFirstClash [] (claims (bs ++ rest)) (clash_told c)
 
 abbrev pub Grows : List Block → Grown → Type 0
 Grows bs g = GrowsTo bs g.root g.clash

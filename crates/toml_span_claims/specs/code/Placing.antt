@@ -30,7 +30,7 @@ use Rattle.toml_span_claims.specs.declared.claims.Sort.TheVariants.{StandardTabl
 use Rattle.toml_span_claims.specs.Ordered.{IsOrdered, HoldsOrdered}
 use Rattle.toml_span_claims.specs.declared.branch.Branch.TheViews.{out-Branch}
 use Rattle.toml_span_claims.specs.declared.claims.Halt.TheVariants.{Memory, Clash}
-use Rattle.toml_span_claims.specs.Clashes.{Resolves, TellsFirst}
+use Rattle.toml_span_claims.specs.Clashes.{Resolves, IsFirstClash}
 use Rattle.toml_span_claims.specs.Flat.{Shows, flat}
 
 -- The claims are placed from a branch on, which then has so many entries, or else the first clash is told.
@@ -144,5 +144,5 @@ AreSections (b ∷ bs) = (b.header ≡ [] → b.array ≡ false) × AreSections 
 abbrev pub Assembles : List Block → ℕ → Result Value Halt → Type 0
 Assembles bs length (Ok root) =
     Resolves [] (claims bs) × Shows (view root) (flat length (claims bs)) × IsOrdered (view root)
-Assembles bs length (Err (Clash c)) = TellsFirst [] (claims bs) (clash_told c)
+Assembles bs length (Err (Clash c)) = IsFirstClash [] (claims bs) (clash_told c)
 Assembles bs length (Err (Memory e)) = ⊤

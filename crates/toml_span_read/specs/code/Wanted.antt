@@ -5,7 +5,7 @@ use Rattle.toml_span_lex.specs.declared.stop.Stop.{Stop}
 use Rattle.toml_span_lex.specs.declared.stop.Stop.TheVariants as stops
 use Rattle.toml_span_lex.specs.Strings.{IsString, Borrows}
 use Rattle.toml_span_lex.specs.declared.tokens.Error.{Error}
-use Rattle.toml_span_lex.specs.declared.tokens.Error.TheVariants as tokens
+use Rattle.toml_span_lex.specs.declared.tokens.Error.TheVariants as errors
 use Rattle.toml_span_read.specs.declared.fault.Found.{Found}
 use Rattle.toml_span_read.specs.declared.fault.Fault.{Fault}
 use Rattle.toml_span_read.specs.Faults.{IsFound, IsTokenFault, IsWanted, IsNoValue}
@@ -36,12 +36,12 @@ StringReads text i (Err (stops.Fault fault)) = IsTokenFault text i fault
 
 -- the places that a token's refusal names are below n
 abbrev pub Bounded : ℕ → Error → Type 0
-Bounded n (tokens.InvalidCharInString at c) = at < n
-Bounded n (tokens.InvalidEscape at c) = at < n
-Bounded n (tokens.InvalidHexEscape at c) = at < n
-Bounded n (tokens.InvalidEscapeValue at len value) = at + len < n
-Bounded n (tokens.NewlineInString at) = at < n
-Bounded n (tokens.Unexpected at c) = at < n
-Bounded n (tokens.UnterminatedString at) = at < n
-Bounded n (tokens.MultilineStringKey start end) = start < n
-Bounded n (tokens.Wanted at expected found) = at < n
+Bounded n (errors.InvalidCharInString at c) = at < n
+Bounded n (errors.InvalidEscape at c) = at < n
+Bounded n (errors.InvalidHexEscape at c) = at < n
+Bounded n (errors.InvalidEscapeValue at len value) = at + len < n
+Bounded n (errors.NewlineInString at) = at < n
+Bounded n (errors.Unexpected at c) = at < n
+Bounded n (errors.UnterminatedString at) = at < n
+Bounded n (errors.MultilineStringKey start end) = start < n
+Bounded n (errors.Wanted at expected found) = at < n
