@@ -5,8 +5,9 @@
 # of the first has left. With a request refused it has to say of one of the two that there is no memory, and to answer
 # the other; the requests of the two reads of a line end it with status 1, before the line is written.
 #
-# toml_span_example reads its stored input, and shows what is wrong there; toml_span_rows walks trees, looks pointers
-# up, and reads structs. With a request refused these have to write nothing, and to complain of it.
+# toml_span_example reads its stored input, and shows what is wrong there; toml_span_rows walks trees and looks pointers
+# up. With a request refused these have to write nothing, and to complain of it. Where toml_span_rows reads structs by
+# `read_table!`, a row at a time, the read has to answer that there is no memory.
 #
 # DERIVED (toml_span_serde_rows), EXAMPLE and ROWS are the proved builds unless others are named.
 set -uo pipefail
@@ -77,11 +78,33 @@ silent() {
     if [ "$made" -lt 20 ]; then told "$1 made $made requests"; fi
 }
 
+# read_of ROW: a typed read alone, which tells of a refusal within it; a refusal outside it ends the program
+read_of() {
+    local made request said=0
+    printf '%s\n' "$1" >"$work/rows"
+    ask 0 "$rows" "$work/rows"
+    made=$(<"$work/made")
+    for ((request = 1; request <= made; request++)); do
+        count=$((count + 1))
+        ask "$request" "$rows" "$work/rows"
+        case $written in
+        "$1"$'\n    Err(Memory(AllocError))\n'*.0) said=$((said + 1)) ;;
+        .1) grep -q OutOfMemory "$work/complaint" || told "$1: with request $request of $made refused it said nothing" ;;
+        *) told "$1: with request $request of $made refused it wrote $written" ;;
+        esac
+    done
+    if [ "$made" -eq 0 ] || [ "$said" -eq "$made" ]; then told "$1: of $made requests $said were told by the read"; fi
+    reads_told=$((reads_told + said))
+}
+
 while IFS= read -r row; do twice "$row"; done <crates/toml_span_serde_rows/stdin
 if [ "$count" -eq 0 ]; then told "there are no rows"; fi
 silent "$example" crates/toml_span_example/stdin
-grep -E '^(nodes|text_order|holders|typed_root|write[^:]*(look|at)=)' crates/toml_span_rows/stdin >"$work/calls"
+grep -E '^(nodes|text_order|write[^:]*(look|at)=)' crates/toml_span_rows/stdin >"$work/calls"
 silent "$rows" "$work/calls"
+reads_told=0
+while IFS= read -r row; do read_of "$row"; done < <(grep -E '^(holders|typed_root)' crates/toml_span_rows/stdin)
+if [ "$reads_told" -lt 20 ]; then told "reads told of $reads_told refusals"; fi
 
 echo "refused runs: $((count - wrong)) of $count right"
 [ "$wrong" -eq 0 ]
