@@ -15,16 +15,16 @@ use Rattle.toml_span_read.specs.Places.{IsLineInfo}
 use Rattle.toml_span_read.specs.Faults.{Tells}
 use Rattle.toml_span_read.specs.Data.{Block}
 use Rattle.toml_span_read.specs.Grammar.{SpellsDocument}
-use Rattle.toml_span_read.specs.Stuck.{StuckDocument}
-use Rattle.toml_span_read_laws.proofs.LineFaults.{document_one}
-use Rattle.toml_span_read_laws.proofs.LineLaws.{document_unique, document_excluded}
-use Rattle.toml_span_read_laws.proofs.ValueLaws.{value_unique, value_excluded}
+use Rattle.toml_span_read.specs.Due.{IsDue}
+use Rattle.toml_span_read_laws.proofs.DueLaws.{due_one, due_excluded}
+use Rattle.toml_span_read_laws.proofs.LineLaws.{document_unique}
+use Rattle.toml_span_read_laws.proofs.ValueLaws.{value_unique}
 use Rattle.toml_span_claims.specs.Claims.{Claims, claims}
 use Rattle.toml_span_claims.specs.Clashes.{content_of_clash, NamedClash, Resolves, IsFirstClash}
 use Rattle.toml_span_claims.specs.Flat.{flat}
 use Rattle.toml_span_claims.specs.code.Machine.{nothing, first_clash}
 use Rattle.toml_span_assembly.specs.Parsing.{IsTreeOf, IsTree, IsFault, IsClashOf, IsClash, IsRefusal}
-use Rattle.toml_span.specs.Outcomes.{Outcome, resolved, clashed, stuck_at, HasOutcome, IsAnswered, TellsClash, IsAnswerOf, IsAlike}
+use Rattle.toml_span.specs.Outcomes.{Outcome, resolved, clashed, refused_at, HasOutcome, IsAnswered, TellsClash, IsAnswerOf, IsAlike}
 use Rattle.toml_span_assembly.proofs.Judged.{told-none, told-some, resolves-told, first-told}
 
 judged : (cs : Claims) (o : Option NamedClash) → first_clash nothing cs ≡ o → Resolves [] cs ⊎ ((clash : NamedClash) × IsFirstClash [] cs clash)
@@ -45,12 +45,11 @@ none-first cs t h g = none-some t (sym (resolves-told cs h) ∙ first-told cs t 
 pub one-document : (text : List ℕ) (limit : ℕ) (bs cs : List Block) → SpellsDocument bs text limit → SpellsDocument cs text limit → bs ≡ cs
 one-document text limit bs cs h g = document_unique value_unique bs cs text limit h g
 
-pub never-stuck : (text : List ℕ) (limit : ℕ) (bs : List Block) (fault : Fault) → SpellsDocument bs text limit → StuckDocument text limit fault → ⊥
-never-stuck text limit bs fault h g =
-    document_excluded value_unique (λ v t l d i j e a s. value_excluded t l {d = d} {i = i} {e = e} s v j a) bs text limit fault h g
+pub never-due : (text : List ℕ) (limit : ℕ) (bs : List Block) (fault : Fault) → SpellsDocument bs text limit → IsDue text limit fault → ⊥
+never-due text limit bs fault h g = due_excluded text limit bs fault h g
 
 pub tree-or-refusal : (text : List ℕ) (limit : ℕ) (root : Value) (error : Error) → IsTree text limit root → IsRefusal text limit (stops.Fault error) → ⊥
-tree-or-refusal text limit root error (bs, spelled, tree) (inl (fault, stuck, placed, tells)) = never-stuck text limit bs fault spelled stuck
+tree-or-refusal text limit root error (bs, spelled, tree) (inl (fault, due, placed, tells)) = never-due text limit bs fault spelled due
 tree-or-refusal text limit root error (bs, spelled, tree) (inr (cs, others, clash)) =
     none-first (claims bs) clash.clash tree.resolves (subst (λ l. IsFirstClash [] (claims l) clash.clash) (one-document text limit cs bs others spelled) clash.first)
 
@@ -91,8 +90,8 @@ same-clash text bs e f a b =
 pub one-clash : (text : List ℕ) (limit : ℕ) (e f : Error) → IsClash text limit e → IsClash text limit f → content_of e ≡ content_of f
 one-clash text limit e f (bs, spelled, a) (cs, others, b) = same-clash text bs e f a (subst (λ l. IsClashOf l text f) (one-document text limit cs bs others spelled) b)
 
-pub stuck-or-clash : (text : List ℕ) (limit : ℕ) (e f : Error) → IsFault text limit e → IsClash text limit f → ⊥
-stuck-or-clash text limit e f (fault, stuck, placed, tells) (bs, spelled, clash) = never-stuck text limit bs fault spelled stuck
+pub fault-or-clash : (text : List ℕ) (limit : ℕ) (e f : Error) → IsFault text limit e → IsClash text limit f → ⊥
+fault-or-clash text limit e f (fault, due, placed, tells) (bs, spelled, clash) = never-due text limit bs fault spelled due
 
 -- ---- one fault
 
@@ -101,14 +100,14 @@ tells-one text fault a b (l, c, at, is) (m, d, here, same) =
     let info = line_info-one text fault.span.start l c m d at here in is ∙ (rw (info.0, info.1) (sym same))
 
 pub one-fault : (text : List ℕ) (limit : ℕ) (e f : Error) → IsFault text limit e → IsFault text limit f → content_of e ≡ content_of f
-one-fault text limit e f (fault, stuck, placed, tells) (other, also, there, first_clash) =
-    let same : other ≡ fault = document_one text limit other fault also stuck in
+one-fault text limit e f (fault, due, placed, tells) (other, also, there, first_clash) =
+    let same : other ≡ fault = due_one text limit other fault also due in
     tells-one text fault (content_of e) (content_of f) tells (subst (λ x. Tells text x (content_of f)) same first_clash)
 
 pub one-refusal : (text : List ℕ) (limit : ℕ) (e f : Error) → IsRefusal text limit (stops.Fault e) → IsRefusal text limit (stops.Fault f) → content_of e ≡ content_of f
 one-refusal text limit e f (inl a) (inl b) = one-fault text limit e f a b
-one-refusal text limit e f (inl a) (inr b) = absurd (stuck-or-clash text limit e f a b)
-one-refusal text limit e f (inr a) (inl b) = absurd (stuck-or-clash text limit f e b a)
+one-refusal text limit e f (inl a) (inr b) = absurd (fault-or-clash text limit e f a b)
+one-refusal text limit e f (inr a) (inl b) = absurd (fault-or-clash text limit f e b a)
 one-refusal text limit e f (inr a) (inr b) = one-clash text limit e f a b
 
 -- ---- one answer
@@ -138,13 +137,13 @@ same-clashed text limit bs cs t u a b =
 pub one-outcome : (text : List ℕ) (limit : ℕ) (x y : Outcome) → HasOutcome text limit x → HasOutcome text limit y → x ≡ y
 one-outcome text limit (resolved bs) (resolved cs) a b = ap (λ l. resolved l) (one-document text limit bs cs a.0 b.0)
 one-outcome text limit (resolved bs) (clashed cs t) a b = absurd (resolved-or-clashed text limit bs cs t a b)
-one-outcome text limit (resolved bs) (stuck_at f) a b = absurd (never-stuck text limit bs f a.0 b)
+one-outcome text limit (resolved bs) (refused_at f) a b = absurd (never-due text limit bs f a.0 b)
 one-outcome text limit (clashed bs t) (resolved cs) a b = absurd (resolved-or-clashed text limit cs bs t b a)
 one-outcome text limit (clashed bs t) (clashed cs u) a b = same-clashed text limit bs cs t u a b
-one-outcome text limit (clashed bs t) (stuck_at f) a b = absurd (never-stuck text limit bs f a.0 b)
-one-outcome text limit (stuck_at e) (resolved cs) a b = absurd (never-stuck text limit cs e b.0 a)
-one-outcome text limit (stuck_at e) (clashed cs t) a b = absurd (never-stuck text limit cs e b.0 a)
-one-outcome text limit (stuck_at e) (stuck_at f) a b = ap (λ x. stuck_at x) (document_one text limit e f a b)
+one-outcome text limit (clashed bs t) (refused_at f) a b = absurd (never-due text limit bs f a.0 b)
+one-outcome text limit (refused_at e) (resolved cs) a b = absurd (never-due text limit cs e b.0 a)
+one-outcome text limit (refused_at e) (clashed cs t) a b = absurd (never-due text limit cs e b.0 a)
+one-outcome text limit (refused_at e) (refused_at f) a b = ap (λ x. refused_at x) (due_one text limit e f a b)
 
 same-first : (text : List ℕ) (limit : ℕ) (bs : List Block) (t : NamedClash) (e : Error) → HasOutcome text limit (clashed bs t) → IsClash text limit e → TellsClash text t e
 same-first text limit bs t e h (cs, spelled, c) =
@@ -155,30 +154,30 @@ same-first text limit bs t e h (cs, spelled, c) =
 pub decides : (text : List ℕ) (limit : ℕ) (x : Outcome) (r : Result Value (Stop Error)) → HasOutcome text limit x → IsAnswered text limit r → IsAnswerOf text x r
 decides text limit (resolved bs) (Ok root) h (cs, spelled, tree) = subst (λ l. IsTreeOf l (length text) root) (one-document text limit cs bs spelled h.0) tree
 decides text limit (resolved bs) (Err (stops.Memory e)) h a = tt
-decides text limit (resolved bs) (Err (stops.Fault e)) h (inl (fault, stuck, placed, tells)) = never-stuck text limit bs fault h.0 stuck
+decides text limit (resolved bs) (Err (stops.Fault e)) h (inl (fault, due, placed, tells)) = never-due text limit bs fault h.0 due
 decides text limit (resolved bs) (Err (stops.Fault e)) h (inr (cs, spelled, c)) = resolved-or-clashed text limit bs cs c.clash h (spelled, c.first)
 decides text limit (clashed bs t) (Ok root) h (cs, spelled, tree) = resolved-or-clashed text limit cs bs t (spelled, tree.resolves) h
 decides text limit (clashed bs t) (Err (stops.Memory e)) h a = tt
-decides text limit (clashed bs t) (Err (stops.Fault e)) h (inl (fault, stuck, placed, tells)) = absurd (never-stuck text limit bs fault h.0 stuck)
+decides text limit (clashed bs t) (Err (stops.Fault e)) h (inl (fault, due, placed, tells)) = absurd (never-due text limit bs fault h.0 due)
 decides text limit (clashed bs t) (Err (stops.Fault e)) h (inr c) = same-first text limit bs t e h c
-decides text limit (stuck_at f) (Ok root) h (bs, spelled, tree) = never-stuck text limit bs f spelled h
-decides text limit (stuck_at f) (Err (stops.Memory e)) h a = tt
-decides text limit (stuck_at f) (Err (stops.Fault e)) h (inl (fault, stuck, placed, tells)) = subst (λ x. Tells text x (content_of e)) (document_one text limit fault f stuck h) tells
-decides text limit (stuck_at f) (Err (stops.Fault e)) h (inr (bs, spelled, c)) = absurd (never-stuck text limit bs f spelled h)
+decides text limit (refused_at f) (Ok root) h (bs, spelled, tree) = never-due text limit bs f spelled h
+decides text limit (refused_at f) (Err (stops.Memory e)) h a = tt
+decides text limit (refused_at f) (Err (stops.Fault e)) h (inl (fault, due, placed, tells)) = subst (λ x. Tells text x (content_of e)) (due_one text limit fault f due h) tells
+decides text limit (refused_at f) (Err (stops.Fault e)) h (inr (bs, spelled, c)) = absurd (never-due text limit bs f spelled h)
 
 -- ---- every text
 
-pub text-judged : (text : List ℕ) (limit : ℕ) → ((bs : List Block) × SpellsDocument bs text limit) ⊎ ((fault : Fault) × StuckDocument text limit fault)
-    → ((bs : List Block) × SpellsDocument bs text limit × (Resolves [] (claims bs) ⊎ ((clash : NamedClash) × IsFirstClash [] (claims bs) clash))) ⊎ ((fault : Fault) × StuckDocument text limit fault)
+pub text-judged : (text : List ℕ) (limit : ℕ) → ((bs : List Block) × SpellsDocument bs text limit) ⊎ ((fault : Fault) × IsDue text limit fault)
+    → ((bs : List Block) × SpellsDocument bs text limit × (Resolves [] (claims bs) ⊎ ((clash : NamedClash) × IsFirstClash [] (claims bs) clash))) ⊎ ((fault : Fault) × IsDue text limit fault)
 text-judged text limit (inl (bs, spelled)) = inl (bs, spelled, resolves-or-told (claims bs))
-text-judged text limit (inr stuck) = inr stuck
+text-judged text limit (inr due) = inr due
 
 read-outcome : (text : List ℕ) (limit : ℕ) (bs : List Block) → SpellsDocument bs text limit → Resolves [] (claims bs) ⊎ ((clash : NamedClash) × IsFirstClash [] (claims bs) clash)
     → (x : Outcome) × HasOutcome text limit x
 read-outcome text limit bs spelled (inl resolves) = (resolved bs, (spelled, resolves))
 read-outcome text limit bs spelled (inr (clash, first)) = (clashed bs clash, (spelled, first))
 
-pub some-outcome : (text : List ℕ) (limit : ℕ) → ((bs : List Block) × SpellsDocument bs text limit) ⊎ ((fault : Fault) × StuckDocument text limit fault)
+pub some-outcome : (text : List ℕ) (limit : ℕ) → ((bs : List Block) × SpellsDocument bs text limit) ⊎ ((fault : Fault) × IsDue text limit fault)
     → (x : Outcome) × HasOutcome text limit x
 some-outcome text limit (inl (bs, spelled)) = read-outcome text limit bs spelled (resolves-or-told (claims bs))
-some-outcome text limit (inr (fault, stuck)) = (stuck_at fault, stuck)
+some-outcome text limit (inr (fault, due)) = (refused_at fault, due)

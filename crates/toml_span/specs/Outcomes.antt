@@ -10,25 +10,25 @@ use Rattle.toml_span_tree.specs.Value.{view}
 use Rattle.toml_span_read.specs.Data.{Block}
 use Rattle.toml_span_read.specs.declared.fault.Fault.{Fault}
 use Rattle.toml_span_read.specs.Grammar.{SpellsDocument}
-use Rattle.toml_span_read.specs.Stuck.{StuckDocument}
+use Rattle.toml_span_read.specs.Due.{IsDue}
 use Rattle.toml_span_read.specs.Places.{IsLineInfo}
 use Rattle.toml_span_read.specs.Faults.{Tells}
 use Rattle.toml_span_claims.specs.Clashes.{NamedClash, Resolves, IsFirstClash, content_of_clash}
 use Rattle.toml_span_claims.specs.Claims.{claims}
 use Rattle.toml_span_assembly.specs.Parsing.{IsTree, IsRefusal, IsTreeOf}
 
--- the sections that it spells; those and their first clash; or the fault at which it is stuck
+-- the sections that it spells; those and their first clash; or the fault that is told where something is due
 pub data Outcome : Type 0 where
   resolved : List Block → Outcome
   clashed : List Block → NamedClash → Outcome
-  stuck_at : Fault → Outcome
+  refused_at : Fault → Outcome
 
 -- The text spells these sections, and no two of their claims clash; or it spells them, and this clash is their first;
--- or it is stuck at this fault.
+-- or this fault is told where something is due.
 abbrev pub HasOutcome : List ℕ → ℕ → Outcome → Type 0
 HasOutcome text limit (resolved blocks) = SpellsDocument blocks text limit × Resolves [] (claims blocks)
 HasOutcome text limit (clashed blocks clash) = SpellsDocument blocks text limit × IsFirstClash [] (claims blocks) clash
-HasOutcome text limit (stuck_at fault) = StuckDocument text limit fault
+HasOutcome text limit (refused_at fault) = IsDue text limit fault
 
 -- the text's tree, or its refusal
 abbrev pub IsAnswered : List ℕ → ℕ → Result Value (Stop Error) → Type 0
@@ -49,9 +49,9 @@ IsAnswerOf text (resolved blocks) (Err (stops.Fault error)) = ⊥
 IsAnswerOf text (clashed blocks clash) (Ok root) = ⊥
 IsAnswerOf text (clashed blocks clash) (Err (stops.Memory e)) = ⊤
 IsAnswerOf text (clashed blocks clash) (Err (stops.Fault error)) = TellsClash text clash error
-IsAnswerOf text (stuck_at fault) (Ok root) = ⊥
-IsAnswerOf text (stuck_at fault) (Err (stops.Memory e)) = ⊤
-IsAnswerOf text (stuck_at fault) (Err (stops.Fault error)) = Tells text fault (content_of error)
+IsAnswerOf text (refused_at fault) (Ok root) = ⊥
+IsAnswerOf text (refused_at fault) (Err (stops.Memory e)) = ⊤
+IsAnswerOf text (refused_at fault) (Err (stops.Fault error)) = Tells text fault (content_of error)
 
 -- Both are trees, which show the same at each path, or both are errors, which tell the same. Want of memory is like
 -- each answer.

@@ -16,7 +16,7 @@ ghost use Rattle.std.specs.declared.alloc.AllocError.{AllocError};
 ghost use Rattle.toml_span_read_laws.specs.Again.{ScalarReadsAgain};
 ghost use Rattle.toml_span_read.specs.Data.{Block};
 ghost use Rattle.toml_span_read.specs.Grammar.{SpellsDocument};
-ghost use Rattle.toml_span_read.specs.Stuck.{StuckDocument};
+ghost use Rattle.toml_span_read.specs.Due.{IsDue};
 ghost use Rattle.toml_span_read.specs.declared.fault.Fault.{Fault};
 ghost use Rattle.toml_span_tree.specs.Error.{content_of};
 ghost use Rattle.toml_span_tree.specs.Node.{Node, Scalar, text as string};
@@ -39,7 +39,7 @@ ghost use Rattle.toml_span_assembly.specs.Parsing.{IsClash, IsFault, IsRefusal, 
 
 pub mod clashes;
 
-use toml_span_read_laws::judged::document_or_stuck;
+use toml_span_read_laws::judged::document_or_due;
 use toml_span_typed::Deserialize;
 
 /// Either no two claims of one scope clash, or there is a first clash.
@@ -60,7 +60,7 @@ pub fn one_first_clash()
 pub fn one_answer()
     ensures refused { (text : List ℕ) (limit : ℕ) (root : Value) (error : Error) → IsTree text limit root
         → IsRefusal text limit (refused error) → ⊥ }
-    ensures stuck { (text : List ℕ) (limit : ℕ) (error other : Error) → IsFault text limit error
+    ensures apart { (text : List ℕ) (limit : ℕ) (error other : Error) → IsFault text limit error
         → IsClash text limit other → ⊥ }
     ensures tree { (text : List ℕ) (limit : ℕ) (root other : Value) (path : Path) → IsTree text limit root
         → IsTree text limit other → place_at path (view root) ≡ place_at path (view other) }
@@ -75,13 +75,13 @@ pub fn one_answer()
 {}
 
 /// Each text has one outcome within a limit: sections of which no two claims clash, sections and their first
-/// clash, or the fault at which it is stuck.
+/// clash, or the fault that is told where something is due.
 pub fn one_outcome(text: &str)
     ensures some { (limit : ℕ) → 1 ≤ limit → (outcome : Outcome) × HasOutcome text.now limit outcome }
     ensures one { (limit : ℕ) (outcome other : Outcome) → HasOutcome text.now limit outcome
         → HasOutcome text.now limit other → outcome ≡ other }
 {
-    document_or_stuck(text);
+    document_or_due(text);
 }
 
 /// The outcome of a text decides its answer, want of memory aside: the tree of the sections, or an error that
@@ -91,14 +91,14 @@ pub fn outcome_decides()
         → HasOutcome text limit outcome → IsAnswered text limit result → IsAnswerOf text outcome result }
 {}
 
-/// Each text spells a document of which no two claims clash, or one of which there is a first clash, or it
-/// is stuck.
+/// Each text spells a document of which no two claims clash, or one of which there is a first clash, or a
+/// fault is told where something is due in it.
 pub fn each_text_is_judged(text: &str)
     ensures { (limit : ℕ) → 1 ≤ limit → ((blocks : List Block) × SpellsDocument blocks text.now limit
         × (Resolves [] (claims blocks) ⊎ ((clash : NamedClash) × IsFirstClash [] (claims blocks) clash)))
-        ⊎ ((fault : Fault) × StuckDocument text.now limit fault) }
+        ⊎ ((fault : Fault) × IsDue text.now limit fault) }
 {
-    document_or_stuck(text);
+    document_or_due(text);
 }
 
 /// Nothing is taken in a tree that shows the flat document of some sections: no path leads to what is taken,

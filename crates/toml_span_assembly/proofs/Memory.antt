@@ -15,7 +15,7 @@ use Rattle.toml_span_read.specs.Data.{KeyValue, Block, block}
 use Rattle.toml_span_read.specs.Gaps.{MaximalGap}
 use Rattle.toml_span_read.specs.Keys.{SimpleKey, SpellsKey}
 use Rattle.toml_span_read.specs.Grammar.{first_block, OpensHeader, SpellsDocument, SpellsKeyValues, SpellsSection, SpellsSections}
-use Rattle.toml_span_read.specs.Stuck.{HoldsForm, OnlyFormsTakeMemory}
+use Rattle.toml_span_read.specs.Reading.{HoldsForm, OnlyFormsTakeMemory}
 use Rattle.toml_span_read.proofs.InsideLemmas.{ascend_forward}
 use Rattle.toml_span_read.proofs.KeyOrder.{dotted_ascend}
 

@@ -14,7 +14,7 @@ use Rattle.toml_span_read.specs.Borrowed.{sections_written}
 use Rattle.toml_span_read.specs.declared.fault.Fault.{Fault}
 use Rattle.toml_span_read.specs.Places.{StartsInside, IsLineInfo}
 use Rattle.toml_span_read.specs.Faults.{Tells}
-use Rattle.toml_span_read.specs.Stuck.{StuckDocument}
+use Rattle.toml_span_read.specs.Due.{IsDue}
 use Rattle.toml_span_claims.specs.Claims.{claims}
 use Rattle.toml_span_claims.specs.Clashes.{Resolves, NamedClash, IsFirstClash, content_of_clash}
 use Rattle.toml_span_claims.specs.Flat.{flat, Shows}
@@ -45,10 +45,10 @@ IsBorrowedTree text limit root =
 
 -- ---- refusals
 
--- the text is stuck at a fault, which has a place in the text, and the error tells that fault
+-- something is due in the text that does not stand there: the error tells that fault, which has a place in the text
 abbrev pub IsFault : List ℕ → ℕ → Error → Type 0
 IsFault text limit error =
-    (fault : Fault) × StuckDocument text limit fault × StartsInside text fault × Tells text fault (content_of error)
+    (fault : Fault) × IsDue text limit fault × StartsInside text fault × Tells text fault (content_of error)
 
 -- The error tells the first clash of the sections' claims, at a place in the text, with its line and its column.
 pub record IsClashOf (blocks : List Block) (text : List ℕ) (error : Error) : Type 0 where
@@ -65,7 +65,7 @@ pub record IsClashOf (blocks : List Block) (text : List ℕ) (error : Error) : T
 abbrev pub IsClash : List ℕ → ℕ → Error → Type 0
 IsClash text limit error = (blocks : List Block) × SpellsDocument blocks text limit × IsClashOf blocks text error
 
--- A text that is not read is stuck somewhere, and that fault is told. Of one that is read the first clash is told.
+-- Of a text that is not read the fault is told where something is due. Of one that is read the first clash is told.
 abbrev pub IsRefusal : List ℕ → ℕ → Stop Error → Type 0
 IsRefusal text limit (stops.Memory e) = ⊤
 IsRefusal text limit (stops.Fault error) = IsFault text limit error ⊎ IsClash text limit error

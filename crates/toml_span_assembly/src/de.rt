@@ -4,7 +4,7 @@ ghost use Rattle.toml_span_lex.specs.Tokenizer.{FirstPlace};
 ghost use Rattle.toml_span_read.specs.code.Faults.{IsPlacedStop};
 ghost use Rattle.toml_span_read.specs.Keys.{SimpleKey};
 ghost use Rattle.toml_span_read.specs.Data.{Block};
-ghost use Rattle.toml_span_read.specs.Stuck.{OnlyFormsTakeMemory};
+ghost use Rattle.toml_span_read.specs.Reading.{OnlyFormsTakeMemory};
 ghost use Rattle.toml_span_read.specs.Limits.{depth_limit};
 ghost use Rattle.toml_span_tree.specs.Value.{is_whole, view};
 ghost use Rattle.toml_span_claims.specs.Borrowed.{AreBorrowedRight, value_standing};

@@ -11,7 +11,7 @@ use Rattle.toml_span_claims.specs.Claims.{claims}
 use Rattle.toml_span_claims.specs.Clashes.{IsFirstClash}
 use Rattle.toml_span_claims.specs.Flat.{flat}
 use Rattle.toml_span_assembly.specs.Parsing.{IsClash}
-use Rattle.toml_span.proofs.Answered.{never-stuck, none-first, one-clash, one-document, one-refusal, stuck-or-clash}
+use Rattle.toml_span.proofs.Answered.{never-due, none-first, one-clash, one-document, one-refusal, fault-or-clash}
 use Rattle.toml_span_lines.specs.Lines.{error_line}
 use Rattle.toml_span_lines.specs.Run.{bound, IsShown, IsAnswer, Runs}
 use Rattle.toml_span_lines.specs.Shown.{ShowsDocument, ShowsRefusal, ShowsPlaces}
@@ -23,13 +23,13 @@ one-shown bytes limit text other d e =
     one-text (flat (length bytes) (claims d.blocks)) text other d.shown (subst (λ l. ShowsPlaces (flat (length bytes) (claims l)) other) same e.shown)
 
 pub not-refused : (bytes : List ℕ) (limit : ℕ) (text other : List ℕ) → ShowsDocument bytes limit text → ShowsRefusal bytes limit other → ⊥
-not-refused bytes limit text other d (error, inl (fault, stuck, placed, tells), is) = never-stuck bytes limit d.blocks fault d.spelled stuck
+not-refused bytes limit text other d (error, inl (fault, due, placed, tells), is) = never-due bytes limit d.blocks fault d.spelled due
 not-refused bytes limit text other d (error, inr (cs, spelled, clash), is) =
     none-first (claims d.blocks) clash.clash d.resolves
     (subst (λ l. IsFirstClash [] (claims l) clash.clash) (one-document bytes limit cs d.blocks spelled d.spelled) clash.first)
 
 pub one-told : (bytes : List ℕ) (limit : ℕ) (error : Error) (text : List ℕ) → IsClash bytes limit error → ShowsRefusal bytes limit text → text ≡ error_line (content_of error)
-one-told bytes limit error text c (other, inl fault, is) = absurd (stuck-or-clash bytes limit other error fault c)
+one-told bytes limit error text c (other, inl fault, is) = absurd (fault-or-clash bytes limit other error fault c)
 one-told bytes limit error text c (other, inr clash, is) = is ∙ ap (λ f. error_line f) (one-clash bytes limit other error clash c)
 
 pub one-refused : (bytes : List ℕ) (limit : ℕ) (text other : List ℕ) → ShowsRefusal bytes limit text → ShowsRefusal bytes limit other → text ≡ other

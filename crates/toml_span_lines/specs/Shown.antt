@@ -77,7 +77,7 @@ pub record ShowsDocument (bytes : List ℕ) (limit : ℕ) (text : List ℕ) : Ty
   pub resolves : Resolves [] (claims blocks)
   pub shown : ShowsPlaces (flat (length bytes) (claims blocks)) text
 
--- The bytes are stuck at a fault or, where they spell sections within the limit, two claims clash. The text is the line
+-- A fault is told of the bytes or, where they spell sections within the limit, two claims clash. The text is the line
 -- of such a fault, or of the first clash.
 abbrev pub ShowsRefusal : List ℕ → ℕ → List ℕ → Type 0
 ShowsRefusal bytes limit text =

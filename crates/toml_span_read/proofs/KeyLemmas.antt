@@ -15,7 +15,7 @@ use Rattle.toml_span_read.specs.declared.fault.Fault.{Fault}
 use Rattle.toml_span_read.specs.Gaps.{Dot}
 use Rattle.toml_span_read.specs.Keys.{SimpleKey, simple_key, SpellsSimpleKey, Onward, SpellsKey}
 use Rattle.toml_span_read.specs.code.Keys.{KeyGives, DottedGives, HeaderKeyGives}
-use Rattle.toml_span_read.specs.Stuck.{StuckOnward, part_here, StuckKey, no_first, onward, StuckHeaderKey, header_part_here}
+use Rattle.toml_span_read.specs.code.Stuck.{StuckOnward, part_here, StuckKey, no_first, onward, StuckHeaderKey, header_part_here}
 
 -- an error that `?` hands on
 pub handed_on : {T E : Type 0} (r : Result T E) (x : E) → IsErrAnd r (λ y. y ≡ x) → r ≡ Err x
@@ -33,7 +33,7 @@ map_more f (y ∷ ys) x rest = ap (λ z. f y ∷ z) (map_more f ys x rest)
 
 pub first_fault : (stop : Stop Fault) (text : List ℕ) (limit i : ℕ) → KeyGives text i (Err stop) → DottedGives text limit i (Err stop)
 first_fault (stops.Memory e) text limit i h = tt
-first_fault (stops.Fault e) text limit i h = no_first i e h
+first_fault (stops.Fault e) text limit i h = no_first i e (inl h)
 
 pub part_fault : (stop : Stop Fault) (text : List ℕ) (limit i n m p : ℕ) → ((e : Fault) → StuckOnward text limit n m e → StuckKey text limit i e)
     → Dot text m p → KeyGives text p (Err stop) → DottedGives text limit i (Err stop)
@@ -44,12 +44,12 @@ pub same_stuck : (e f : Fault) (text : List ℕ) (limit i : ℕ) → e ≡ f →
 same_stuck e f text limit i is h = rw is h
 
 -- behind the first part
-pub dotted_first : (ps : List Key) (last : Key) (text : List ℕ) (limit i m : ℕ) → ps ≡ [] → SpellsSimpleKey (simple_key last) text i m
+pub dotted_first : (ps : List Key) (last : Key) (text : List ℕ) (limit i m : ℕ) → ps ≡ [] → SpellsSimpleKey (simple_key last) text i m → 0 < limit
     → (length ps ≡ 0)
     × ((tail : List SimpleKey) (j : ℕ) → Onward tail text m j → SpellsKey (map simple_key ps ++ (simple_key last ∷ tail)) text i j)
     × ((e : Fault) → StuckOnward text limit (length ps + 1) m e → StuckKey text limit i e)
-dotted_first ps last text limit i m e k =
-    (rw e refl, (λ tail j h. rw e (m, k, h)), (λ x h. let s : StuckOnward text limit 1 m x = rw e at h in onward i m (simple_key last) x k s))
+dotted_first ps last text limit i m e k some =
+    (rw e refl, (λ tail j h. rw e (m, k, h)), (λ x h. let s : StuckOnward text limit 1 m x = rw e at h in onward i m (simple_key last) x k some s))
 
 pub dotted_more : (ps qs : List Key) (last item key dest : Key) (text : List ℕ) (i m p q : ℕ) → qs ≡ ps ++ (item ∷ []) → item ≡ last → dest ≡ key
     → ((tail : List SimpleKey) (j : ℕ) → Onward tail text m j → SpellsKey (map simple_key ps ++ (simple_key last ∷ tail)) text i j)

@@ -18,7 +18,7 @@ use Rattle.toml_span_read.specs.Gaps.{MaximalGap, Equals, Tail}
 use Rattle.toml_span_read.specs.Grammar.{Spells, SpellsKeyValue, SpellsKeyValues, SpellsLines, OpensHeader, SpellsHeader, last_end, SpellsSection, first_block, SpellsSections, SpellsDocument}
 use Rattle.toml_span_read.specs.Keys.{SimpleKey, simple_key, SpellsKey}
 use Rattle.toml_span_read.specs.code.Keys.{DottedGives, HeaderKeyGives}
-use Rattle.toml_span_read.specs.Stuck.{line_key, line_equals, line_value, StuckKeyValues, in_line, no_newline, crossing, line_on, StuckLines, header_key, header_close, header_rest, StuckSections, section_on, StuckDocument, behind_header}
+use Rattle.toml_span_read.specs.code.Stuck.{line_key, line_equals, line_value, StuckKeyValues, in_line, no_newline, crossing, line_on, StuckLines, header_key, header_close, header_rest, StuckSections, section_on, StuckDocument, behind_header}
 use Rattle.toml_span_read.specs.code.Sections.{KeyValueGives, LineGives, LinesGive, CloseGives, HeaderGives, block_of}
 use Rattle.toml_span_read.specs.code.Values.{ValueGives}
 use Rattle.toml_span_read.specs.code.Wanted.{WantedGives}

@@ -9,7 +9,7 @@ use Rattle.toml_span_read.specs.Gaps.{MaximalGap}
 use Rattle.toml_span_read.specs.Keys.{SimpleKey, SpellsKey}
 use Rattle.toml_span_read.specs.Grammar.{SpellsKeyValue, SpellsKeyValues, SpellsLines, first_block}
 use Rattle.toml_span_read.specs.code.Sections.{first_blocks}
-use Rattle.toml_span_read.specs.Stuck.{HoldsForm, OnlyFormsTakeMemory}
+use Rattle.toml_span_read.specs.Reading.{HoldsForm, OnlyFormsTakeMemory}
 use Rattle.toml_span_read.proofs.InsideLemmas.{ascend_forward, tail_inside}
 use Rattle.toml_span_read.proofs.KeyOrder.{dotted_ascend}
 use Rattle.toml_span_read.proofs.SpanLaws.{value_lies}

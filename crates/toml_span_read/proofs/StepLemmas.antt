@@ -14,7 +14,8 @@ use Rattle.toml_span_read.specs.Places.{KeyValuesInside}
 use Rattle.toml_span_read.specs.Keys.{simple_key}
 use Rattle.toml_span_read.specs.Limits.{WithinSection, WithinSections}
 use Rattle.toml_span_read.specs.code.Sections.{HeaderGives, LinesGive, first_blocks, IsReadFirst, FirstGives, SectionGives}
-use Rattle.toml_span_read.specs.Stuck.{HoldsForm, before_headers, in_header, in_section}
+use Rattle.toml_span_read.specs.Reading.{HoldsForm}
+use Rattle.toml_span_read.specs.code.Stuck.{before_headers, in_header, in_section}
 use Rattle.toml_span_read.specs.Grammar.{first_block}
 use Rattle.toml_span_read.proofs.BorrowLemmas.{all_append}
 use Rattle.toml_span_read.proofs.InsideLemmas.{first_section_inside}

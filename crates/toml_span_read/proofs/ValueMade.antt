@@ -21,7 +21,7 @@ use Rattle.toml_span_read.specs.code.Numbers.{NumberGives}
 use Rattle.toml_span_read.specs.Grammar.{from_to, truth_text, SpellsScalar, Spells, SpellsPair, SpellsItems, SpellsPairs}
 use Rattle.toml_span_read.specs.Faults.{opens_nested, begins_bare, begins_number, Begins, BeginsNumber, IsOtherWord, NoBare}
 use Rattle.toml_span_read.specs.code.Values.{IsTooDeep, BareGives, ValueGives, PairGives}
-use Rattle.toml_span_read.specs.Stuck.{value_here, in_array, in_inline, StuckItems, in_item, behind_item, StuckPairs, in_pair, crosses, behind_pair, pair_on, in_key, no_equals, in_value}
+use Rattle.toml_span_read.specs.code.Stuck.{value_here, in_array, in_inline, StuckItems, in_item, behind_item, StuckPairs, in_pair, crosses, behind_pair, pair_on, in_key, no_equals, in_value}
 use Rattle.toml_span_read.specs.Keys.{SimpleKey, opens_string, SpellsKey}
 use Rattle.toml_span_read.specs.code.Keys.{DottedGives}
 use Rattle.toml_span_read.specs.Gaps.{MaximalGap, Separator, Closes, Neither}

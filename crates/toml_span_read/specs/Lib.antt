@@ -7,7 +7,8 @@ pub mod Earlier
 pub mod Grammar
 pub mod Places
 pub mod Faults
-pub mod Stuck
+pub mod Due
+pub mod Reading
 pub mod Limits
 pub mod Borrowed
 pub mod code

@@ -2,6 +2,7 @@
 pub mod Faults
 pub mod Gaps
 pub mod Wanted
+pub mod Stuck
 pub mod Keys
 pub mod Numbers
 pub mod Dates

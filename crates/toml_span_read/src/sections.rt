@@ -9,7 +9,7 @@ ghost use Rattle.toml_span_read.specs.Grammar.{OpensHeader, first_block};
 ghost use Rattle.toml_span_read.specs.code.Sections.{KeyValueGives, LineGives, LinesGive, CloseGives, HeaderGives};
 ghost use Rattle.toml_span_read.specs.code.Sections.{SectionsGive, block_of, first_blocks, FirstReads, FirstGives};
 ghost use Rattle.toml_span_read.specs.code.Sections.{SectionReads, SectionGives};
-ghost use Rattle.toml_span_read.specs.Stuck.{OnlyFormsTakeMemory, ReadsDocument, RefusedInside};
+ghost use Rattle.toml_span_read.specs.Reading.{OnlyFormsTakeMemory, ReadsDocument, RefusedInside};
 ghost use Rattle.toml_span_read.specs.code.Gaps.{Further};
 ghost use Rattle.toml_span_lex.specs.Bytes.{left_bracket};
 ghost use Rattle.toml_span_lex.specs.Tokenizer.{FirstPlace};

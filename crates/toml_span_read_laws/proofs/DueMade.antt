@@ -7,14 +7,14 @@ use Rattle.toml_span_read.specs.declared.fault.Due.TheVariants as dues
 use Rattle.toml_span_read.specs.declared.fault.Fault.{Fault}
 use Rattle.toml_span_read.specs.declared.fault.FaultKind.TheVariants as kinds
 use Rattle.toml_span_read.specs.Data.{KeyValue, Block}
-use Rattle.toml_span_read_laws.specs.Due.{Frame, in_section, in_brackets, in_braces, under_key, depth, What, a_line, a_part, an_equals, a_value, an_element, a_comma, a_verdict, a_header_part, a_closing, a_tail, a_line_end, DueAt, first_line, line_part, line_equals, line_value, line_tail, tail_rest, line_verdict, next_line, part_next, opens_header, header_part_next, header_closes, closes_again, header_tail, next_section, opens_array, item_value, behind_item, behind_comma, opens_table, pair_part, pair_equals, pair_value, pair_verdict, behind_pair, DueFault, IsDue}
+use Rattle.toml_span_read.specs.Due.{Frame, in_section, in_brackets, in_braces, under_key, depth, What, a_line, a_part, an_equals, a_value, an_element, a_comma, a_verdict, a_header_part, a_closing, a_tail, a_line_end, DueAt, first_line, line_part, line_equals, line_value, line_tail, tail_rest, line_verdict, next_line, part_next, opens_header, header_part_next, header_closes, closes_again, header_tail, next_section, opens_array, item_value, behind_item, behind_comma, opens_table, pair_part, pair_equals, pair_value, pair_verdict, behind_pair, DueFault, IsDue}
 use Rattle.toml_span_read.specs.Earlier.{Clear, Crossing}
 use Rattle.toml_span_read.specs.Faults.{fault_at, NoSimpleKey, NoClosing, StuckTail, IsWanted}
 use Rattle.toml_span_read.specs.Gaps.{MaximalGap, Dot}
 use Rattle.toml_span_read.specs.Grammar.{from_to, last_end, ClosesHeader, SpellsHeader, SpellsKeyValues}
 use Rattle.toml_span_read.specs.Keys.{SimpleKey, SpellsSimpleKey}
-use Rattle.toml_span_read.specs.Stuck.{StuckOnward, part_here, dotted_on, StuckKey, no_first, onward, StuckHeaderKey, header_part_here, header_on, StuckKeyValue, StuckKeyValues, StuckSections, StuckDocument, StuckValue, StuckItems, StuckPairs, StuckPair}
-use Rattle.toml_span_read.specs.Stuck as l
+use Rattle.toml_span_read.specs.code.Stuck.{StuckOnward, part_here, dotted_on, StuckKey, no_first, onward, StuckHeaderKey, header_part_here, header_on, StuckKeyValue, StuckKeyValues, StuckSections, StuckDocument, StuckValue, StuckItems, StuckPairs, StuckPair}
+use Rattle.toml_span_read.specs.code.Stuck as l
 
 -- ---- what gets stuck from a place on
 
@@ -126,7 +126,7 @@ leads text limit (line_verdict es i m n ev w h t) e (inl c) = leads text limit {
 leads text limit (line_verdict es i m n ev w h t) e (inr (clear, k, gap, inl r)) = leads text limit {what = a_line} {fs = in_section es ∷ []} {i = i} w e (inl (l.line_on es i m n k ev e h t clear gap r))
 leads text limit (line_verdict es i m n ev w h t) e (inr (clear, k, gap, inr (evs, j, more, r))) = leads text limit {what = a_line} {fs = in_section es ∷ []} {i = i} w e (inr (ev ∷ evs, j, (m, n, k, h, t, clear, gap, more), r))
 leads text limit (next_line es n k ev w clear gap) e r = leads text limit {what = a_verdict ev} {fs = in_section es ∷ []} {i = n} w e (inr (clear, k, gap, r))
-leads text limit (part_next fs zero i m p part w key few dot) e r = leads text limit {what = a_part 0} {fs = fs} {i = i} w e (key_made fs text limit i e (onward i m part e key (onward_made text limit 1 m p dot r)))
+leads text limit (part_next fs zero i m p part w key few dot) e r = leads text limit {what = a_part 0} {fs = fs} {i = i} w e (key_made fs text limit i e (onward i m part e key few (onward_made text limit 1 m p dot r)))
 leads text limit (part_next fs (suc n) i m p part w key few dot) e r = leads text limit {what = a_part (suc n)} {fs = fs} {i = i} w e (behind part m e key few (onward_made text limit (suc n + 1) m p dot (later_part fs text limit (suc n + 1) (suc n) p e (omega arith) r)))
 leads text limit (opens_header es i m k array w opens run) e r = leads text limit {what = a_line} {fs = in_section es ∷ []} {i = i} w e (inr ([], i, refl, l.in_header i e (l.header_key i m k array e opens run r)))
 leads text limit (header_part_next fs n i m p part w key few dot) e r = leads text limit {what = a_header_part n} {fs = fs} {i = i} w e (header_on n i m p part e key few dot r)
@@ -154,34 +154,33 @@ leads text limit (behind_pair es fs m n p w clear gap) e r = leads text limit {w
 
 -- ---- what is told
 
-told_from : (what : What) (fs : List Frame) (text : List ℕ) (limit i : ℕ) (e : Fault) → 1 ≤ limit → DueFault text limit what fs i e → From text limit what fs i e
-told_from a_line fs text limit i e o h = absurd h
-told_from (a_part zero) fs text limit i e o (inl h) = key_made fs text limit i e (no_first i e h)
-told_from (a_part zero) fs text limit i e o (inr (part, j, key, g, u)) = absurd (omega (arith, o, g))
-told_from (a_part (suc n)) fs text limit i e o (inl h) = here e h
-told_from (a_part (suc n)) fs text limit i e o (inr (part, j, key, g, u)) = rw u (past part j key g)
-told_from (an_equals k) [] text limit i e o h = h
-told_from (an_equals k) (in_section es ∷ fs) text limit i e o h = inl h
-told_from (an_equals k) (in_brackets ∷ fs) text limit i e o h = h
-told_from (an_equals k) (in_braces es ∷ fs) text limit i e o h = inl h
-told_from (an_equals k) (under_key n ∷ fs) text limit i e o h = h
-told_from a_value fs text limit i e o h = l.value_here (depth fs) i e h
-told_from an_element fs text limit i e o h = absurd h
-told_from a_comma [] text limit i e o h = absurd h
-told_from a_comma (in_section es ∷ fs) text limit i e o h = absurd h
-told_from a_comma (in_brackets ∷ fs) text limit i e o h = inl h
-told_from a_comma (in_braces es ∷ fs) text limit i e o h = inl h
-told_from a_comma (under_key n ∷ fs) text limit i e o h = absurd h
-told_from (a_verdict ev) [] text limit i e o h = absurd h
-told_from (a_verdict ev) (in_section es ∷ fs) text limit i e o h = inl h
-told_from (a_verdict ev) (in_brackets ∷ fs) text limit i e o h = absurd h
-told_from (a_verdict ev) (in_braces es ∷ fs) text limit i e o h = inl h
-told_from (a_verdict ev) (under_key n ∷ fs) text limit i e o h = absurd h
-told_from (a_header_part n) fs text limit i e o h = header_part_here n i e h
-told_from (a_closing false) fs text limit i e o h = inl h
-told_from (a_closing true) fs text limit i e o h = inl (inl h)
-told_from a_tail fs text limit i e o h = absurd h
-told_from a_line_end fs text limit i e o h = h
+told_from : (what : What) (fs : List Frame) (text : List ℕ) (limit i : ℕ) (e : Fault) → DueFault text limit what fs i e → From text limit what fs i e
+told_from a_line fs text limit i e h = absurd h
+told_from (a_part zero) fs text limit i e h = key_made fs text limit i e (no_first i e h)
+told_from (a_part (suc n)) fs text limit i e (inl h) = here e h
+told_from (a_part (suc n)) fs text limit i e (inr (part, j, key, g, u)) = rw u (past part j key g)
+told_from (an_equals k) [] text limit i e h = h
+told_from (an_equals k) (in_section es ∷ fs) text limit i e h = inl h
+told_from (an_equals k) (in_brackets ∷ fs) text limit i e h = h
+told_from (an_equals k) (in_braces es ∷ fs) text limit i e h = inl h
+told_from (an_equals k) (under_key n ∷ fs) text limit i e h = h
+told_from a_value fs text limit i e h = l.value_here (depth fs) i e h
+told_from an_element fs text limit i e h = absurd h
+told_from a_comma [] text limit i e h = absurd h
+told_from a_comma (in_section es ∷ fs) text limit i e h = absurd h
+told_from a_comma (in_brackets ∷ fs) text limit i e h = inl h
+told_from a_comma (in_braces es ∷ fs) text limit i e h = inl h
+told_from a_comma (under_key n ∷ fs) text limit i e h = absurd h
+told_from (a_verdict ev) [] text limit i e h = absurd h
+told_from (a_verdict ev) (in_section es ∷ fs) text limit i e h = inl h
+told_from (a_verdict ev) (in_brackets ∷ fs) text limit i e h = absurd h
+told_from (a_verdict ev) (in_braces es ∷ fs) text limit i e h = inl h
+told_from (a_verdict ev) (under_key n ∷ fs) text limit i e h = absurd h
+told_from (a_header_part n) fs text limit i e h = header_part_here n i e h
+told_from (a_closing false) fs text limit i e h = inl h
+told_from (a_closing true) fs text limit i e h = inl (inl h)
+told_from a_tail fs text limit i e h = absurd h
+told_from a_line_end fs text limit i e h = h
 
-pub due_stuck : (text : List ℕ) (limit : ℕ) (e : Fault) → 1 ≤ limit → IsDue text limit e → StuckDocument text limit e
-due_stuck text limit e o (what, fs, i, w, h) = leads text limit {what = what} {fs = fs} {i = i} w e (told_from what fs text limit i e o h)
+pub due_stuck : (text : List ℕ) (limit : ℕ) (e : Fault) → IsDue text limit e → StuckDocument text limit e
+due_stuck text limit e (what, fs, i, w, h) = leads text limit {what = what} {fs = fs} {i = i} w e (told_from what fs text limit i e h)

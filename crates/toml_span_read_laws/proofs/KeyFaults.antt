@@ -15,7 +15,7 @@ use Rattle.toml_span_read.specs.declared.fault.Found.{Found}
 use Rattle.toml_span_read.specs.Faults.{fault_at, token_fault, IsMultilineKeyFault, NoSimpleKey, found_of, IsFound, IsTokenFault, wanted_fault, IsWanted, IsNoValue}
 use Rattle.toml_span_read.specs.Gaps.{Dot}
 use Rattle.toml_span_read.specs.Keys.{SimpleKey, SpellsSimpleKey, opens_string}
-use Rattle.toml_span_read.specs.Stuck.{StuckOnward, part_here, dotted_on, StuckKey, no_first, onward, StuckHeaderKey, header_part_here, header_on}
+use Rattle.toml_span_read.specs.code.Stuck.{StuckOnward, part_here, dotted_on, StuckKey, no_first, onward, StuckHeaderKey, header_part_here, header_on}
 use Rattle.toml_span_read_laws.proofs.KeyLaws.{quote_opens, token_or_token_fault, key_unique, key_or_none, dot_unique}
 use Rattle.toml_span_read_laws.proofs.ScalarLaws.{contents_same}
 
@@ -108,10 +108,15 @@ onward_one text limit (dotted_on n m p j s e d key few h) (dotted_on n' m' q k t
     onward_one text limit {n = n + 1} {m = j} {e = e} {f = f} h (rw v.1 at g)
 
 pub dotted_one : (text : List ℕ) (limit : ℕ) {i : ℕ} {e f : Fault} → StuckKey text limit i e → StuckKey text limit i f → e ≡ f
-dotted_one text limit (no_first i e h) (no_first i' f k) = no_key_one text i e f h k
-dotted_one text limit (no_first i e h) (onward i' m s f key k) = absurd (key_or_none s text i m e key h)
-dotted_one text limit (onward i m s e key h) (no_first i' f k) = absurd (key_or_none s text i m f key k)
-dotted_one text limit (onward i m s e key h) (onward i' n t f key' k) =
+dotted_one text limit (no_first i e (inl h)) (no_first i' f (inl k)) = no_key_one text i e f h k
+dotted_one text limit (no_first i e (inl h)) (no_first i' f (inr (s, m, key, o, is))) = absurd (key_or_none s text i m e key h)
+dotted_one text limit (no_first i e (inl h)) (onward i' m s f key few k) = absurd (key_or_none s text i m e key h)
+dotted_one text limit (no_first i e (inr (s, m, key, o, is))) (no_first i' f (inl k)) = absurd (key_or_none s text i m f key k)
+dotted_one text limit (no_first i e (inr (s, m, key, o, is))) (no_first i' f (inr (t, n, key', o', at))) = is ∙ sym at
+dotted_one text limit (no_first i e (inr (s, m, key, o, is))) (onward i' n t f key' few k) = absurd (omega (arith, o, few))
+dotted_one text limit (onward i m s e key few h) (no_first i' f (inl k)) = absurd (key_or_none s text i m f key k)
+dotted_one text limit (onward i m s e key few h) (no_first i' f (inr (t, n, key', o, is))) = absurd (omega (arith, o, few))
+dotted_one text limit (onward i m s e key few h) (onward i' n t f key' few' k) =
     let v = key_unique t s text i n m key' key in onward_one text limit {n = 1} {m = m} {e = e} {f = f} h (rw v.1 at k)
 
 pub header_key_one : (text : List ℕ) (limit : ℕ) {n i : ℕ} {e f : Fault} → StuckHeaderKey text limit n i e → StuckHeaderKey text limit n i f → e ≡ f

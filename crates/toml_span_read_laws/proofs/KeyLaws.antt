@@ -15,7 +15,7 @@ use Rattle.toml_span_read.specs.declared.fault.Fault.{Fault}
 use Rattle.toml_span_read.specs.Gaps.{GapPiece, begins_gap, GapBy, MaximalGap, Dot, NoDot, Separator, Closes, Neither}
 use Rattle.toml_span_read.specs.Faults.{IsTokenFault, NoSimpleKey}
 use Rattle.toml_span_read.specs.Keys.{SimpleKey, SpellsSimpleKey, opens_string, Onward, SpellsKey}
-use Rattle.toml_span_read.specs.Stuck.{StuckOnward, part_here, dotted_on, StuckKey, no_first, onward}
+use Rattle.toml_span_read.specs.code.Stuck.{StuckOnward, part_here, dotted_on, StuckKey, no_first, onward}
 
 -- a byte b that is k passes where k does not
 pub clash : (p : ℕ → Bool) (b k : ℕ) → p b ≡ true → b ≡ k → p k ≡ false → ⊥
@@ -197,7 +197,8 @@ onward_excluded text limit (dotted_on n m p q s e d k few h) (t ∷ ts) j (p', q
 
 pub dotted_excluded : (text : List ℕ) (limit : ℕ) {i : ℕ} {e : Fault} → StuckKey text limit i e → (ss : List SimpleKey) (j : ℕ) → SpellsKey ss text i j → length ss ≤ limit → ⊥
 dotted_excluded text limit h [] j a l = a
-dotted_excluded text limit (no_first i e h) (s ∷ ss) j (m, key, rest) l = key_or_none s text i m e key h
-dotted_excluded text limit (onward i m s e k h) (t ∷ ts) j (m', key, rest) l =
+dotted_excluded text limit (no_first i e (inl h)) (s ∷ ss) j (m, key, rest) l = key_or_none s text i m e key h
+dotted_excluded text limit (no_first i e (inr (t, p, k, o, is))) (s ∷ ss) j a l = omega arith
+dotted_excluded text limit (onward i m s e k few h) (t ∷ ts) j (m', key, rest) l =
     let u = key_unique t s text i m' m key k in
     onward_excluded text limit {n = 1} {m = m} {e = e} h ts j (rw u.1 at rest) (omega arith)

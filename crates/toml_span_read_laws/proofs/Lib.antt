@@ -12,7 +12,6 @@ pub mod LineFaults
 pub mod BlankLaws
 pub mod DepthLaws
 pub mod UndatedLaws
-pub mod DueLaws
 pub mod DueMade
 pub mod AscendLaws
 pub mod WiderDocument
@@ -28,4 +27,5 @@ pub mod JudgedLemmas
 pub mod TotalKeys
 pub mod TotalValues
 pub mod TotalLines
+pub mod DueLaws
 pub mod WordLaws

@@ -1,5 +1,5 @@
 -- At most one document is spelled by a text, and none where it gets stuck.
-use Rattle.std.proofs.Common.{◌≡◌, ℕ, ◌+◌, ◌<◌, ◌≤◌, ◌⊎◌, Bool, true, false, List, [], ◌∷◌, ◌++◌, length, get_or, map, arith, inl, inr, sym, ◌∙◌, refl, ap, Result, Ok, Err, Vec, Global}
+use Rattle.std.proofs.Common.{◌≡◌, ℕ, ◌+◌, ◌<◌, ◌≤◌, ◌⊎◌, Bool, true, false, List, [], ◌∷◌, ◌++◌, length, get_or, arith, inl, inr, sym, ◌∙◌, refl, ap}
 use Rattle.std.specs.Prelude.{◌==◌, ◌||◌}
 use Rattle.std.proofs.lemmas.Bool.{false≢true}
 use Rattle.std.proofs.lemmas.List.{get_or_past}
@@ -9,16 +9,12 @@ use Rattle.toml_span_lex.specs.Tokenizer.{FirstPlace}
 use Rattle.toml_span_lex.proofs.OneFault.{char_unique, char_within}
 use Rattle.toml_span_lex.proofs.Runs.{crlf_first}
 use Rattle.toml_span_lex.proofs.Unique.{run_unique, line_unique}
-use Rattle.toml_span_lex.specs.declared.stop.Stop.{Stop}
-use Rattle.toml_span_lex.specs.declared.stop.Stop.TheVariants as stops
-use Rattle.toml_span_tree.specs.declared.error.Error.{Error}
-use Rattle.toml_span_read.specs.declared.section.Section.{Section}
 use Rattle.toml_span_read.specs.declared.fault.Fault.{Fault}
-use Rattle.toml_span_read.specs.Data.{ParsedValue, KeyValue, Block, block}
+use Rattle.toml_span_read.specs.Data.{ParsedValue, KeyValue, Block}
 use Rattle.toml_span_read.specs.Gaps.{Skipped, Tail, NoTail, Equals}
 use Rattle.toml_span_read.specs.Grammar.{Spells, from_to, SpellsKeyValue, SpellsKeyValues, SpellsLines, OpensHeader, ClosesHeader, HeaderFront, SpellsHeader, last_end, SpellsSection, SpellsSections, SpellsDocument}
 use Rattle.toml_span_read.specs.Keys.{SimpleKey, opens_string, SpellsKey}
-use Rattle.toml_span_read.specs.Stuck.{StuckHeaderKey, header_part_here, header_on, StuckKeyValue, line_key, line_equals, line_value, StuckKeyValues, in_line, no_newline, crossing, line_on, StuckLines, StuckHeader, header_key, header_close, header_rest, StuckSections, in_header, in_section, section_on, StuckDocument, before_headers, behind_header, ReadsDocument, AreRead, StuckValue}
+use Rattle.toml_span_read.specs.code.Stuck.{StuckHeaderKey, header_part_here, header_on, StuckKeyValue, line_key, line_equals, line_value, StuckKeyValues, in_line, no_newline, crossing, line_on, StuckLines, StuckHeader, header_key, header_close, header_rest, StuckSections, in_header, in_section, section_on, StuckDocument, before_headers, behind_header, StuckValue}
 use Rattle.toml_span_read.specs.Faults.{StuckTail, NoClosing}
 use Rattle.toml_span_read_laws.proofs.EarlierLaws.{clear_crossing}
 use Rattle.toml_span_read_laws.proofs.KeyLaws.{clash, not_here, gap_unique, key_unique, key_or_none, dot_unique, dot_or_none, dotted_unique, dotted_byte, dotted_excluded}
@@ -298,9 +294,3 @@ document_excluded one none bs text limit e x (behind_header i j evs e' b lines r
     let f : x.start ≡ i = first_unique text x.start i x.begins b in
     let l = lines_unique one x.first evs text limit i x.end j (rw f at x.lines) lines (sections_stop x.rest text limit x.end x.sections) (inr (stuck_byte text limit j e r)) in
     sections_excluded one none text limit {i = j} {e = e} r x.rest (rw l.1 at x.sections)
-
--- what is spelled is read
-pub document_read : OneValue → ValueOrFault → (text : List ℕ) (limit : ℕ) (r : Result (Vec Section Global) (Stop Error)) (bs : List Block) → ReadsDocument text limit r → SpellsDocument bs text limit → AreRead bs r
-document_read one none text limit (Ok found) bs h x = document_unique one (map block found.items) bs text limit h x
-document_read one none text limit (Err (stops.Memory e)) bs h x = tt
-document_read one none text limit (Err (stops.Fault error)) bs (fault, h, t) x = document_excluded one none bs text limit fault x h

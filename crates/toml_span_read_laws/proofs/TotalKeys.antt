@@ -24,7 +24,7 @@ use Rattle.toml_span_read.specs.code.Gaps.{Further, DotGives}
 use Rattle.toml_span_read.specs.Gaps.{Dot, NoDot}
 use Rattle.toml_span_read_laws.specs.code.Judged.{Judged}
 use Rattle.toml_span_read.specs.Keys.{SimpleKey, SpellsSimpleKey, opens_string, Onward, SpellsKey}
-use Rattle.toml_span_read.specs.Stuck.{StuckOnward, StuckKey, StuckHeaderKey, part_here, dotted_on, no_first, onward, header_part_here, header_on}
+use Rattle.toml_span_read.specs.code.Stuck.{StuckOnward, StuckKey, StuckHeaderKey, part_here, dotted_on, no_first, onward, header_part_here, header_on}
 use Rattle.toml_span_read.proofs.NumberLemmas.{bool_cases}
 use Rattle.toml_span_read.proofs.Places.{run_some}
 
@@ -147,11 +147,11 @@ DottedAt text limit i =
 pub dotted_stands : (text : List ℕ) (limit i : ℕ) → IsUtf8 text → AllJudged text → 1 ≤ limit → IsCharBoundary text i → DottedAt text limit i
 dotted_stands text limit i u all some b =
     elim (key_stands text i u (all i b)) [
-      | inr x ↦ inr (x.0, no_first i x.0 x.1)
+      | inr x ↦ inr (x.0, no_first i x.0 (inl x.1))
       | inl k ↦
           elim (onward_stands (length text + 1) text limit 1 k.0 u all (omega arith) some k.3.boundary) [
             | inl o ↦ inl (o.0, k.1 ∷ o.1, (k.0, k.2, o.2), omega (arith, o.3), record { on = omega (arith, k.3.on, o.4); boundary = o.5 })
-            | inr x ↦ inr (x.0, onward i k.0 k.1 x.0 k.2 x.1)
+            | inr x ↦ inr (x.0, onward i k.0 k.1 x.0 k.2 some x.1)
           ]
     ]
 

@@ -22,7 +22,7 @@ use Rattle.toml_span_read.specs.Grammar.{from_to, SpellsScalar, Spells, SpellsIt
 use Rattle.toml_span_read_laws.specs.code.Judged.{Judged, NumberStands, EndsFurther}
 use Rattle.toml_span_read.specs.Keys.{opens_string}
 use Rattle.toml_span_read.specs.Numbers.{IsNumber}
-use Rattle.toml_span_read.specs.Stuck.{StuckValue, StuckItems, StuckPairs, StuckPair, value_here, in_array, in_inline, in_item, behind_item, item_on, in_pair, crosses, behind_pair, pair_on, in_key, no_equals, in_value}
+use Rattle.toml_span_read.specs.code.Stuck.{StuckValue, StuckItems, StuckPairs, StuckPair, value_here, in_array, in_inline, in_item, behind_item, item_on, in_pair, crosses, behind_pair, pair_on, in_key, no_equals, in_value}
 use Rattle.toml_span_read_laws.proofs.EarlierLaws.{every_key}
 use Rattle.toml_span_read.proofs.NumberLemmas.{bool_cases, byte_is}
 use Rattle.toml_span_read.proofs.Places.{run_some, behind_byte}

@@ -12,7 +12,7 @@ use Rattle.toml_span_read.specs.Dates.{begins_date}
 use Rattle.toml_span_read.specs.Faults.{IsNoDate, begins_bare, opens_nested, Begins, BeginsNumber, IsUnquoted, NoBare, IsTokenFault}
 use Rattle.toml_span_read.specs.Earlier.{Clear, Crossing}
 use Rattle.toml_span_read.specs.Keys.{opens_string}
-use Rattle.toml_span_read.specs.Stuck.{StuckValue, value_here, in_array, in_inline, StuckItems, in_item, behind_item, item_on, StuckPairs, in_pair, crosses, behind_pair, pair_on, StuckPair, in_key, no_equals, in_value}
+use Rattle.toml_span_read.specs.code.Stuck.{StuckValue, value_here, in_array, in_inline, StuckItems, in_item, behind_item, item_on, StuckPairs, in_pair, crosses, behind_pair, pair_on, StuckPair, in_key, no_equals, in_value}
 use Rattle.toml_span_read_laws.proofs.EarlierLaws.{clear_crossing, crossing_one}
 use Rattle.toml_span_read_laws.proofs.KeyLaws.{clash, gap_unique, sign_unique, sign_or_none, comma_or_neither, dotted_unique, dotted_excluded, token_or_token_fault}
 use Rattle.toml_span_read_laws.proofs.ScalarLaws.{date_byte, decimal_number, same_words, candidate_unique, bare_byte, string_byte, string_clash}

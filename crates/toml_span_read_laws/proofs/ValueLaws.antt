@@ -16,7 +16,7 @@ use Rattle.toml_span_read.specs.Earlier.{Clear}
 use Rattle.toml_span_read.specs.Grammar.{SpellsScalar, Spells, SpellsInner, SpellsItems, SpellsPairs, SpellsPair}
 use Rattle.toml_span_read.specs.Faults.{begins_bare, opens_nested, NoBare}
 use Rattle.toml_span_read.specs.code.Values.{ValueGives, IsReadAs}
-use Rattle.toml_span_read.specs.Stuck.{StuckValue, value_here, in_array, in_inline, StuckItems, in_item, behind_item, item_on, StuckPairs, in_pair, crosses, behind_pair, pair_on, StuckPair, in_key, no_equals, in_value}
+use Rattle.toml_span_read.specs.code.Stuck.{StuckValue, value_here, in_array, in_inline, StuckItems, in_item, behind_item, item_on, StuckPairs, in_pair, crosses, behind_pair, pair_on, StuckPair, in_key, no_equals, in_value}
 use Rattle.toml_span_read_laws.proofs.EarlierLaws.{clear_crossing}
 use Rattle.toml_span_read_laws.proofs.KeyLaws.{clash, not_here, gap_unique, sign_unique, closes_unique, close_or_comma, sign_or_none, close_or_neither, comma_or_neither, dotted_unique, dotted_byte, dotted_excluded}
 use Rattle.toml_span_read_laws.proofs.ScalarLaws.{scalar_unique, scalar_byte, quoted_or_fault, bare_byte, bare_or_fault}

@@ -1,4 +1,3 @@
-pub mod Due
 pub mod Places
 pub mod Again
 pub mod Undated

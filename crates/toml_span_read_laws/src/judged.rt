@@ -12,8 +12,9 @@ ghost use Rattle.toml_span_read.specs.Dates as date_spec;
 ghost use Rattle.toml_span_read.specs.code.Dates.{DateGives};
 ghost use Rattle.toml_span_read_laws.specs.code.Judged.{UnsignedStands, NumberStands, EndsFurther, Judged};
 ghost use Rattle.toml_span_read.specs.Data.{ParsedValue, Block};
+ghost use Rattle.toml_span_read.specs.Due.{IsDue};
 ghost use Rattle.toml_span_read.specs.Grammar.{Spells, SpellsDocument};
-ghost use Rattle.toml_span_read.specs.Stuck.{StuckValue, StuckDocument, StuckKey};
+ghost use Rattle.toml_span_read.specs.code.Stuck.{StuckValue, StuckKey};
 ghost use Rattle.toml_span_read.specs.Keys.{SimpleKey, SpellsKey};
 ghost use Rattle.toml_span_read.specs.code.Numbers.{IsRun};
 
@@ -173,10 +174,10 @@ pub fn value_or_stuck(text: &str)
     places_are_judged(text);
 }
 
-/// Each text spells a document within the limit, or is stuck.
-pub fn document_or_stuck(text: &str)
+/// Each text spells a document within the limit, or a fault is told where something is due in it.
+pub fn document_or_due(text: &str)
     ensures { (limit : ℕ) → 1 ≤ limit → ((blocks : List Block) × SpellsDocument blocks text.now limit)
-        ⊎ ((fault : Fault) × StuckDocument text.now limit fault) }
+        ⊎ ((fault : Fault) × IsDue text.now limit fault) }
 {
     places_are_judged(text);
     let _ = first_place(text);

@@ -3,7 +3,7 @@ ghost use Rattle.std.specs.Prelude.{◌≡◌, ◌≤◌, ℕ, List, length};
 ghost use Rattle.toml_span_read.specs.declared.fault.Fault.{Fault};
 ghost use Rattle.toml_span_read.specs.Keys.{SimpleKey, SpellsSimpleKey, SpellsKey};
 ghost use Rattle.toml_span_read.specs.Faults.{NoSimpleKey};
-ghost use Rattle.toml_span_read.specs.Stuck.{StuckKey, StuckHeaderKey};
+ghost use Rattle.toml_span_read.specs.code.Stuck.{StuckKey, StuckHeaderKey};
 
 /// At most one key stands at a place.
 pub fn one_key()

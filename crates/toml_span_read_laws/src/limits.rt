@@ -7,7 +7,7 @@ ghost use Rattle.toml_span_read.specs.declared.section.Section.{Section};
 ghost use Rattle.toml_span_read.specs.Data.{Block, block};
 ghost use Rattle.toml_span_read.specs.Grammar.{SpellsDocument};
 ghost use Rattle.toml_span_read.specs.Limits.{WithinSections};
-ghost use Rattle.toml_span_read.specs.Stuck.{ReadsDocument, AreRead};
+ghost use Rattle.toml_span_read.specs.Reading.{ReadsDocument, AreRead};
 
 /// A text that spells a document within a limit spells the same document within each greater one.
 pub fn wider_document()

@@ -12,7 +12,9 @@ ghost use Rattle.toml_span_read.specs.Places.{SectionsInside};
 ghost use Rattle.toml_span_read_laws.specs.Places.{BlocksAscend};
 ghost use Rattle.toml_span_read.specs.Data.{Block, block};
 ghost use Rattle.toml_span_read.specs.Grammar.{SpellsDocument, SpellsHeader};
-ghost use Rattle.toml_span_read.specs.Stuck.{ReadsDocument, AreRead, StuckDocument, StuckHeader, StuckKeyValue};
+ghost use Rattle.toml_span_read.specs.Due.{IsDue};
+ghost use Rattle.toml_span_read.specs.Reading.{ReadsDocument, AreRead};
+ghost use Rattle.toml_span_read.specs.code.Stuck.{StuckHeader, StuckKeyValue};
 ghost use Rattle.toml_span_read.specs.Faults.{StuckTail};
 
 /// A text spells at most one document.
@@ -21,10 +23,10 @@ pub fn one_document()
         → SpellsDocument others text limit → blocks ≡ others }
 {}
 
-/// Where a text spells a document, nothing is stuck in it.
+/// Where a text spells a document, no fault is told in it.
 pub fn document_or_fault()
     ensures { (text : List ℕ) (limit : ℕ) (blocks : List Block) (fault : Fault) → SpellsDocument blocks text limit
-        → StuckDocument text limit fault → ⊥ }
+        → IsDue text limit fault → ⊥ }
 {}
 
 /// What spells a document is read as it, unless memory runs out.
@@ -77,8 +79,8 @@ pub fn one_line_fault()
         → StuckHeader text limit i other → fault ≡ other }
 {}
 
-/// A text that is stuck is stuck at one fault.
+/// One fault is told of a text, wherever something is due in it.
 pub fn one_fault()
-    ensures { (text : List ℕ) (limit : ℕ) (fault other : Fault) → StuckDocument text limit fault
-        → StuckDocument text limit other → fault ≡ other }
+    ensures { (text : List ℕ) (limit : ℕ) (fault other : Fault) → IsDue text limit fault
+        → IsDue text limit other → fault ≡ other }
 {}

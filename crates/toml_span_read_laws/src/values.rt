@@ -7,7 +7,7 @@ ghost use Rattle.toml_span_read.specs.Data.{ParsedValue};
 ghost use Rattle.toml_span_read.specs.Grammar.{Spells};
 ghost use Rattle.toml_span_read.specs.Limits.{Within};
 ghost use Rattle.toml_span_read.specs.Places.{Inside};
-ghost use Rattle.toml_span_read.specs.Stuck.{StuckValue};
+ghost use Rattle.toml_span_read.specs.code.Stuck.{StuckValue};
 ghost use Rattle.toml_span_read.specs.code.Values.{ValueGives, IsReadAs};
 
 /// At most one value is spelled at a place.

@@ -121,7 +121,7 @@ IsPlaceIn s span info = (span.start ≤ length s) × (span.start ≤ span.end) �
 
 -- so it is with each error that tells of a refusal
 pub refusal-place : (s : List ℕ) (limit : ℕ) (error : Error) → IsRefusal s limit (stops.Fault error) → (info : ℕ × ℕ) × (error.line_info ≡ Some info) × IsPlaceIn s error.span info
-refusal-place s limit error (inl (fault, stuck, placed, (line, column, info, is))) =
+refusal-place s limit error (inl (fault, due, placed, (line, column, info, is))) =
     ((line, column), ap (λ x. x.line_info) is, subst (λ span. IsPlaceIn s span (line, column)) (sym (ap (λ x. x.span) is)) (placed.within, placed.forward, info))
 refusal-place s limit error (inr (bs, spelled, clash)) = (
   (clash.line, clash.column),

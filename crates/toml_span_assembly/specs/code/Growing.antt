@@ -10,7 +10,7 @@ use Rattle.toml_span_read.specs.Keys.{SimpleKey}
 use Rattle.toml_span_read.specs.Borrowed.{AreWrittenRight as AreRightRead, sections_written}
 use Rattle.toml_span_read.specs.Grammar.{SpellsDocument}
 use Rattle.toml_span_read.specs.declared.section.Section.{Section}
-use Rattle.toml_span_read.specs.Stuck.{StuckDocument}
+use Rattle.toml_span_read.specs.code.Stuck.{StuckDocument}
 use Rattle.toml_span_read.specs.declared.fault.Fault.{Fault}
 use Rattle.toml_span_claims.specs.declared.claims.Halt.{Halt}
 use Rattle.toml_span_claims.specs.declared.branch.Branch.{Branch}

@@ -8,7 +8,7 @@ use Rattle.toml_span_read.specs.declared.fault.Fault.{Fault}
 use Rattle.toml_span_read.specs.Keys.{simple_key, SpellsSimpleKey, parts, SpellsKey}
 use Rattle.toml_span_read.specs.Faults.{NoSimpleKey}
 use Rattle.toml_span_read.specs.declared.value.DottedKey.{DottedKey}
-use Rattle.toml_span_read.specs.Stuck.{StuckKey, StuckHeaderKey}
+use Rattle.toml_span_read.specs.code.Stuck.{StuckKey, StuckHeaderKey}
 
 abbrev pub KeyGives : List ℕ → ℕ → Result (Key × ℕ) (Stop Fault) → Type 0
 KeyGives text i (Ok (key, j)) = SpellsSimpleKey (simple_key key) text i j

@@ -13,7 +13,7 @@ use Rattle.toml_span_read.specs.Data.{key_value, KeyValue, Block, block}
 use Rattle.toml_span_read.specs.Grammar.{SpellsKeyValue, SpellsLines, ClosesHeader, SpellsHeader, last_end}
 use Rattle.toml_span_read.specs.Grammar.{SpellsDocument}
 use Rattle.toml_span_read.specs.Grammar.{first_block, SpellsSection}
-use Rattle.toml_span_read.specs.Stuck.{StuckKeyValue, StuckLines, StuckHeader, StuckDocument, StuckSections}
+use Rattle.toml_span_read.specs.code.Stuck.{StuckKeyValue, StuckLines, StuckHeader, StuckDocument, StuckSections}
 use Rattle.toml_span_read.specs.Gaps.{Tail}
 use Rattle.toml_span_read.specs.Faults.{StuckTail, NoClosing}
 use Rattle.toml_span_read.specs.declared.sections.Header.{Header}

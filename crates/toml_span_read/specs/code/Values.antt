@@ -8,7 +8,7 @@ use Rattle.toml_span_read.specs.declared.fault.Fault.{Fault}
 use Rattle.toml_span_read.specs.declared.value.ValKind.{ValKind}
 use Rattle.toml_span_read.specs.declared.value.Val.{Val}
 use Rattle.toml_span_read.specs.Grammar.{Spells, from_to, SpellsScalar, SpellsPair}
-use Rattle.toml_span_read.specs.Stuck.{StuckValue, StuckPair}
+use Rattle.toml_span_read.specs.code.Stuck.{StuckValue, StuckPair}
 use Rattle.toml_span_read.specs.declared.fault.FaultKind.TheVariants as kinds
 use Rattle.toml_span_read.specs.Faults.{fault_at, IsOtherWord, NoBare}
 use Rattle.toml_span_read.specs.declared.values.Run.{Run}

@@ -2,4 +2,4 @@ use Rattle.toml_span.proofs.Answered.{text-judged}
 use Rattle.toml_span.proofs.laws.each_text_is_judged.Goals as goal
 
 pub returns : goal.returns
-returns c = λ limit some. text-judged c.args.text.now limit (c.document_or_stuck.ensures limit some)
+returns c = λ limit some. text-judged c.args.text.now limit (c.document_or_due.ensures limit some)

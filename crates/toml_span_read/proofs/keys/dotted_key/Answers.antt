@@ -1,5 +1,5 @@
 use Rattle.std.proofs.Common.{arith, [], ◌∷◌, inr, refl}
-use Rattle.toml_span_read.specs.Stuck.{part_here, dotted_on}
+use Rattle.toml_span_read.specs.code.Stuck.{part_here, dotted_on}
 use Rattle.toml_span_read.specs.Borrowed.{IsWrittenRight, key_written, keys_written}
 use Rattle.toml_span_read.proofs.BorrowLemmas.{all_append, keys_more}
 use Rattle.toml_span_read.proofs.KeyLemmas.{handed_on, one_more, first_fault, part_fault, dotted_first, dotted_more, same_stuck}
@@ -13,7 +13,7 @@ returns-in_err-last-clause-gives c =
 pub parts-init : goal.parts-init
 parts-init c =
     let k = c.in_ok-last.ensures in
-    let f = dotted_first c.new-inner.result.items c.in_ok-last.last c.args.text.now c.args.limit c.args.at c.in_ok-last.end c.new-inner.ensures.items k.gives in
+    let f = dotted_first c.new-inner.result.items c.in_ok-last.last c.args.text.now c.args.limit c.args.at c.in_ok-last.end c.new-inner.ensures.items k.gives c.requires.some in
     record {
       forward = k.advances.on;
       boundary = k.advances.boundary;

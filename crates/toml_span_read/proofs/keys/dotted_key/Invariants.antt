@@ -4,7 +4,7 @@ use Rattle.toml_span_read.specs.declared.fault.Fault.{Fault}
 use Rattle.toml_span_lex.specs.Strings.{BorrowsWhereSame}
 use Rattle.toml_span_read.specs.Borrowed.{AreWrittenRight, keys_written}
 use Rattle.toml_span_read.specs.Keys.{SimpleKey, simple_key, Onward, SpellsKey}
-use Rattle.toml_span_read.specs.Stuck.{StuckOnward, StuckKey}
+use Rattle.toml_span_read.specs.code.Stuck.{StuckOnward, StuckKey}
 use Rattle.toml_span_read.proofs.keys.dotted_key.Given as goal
 
 -- whatever is read, or gets stuck, from here on is so from the start on, with the parts before it

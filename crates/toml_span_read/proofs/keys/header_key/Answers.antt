@@ -1,6 +1,6 @@
 use Rattle.std.proofs.Common.{arith, inr, refl}
 use Rattle.toml_span_read.specs.Keys.{simple_key}
-use Rattle.toml_span_read.specs.Stuck.{header_part_here, header_on}
+use Rattle.toml_span_read.specs.code.Stuck.{header_part_here, header_on}
 use Rattle.toml_span_read.specs.Borrowed.{IsWrittenRight}
 use Rattle.toml_span_read.proofs.BorrowLemmas.{keys_more}
 use Rattle.toml_span_read.proofs.KeyLemmas.{handed_on, one_more, header_fault, header_more, key_placed}

@@ -3,7 +3,7 @@ use Rattle.std.specs.Str.{IsCharBoundary}
 use Rattle.toml_span_read.specs.declared.fault.Fault.{Fault}
 use Rattle.toml_span_read.specs.Borrowed.{AreWrittenRight, keys_written}
 use Rattle.toml_span_read.specs.Keys.{SimpleKey, simple_key, SpellsKey}
-use Rattle.toml_span_read.specs.Stuck.{StuckHeaderKey}
+use Rattle.toml_span_read.specs.code.Stuck.{StuckHeaderKey}
 use Rattle.toml_span_read.proofs.keys.header_key.Given as goal
 
 -- whatever is read, or gets stuck, from here on is so from the start on, with the parts before it

@@ -2,7 +2,7 @@ use Rattle.std.proofs.Common.{arith, rules, ◌≡◌, ◌<◌, ◌+◌, length,
 use Rattle.std.specs.Prelude.{◌==◌}
 use Rattle.toml_span_read.specs.Keys.{parts}
 use Rattle.toml_span_read.specs.Faults.{opens_nested}
-use Rattle.toml_span_read.specs.Stuck.{item_on}
+use Rattle.toml_span_read.specs.code.Stuck.{item_on}
 use Rattle.toml_span_read.proofs.KeyLemmas.{handed_on, parts_length}
 use Rattle.toml_span_read.specs.Borrowed.{IsWrittenRight, written, assignment_written}
 use Rattle.toml_span_read.proofs.BorrowLemmas.{joined_more, assignment_right}

@@ -6,7 +6,7 @@ use Rattle.toml_span_read.specs.Borrowed.{AreWrittenRight, joined, written, assi
 use Rattle.toml_span_read.specs.Limits.{WithinItems, WithinPairs}
 use Rattle.toml_span_read.specs.code.Earlier.{Knows}
 use Rattle.toml_span_read.specs.Grammar.{SpellsItems, SpellsPairs}
-use Rattle.toml_span_read.specs.Stuck.{StuckItems, StuckPairs}
+use Rattle.toml_span_read.specs.code.Stuck.{StuckItems, StuckPairs}
 use Rattle.toml_span_read.proofs.values.+read.Given as goal
 
 abbrev pub decreases-value : goal.decreases-value

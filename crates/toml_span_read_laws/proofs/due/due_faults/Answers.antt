@@ -2,4 +2,4 @@ use Rattle.toml_span_read_laws.proofs.DueMade.{due_stuck}
 use Rattle.toml_span_read_laws.proofs.due.due_faults.Goals as goal
 
 pub returns : goal.returns
-returns c = λ text limit e o h. due_stuck text limit e o h
+returns c = due_stuck

@@ -1,11 +1,9 @@
 use Rattle.std.proofs.Common.{map}
 use Rattle.toml_span_read.specs.Data.{block}
-use Rattle.toml_span_read_laws.proofs.LineLaws.{document_read}
-use Rattle.toml_span_read_laws.proofs.ValueLaws.{value_unique, value_excluded}
+use Rattle.toml_span_read_laws.proofs.DueLaws.{document_read}
 use Rattle.toml_span_read_laws.proofs.WiderDocument.{document_wider}
 use Rattle.toml_span_read_laws.proofs.limits.read_within_wider.Goals as goal
 
 pub returns : goal.returns
 returns c = λ text limit wider found result on narrow wide.
-    document_read value_unique (λ v t l d i j e h s. value_excluded t l {d = d} {i = i} {e = e} s v j h) text wider result (map block found.items) wide
-    (document_wider (map block found.items) text limit wider on narrow)
+    document_read text wider result (map block found.items) wide (document_wider (map block found.items) text limit wider on narrow)

@@ -1,5 +1,5 @@
-use Rattle.toml_span_read_laws.proofs.LineFaults.{document_one}
+use Rattle.toml_span_read_laws.proofs.DueLaws.{due_one}
 use Rattle.toml_span_read_laws.proofs.lines.one_fault.Goals as goal
 
 pub returns : goal.returns
-returns c = document_one
+returns c = due_one

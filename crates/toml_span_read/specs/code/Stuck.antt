@@ -1,27 +1,21 @@
--- Where a document gets stuck: the forms before the fault, and that one of `Faults` that stands behind them.
-use Rattle.std.specs.Prelude.{◌≡◌, ℕ, ◌+◌, ◌<◌, ◌≤◌, Bool, false, ◌==◌, List, [], ◌∷◌, ◌++◌, map, length}
-use Rattle.std.specs.Prelude.{slice_index, Vec, Result, Ok, Err}
-use Rattle.std.specs.Global.{Global}
+-- What each function of reading finds where it gives a fault: the forms before it, and that one of `Faults` that stands
+-- behind them. For a document it is what is due (`specs/Due.antt`), told from the outside to the inside.
+use Rattle.std.specs.Prelude.{◌≡◌, ℕ, ◌+◌, ◌<◌, ◌≤◌, Bool, false, ◌==◌, List, [], ◌∷◌, ◌++◌, length}
+use Rattle.std.specs.Prelude.{slice_index}
 use Rattle.toml_span_lex.specs.Bytes.{is_blank, equals, MaximalRun, left_bracket, comma, left_brace, right_brace}
 use Rattle.toml_span_lex.specs.Bytes.{right_bracket}
 use Rattle.toml_span_lex.specs.Tokenizer.{FirstPlace}
-use Rattle.toml_span_lex.specs.declared.stop.Stop.{Stop}
-use Rattle.toml_span_lex.specs.declared.stop.Stop.TheVariants as stops
-use Rattle.toml_span_tree.specs.Error.{content_of}
-use Rattle.toml_span_tree.specs.declared.error.Error.{Error}
-use Rattle.toml_span_read.specs.Places.{StartsInside}
 use Rattle.toml_span_read.specs.declared.fault.Fault.{Fault}
 use Rattle.toml_span_read.specs.Gaps.{Dot, MaximalGap, Separator, Equals, Tail}
-use Rattle.toml_span_read.specs.Faults.{NoSimpleKey, NoPart, NoHeaderPart, NoEquals, NoValue, NoComma, NoClosing}
-use Rattle.toml_span_read.specs.Faults.{StuckTail, Tells}
+use Rattle.toml_span_read.specs.Faults.{NoPart, NoHeaderPart, NoEquals, NoValue, NoComma, NoClosing}
+use Rattle.toml_span_read.specs.Faults.{StuckTail}
 use Rattle.toml_span_read.specs.Keys.{SimpleKey, SpellsSimpleKey, SpellsKey}
 use Rattle.toml_span_read.specs.declared.fault.Due.TheVariants as dues
-use Rattle.toml_span_read.specs.Data.{ParsedValue, KeyValue, Block, block}
+use Rattle.toml_span_read.specs.Data.{ParsedValue, KeyValue, Block}
 use Rattle.toml_span_read.specs.Earlier.{Clear, Crossing}
 use Rattle.toml_span_read.specs.Grammar.{Spells, SpellsPair, SpellsKeyValue, OpensHeader, ClosesHeader, HeaderFront}
 use Rattle.toml_span_read.specs.Grammar.{SpellsHeader}
-use Rattle.toml_span_read.specs.Grammar.{SpellsSection, SpellsLines, SpellsDocument}
-use Rattle.toml_span_read.specs.declared.section.Section.{Section}
+use Rattle.toml_span_read.specs.Grammar.{SpellsSection, SpellsLines}
 
 -- ---- keys
 
@@ -37,9 +31,9 @@ pub data StuckOnward (text : List ℕ) (limit : ℕ) : ℕ → ℕ → Fault →
 --
 -- within `key = simple-key / dotted-key`
 pub data StuckKey (text : List ℕ) (limit : ℕ) : ℕ → Fault → Type 0 where
-  no_first : (i : ℕ) (e : Fault) → NoSimpleKey text i e → StuckKey text limit i e
-  onward : (i m : ℕ) (s : SimpleKey) (e : Fault) → SpellsSimpleKey s text i m → StuckOnward text limit 1 m e
-      → StuckKey text limit i e
+  no_first : (i : ℕ) (e : Fault) → NoPart text limit 0 i e → StuckKey text limit i e
+  onward : (i m : ℕ) (s : SimpleKey) (e : Fault) → SpellsSimpleKey s text i m → 0 < limit
+      → StuckOnward text limit 1 m e → StuckKey text limit i e
 
 -- behind n parts of a header another one is due at i, and this fault stands there or further on
 --
@@ -157,35 +151,3 @@ pub data StuckDocument (text : List ℕ) (limit : ℕ) : Fault → Type 0 where
   before_headers : (i : ℕ) (e : Fault) → FirstPlace text i → StuckLines text limit i e → StuckDocument text limit e
   behind_header : (i j : ℕ) (evs : List KeyValue) (e : Fault) → FirstPlace text i → SpellsLines evs text limit i j
       → StuckSections text limit j e → StuckDocument text limit e
-
--- ---- what is read of a text
-
--- the text spells the sections, or the error tells where it is stuck
-abbrev pub ReadsDocument : List ℕ → ℕ → Result (Vec Section Global) (Stop Error) → Type 0
-ReadsDocument text limit (Ok found) = SpellsDocument (map block found.items) text limit
-ReadsDocument text limit (Err (stops.Memory e)) = Unit {0}
-ReadsDocument text limit (Err (stops.Fault error)) =
-    (fault : Fault) × StuckDocument text limit fault × Tells text fault (content_of error)
-
--- what a text is refused for starts within the text, and does not end before it starts
-abbrev pub RefusedInside : List ℕ → Result (Vec Section Global) (Stop Error) → Type 0
-RefusedInside text (Ok found) = Unit {0}
-RefusedInside text (Err (stops.Memory e)) = Unit {0}
-RefusedInside text (Err (stops.Fault error)) =
-    (fault : Fault) × StartsInside text fault × Tells text fault (content_of error)
-
--- these sections, unless memory ran out
-abbrev pub AreRead : List Block → Result (Vec Section Global) (Stop Error) → Type 0
-AreRead bs (Ok found) = map block found.items ≡ bs
-AreRead bs (Err (stops.Memory e)) = Unit {0}
-AreRead bs (Err (stops.Fault error)) = ⊥
-
--- more than comments and blank lines stand from i on
-abbrev pub HoldsForm : List ℕ → ℕ → Type 0
-HoldsForm text i = (k : ℕ) × MaximalGap text i k × (k < length text)
-
--- memory is wanted only where there is something to keep
-abbrev pub OnlyFormsTakeMemory : {A E : Type 0} → List ℕ → ℕ → Result A (Stop E) → Type 0
-OnlyFormsTakeMemory text i (Err (stops.Memory e)) = HoldsForm text i
-OnlyFormsTakeMemory text i (Err (stops.Fault fault)) = Unit {0}
-OnlyFormsTakeMemory text i (Ok found) = Unit {0}

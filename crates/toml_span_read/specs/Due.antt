@@ -1,23 +1,17 @@
 -- What is due at a place, by the text before it, and the faults that are told there.
 use Rattle.std.specs.Prelude.{◌≡◌, ℕ, ◌+◌, ◌<◌, ◌≤◌, Bool, true, false, ◌==◌, List, [], ◌∷◌, ◌++◌, length}
-use Rattle.std.specs.Prelude.{slice_index, Vec, Result, Ok, Err}
-use Rattle.std.specs.Global.{Global}
+use Rattle.std.specs.Prelude.{slice_index}
 use Rattle.toml_span_lex.specs.Bytes.{is_blank, equals, comma, left_bracket, right_bracket, left_brace, right_brace}
 use Rattle.toml_span_lex.specs.Bytes.{MaximalRun}
 use Rattle.toml_span_lex.specs.Tokenizer.{FirstPlace}
-use Rattle.toml_span_lex.specs.declared.stop.Stop.{Stop}
-use Rattle.toml_span_lex.specs.declared.stop.Stop.TheVariants as stops
-use Rattle.toml_span_tree.specs.Error.{content_of}
-use Rattle.toml_span_tree.specs.declared.error.Error.{Error}
 use Rattle.toml_span_read.specs.Data.{KeyValue, ParsedValue}
 use Rattle.toml_span_read.specs.Earlier.{Clear, Crossing}
 use Rattle.toml_span_read.specs.Gaps.{MaximalGap, Skipped, Tail, Dot}
 use Rattle.toml_span_read.specs.Grammar.{Spells, SpellsPair, SpellsKeyValue, OpensHeader, HeaderFront, SpellsHeader}
 use Rattle.toml_span_read.specs.Keys.{SimpleKey, SpellsSimpleKey, SpellsKey}
-use Rattle.toml_span_read.specs.Faults.{NoPart, NoHeaderPart, NoEquals, NoValue, NoComma, NoBracket, NoNewline, Tells}
+use Rattle.toml_span_read.specs.Faults.{NoPart, NoHeaderPart, NoEquals, NoValue, NoComma, NoBracket, NoNewline}
 use Rattle.toml_span_read.specs.declared.fault.Due.TheVariants as dues
 use Rattle.toml_span_read.specs.declared.fault.Fault.{Fault}
-use Rattle.toml_span_read.specs.declared.section.Section.{Section}
 
 -- what stands round a place, from the inside: the assignments of a section before it, an open array, an open inline
 -- table with its pairs before it, and the key, of so many parts, of a value
@@ -148,10 +142,3 @@ DueFault text limit what fs i e = ⊥
 abbrev pub IsDue : List ℕ → ℕ → Fault → Type 0
 IsDue text limit e =
     (what : What) × (fs : List Frame) × (i : ℕ) × DueAt text limit what fs i × DueFault text limit what fs i e
-
--- what a text is refused for is told where something is due
-abbrev pub RefusedWhereDue : List ℕ → ℕ → Result (Vec Section Global) (Stop Error) → Type 0
-RefusedWhereDue text limit (Ok found) = Unit {0}
-RefusedWhereDue text limit (Err (stops.Memory e)) = Unit {0}
-RefusedWhereDue text limit (Err (stops.Fault error)) =
-    (fault : Fault) × IsDue text limit fault × Tells text fault (content_of error)
