@@ -81,7 +81,7 @@ abbrev mutual
   -- Pairs behind these earlier ones, each a key of at most limit parts that goes through the value of no earlier pair,
   -- and its value, with commas between them, one more comma or none, and the closing brace. Unlike the standard's
   -- `keyval = key keyval-sep val`, where `keyval-sep = ws %x3D ws`, a pair may have line ends and comments round its
-  -- equals sign.
+  -- equals sign. What stands from i to m is `SpellsPair` below, written out: whoever changes one changes both.
   --
   -- `inline-table-keyvals =  ws-comment-newline keyval ws-comment-newline inline-table-sep inline-table-keyvals`
   -- `inline-table-keyvals =/ ws-comment-newline keyval ws-comment-newline [ inline-table-sep ]`

@@ -142,7 +142,7 @@ pub fn after_element(text: &str, at: usize, close: u8) -> Behind
 
 /// What is behind an equals sign with gaps round it, or where it is due.
 ///
-/// `keyval-sep` in an inline table, where line ends and comments may stand round it (TOML 1.1, Inline Table)
+/// `keyval-sep = ws %x3D ws` of a pair (TOML 1.1, Inline Table), with line ends and comments too, unlike the standard
 pub fn pair_equals(text: &str, at: usize) -> Result<usize, usize>
     requires { IsCharBoundary text.now at }
     ensures { SeparatorGives equals text.now at result }
