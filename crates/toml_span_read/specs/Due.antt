@@ -124,7 +124,8 @@ pub data DueAt (text : List ℕ) (limit : ℕ) : What → List Frame → ℕ →
       → DueAt text limit (a_verdict p) (in_braces es ∷ fs) m → Clear es p → MaximalGap text m n
       → DueAt text limit a_comma (in_braces (es ++ (p ∷ [])) ∷ fs) n
 
--- The table: the faults that are told where this is due.
+-- The table: the faults that are told where this is due. Where a line, an element or the rest of a line is due, a form
+-- within it is due too, and has the fault.
 abbrev pub DueFault : List ℕ → ℕ → What → List Frame → ℕ → Fault → Type 0
 DueFault text limit (a_part n) fs i e = NoPart text limit n i e
 DueFault text limit (an_equals n) fs i e = NoEquals text i e

@@ -329,7 +329,7 @@ pub fn read_sections<'de>(
 ) -> Result<Vec<Section<'de>>, Stop<Error<'de>>>
     requires some { 1 ≤ limit }
     requires small { limit ≤ depth_limit }
-    // The sections are those that the text spells. A fault stands where the forms before it lead.
+    // The sections are those that the text spells. A fault is one that the table has where something is due.
     ensures document { ReadsDocument text.now limit result }
     ensures placed { RefusedInside text.now result }
     // Memory is wanted only where more than comments and blank lines stand in the text.
