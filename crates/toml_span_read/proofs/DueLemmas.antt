@@ -7,7 +7,7 @@ use Rattle.toml_span_read.specs.Gaps.{Dot}
 use Rattle.toml_span_read.specs.code.Stuck.{StuckOnward, part_here, dotted_on, StuckKey, no_first, onward, StuckHeaderKey, header_part_here, header_on, StuckKeyValue, StuckKeyValues, StuckHeader, StuckSections, StuckDocument, StuckValue, StuckItems, StuckPairs, StuckPair}
 use Rattle.toml_span_read.specs.code.Stuck as l
 use Rattle.toml_span_read.specs.Grammar.{ClosesHeader, SpellsKeyValues}
-use Rattle.toml_span_read.specs.Faults.{NoClosing, StuckTail}
+use Rattle.toml_span_read.specs.code.Stuck.{NoClosing, StuckTail}
 
 -- ---- keys
 

@@ -28,7 +28,6 @@ use Rattle.toml_span_read.specs.Numbers.{is_negative}
 use Rattle.toml_span_read.specs.Numbers.{UnsignedDecimal, radix_at}
 use Rattle.toml_span_read.specs.Dates.{IsCandidate, begins_date}
 use Rattle.toml_span_read.specs.Grammar.{from_to}
-use Rattle.toml_span_read.specs.Gaps.{NoTail}
 
 -- ---- words
 
@@ -437,19 +436,8 @@ NoComma close expected text i e =
 abbrev pub NoNewline : List ℕ → ℕ → Fault → Type 0
 NoNewline text i e = (i < length text) × NoLineEnd text i × IsWanted text i dues.Newline e
 
--- behind the form that ends at i the rest of its line is due, and this fault stands in its place
---
--- broken: `ws [ comment ]` of `expression`, with the `newline` of `toml` behind it
-abbrev pub StuckTail : List ℕ → ℕ → Fault → Type 0
-StuckTail text i e = (n : ℕ) × NoTail text i n × IsWanted text n dues.Newline e
-
 -- a bracket of a header is to close at i, and another token stands there
 --
 -- broken: `std-table-close = ws %x5D`, or `array-table-close = ws %x5D.5D`
 abbrev pub NoBracket : List ℕ → ℕ → Fault → Type 0
 NoBracket text i e = ((slice_index text i == right_bracket) ≡ false) × IsWanted text i dues.RightBracket e
-
--- where the brackets of a header are to close, a bracket is missing
-abbrev pub NoClosing : Bool → List ℕ → ℕ → Fault → Type 0
-NoClosing false text i e = NoBracket text i e
-NoClosing true text i e = NoBracket text i e ⊎ ((slice_index text i ≡ right_bracket) × NoBracket text (i + 1) e)

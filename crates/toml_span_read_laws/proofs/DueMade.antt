@@ -9,7 +9,8 @@ use Rattle.toml_span_read.specs.declared.fault.FaultKind.TheVariants as kinds
 use Rattle.toml_span_read.specs.Data.{KeyValue, Block}
 use Rattle.toml_span_read.specs.Due.{Frame, in_section, in_brackets, in_braces, under_key, depth, What, a_line, a_part, an_equals, a_value, an_element, a_comma, a_verdict, a_header_part, a_closing, a_tail, a_line_end, DueAt, first_line, line_part, line_equals, line_value, line_tail, tail_rest, line_verdict, next_line, part_next, opens_header, header_part_next, header_closes, closes_again, header_tail, next_section, opens_array, item_value, behind_item, behind_comma, opens_table, pair_part, pair_equals, pair_value, pair_verdict, behind_pair, DueFault, IsDue}
 use Rattle.toml_span_read.specs.Earlier.{Clear, Crossing}
-use Rattle.toml_span_read.specs.Faults.{fault_at, NoSimpleKey, NoClosing, StuckTail, IsWanted}
+use Rattle.toml_span_read.specs.Faults.{fault_at, NoSimpleKey, IsWanted}
+use Rattle.toml_span_read.specs.code.Stuck.{NoClosing, StuckTail}
 use Rattle.toml_span_read.specs.Gaps.{MaximalGap, Dot}
 use Rattle.toml_span_read.specs.Grammar.{from_to, last_end, ClosesHeader, SpellsHeader, SpellsKeyValues}
 use Rattle.toml_span_read.specs.Keys.{SimpleKey, SpellsSimpleKey}

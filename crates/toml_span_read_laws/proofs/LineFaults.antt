@@ -9,7 +9,7 @@ use Rattle.toml_span_read.specs.Earlier.{Clear, Crossing}
 use Rattle.toml_span_read.specs.Grammar.{Spells, SpellsLines, OpensHeader, HeaderFront, SpellsHeader, SpellsSection}
 use Rattle.toml_span_read.specs.Keys.{SimpleKey}
 use Rattle.toml_span_read.specs.code.Stuck.{StuckHeaderKey, StuckKeyValue, line_key, line_equals, line_value, StuckKeyValues, in_line, no_newline, crossing, line_on, StuckLines, StuckHeader, header_key, header_close, header_rest, StuckSections, in_header, in_section, section_on, StuckDocument, before_headers, behind_header, StuckValue}
-use Rattle.toml_span_read.specs.Faults.{StuckTail, NoClosing}
+use Rattle.toml_span_read.specs.code.Stuck.{StuckTail, NoClosing}
 use Rattle.toml_span_read_laws.proofs.EarlierLaws.{clear_crossing, crossing_one}
 use Rattle.toml_span_read_laws.proofs.KeyLaws.{not_here, gap_unique, dotted_unique, dotted_excluded}
 use Rattle.toml_span_read_laws.proofs.ValueLaws.{value_unique, value_excluded}

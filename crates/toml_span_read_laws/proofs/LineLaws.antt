@@ -15,7 +15,7 @@ use Rattle.toml_span_read.specs.Gaps.{Skipped, Tail, NoTail, Equals}
 use Rattle.toml_span_read.specs.Grammar.{Spells, from_to, SpellsKeyValue, SpellsKeyValues, SpellsLines, OpensHeader, ClosesHeader, HeaderFront, SpellsHeader, last_end, SpellsSection, SpellsSections, SpellsDocument}
 use Rattle.toml_span_read.specs.Keys.{SimpleKey, opens_string, SpellsKey}
 use Rattle.toml_span_read.specs.code.Stuck.{StuckHeaderKey, header_part_here, header_on, StuckKeyValue, line_key, line_equals, line_value, StuckKeyValues, in_line, no_newline, crossing, line_on, StuckLines, StuckHeader, header_key, header_close, header_rest, StuckSections, in_header, in_section, section_on, StuckDocument, before_headers, behind_header, StuckValue}
-use Rattle.toml_span_read.specs.Faults.{StuckTail, NoClosing}
+use Rattle.toml_span_read.specs.code.Stuck.{StuckTail, NoClosing}
 use Rattle.toml_span_read_laws.proofs.EarlierLaws.{clear_crossing}
 use Rattle.toml_span_read_laws.proofs.KeyLaws.{clash, not_here, gap_unique, key_unique, key_or_none, dot_unique, dot_or_none, dotted_unique, dotted_byte, dotted_excluded}
 use Rattle.toml_span_read.proofs.Places.{read_within}

@@ -13,7 +13,7 @@ use Rattle.toml_span_read.specs.Gaps.{Equals, Tail, NoTail}
 use Rattle.toml_span_read.specs.Grammar.{from_to, SpellsKeyValue, SpellsKeyValues, SpellsLines, OpensHeader, ClosesHeader, HeaderFront, SpellsHeader, last_end, SpellsSection, first_block, SpellsSections, SpellsDocument}
 use Rattle.toml_span_read.specs.Keys.{SimpleKey}
 use Rattle.toml_span_read.specs.code.Stuck.{StuckKeyValue, line_key, line_equals, line_value, StuckKeyValues, in_line, no_newline, crossing, line_on, StuckLines, StuckHeader, header_key, header_close, header_rest, StuckSections, in_header, in_section, section_on, StuckDocument, before_headers, behind_header}
-use Rattle.toml_span_read.specs.Faults.{StuckTail, NoClosing}
+use Rattle.toml_span_read.specs.code.Stuck.{StuckTail, NoClosing}
 use Rattle.toml_span_read_laws.proofs.EarlierLaws.{every_key}
 use Rattle.toml_span_read.proofs.NumberLemmas.{bool_cases, byte_is}
 use Rattle.toml_span_read.proofs.Places.{behind_byte}

@@ -15,7 +15,7 @@ ghost use Rattle.toml_span_read.specs.Grammar.{SpellsDocument, SpellsHeader};
 ghost use Rattle.toml_span_read.specs.Due.{IsDue};
 ghost use Rattle.toml_span_read.specs.Reading.{ReadsDocument, AreRead};
 ghost use Rattle.toml_span_read.specs.code.Stuck.{StuckHeader, StuckKeyValue};
-ghost use Rattle.toml_span_read.specs.Faults.{StuckTail};
+ghost use Rattle.toml_span_read.specs.code.Stuck.{StuckTail};
 
 /// A text spells at most one document.
 pub fn one_document()

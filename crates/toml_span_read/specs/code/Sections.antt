@@ -15,7 +15,7 @@ use Rattle.toml_span_read.specs.Grammar.{SpellsDocument}
 use Rattle.toml_span_read.specs.Grammar.{first_block, SpellsSection}
 use Rattle.toml_span_read.specs.code.Stuck.{StuckKeyValue, StuckLines, StuckHeader, StuckDocument, StuckSections}
 use Rattle.toml_span_read.specs.Gaps.{Tail}
-use Rattle.toml_span_read.specs.Faults.{StuckTail, NoClosing}
+use Rattle.toml_span_read.specs.code.Stuck.{StuckTail, NoClosing}
 use Rattle.toml_span_read.specs.declared.sections.Header.{Header}
 use Rattle.toml_span_read.specs.Keys.{simple_key}
 use Rattle.toml_span_read.specs.declared.section.Section.{Section}

@@ -1,14 +1,13 @@
 -- What each function of reading finds where it gives a fault: the forms before it, and that one of `Faults` that stands
 -- behind them. For a document it is what is due (`specs/Due.antt`), told from the outside to the inside.
-use Rattle.std.specs.Prelude.{◌≡◌, ℕ, ◌+◌, ◌<◌, ◌≤◌, Bool, false, ◌==◌, List, [], ◌∷◌, ◌++◌, length}
+use Rattle.std.specs.Prelude.{◌≡◌, ℕ, ◌+◌, ◌<◌, ◌≤◌, ◌⊎◌, Bool, true, false, ◌==◌, List, [], ◌∷◌, ◌++◌, length}
 use Rattle.std.specs.Prelude.{slice_index}
 use Rattle.toml_span_lex.specs.Bytes.{is_blank, equals, MaximalRun, left_bracket, comma, left_brace, right_brace}
 use Rattle.toml_span_lex.specs.Bytes.{right_bracket}
 use Rattle.toml_span_lex.specs.Tokenizer.{FirstPlace}
 use Rattle.toml_span_read.specs.declared.fault.Fault.{Fault}
-use Rattle.toml_span_read.specs.Gaps.{Dot, MaximalGap, Separator, Equals, Tail}
-use Rattle.toml_span_read.specs.Faults.{NoPart, NoHeaderPart, NoEquals, NoValue, NoComma, NoClosing}
-use Rattle.toml_span_read.specs.Faults.{StuckTail}
+use Rattle.toml_span_read.specs.Gaps.{Dot, MaximalGap, Separator, Equals, Tail, NoTail}
+use Rattle.toml_span_read.specs.Faults.{NoPart, NoHeaderPart, NoEquals, NoValue, NoComma, NoBracket, IsWanted}
 use Rattle.toml_span_read.specs.Keys.{SimpleKey, SpellsSimpleKey, SpellsKey}
 use Rattle.toml_span_read.specs.declared.fault.Due.TheVariants as dues
 use Rattle.toml_span_read.specs.Data.{ParsedValue, KeyValue, Block}
@@ -96,6 +95,12 @@ mutual
 
 -- ---- assignments
 
+-- behind the form that ends at i the rest of its line is due, and this fault stands in its place
+--
+-- broken: `ws [ comment ]` of `expression`, with the `newline` of `toml` behind it
+abbrev pub StuckTail : List ℕ → ℕ → Fault → Type 0
+StuckTail text i e = (n : ℕ) × NoTail text i n × IsWanted text n dues.Newline e
+
 -- an assignment is due at i, and this fault stands there or further on: within `keyval = key keyval-sep val`
 pub data StuckKeyValue (text : List ℕ) (limit : ℕ) : ℕ → Fault → Type 0 where
   line_key : (i : ℕ) (e : Fault) → StuckKey text limit i e → StuckKeyValue text limit i e
@@ -125,6 +130,11 @@ abbrev pub StuckLines : List ℕ → ℕ → ℕ → Fault → Type 0
 StuckLines text limit i e = (k : ℕ) × MaximalGap text i k × StuckKeyValues text limit [] k e
 
 -- ---- headers, sections and the document
+
+-- where the brackets of a header are to close, a bracket is missing
+abbrev pub NoClosing : Bool → List ℕ → ℕ → Fault → Type 0
+NoClosing false text i e = NoBracket text i e
+NoClosing true text i e = NoBracket text i e ⊎ ((slice_index text i ≡ right_bracket) × NoBracket text (i + 1) e)
 
 -- a header begins at i, and this fault stands in it or behind it on its line
 --
