@@ -21,8 +21,14 @@ What is looked at is marked:
                        of one of its lines or, in a column with the name of a field (first, expected, found, key,
                        name), as that field. Of a fault one cell has the code and the span. A column without a
                        heading has remarks.
-    <!-- definitions -->   before a table: the first cell of each line names definitions, and the file that another
-                       cell names has them; a column whose heading ends with `edit` names must-fail edits
+    <!-- rules -->    before a table: each line is a rule, and has a cell for each of these. Names stand in code before
+                       the path that has them, which may leave out `crates/`.
+                       Definition: a file of specs/ has the names. Code: a file of src/ has the functions, constants,
+                       types or macros. Proof: each folder in proofs/ that answers for one of these functions (its own
+                       or, with `+` before the name, that of its cycle), and `found by the prover` where one has none;
+                       other paths are there. A row: each text is a line of the stdin of toml_span_rows, or of the crate
+                       in code behind it, with an answer; a path is there. Edit: each turns a function of the code
+                       cell, but for those behind `nearest:`
     <!-- cases: FILE FUNCTION -->    before a table: the cell in the line of `A` and the column of `B` has in code what
                        `FUNCTION A B` gives, as `duplicate-key` of a line `FUNCTION A B = Some DuplicateKey`, and no
                        code where no such line is there
@@ -248,7 +254,7 @@ class Page:
                     return self.fault(at, "this block does not end: write ``` behind it")
                 self.block(at + 1, fence[1].split(), self.lines[at + 1 : end])
                 at = end
-            elif comment := re.match(r"<!-- (rows: [^>]*|definitions|cases: [^>]*|reading order: [^>]*) -->$", line):
+            elif comment := re.match(r"<!-- (rows: [^>]*|rules|cases: [^>]*|reading order: [^>]*) -->$", line):
                 mark = comment[1]
                 if not any(it.startswith("|") for it in self.lines[at + 1 : at + 3]):
                     self.fault(at, "no table stands behind this mark: write it right behind, or take the mark away")
@@ -399,8 +405,8 @@ class Page:
             return self.reading_order(at, Needed(mark[len("reading order: ") :]), end)
         for k in range(at + 2, end):
             cells = self.cells(self.lines[k])
-            if mark == "definitions":
-                self.definitions(k, heads, cells)
+            if mark == "rules":
+                self.rule(k, dict(zip(heads, cells)))
             else:
                 self.example(k, mark[len("rows: ") :], heads, cells)
 
@@ -478,30 +484,107 @@ class Page:
         for path in sorted(needed.found.keys() - read):
             self.fault(at, f"no line says that of {path} is needed: {needed.said(path)}")
 
-    def definitions(self, at, heads, cells):
-        """The names of the first cell are defined in the file that another cell names, and there are these edits."""
-        self.count("definitions named")
-        for head, cell in zip(heads, cells):
-            for name in re.findall(r"`([^`]+)`", cell) if head.endswith("edit") else []:
-                if not glob.glob(f"{TOP}/crates/*/must-fail/{name}.edit"):
-                    self.fault(at, f"there is no edit {name}: name one that is there now")
-        files = re.findall(r"`([\w/]+\.(?:antt|rt))`", " ".join(cells[1:]))
-        if len(files) != 1:
-            return self.fault(at, "name one file in code in this line, as `toml_span_claims/specs/Flat.antt`")
-        path = f"crates/{files[0].removeprefix('crates/')}"
-        if not os.path.isfile(f"{TOP}/{path}"):
-            return self.fault(at, f"there is no {path}: name the file that has these definitions")
-        text = text_of(path)
-        for name in re.findall(r"`([^`]+)`", cells[0]):
-            forms = (
-                rf"^(?:(?:abbrev|unfoldable) )?(?:mutual )?pub {re.escape(name)} :",
-                rf"^ *pub {re.escape(name)} :",
-                rf"^ *pub (?:record|data) {re.escape(name)}\b",
-                rf"^ *pub (?:fn|struct|enum|trait|const) {re.escape(name)}\b",
-                rf"^ *ensures\*? {re.escape(name)} ",
-            )
-            if not any(re.search(form, text, re.M) for form in forms):
+    # ---- rules
+
+    def rule(self, at, cells):
+        """What the cells of a rule name is there, and belongs together."""
+        self.count("rules")
+        for head in ("Definition", "Code", "Proof", "A row", "Edit"):
+            if head not in cells:
+                return self.fault(at, f"this line has no cell under `{head}`: give it one")
+        for path, name in self.named(at, cells["Definition"], r"[\w/]+\.(?:antt|rt)", "definition"):
+            if not defines(path, name):
                 self.fault(at, f"{path} has no definition {name}: name the file that has it")
+        code = self.named(at, cells["Code"], r"[\w/]+/src/[\w/]+\.rt", "function")
+        for path, name in code:
+            if not re.search(rf"(?m)^ *{ITEM} {re.escape(name)}\b", text_of(path)):
+                self.fault(at, f"{path} has no function {name}: name the file that has it")
+        self.proved(at, cells["Proof"], code)
+        self.rows_of_rule(at, cells["A row"])
+        self.edits_of_rule(at, cells["Edit"], code)
+
+    def named(self, at, cell, form, what):
+        """The paths and names of a cell, where each path is there."""
+        found, names = [], []
+        for code in re.findall(r"`([^`]+)`", cell):
+            if not re.fullmatch(form, code):
+                names.append(code)
+                continue
+            path = f"crates/{code.removeprefix('crates/')}"
+            if not os.path.isfile(f"{TOP}/{path}"):
+                self.fault(at, f"there is no {path}: name what is there now")
+            else:
+                found += [(path, name) for name in names]
+            if not names:
+                self.fault(at, f"no {what} stands before {path}: name one")
+            names = []
+        if names:
+            self.fault(at, f"no path stands behind {', '.join(names)}: name the file")
+        return found
+
+    def proved(self, at, cell, code):
+        """The cell names the folder of each function that has one, and says where one has none."""
+        told = {f"crates/{it.removeprefix('crates/')}" for it in re.findall(r"`([^`]+)`", cell)}
+        for path in sorted(told):
+            if not os.path.exists(f"{TOP}/{path}"):
+                self.fault(at, f"there is no {path}: name what is there now")
+        found_alone = wanted = 0
+        for path, name in code:
+            folders = self.sources.folders(path, name)
+            if folders is None:
+                continue
+            wanted += 1
+            found_alone += not folders
+            for folder in folders - told:
+                self.fault(at, f"{folder} answers for {name}: name it among the proofs")
+        is_told = "found by the prover" in cell
+        if is_told and wanted and not found_alone:
+            self.fault(at, "each of these functions has a folder: take `found by the prover` away")
+        elif not is_told and (found_alone or not told):
+            self.fault(at, "one of these functions has no folder in proofs/: say `found by the prover`")
+
+    def rows_of_rule(self, at, cell):
+        """Each text is a row with an answer; a path is there."""
+        codes = re.findall(r"`([^`]+)`", cell)
+        if not codes and not cell.startswith("none"):
+            self.fault(at, "no row stands in code here: name one, or say `none` and why")
+        for k, code in enumerate(codes):
+            if re.fullmatch(r"toml_span\w*", code):
+                continue
+            if re.match(r"(?:toml_span\w*|crates|scripts)/", code):
+                if not any(os.path.exists(f"{TOP}/{before}{code}") for before in ("", "crates/")):
+                    self.fault(at, f"there is no {code}: name what is there now")
+                continue
+            crate = next((it for it in codes[k + 1 :] if re.fullmatch(r"toml_span\w*", it)), "toml_span_rows")
+            if code not in self.sources.rows(crate):
+                self.fault(at, f"no row `{code}` in crates/{crate}/stdin and stdout: name one that is there")
+
+    def edits_of_rule(self, at, cell, code):
+        """Each edit is there, and turns one of these functions where it is not only the nearest."""
+        own, _, near = cell.partition("nearest:")
+        if not re.search(r"`[^`]+`", cell) and not cell.startswith("none"):
+            self.fault(at, "no edit stands here: name one, or say `none`")
+        for path in re.findall(r"`([^`]+)`", cell):
+            if not re.fullmatch(r"\w+/must-fail/\w+\.edit", path) or not os.path.isfile(f"{TOP}/crates/{path}"):
+                self.fault(at, f"there is no edit {path}: name one that is there now")
+            elif f"`{path}`" in own:
+                turned = self.sources.turned(path)
+                if not turned & {*code}:
+                    what = ", ".join(f"{name} of {file}" for file, name in sorted(turned))
+                    self.fault(at, f"{path} turns {what}: name that as code, or write `nearest:` before the edit")
+
+
+ITEM = r"(?:pub(?:\(crate\))? )?(?:const )?(?:fn|const|static|struct|enum|trait|macro_rules!)"
+
+
+def defines(path, name):
+    """Whether a file has this definition."""
+    forms = (
+        rf"^(?:(?:abbrev|unfoldable) )?(?:mutual )?pub {re.escape(name)} :",
+        rf"^ *pub (?:(?:record|data) )?{re.escape(name)}\b",
+        rf"^ +{re.escape(name)} :",
+    )
+    return any(re.search(form, text_of(path), re.M) for form in forms)
 
 
 class Sources:
@@ -512,6 +595,58 @@ class Sources:
         self.quotable = quotable()
         self.answers = answers()
         self.row_lines = text_of(f"{ROWS}/stdout").split("\n")
+        self.known = {}
+
+    def rows(self, crate):
+        """The rows of a crate's stdin that its stdout answers."""
+        if crate == "toml_span_rows":
+            return self.answers.keys()
+        if crate not in self.known:
+            lines = [{*text_of(f"crates/{crate}/{end}").split("\n")} for end in ("stdin", "stdout")]
+            self.known[crate] = lines[0] & lines[1]
+        return self.known[crate]
+
+    @staticmethod
+    def folders(path, name):
+        """The folders that answer for a function, or None of what is none."""
+        _, crate, _, *modules = path.removesuffix(".rt").split("/")
+        lines = text_of(path).split("\n")
+        head = re.compile(rf" *(?:pub(?:\(crate\))? )?(?:const )?fn {name}\b")
+        places = [k for k, line in enumerate(lines) if head.match(line)]
+        if not places:
+            return None
+        top = f"crates/{crate}/proofs"
+        module = "/".join([top, *(modules if modules not in (["lib"], ["main"]) else [])])
+        found = set()
+        for place in places:
+            above = place
+            while re.match(r" *(?:#\[|///)", lines[above - 1]):
+                above -= 1
+            for cycle in re.findall(r"#\[cycle\((\w+)\)\]", "\n".join(lines[above:place])):
+                found |= {*glob.glob(f"{top}/**/+{cycle}", root_dir=TOP, recursive=True)}
+            where = module
+            before = next((line for line in reversed(lines[:place]) if re.match(r"impl\b|\}", line)), "")
+            if lines[place].startswith(" ") and before.startswith("impl"):
+                bare_head = re.sub(r"<[^<>]*(?:<[^<>]*>[^<>]*)*>", "", before[len("impl") :]).strip(" {")
+                *of_trait, of_type = (it.strip() for it in bare_head.split(" for "))
+                where = f"{top}/**/{of_type}{''.join(of_trait)}"
+            for sign in ("", "+"):
+                found |= {*glob.glob(f"{where}/{sign}{name}", root_dir=TOP, recursive=True)}
+        return found
+
+    @staticmethod
+    def turned(path):
+        """The files and the functions, or what else stands there, that an edit turns."""
+        crate, file, found = path.split("/")[0], None, set()
+        for line in text_of(f"crates/{path}").split("\n"):
+            if line.startswith("file: "):
+                file = f"crates/{crate}/{line[len('file: ') :].strip()}"
+            elif line.startswith("old: "):
+                text, old = text_of(file), line[len("old: ") :].strip("\n")
+                at = text.find(old) if old in text else text.find(old.strip())
+                items = re.findall(rf"(?m)^ *{ITEM} (\w+)", text[: at + len(old)])
+                found |= {(file, items[-1])} if items else set()
+        return found
 
 
 def untold(page, sources):
