@@ -24,9 +24,9 @@ What is looked at is marked:
     <!-- rules -->    before a table: each line is a rule, and has a cell for each of these. Names stand in code before
                        the path that has them, which may leave out `crates/`.
                        Definition: a file of specs/ has the names. Code: a file of src/ has the functions, constants,
-                       types or macros. Proof: each folder in proofs/ that answers for one of these functions (its own
+                       types or macros. Without a name either says `none` and why. Proof: each folder in proofs/ that answers for one of these functions (its own
                        or, with `+` before the name, that of its cycle), and `found by the prover` where one has none;
-                       other paths are there. A row: each text is a line of the stdin of toml_span_rows, or of the crate
+                       other paths are there (`none` where no code is named). A row: each text is a line of the stdin of toml_span_rows, or of the crate
                        in code behind it, with an answer; a path is there. Edit: each turns a function of the code
                        cell, but for those behind `nearest:`
     <!-- cases: FILE FUNCTION -->    before a table: the cell in the line of `A` and the column of `B` has in code what
@@ -496,6 +496,9 @@ class Page:
             if not defines(path, name):
                 self.fault(at, f"{path} has no definition {name}: name the file that has it")
         code = self.named(at, cells["Code"], r"[\w/]+/src/[\w/]+\.rt", "function")
+        for head in ("Definition", "Code"):
+            if "`" not in cells[head] and not cells[head].startswith("none"):
+                self.fault(at, f"no name stands under `{head}`: write one, or say `none` and why")
         for path, name in code:
             if not re.search(rf"(?m)^ *{ITEM} {re.escape(name)}\b", text_of(path)):
                 self.fault(at, f"{path} has no function {name}: name the file that has it")
@@ -528,6 +531,8 @@ class Page:
         for path in sorted(told):
             if not os.path.exists(f"{TOP}/{path}"):
                 self.fault(at, f"there is no {path}: name what is there now")
+        if not code and cell.startswith("none"):
+            return
         found_alone = wanted = 0
         for path, name in code:
             folders = self.sources.folders(path, name)
