@@ -24,11 +24,12 @@ What is looked at is marked:
     <!-- rules -->    before a table: each line is a rule, and has a cell for each of these. Names stand in code before
                        the path that has them, which may leave out `crates/`.
                        Definition: a file of specs/ has the names. Code: a file of src/ has the functions, constants,
-                       types or macros. Without a name either says `none` and why. Proof: each folder in proofs/ that answers for one of these functions (its own
-                       or, with `+` before the name, that of its cycle), and `found by the prover` where one has none;
-                       other paths are there (`none` where no code is named). A row: each text is a line of the stdin of toml_span_rows, or of the crate
-                       in code behind it, with an answer; a path is there. Edit: each turns a function of the code
-                       cell, but for those behind `nearest:`
+                       types or macros. Without a name either says `none` and why. Proof: each folder in proofs/ that
+                       answers for one of these functions (its own or, with `+` before the name, that of its cycle),
+                       and `found by the prover` where one has none; other paths are there (`none` where no code is
+                       named). A row: each text is a line of the stdin of toml_span_rows, or of the crate in code
+                       behind it, with an answer; a path is there. Edit: each turns a function of the code cell, but
+                       for those behind `nearest:`
     <!-- cases: FILE FUNCTION -->    before a table: the cell in the line of `A` and the column of `B` has in code what
                        `FUNCTION A B` gives, as `duplicate-key` of a line `FUNCTION A B = Some DuplicateKey`, and no
                        code where no such line is there
