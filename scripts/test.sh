@@ -19,10 +19,40 @@ run() {
     fi
 }
 
+# start NAME COMMAND..: begins a check as `run` does, beside those that are begun already
+names=()
+begun=()
+start() {
+    local name=$1
+    shift
+    (
+        TIMEFORMAT="time: $name: %R s, %U + %S s of processors"
+        time "$@"
+    ) >"$work/${#names[@]}" 2>&1 &
+    begun+=("$!")
+    names+=("$name")
+}
+
+# ended: waits for the checks that were begun, and says of each what it wrote and counts it
+ended() {
+    local index status
+    for index in "${!names[@]}"; do
+        wait "${begun[index]}"
+        status=$?
+        echo "== ${names[index]}"
+        cat "$work/$index"
+        if [ "$status" -eq 0 ]; then passed=$((passed + 1)); else
+            failed=$((failed + 1))
+            echo "failed: ${names[index]}"
+        fi
+    done
+}
+
 # the gate: its last line has its own counts
 echo "== rt ci"
-log=$(mktemp)
-trap 'rm -f "$log"' EXIT
+work=$(mktemp -d)
+trap 'rm -rf "$work"' EXIT
+log=$work/log
 python3 scripts/timed.py rt ci 2>&1 | tee "$log"
 status=${PIPESTATUS[0]}
 counts=$(grep -oE '^[0-9]+ passed, [0-9]+ failed' "$log" | tail -n 1)
@@ -35,13 +65,16 @@ fi
 if [ "$status" -ne 0 ] && [ "$failed" -eq 0 ]; then failed=1; fi
 
 run "no handles" grep -qx 'Handles allowed: none.' HANDLES
-run "stored runs of the program" bash scripts/runs.sh
-run "stored runs of the checker" bash scripts/check_runs.sh
-run "refusals of memory" bash scripts/refusals.sh
-run "runs with each request for memory refused" bash scripts/refused_runs.sh
-run "the repository stands alone" bash scripts/stands_alone.sh
-run "each edit names its clause" python3 scripts/edits.py --check
-run "pages quote the sources" python3 scripts/pages.py --check
+
+# These run side by side, each on a processor of its own where there are two, and are told of in this order
+start "stored runs of the program" bash scripts/runs.sh
+start "stored runs of the checker" bash scripts/check_runs.sh
+start "refusals of memory" bash scripts/refusals.sh
+start "runs with each request for memory refused" bash scripts/refused_runs.sh
+start "the repository stands alone" bash scripts/stands_alone.sh
+start "each edit names its clause" python3 scripts/edits.py --check
+start "pages quote the sources" python3 scripts/pages.py --check
+ended
 
 times >"$log"
 read -r user system < <(tail -n 1 "$log")
