@@ -15,8 +15,8 @@ An edit (`crates/*/must-fail/*.edit`) turns a line of code so that the clauses t
 and the tests pass only if the prover refuses it. `python3 scripts/edits.py` writes this page from those lines and from
 the sources. Each public clause of a function has an edit, or words in brackets that say why none can turn it.
 
-An impl has the clauses of its trait. A line of it has one of them and the edits that name it; `(no edit of its own)`
-stands where none does. At least one clause of each impl has an edit, or a reason.
+The clauses of an impl are its trait's, and speak of what the impl says by its `ghost` items, all together: so a line of
+an impl has all of these items, and the edits that name one of them.
 
 """
 
@@ -225,9 +225,9 @@ def main():
                 rows += [(item.path, f"{it} (a law)", ", ".join(edits)) for it, edits in has.items() if edits]
             elif item.is_public and item.is_impl:
                 # (the clauses are the trait's, over what the impl's ghost items define)
-                told = {it: ", ".join(edits) or why_none(item.path, it) for it, edits in has.items()}
-                alone = "(no edit of its own)" if any(told.values()) else ""
-                rows += [(item.path, it, words or alone) for it, words in told.items()]
+                forced = next((words for it in item.clauses if (words := why_none(item.path, it))), "")
+                edits = sorted({it for each in has.values() for it in each})
+                rows.append((item.path, ", ".join(item.clauses), ", ".join(edits) or forced))
             elif item.is_public:
                 rows += [(item.path, it, ", ".join(edits) or why_none(item.path, it)) for it, edits in has.items()]
         faults += [f"{crate}: {path} {clause} has no edit" for path, clause, edits in rows if not edits]
