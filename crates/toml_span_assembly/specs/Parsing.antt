@@ -45,8 +45,8 @@ IsBorrowedTree text limit root =
 
 -- ---- refusals
 
--- Something is due at a place of the text, and the error tells the fault that the table has there. The fault has a place
--- in the text.
+-- Something is due at a place of the text, and the error tells the fault that the table has there. The fault has a
+-- place in the text.
 abbrev pub IsFault : List ℕ → ℕ → Error → Type 0
 IsFault text limit error =
     (fault : Fault) × IsDue text limit fault × StartsInside text fault × Tells text fault (content_of error)
