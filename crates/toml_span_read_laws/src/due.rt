@@ -8,12 +8,14 @@ ghost use Rattle.toml_span_read.specs.code.Stuck.{StuckDocument};
 
 /// What is told where a document gets stuck is told where something is due.
 pub fn faults_are_due()
-    ensures { (text : List ℕ) (limit : ℕ) (fault : Fault) → StuckDocument text limit fault → IsDue text limit fault }
+    ensures { (text : List ℕ) (limit : ℕ) (fault : Fault) → StuckDocument text limit fault
+        → IsDue text limit fault }
 {}
 
-/// What is told where something is due is where the document gets stuck.
+/// What is told where something is due is told where the document gets stuck.
 pub fn due_faults()
-    ensures { (text : List ℕ) (limit : ℕ) (fault : Fault) → IsDue text limit fault → StuckDocument text limit fault }
+    ensures { (text : List ℕ) (limit : ℕ) (fault : Fault) → IsDue text limit fault
+        → StuckDocument text limit fault }
 {}
 
 /// A token that stands where another one is due is called as the lexer calls it.

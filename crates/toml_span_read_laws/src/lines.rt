@@ -14,8 +14,7 @@ ghost use Rattle.toml_span_read.specs.Data.{Block, block};
 ghost use Rattle.toml_span_read.specs.Grammar.{SpellsDocument, SpellsHeader};
 ghost use Rattle.toml_span_read.specs.Due.{IsDue};
 ghost use Rattle.toml_span_read.specs.Reading.{ReadsDocument, AreRead};
-ghost use Rattle.toml_span_read.specs.code.Stuck.{StuckHeader, StuckKeyValue};
-ghost use Rattle.toml_span_read.specs.code.Stuck.{StuckTail};
+ghost use Rattle.toml_span_read.specs.code.Stuck.{StuckHeader, StuckKeyValue, StuckTail};
 
 /// A text spells at most one document.
 pub fn one_document()

@@ -1,7 +1,7 @@
 -- What each function of reading finds where it gives a fault: the forms before it, and that one of `Faults` that stands
 -- behind them. For a document it is what is due (`specs/Due.antt`), told from the outside to the inside.
-use Rattle.std.specs.Prelude.{◌≡◌, ℕ, ◌+◌, ◌<◌, ◌≤◌, ◌⊎◌, Bool, true, false, ◌==◌, List, [], ◌∷◌, ◌++◌, length}
-use Rattle.std.specs.Prelude.{slice_index}
+use Rattle.std.specs.Prelude.{◌≡◌, ℕ, ◌+◌, ◌<◌, ◌≤◌, ◌⊎◌, Bool, true, false, ◌==◌}
+use Rattle.std.specs.Prelude.{List, [], ◌∷◌, ◌++◌, length, slice_index}
 use Rattle.toml_span_lex.specs.Bytes.{is_blank, equals, MaximalRun, left_bracket, comma, left_brace, right_brace}
 use Rattle.toml_span_lex.specs.Bytes.{right_bracket}
 use Rattle.toml_span_lex.specs.Tokenizer.{FirstPlace}
