@@ -34,33 +34,29 @@ pub(crate) struct Options<'w> {
     pub(crate) names: Vec<&'w str>,
 }
 
+/// A word with one of these values, the first where it is not given.
+fn choice<'w>(alloc: Global, name: &'w str, values: &'w [&'w str], default: &'w str) -> Arg<'w> {
+    Arg::new(alloc, name)
+        .long(name)
+        .value_parser(values)
+        .default_value(default)
+}
+
+/// A word without a value.
+fn flag<'w>(alloc: Global, name: &'w str) -> Arg<'w> {
+    Arg::new(alloc, name).long(name).action(ArgAction::SetTrue)
+}
+
 /// The words that the program knows.
 fn command<'w>(alloc: Global) -> Result<Command<'w>, Error> {
-    let format = Arg::new(alloc, "format")
-        .long("format")
-        .value_parser(["text", "json", "short"].as_slice())
-        .default_value("text");
-    let color = Arg::new(alloc, "color")
-        .long("color")
-        .value_parser(["auto", "always", "never"].as_slice())
-        .default_value("auto");
-    let get = Arg::new(alloc, "get").long("get");
-    let tagged = Arg::new(alloc, "tagged")
-        .long("tagged")
-        .action(ArgAction::SetTrue);
-    let items = Arg::new(alloc, "items")
-        .long("items")
-        .action(ArgAction::SetTrue)
-        .conflicts_with("tagged")?;
-    let files = Arg::new(alloc, "FILE").num_args(0..).default_value("-");
     let command = Command::new(alloc, "toml_span_check")
         .override_help(USAGE)
-        .arg(format)?
-        .arg(color)?
-        .arg(get)?
-        .arg(tagged)?
-        .arg(items)?
-        .arg(files)?;
+        .arg(choice(alloc, "format", &["text", "json", "short"], "text"))?
+        .arg(choice(alloc, "color", &["auto", "always", "never"], "auto"))?
+        .arg(Arg::new(alloc, "get").long("get"))?
+        .arg(flag(alloc, "tagged"))?
+        .arg(flag(alloc, "items").conflicts_with("tagged")?)?
+        .arg(Arg::new(alloc, "FILE").num_args(0..).default_value("-"))?;
     Ok(command)
 }
 
