@@ -7,19 +7,20 @@
 //! - `port_told`: where the port of the document's server stands, or what is wrong.
 //! - `servers_of`: the ports of the servers of the document, or all their errors.
 //! - `with_value POINTER`: the tree with the number 7 where the pointer leads, if it leads anywhere.
+//! - `write_second`: whether the number 7 is put at `/b/x`, and the tree then.
 //! - `holders`: fields of the document that are an `Option`, what `FromStr` makes of a string, and an array of two.
 use crate::Row;
 use crate::holders::Holders;
 use crate::told::{push_told, push_told_line};
 use crate::trees::shown::push_lines;
+use crate::uses::first::port_told;
+use crate::uses::servers::servers_of;
+use crate::uses::settings::settings_of;
+use crate::uses::writes::{with_value, write_second};
+use crate::uses::{integer_at, port_of, refused_at, span_at};
 use std::alloc::{AllocError, Global};
 use toml_span::value::ValueInner;
-use toml_span::{Value, from_str};
-use toml_span_uses::first::port_told;
-use toml_span_uses::servers::servers_of;
-use toml_span_uses::settings::settings_of;
-use toml_span_uses::writes::with_value;
-use toml_span_uses::{integer_at, port_of, refused_at, span_at};
+use toml_span::{Value, from_str, parse};
 
 /// Writes the answer of a row, one line each, or says that there is no such call.
 pub fn answer(alloc: Global, row: Row<'_>, out: &mut String) -> Result<bool, AllocError> {
@@ -33,6 +34,7 @@ pub fn answer(alloc: Global, row: Row<'_>, out: &mut String) -> Result<bool, All
         "settings_of" => push_settings(alloc, text, out),
         "servers_of" => push_servers(alloc, text, out),
         "with_value" => push_changed(alloc, row, out),
+        "write_second" => push_second(alloc, text, out),
         "holders" => push_told(&from_str::<Holders>(alloc, text), out),
         _ => return Ok(false),
     }?;
@@ -70,5 +72,17 @@ fn push_changed(alloc: Global, row: Row<'_>, out: &mut String) -> Result<(), All
     ) {
         Ok(Some(root)) => push_lines(alloc, &root, 0, out),
         other => push_told(&other, out),
+    }
+}
+
+/// Answers `write_second`.
+fn push_second(alloc: Global, text: &str, out: &mut String) -> Result<(), AllocError> {
+    match parse(alloc, text) {
+        Ok(mut root) => {
+            let written = write_second(&mut root, Value::new(ValueInner::Integer(7)));
+            push_told_line(&written.is_ok(), out)?;
+            push_lines(alloc, &root, 0, out)
+        }
+        Err(stop) => push_told(&stop, out),
     }
 }

@@ -16,6 +16,7 @@ mod tokens;
 mod told;
 mod trees;
 mod typed;
+mod uses;
 
 use escapes::{Unread, text_of, words_of};
 use std::alloc::{AllocError, Global};
