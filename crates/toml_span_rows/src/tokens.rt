@@ -32,17 +32,17 @@ fn sign(kind: &str) -> Option<Token<'_>> {
     }
 }
 
-/// The token of a kind with its content. A string is what stands between its quotes, as it is.
+/// The token of a kind with its content. A string is its text with the quotes, `=`, and its value.
 fn filled<'t>(kind: &str, content: &'t str) -> Option<Token<'t>> {
     match kind {
         "Whitespace" => Some(Token::Whitespace(content)),
         "Comment" => Some(Token::Comment(content)),
         "Keylike" => Some(Token::Keylike(content)),
         "String" => {
-            let inner = content.strip_prefix('"')?.strip_suffix('"')?;
+            let (src, value) = content.split_once('=')?;
             Some(Token::String {
-                src: content,
-                val: CowStr::Borrowed(inner),
+                src,
+                val: CowStr::Borrowed(value),
                 multiline: false,
             })
         }
@@ -62,7 +62,7 @@ fn token_of(named: &str) -> Option<Token<'_>> {
 fn push_stop(out: &mut String, stop: Stop<Error>) -> Result<(), AllocError> {
     match stop {
         Stop::Fault(error) => write!(out, "error {error:?}"),
-        Stop::Memory(refused) => Err(refused),
+        Stop::Memory(refused) => push_told(&refused, out),
     }
 }
 

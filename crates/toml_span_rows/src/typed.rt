@@ -111,9 +111,24 @@ fn merge_second<'de>(
     let Some(more) = errors_of(alloc, name, value)? else {
         return Ok(false);
     };
-    push_told_line(&errors.merge(alloc, more), out)?;
+    push_merge(alloc, errors, more, out)?;
     push_lists(errors, out)?;
     Ok(true)
+}
+
+/// Puts errors behind others, and adds the answer. Without memory it is done again with what came back.
+fn push_merge<'de>(
+    alloc: Global,
+    errors: &mut DeserError<'de>,
+    more: DeserError<'de>,
+    out: &mut String,
+) -> Result<(), AllocError> {
+    let merged = errors.merge(alloc, more);
+    push_told_line(&merged, out)?;
+    match merged {
+        Ok(()) => Ok(()),
+        Err(unmerged) => push_told_line(&errors.merge(alloc, unmerged.other), out),
+    }
 }
 
 /// Answers `expected`.

@@ -6,7 +6,7 @@
 ghost use Rattle.std.specs.Prelude.{IfSome};
 ghost use Rattle.toml_span_typed.specs.TableHelper.{AllWhole, state_of};
 
-use crate::told::push_told;
+use crate::told::{push_told, push_told_line};
 use crate::trees::shown::push_back;
 use crate::typed::lists::push_lists;
 use std::alloc::{AllocError, Global};
@@ -151,7 +151,7 @@ fn push_spanned<T: Debug + Drop>(
     }
 }
 
-/// Makes the last call, and adds the errors that it tells.
+/// Makes the last call, and adds the errors that it tells. Without memory the helper comes back, and it is made again.
 fn push_last<'de>(
     helper: TableHelper<'de>,
     call: &str,
@@ -166,7 +166,17 @@ fn push_last<'de>(
     match ended {
         Ok(()) => out.push_str("no error")?,
         Err(Unfinished::Faults(errors)) => push_lists(&errors, out)?,
-        Err(Unfinished::Memory(_helper)) => return Err(AllocError),
+        Err(Unfinished::Memory(helper)) => push_again(helper, out)?,
     }
     Ok(true)
+}
+
+/// Adds that there was no memory for the last call, and what it answers now.
+fn push_again(helper: TableHelper<'_>, out: &mut String) -> Result<(), AllocError> {
+    push_told_line(&AllocError, out)?;
+    match helper.finalize(None) {
+        Ok(()) => out.push_str("no error"),
+        Err(Unfinished::Faults(errors)) => push_lists(&errors, out),
+        Err(Unfinished::Memory(_helper)) => push_told(&AllocError, out),
+    }
 }
