@@ -72,13 +72,12 @@ fn push_errors(
     value: &mut Value<'_>,
     out: &mut String,
 ) -> Result<bool, AllocError> {
-    match errors_of(alloc, name, value)? {
-        Some(errors) => {
-            push_lists(&errors, out)?;
-            Ok(true)
-        }
-        None => Ok(false),
-    }
+    let read = errors_of(alloc, name, value)?;
+    let Some(errors) = &read else {
+        return Ok(false);
+    };
+    push_lists(errors, out)?;
+    Ok(true)
 }
 
 /// Answers `merge`.

@@ -76,7 +76,7 @@ fn push_call<'de>(
     };
     match name {
         "contains" => push_told(&helper.contains(arguments), out),
-        "take" => push_entry(helper.take(arguments), out),
+        "take" => push_entry(&helper.take(arguments), out),
         _ => return push_field(helper, name, arguments, out),
     }?;
     Ok(true)
@@ -84,10 +84,10 @@ fn push_call<'de>(
 
 /// Adds an entry that was taken, if there was one.
 fn push_entry(
-    entry: Result<Option<(Key<'_>, Value<'_>)>, AllocError>,
+    entry: &Result<Option<(Key<'_>, Value<'_>)>, AllocError>,
     out: &mut String,
 ) -> Result<(), AllocError> {
-    match &entry {
+    match entry {
         Ok(Some((key, value))) => {
             push_told(&(key, key.span), out)?;
             push_back(" ", value, out)
@@ -132,7 +132,7 @@ fn push_as<'de, T: Deserialize<'de> + Debug>(
 {
     match how {
         "required" => push_told(&helper.required::<T>(name), out),
-        "required_s" => push_spanned(helper.required_s::<T>(name), out),
+        "required_s" => push_spanned(&helper.required_s::<T>(name), out),
         "optional" => push_told(&helper.optional::<T>(name), out),
         "optional_s" => push_told(&helper.optional_s::<T>(name), out),
         _ => return Ok(false),
@@ -141,11 +141,11 @@ fn push_as<'de, T: Deserialize<'de> + Debug>(
 }
 
 /// Adds what was read with its place.
-fn push_spanned<T: Debug + Drop>(
-    read: Result<Spanned<T>, Stop<Error<'_>>>,
+fn push_spanned<T: Debug>(
+    read: &Result<Spanned<T>, Stop<Error<'_>>>,
     out: &mut String,
 ) -> Result<(), AllocError> {
-    match &read {
+    match read {
         Ok(found) => push_told(&(found, found.span), out),
         other => push_told(other, out),
     }
