@@ -44,6 +44,11 @@ ask() {
     )
 }
 
+# complains: whether the program that was run last says that it has no memory
+complains() {
+    [[ $(<"$work/complaint") == *OutOfMemory* ]]
+}
+
 # told WHAT: one more run is wrong
 told() {
     wrong=$((wrong + 1))
@@ -62,7 +67,7 @@ row() {
     for ((request = 1; request <= made; request++)); do
         count=$((count + 1))
         ask "$request" "$rows" "$work/rows"
-        if [ "$written" = .1 ] && grep -q OutOfMemory "$work/complaint"; then continue; fi
+        if [ "$written" = .1 ] && complains; then continue; fi
         if [[ $written != *AllocError* ]]; then told "$1: request $request of $made: its refusal is not told of"; fi
         if [ -z "${times[$written]-}" ]; then answers+=("$written"); fi
         times[$written]=$((${times[$written]-0} + 1))
@@ -117,7 +122,7 @@ silent() {
         count=$((count + 1))
         silenced=$((silenced + 1))
         ask "$request" "$2" "$3"
-        if [ "$written" = .1 ] && ! grep -q OutOfMemory "$work/complaint"; then written="$written with no complaint"; fi
+        if [ "$written" = .1 ] && ! complains; then written="$written with no complaint"; fi
         if [ "$written" != ".$1" ]; then told "$2: with request $request of $made refused it wrote $written"; fi
     done
 }
