@@ -1,22 +1,30 @@
 #!/usr/bin/env bash
-# Programs with each request for memory refused in turn: bash scripts/refused_runs.sh [DERIVED EXAMPLE ROWS]
+# Programs with each request for memory refused in turn: bash scripts/refused_runs.sh [ROWS SHOW DERIVED EXAMPLE]
+#
+# toml_span_rows makes the calls of the libraries that take memory: the rows of its file `refused`, one a run. Where a
+# request of the program's own is refused it has to end with status 1, to write nothing and to complain of it. Where one
+# of a call is refused, the call has to tell of it (`AllocError`), and the row goes on with what the call has left.
+# Under a row and its answer the file has each such answer, by its difference from the usual one, behind the number of
+# requests whose refusal gives it: `refused: 3`. So a refusal that nobody tells of, a request more or less, and another
+# state behind a refusal are seen. Calls that promise to take no memory are rows with no such answer.
 #
 # toml_span_serde_rows reads by derive. It gets each of its stored rows twice, so that the second shows what a refusal
 # of the first has left. With a request refused it has to say of one of the two that there is no memory, and to answer
 # the other; the requests of the two reads of a line end it with status 1, before the line is written.
 #
-# toml_span_example reads its stored input, and shows what is wrong there; toml_span_rows walks trees and looks pointers
-# up. With a request refused these have to write nothing, and to complain of it. Where toml_span_rows reads structs by
-# `read_table!`, a row at a time, the read has to answer that there is no memory.
+# toml_span_show reads documents, parses them and shows their lines; toml_span_example reads its stored input, and shows
+# what is wrong there; toml_span_rows walks trees and looks pointers up. With a request refused these have to write
+# nothing: the first ends with status 4, the others with status 1 and a complaint.
 #
-# DERIVED (toml_span_serde_rows), EXAMPLE and ROWS are the proved builds unless others are named.
+# ROWS, SHOW, DERIVED (toml_span_serde_rows) and EXAMPLE are the proved builds unless others are named.
 set -uo pipefail
 cd "$(dirname "$0")/.."
 source scripts/refuse.sh
-derived=${1-crates/toml_span_serde_rows/out/toml_span_serde_rows}
-example=${2-crates/toml_span_example/out/toml_span_example}
-rows=${3-crates/toml_span_rows/out/toml_span_rows}
-for program in "$derived" "$example" "$rows"; do
+rows=${1-crates/toml_span_rows/out/toml_span_rows}
+show=${2-crates/toml_span_show/out/toml_span_show}
+derived=${3-crates/toml_span_serde_rows/out/toml_span_serde_rows}
+example=${4-crates/toml_span_example/out/toml_span_example}
+for program in "$rows" "$show" "$derived" "$example"; do
     if [ ! -x "$program" ]; then
         echo "refused runs: there is no program $program"
         exit 1
@@ -36,10 +44,52 @@ ask() {
     )
 }
 
+# complains: whether the program that was run last says that it has no memory
+complains() {
+    [[ $(<"$work/complaint") == *OutOfMemory* ]]
+}
+
 # told WHAT: one more run is wrong
 told() {
     wrong=$((wrong + 1))
     echo "refused runs: $1"
+}
+
+# row ROW: the row and its answer, and then the answers in which a call tells of a refusal, as `refused` has them
+row() {
+    local made request usual answer
+    local -A times=()
+    local answers=()
+    printf '%s\n' "$1" >"$work/rows"
+    ask 0 "$rows" "$work/rows"
+    made=$(<"$work/made")
+    usual=$written
+    for ((request = 1; request <= made; request++)); do
+        count=$((count + 1))
+        ask "$request" "$rows" "$work/rows"
+        if [ "$written" = .1 ] && complains; then continue; fi
+        if [[ $written != *AllocError* ]]; then told "$1: request $request of $made: its refusal is not told of"; fi
+        if [ -z "${times[$written]-}" ]; then answers+=("$written"); fi
+        times[$written]=$((${times[$written]-0} + 1))
+        calls=$((calls + 1))
+    done
+    printf '%s\n' "${usual%$'\n'.0}"
+    for answer in "${answers[@]}"; do
+        printf '  refused: %s\n' "${times[$answer]}"
+        diff <(printf '%s\n' "${usual%$'\n'.0}") <(printf '%s\n' "${answer%$'\n'.0}") | sed 's/^/  /'
+    done
+}
+
+# all_rows: the file `refused` as the program answers its rows now
+all_rows() {
+    local line
+    while IFS= read -r line; do
+        case $line in
+        "" | "#"*) printf '%s\n' "$line" ;;
+        " "*) ;;
+        *) row "$line" ;;
+        esac
+    done <crates/toml_span_rows/refused
 }
 
 # twice ROW: the row, given twice
@@ -63,48 +113,38 @@ twice() {
     if [ "$made" -le 2 ] || [ "$ended" -ne 2 ]; then told "$1: of $made requests $ended ended the program"; fi
 }
 
-# silent PROGRAM INPUT: the program on this input
+# silent STATUS PROGRAM INPUT: the program on this input, which a refused request ends with this status
 silent() {
     local made request
-    ask 0 "$1" "$2"
+    ask 0 "$2" "$3"
     made=$(<"$work/made")
     for ((request = 1; request <= made; request++)); do
         count=$((count + 1))
-        ask "$request" "$1" "$2"
-        if [ "$written" != .1 ] || ! grep -q OutOfMemory "$work/complaint"; then
-            told "$1: with request $request of $made refused it wrote $written"
-        fi
+        silenced=$((silenced + 1))
+        ask "$request" "$2" "$3"
+        if [ "$written" = .1 ] && ! complains; then written="$written with no complaint"; fi
+        if [ "$written" != ".$1" ]; then told "$2: with request $request of $made refused it wrote $written"; fi
     done
-    if [ "$made" -lt 20 ]; then told "$1 made $made requests"; fi
 }
 
-# read_of ROW: a typed read alone, which tells of a refusal within it; a refusal outside it ends the program
-read_of() {
-    local made request said=0
-    printf '%s\n' "$1" >"$work/rows"
-    ask 0 "$rows" "$work/rows"
-    made=$(<"$work/made")
-    for ((request = 1; request <= made; request++)); do
-        count=$((count + 1))
-        ask "$request" "$rows" "$work/rows"
-        case $written in
-        "$1"$'\n    Err(Memory(AllocError))\n'*.0) said=$((said + 1)) ;;
-        .1) grep -q OutOfMemory "$work/complaint" || told "$1: with request $request of $made refused it said nothing" ;;
-        *) told "$1: with request $request of $made refused it wrote $written" ;;
-        esac
-    done
-    if [ "$made" -eq 0 ] || [ "$said" -eq "$made" ]; then told "$1: of $made requests $said were told by the read"; fi
-    reads_told=$((reads_told + said))
-}
+calls=0
+all_rows >"$work/answers"
+diff crates/toml_span_rows/refused "$work/answers" || told "rows answer otherwise (<: as stored, >: now)"
+if [ "$calls" -lt 200 ]; then told "calls told of $calls refusals"; fi
 
-while IFS= read -r row; do twice "$row"; done <crates/toml_span_serde_rows/stdin
-if [ "$count" -eq 0 ]; then told "there are no rows"; fi
-silent "$example" crates/toml_span_example/stdin
-grep -E '^(nodes|text_order|write[^:]*(look|at)=)' crates/toml_span_rows/stdin >"$work/calls"
-silent "$rows" "$work/calls"
-reads_told=0
-while IFS= read -r row; do read_of "$row"; done < <(grep -E '^(holders|typed_root)' crates/toml_span_rows/stdin)
-if [ "$reads_told" -lt 20 ]; then told "reads told of $reads_told refusals"; fi
+while IFS= read -r line; do twice "$line"; done <crates/toml_span_serde_rows/stdin
 
-echo "refused runs: $((count - wrong)) of $count right"
+silenced=0
+tree='[[a]]\n[a.b]\nx = 1\n[[a]]\n[a.b]\nx = 2\n'
+clash='a.b.x = 1\n[a.c]\n[a]\nb.y = 2\n'
+for document in "$(printf '%40000s' '#')" "$tree" "$clash" '# x\n'; do
+    printf '%b' "$document" >"$work/document"
+    silent 4 "$show" "$work/document"
+done
+silent 1 "$example" crates/toml_span_example/stdin
+grep -E '^(nodes|text_order|write[^:]*(look|at)=)' crates/toml_span_rows/stdin >"$work/rows"
+silent 1 "$rows" "$work/rows"
+if [ "$silenced" -lt 200 ]; then told "programs made $silenced requests"; fi
+
+echo "refused runs: $((count - wrong)) of $count right, $calls of them answers of calls"
 [ "$wrong" -eq 0 ]

@@ -1,7 +1,8 @@
 //! What errors print: `diagnostics` of a text's fault, and `diagnostic KIND` of an error of a kind that only typed
-//! reads make, at 4..6 in line 2, whose names the text gives.
+//! reads make, at 4..6 in line 2, whose names the text gives. `error_copies KIND`: what clones of its kind and of such
+//! an error are, and its diagnostic, each made twice, and then the error.
 use crate::Row;
-use crate::told::push_told;
+use crate::told::{push_told, push_told_line};
 use crate::trees::shown::push_stand;
 use std::alloc::{AllocError, Global};
 use toml_span::{Error, Span};
@@ -35,9 +36,20 @@ pub fn push_twice(alloc: Global, error: &Error<'_>, out: &mut String) -> Result<
     push_clone(alloc, &copy, out)
 }
 
+/// Adds what clones of an error are and its diagnostic, each made twice, and then the error.
+fn push_copies(alloc: Global, error: &Error<'_>, out: &mut String) -> Result<(), AllocError> {
+    for _ in 0..2 {
+        push_told_line(&error.kind.clone(alloc), out)?;
+        push_told_line(&error.clone(alloc), out)?;
+        push_told_line(&error.to_diagnostic(alloc, FILE), out)?;
+    }
+    push_told(error, out)
+}
+
 /// Writes the answer of a row, or says that there is no such call.
 pub fn answer(alloc: Global, row: Row<'_>, out: &mut String) -> Result<bool, AllocError> {
-    if row.call != "diagnostic" {
+    let copies = row.call == "error_copies";
+    if row.call != "diagnostic" && !copies {
         return Ok(false);
     }
     let names = made::names_of(alloc, row.text)?;
@@ -46,6 +58,10 @@ pub fn answer(alloc: Global, row: Row<'_>, out: &mut String) -> Result<bool, All
     };
     let mut error = Error::from((kind, Span::new(4, 6)));
     error.line_info = Some((2, 3));
-    push_twice(alloc, &error, out)?;
+    if copies {
+        push_copies(alloc, &error, out)
+    } else {
+        push_twice(alloc, &error, out)
+    }?;
     Ok(true)
 }

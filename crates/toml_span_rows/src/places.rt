@@ -6,6 +6,8 @@
 //!   equals it, and how it compares with it; and then itself, and the place and the value of a default one.
 //! - `key START END OTHER: NAME` tells a key with an owned name, the place of its clone and whether that equals it,
 //!   and how it compares with a borrowed one of another name; and then the place and the name of a default one.
+//! - `copies START END: TEXT` tells what clones of a key with that owned name and of the owned text at the span are,
+//!   each made twice.
 //! - `date: TEXT` tells the text of the date, or that it is none.
 //! - `float OTHER: TEXT` tells the text of a float, and whether the other is equal to it. `inf`, `-inf`, `nan` and
 //!   `-nan` are themselves, every other text is finite.
@@ -23,7 +25,7 @@ pub fn answer(alloc: Global, row: Row<'_>, out: &mut String) -> Result<bool, All
     match row.call {
         "date" => push_date(row.text, out),
         "float" => push_float(alloc, row, out),
-        "span" | "spanned" | "key" => return push_placed(alloc, row, out),
+        "span" | "spanned" | "key" | "copies" => return push_placed(alloc, row, out),
         _ => return Ok(false),
     }?;
     Ok(true)
@@ -37,6 +39,7 @@ fn push_placed(alloc: Global, row: Row<'_>, out: &mut String) -> Result<bool, Al
     match row.call {
         "span" => push_span_told(span, row.text, out),
         "spanned" => return push_spanned(alloc, span, row, out),
+        "copies" => push_copies(alloc, span, row.text, out),
         _ => push_key(alloc, span, row, out),
     }?;
     Ok(true)
@@ -101,6 +104,18 @@ fn push_keys(
     };
     let same = (twin.span, key == twin, key.cmp(&other));
     writeln!(out, "{key} {key:?} {same:?}")
+}
+
+/// Adds what clones of a key and of a text are.
+fn push_copies(alloc: Global, span: Span, text: &str, out: &mut String) -> Result<(), AllocError> {
+    let name = CowStr::Owned(String::from_str(alloc, text)?);
+    let key = Key { name, span };
+    let placed = Spanned::with_span(String::from_str(alloc, text)?, span);
+    for _ in 0..2 {
+        push_told_line(&key.clone(alloc), out)?;
+        push_told_line(&placed.clone(alloc), out)?;
+    }
+    Ok(())
 }
 
 fn push_date(text: &str, out: &mut String) -> Result<(), AllocError> {

@@ -32,17 +32,17 @@ fn sign(kind: &str) -> Option<Token<'_>> {
     }
 }
 
-/// The token of a kind with its content. A string is what stands between its quotes, as it is.
+/// The token of a kind with its content. A string is its text with the quotes, `=`, and its value.
 fn filled<'t>(kind: &str, content: &'t str) -> Option<Token<'t>> {
     match kind {
         "Whitespace" => Some(Token::Whitespace(content)),
         "Comment" => Some(Token::Comment(content)),
         "Keylike" => Some(Token::Keylike(content)),
         "String" => {
-            let inner = content.strip_prefix('"')?.strip_suffix('"')?;
+            let (src, value) = content.split_once('=')?;
             Some(Token::String {
-                src: content,
-                val: CowStr::Borrowed(inner),
+                src,
+                val: CowStr::Borrowed(value),
                 multiline: false,
             })
         }
@@ -59,10 +59,10 @@ fn token_of(named: &str) -> Option<Token<'_>> {
 }
 
 /// Adds why a call gave no value.
-fn push_stop(out: &mut String, stop: Stop<Error>) -> Result<(), AllocError> {
+fn push_stop(out: &mut String, stop: &Stop<Error>) -> Result<(), AllocError> {
     match stop {
         Stop::Fault(error) => write!(out, "error {error:?}"),
-        Stop::Memory(refused) => Err(refused),
+        Stop::Memory(refused) => push_told(refused, out),
     }
 }
 
@@ -93,16 +93,16 @@ fn push_token(out: &mut String, span: Span, token: &Token<'_>) -> Result<(), All
 /// What a step answers.
 type Stepped<'t> = Result<Option<(Span, Token<'t>)>, Stop<Error>>;
 
-fn push_step(out: &mut String, answer: Stepped<'_>) -> Result<(), AllocError> {
+fn push_step(out: &mut String, answer: &Stepped<'_>) -> Result<(), AllocError> {
     match answer {
-        Ok(Some((span, token))) => push_token(out, span, &token),
+        Ok(Some((span, token))) => push_token(out, *span, token),
         Ok(None) => out.push_str("end"),
         Err(stop) => push_stop(out, stop),
     }
 }
 
 /// Adds the words for a token.
-fn push_words(out: &mut String, answer: Stepped<'_>) -> Result<(), AllocError> {
+fn push_words(out: &mut String, answer: &Stepped<'_>) -> Result<(), AllocError> {
     match answer {
         Ok(Some((_, token))) => out.push_str(token.describe()),
         Ok(None) => out.push_str("end"),
@@ -110,7 +110,7 @@ fn push_words(out: &mut String, answer: Stepped<'_>) -> Result<(), AllocError> {
     }
 }
 
-fn push_key(out: &mut String, answer: Result<Key<'_>, Stop<Error>>) -> Result<(), AllocError> {
+fn push_key(out: &mut String, answer: &Result<Key<'_>, Stop<Error>>) -> Result<(), AllocError> {
     match answer {
         Ok(key) => {
             push_span(out, key.span)?;
@@ -155,10 +155,10 @@ fn push_call<'t>(
 ) -> Result<bool, AllocError> {
     let tokenizer = &mut tokenizers.used;
     match name {
-        "step" => push_step(out, tokenizer.step(alloc)),
-        "peek" => push_step(out, tokenizer.peek(alloc)),
-        "describe" => push_words(out, tokenizer.step(alloc)),
-        "table_key" => push_key(out, tokenizer.table_key(alloc)),
+        "step" => push_step(out, &tokenizer.step(alloc)),
+        "peek" => push_step(out, &tokenizer.peek(alloc)),
+        "describe" => push_words(out, &tokenizer.step(alloc)),
+        "table_key" => push_key(out, &tokenizer.table_key(alloc)),
         "eat_newline_or_eof" => push_told(&tokenizer.eat_newline_or_eof(alloc), out),
         "eat_comment" => push_told(&tokenizer.eat_comment(), out),
         "one" => push_told(&tokenizer.one(), out),
@@ -228,15 +228,13 @@ fn push_tokens(alloc: Global, text: &str, out: &mut String) -> Result<(), AllocE
     let mut tokenizer = Tokenizer::new(text);
     for _ in 0..=text.len() {
         let answer = tokenizer.step(alloc);
-        let goes_on = matches!(&answer, Ok(Some(_)));
-        let fails = answer.is_err();
-        push_step(out, answer)?;
-        if fails {
+        push_step(out, &answer)?;
+        if answer.is_err() {
             let at = tokenizer.current();
             write!(out, " then {at}")?;
         }
         out.push('\n')?;
-        if !goes_on {
+        if !matches!(&answer, Ok(Some(_))) {
             return Ok(());
         }
     }

@@ -4,6 +4,7 @@
 ghost use Rattle.std.specs.Prelude.{◌≤◌, IfSome};
 
 use crate::faults::push_twice;
+use crate::told::push_told_line;
 use crate::{Row, typed};
 use shown::{push_fault, push_lines};
 use std::alloc::{AllocError, Global};
@@ -34,12 +35,18 @@ pub(crate) fn limit_of(row: Row<'_>) -> Option<usize>
     }
 }
 
-/// Adds the JSON value of a tree of which nothing is taken.
+/// Adds the JSON value of a tree of which nothing is taken. It is asked for again where there is no memory for it.
 fn push_json(alloc: Global, root: &Value<'_>, out: &mut String) -> Result<(), AllocError> {
     if !root.is_whole() {
         return out.push_str("not whole");
     }
-    let json = root.to_json(alloc)?;
+    let json = match root.to_json(alloc) {
+        Ok(json) => json,
+        Err(refused) => {
+            push_told_line(&refused, out)?;
+            root.to_json(alloc)?
+        }
+    };
     let shown = json.to_string(alloc)?;
     out.push_str(shown.as_str())
 }

@@ -72,13 +72,12 @@ fn push_errors(
     value: &mut Value<'_>,
     out: &mut String,
 ) -> Result<bool, AllocError> {
-    match errors_of(alloc, name, value)? {
-        Some(errors) => {
-            push_lists(&errors, out)?;
-            Ok(true)
-        }
-        None => Ok(false),
-    }
+    let read = errors_of(alloc, name, value)?;
+    let Some(errors) = &read else {
+        return Ok(false);
+    };
+    push_lists(errors, out)?;
+    Ok(true)
 }
 
 /// Answers `merge`.
@@ -111,9 +110,24 @@ fn merge_second<'de>(
     let Some(more) = errors_of(alloc, name, value)? else {
         return Ok(false);
     };
-    push_told_line(&errors.merge(alloc, more), out)?;
+    push_merge(alloc, errors, more, out)?;
     push_lists(errors, out)?;
     Ok(true)
+}
+
+/// Puts errors behind others, and adds the answer. Without memory it is done again with what came back.
+fn push_merge<'de>(
+    alloc: Global,
+    errors: &mut DeserError<'de>,
+    more: DeserError<'de>,
+    out: &mut String,
+) -> Result<(), AllocError> {
+    let merged = errors.merge(alloc, more);
+    push_told_line(&merged, out)?;
+    match merged {
+        Ok(()) => Ok(()),
+        Err(unmerged) => push_told_line(&errors.merge(alloc, unmerged.other), out),
+    }
 }
 
 /// Answers `expected`.

@@ -1,4 +1,4 @@
-//! Kinds of errors that only typed reads make.
+//! Kinds of errors that only typed reads make, and a key that is claimed twice.
 //!
 //! A text that has two parts has ` | ` between them, and a space between two names of a part.
 use std::alloc::{AllocError, Global};
@@ -86,6 +86,10 @@ pub fn kind_of<'s>(
         "wanted" => ErrorKind::Wanted {
             expected: front,
             found: back,
+        },
+        "duplicate-key" => ErrorKind::DuplicateKey {
+            key: String::from_str(alloc, text)?,
+            first: Span::new(1, 4),
         },
         "missing-field" => ErrorKind::MissingField(text),
         "deprecated" => ErrorKind::Deprecated {

@@ -9,14 +9,19 @@ use toml_span::{Stop, parse};
 /// What stands before a piece that is read again.
 const FRONT: &str = "x = ";
 
+/// Adds the lines of the value at `/x`, with offsets counted from its start.
+fn push_moved_lines(alloc: Global, root: &Value<'_>, out: &mut String) -> Result<(), AllocError> {
+    match root.pointer("/x") {
+        Some(value) => push_lines(alloc, value, FRONT.len(), out),
+        None => Ok(()),
+    }
+}
+
 /// What a value's text, behind `x = `, is read as, with offsets counted from the value's start.
 fn push_reread(alloc: Global, piece: &str, out: &mut String) -> Result<(), AllocError> {
     let text = format!(in alloc; "{FRONT}{piece}")?;
     match parse(alloc, text.as_str()) {
-        Ok(root) => match root.pointer("/x") {
-            Some(value) => push_lines(alloc, value, FRONT.len(), out),
-            None => Ok(()),
-        },
+        Ok(root) => push_moved_lines(alloc, &root, out),
         Err(Stop::Fault(_)) => Ok(()),
         Err(Stop::Memory(refused)) => Err(refused),
     }

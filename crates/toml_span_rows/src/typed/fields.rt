@@ -6,7 +6,7 @@
 ghost use Rattle.std.specs.Prelude.{IfSome};
 ghost use Rattle.toml_span_typed.specs.TableHelper.{AllWhole, state_of};
 
-use crate::told::push_told;
+use crate::told::{push_told, push_told_line};
 use crate::trees::shown::push_back;
 use crate::typed::lists::push_lists;
 use std::alloc::{AllocError, Global};
@@ -76,7 +76,7 @@ fn push_call<'de>(
     };
     match name {
         "contains" => push_told(&helper.contains(arguments), out),
-        "take" => push_entry(helper.take(arguments), out),
+        "take" => push_entry(&helper.take(arguments), out),
         _ => return push_field(helper, name, arguments, out),
     }?;
     Ok(true)
@@ -84,10 +84,10 @@ fn push_call<'de>(
 
 /// Adds an entry that was taken, if there was one.
 fn push_entry(
-    entry: Result<Option<(Key<'_>, Value<'_>)>, AllocError>,
+    entry: &Result<Option<(Key<'_>, Value<'_>)>, AllocError>,
     out: &mut String,
 ) -> Result<(), AllocError> {
-    match &entry {
+    match entry {
         Ok(Some((key, value))) => {
             push_told(&(key, key.span), out)?;
             push_back(" ", value, out)
@@ -132,7 +132,7 @@ fn push_as<'de, T: Deserialize<'de> + Debug>(
 {
     match how {
         "required" => push_told(&helper.required::<T>(name), out),
-        "required_s" => push_spanned(helper.required_s::<T>(name), out),
+        "required_s" => push_spanned(&helper.required_s::<T>(name), out),
         "optional" => push_told(&helper.optional::<T>(name), out),
         "optional_s" => push_told(&helper.optional_s::<T>(name), out),
         _ => return Ok(false),
@@ -141,17 +141,17 @@ fn push_as<'de, T: Deserialize<'de> + Debug>(
 }
 
 /// Adds what was read with its place.
-fn push_spanned<T: Debug + Drop>(
-    read: Result<Spanned<T>, Stop<Error<'_>>>,
+fn push_spanned<T: Debug>(
+    read: &Result<Spanned<T>, Stop<Error<'_>>>,
     out: &mut String,
 ) -> Result<(), AllocError> {
-    match &read {
+    match read {
         Ok(found) => push_told(&(found, found.span), out),
         other => push_told(other, out),
     }
 }
 
-/// Makes the last call, and adds the errors that it tells.
+/// Makes the last call, and adds the errors that it tells. Without memory the helper comes back, and it is made again.
 fn push_last<'de>(
     helper: TableHelper<'de>,
     call: &str,
@@ -166,7 +166,17 @@ fn push_last<'de>(
     match ended {
         Ok(()) => out.push_str("no error")?,
         Err(Unfinished::Faults(errors)) => push_lists(&errors, out)?,
-        Err(Unfinished::Memory(_helper)) => return Err(AllocError),
+        Err(Unfinished::Memory(helper)) => push_again(helper, out)?,
     }
     Ok(true)
+}
+
+/// Adds that there was no memory for the last call, and what it answers now.
+fn push_again(helper: TableHelper<'_>, out: &mut String) -> Result<(), AllocError> {
+    push_told_line(&AllocError, out)?;
+    match helper.finalize(None) {
+        Ok(()) => out.push_str("no error"),
+        Err(Unfinished::Faults(errors)) => push_lists(&errors, out),
+        Err(Unfinished::Memory(_helper)) => push_told(&AllocError, out),
+    }
 }

@@ -8,7 +8,8 @@ use std::fmt::Debug;
 use toml_span::value::{DateText, FloatText, Value};
 use toml_span::{DeserError, Deserialize, Stop};
 
-/// Reads a value as a type, if the value is whole, and adds the answer.
+/// Reads a value as a type, if the value is whole, and adds the answer. Without memory it is read again, if it still is
+/// whole.
 fn push_as<'de, T: Deserialize<'de> + Debug>(
     alloc: Global,
     value: &mut Value<'de>,
@@ -17,7 +18,12 @@ fn push_as<'de, T: Deserialize<'de> + Debug>(
     if !value.is_whole() {
         return Ok(false);
     }
-    push_told(&T::deserialize(alloc, value), out)?;
+    let read = T::deserialize(alloc, value);
+    push_told(&read, out)?;
+    if matches!(&read, Err(Stop::Memory(_))) && value.is_whole() {
+        out.push('\n')?;
+        push_told(&T::deserialize(alloc, value), out)?;
+    }
     Ok(true)
 }
 
