@@ -37,6 +37,7 @@ pub mod tokens {
 /// The tree of values.
 pub mod value {
     pub use toml_span_lex::key::Key;
+    pub use toml_span_tree::nodes::{Step, Visited, nodes};
     pub use toml_span_tree::{
         Array, DateText, FloatText, Pointer, Table, Value, ValueInner, in_text_order,
     };

@@ -7,6 +7,7 @@ pub mod Lending
 pub mod Listed
 pub mod Message
 pub mod Node
+pub mod Nodes
 pub mod Path
 pub mod Pointer
 pub mod Value

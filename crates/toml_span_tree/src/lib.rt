@@ -10,6 +10,7 @@ pub mod laws;
 mod listed;
 mod lookup;
 mod message;
+pub mod nodes;
 mod order;
 mod pointer;
 mod value;

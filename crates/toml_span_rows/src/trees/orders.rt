@@ -2,8 +2,7 @@
 use crate::told::push_told_line;
 use crate::trees::shown::push_kind;
 use std::alloc::{AllocError, Global};
-use toml_span::value::{Value, in_text_order};
-use toml_span_walk::{Step, nodes};
+use toml_span::value::{Step, Value, in_text_order, nodes};
 
 /// Adds the keys of the root.
 pub fn push_order(alloc: Global, root: &Value<'_>, out: &mut String) -> Result<(), AllocError> {

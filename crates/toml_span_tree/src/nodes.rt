@@ -1,12 +1,10 @@
 //! All values of a tree with the paths that lead to them.
-#![tactic(auto)]
-
 ghost use Rattle.std.specs.Prelude.{◌≡◌, ◌++◌, ◌∷◌, [], IfOk, OnOk, map};
 ghost use Rattle.toml_span_tree.specs.Value.{items_view, members_view, view};
-ghost use Rattle.toml_span_walk.specs.Nodes.{items_nodes, members_nodes, nodes_from, seen, step_of};
+ghost use Rattle.toml_span_tree.specs.Nodes.{items_nodes, members_nodes, nodes_from, seen, step_of};
 
+use crate::value::{Table, Value, ValueInner};
 use std::alloc::{AllocError, Global};
-use toml_span_tree::{Table, Value, ValueInner};
 
 /// A step down: to the entry of a table with a name, or to the element of an array at a position,
 /// counted from 0.

@@ -1,8 +1,8 @@
 use Rattle.std.proofs.Common.{◌≡◌, ◌≤◌, suc, ◌++◌, drop, map}
 use Rattle.toml_span_tree.specs.Value.{view, items_view, members_view}
 use Rattle.toml_span_tree.proofs.Sizes.{node_size, items_size, members_size}
-use Rattle.toml_span_walk.specs.Nodes.{items_nodes, members_nodes, seen, step_of}
-use Rattle.toml_span_walk.proofs.+push_node.Given as goal
+use Rattle.toml_span_tree.specs.Nodes.{items_nodes, members_nodes, seen, step_of}
+use Rattle.toml_span_tree.proofs.nodes.+push_node.Given as goal
 
 abbrev pub decreases-push_node : goal.decreases-push_node
 decreases-push_node l = node_size (view l.value.now)

@@ -4,9 +4,9 @@ use Rattle.toml_span_tree.specs.Node.{Node, node, Inner, taken, scalar, array, t
 use Rattle.toml_span_tree.specs.Node.{no_members, member}
 use Rattle.toml_span_tree.specs.Path.{Path, Step, key, position}
 use Rattle.toml_span_tree.specs.Value.{view}
-use Rattle.toml_span_walk.specs.declared.Step.{Step as Lent}
-use Rattle.toml_span_walk.specs.declared.Step.TheVariants as lent
-use Rattle.toml_span_walk.specs.declared.Visited.{Visited}
+use Rattle.toml_span_tree.specs.declared.nodes.Step.{Step as Lent}
+use Rattle.toml_span_tree.specs.declared.nodes.Step.TheVariants as lent
+use Rattle.toml_span_tree.specs.declared.nodes.Visited.{Visited}
 
 abbrev pub step_of : Lent → Step
 step_of (lent.Key name) = key name.now
