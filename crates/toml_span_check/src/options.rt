@@ -34,7 +34,7 @@ pub(crate) struct Options<'w> {
     pub(crate) names: Vec<&'w str>,
 }
 
-/// A word with one of these values, the first where it is not given.
+/// A word with one of these values, and `default` where it is not given.
 fn choice<'w>(alloc: Global, name: &'w str, values: &'w [&'w str], default: &'w str) -> Arg<'w> {
     Arg::new(alloc, name)
         .long(name)
