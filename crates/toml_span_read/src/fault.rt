@@ -116,7 +116,7 @@ pub struct Fault {
 }
 
 /// A fault of one byte.
-pub fn fault_at(kind: FaultKind, at: usize) -> Fault
+pub(crate) fn fault_at(kind: FaultKind, at: usize) -> Fault
     requires { at < usize.MAX }
     ensures { result ≡ spec.fault_at kind at }
 {

@@ -86,7 +86,7 @@ pub fn dot(text: &str, at: usize) -> Option<usize>
 
 /// What is behind a byte of ASCII.
 #[inline]
-pub fn behind_byte(text: &str, at: usize) -> usize
+pub(crate) fn behind_byte(text: &str, at: usize) -> usize
     requires some { 0 < slice_index text.now at }
     requires ascii { slice_index text.now at < 128 }
     ensures value { result ≡ at + 1 }
@@ -99,7 +99,7 @@ pub fn behind_byte(text: &str, at: usize) -> usize
 /// What is behind an opening bracket and the gap behind it.
 ///
 /// `array-open = %x5B`, `inline-table-open = %x7B` (TOML 1.1, Array, Inline Table)
-pub fn opened(text: &str, at: usize) -> usize
+pub(crate) fn opened(text: &str, at: usize) -> usize
     requires some { 0 < slice_index text.now at }
     requires ascii { slice_index text.now at < 128 }
     ensures run { MaximalGap text.now (at + 1) result }

@@ -21,7 +21,7 @@ use toml_span_lex::span::Span;
 use toml_span_lex::stop::Stop;
 
 /// Puts one more at the end.
-pub fn add<T: Drop>(items: &mut Vec<T>, item: T) -> Result<(), AllocError>
+pub(crate) fn add<T: Drop>(items: &mut Vec<T>, item: T) -> Result<(), AllocError>
     ensures { OnOk result (items.new.items ≡ items.old.items ++ (item ∷ [])) }
 {
     items.push(item)?;
@@ -64,7 +64,7 @@ fn quoted_key<'de>(
 /// several lines `MultilineStringKey`; else that of the string.
 ///
 /// `simple-key = quoted-key / unquoted-key` (TOML 1.1, Keys)
-pub fn simple_key<'de>(
+pub(crate) fn simple_key<'de>(
     alloc: Global,
     text: &'de str,
     at: usize,
@@ -91,7 +91,7 @@ pub fn simple_key<'de>(
 /// and `ExceededDepthLimit` at the part past the limit.
 ///
 /// `key = simple-key / dotted-key`, `dotted-key = simple-key 1*( dot-sep simple-key )` (TOML 1.1, Keys)
-pub fn dotted_key<'de>(
+pub(crate) fn dotted_key<'de>(
     alloc: Global,
     text: &'de str,
     at: usize,
@@ -121,7 +121,7 @@ pub fn dotted_key<'de>(
 /// The parts of a header at a place, at most `limit`, and where they end, with the faults of `dotted_key`.
 ///
 /// `key = simple-key / dotted-key`, in `std-table = std-table-open key std-table-close` (TOML 1.1, Table)
-pub fn header_key<'de>(
+pub(crate) fn header_key<'de>(
     alloc: Global,
     text: &'de str,
     at: usize,

@@ -510,7 +510,7 @@ fn unsigned<'de>(
 ///
 /// `integer = dec-int / hex-int / oct-int / bin-int`, `float = float-int-part ( exp / frac [ exp ] )`,
 /// `float =/ special-float` (TOML 1.1, Integer, Float)
-pub fn number<'de>(
+pub(crate) fn number<'de>(
     alloc: Global,
     text: &'de str,
     at: usize,

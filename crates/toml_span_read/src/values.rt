@@ -42,7 +42,7 @@ use toml_span_tree::DateText;
 ///
 /// `val = string / boolean / array / inline-table / date-time / float / integer` (TOML 1.1, Key/Value Pair)
 #[cycle(read)]
-pub fn value<'de>(
+pub(crate) fn value<'de>(
     alloc: Global,
     text: &'de str,
     at: usize,
@@ -369,7 +369,7 @@ fn inline_of<'de>(pairs: Vec<Assignment<'de>>, start: usize, end: usize) -> Val<
 }
 
 /// The assignment of a value to a key.
-pub fn assigned<'de>(
+pub(crate) fn assigned<'de>(
     parts: DottedKey<'de>,
     value: Val<'de>,
     start: usize,

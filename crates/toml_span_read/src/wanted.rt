@@ -112,7 +112,7 @@ fn pieced_string<'de>(
 /// The string that begins at a place: its content, its span, whether it is of several lines, and where it ends.
 /// The fault is that of the string as a token.
 #[inline]
-pub fn string<'de>(
+pub(crate) fn string<'de>(
     alloc: Global,
     text: &'de str,
     at: usize,
@@ -164,7 +164,7 @@ fn string_found(is_multiline: bool) -> Found
 
 /// Whether a string opens with this byte.
 #[inline]
-pub fn opens_string(byte: u8) -> bool
+pub(crate) fn opens_string(byte: u8) -> bool
     ensures { result ≡ (byte == quotation_mark || byte == apostrophe) }
 {
     byte == b'"' || byte == b'\''
@@ -192,7 +192,7 @@ fn found_at(alloc: Global, text: &str, at: usize) -> Result<(Found, usize), Stop
 }
 
 /// The fault of a place where another token stands than the one that is due.
-pub fn wanted(alloc: Global, text: &str, at: usize, expected: Due) -> Stop<Fault>
+pub(crate) fn wanted(alloc: Global, text: &str, at: usize, expected: Due) -> Stop<Fault>
     requires { IsCharBoundary text.now at }
     ensures gives { WantedGives text.now at expected result }
     ensures placed { faults_code.IsPlacedStop text.now result }
@@ -214,7 +214,7 @@ pub fn wanted(alloc: Global, text: &str, at: usize, expected: Due) -> Stop<Fault
 
 /// The fault of a place where a value is due and none begins: the text ends, or another token stands
 /// there.
-pub fn no_value(alloc: Global, text: &str, at: usize) -> Stop<Fault>
+pub(crate) fn no_value(alloc: Global, text: &str, at: usize) -> Stop<Fault>
     requires { IsCharBoundary text.now at }
     ensures gives { NoValueGives text.now at result }
     ensures placed { faults_code.IsPlacedStop text.now result }

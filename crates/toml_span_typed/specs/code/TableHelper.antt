@@ -1,7 +1,31 @@
--- Keys with their spans, as a helper lists them.
-use Rattle.std.specs.Prelude.{ℕ, List, String, string_bytes}
+-- How a helper reads what it moved out of its table, and keys with their spans, as it lists them.
+use Rattle.std.specs.Prelude.{◌≡◌, ℕ, List, String, string_bytes, Option, Some, None, Result, Ok, Err}
+use Rattle.std.specs.declared.alloc.AllocError.{AllocError}
 use Rattle.std.specs.declared.alloc.Global.{Global}
 use Rattle.toml_span_lex.specs.declared.span.Span.{Span}
+use Rattle.toml_span_lex.specs.declared.stop.Stop.{Stop}
+use Rattle.toml_span_lex.specs.declared.stop.Stop.TheVariants as stop
+use Rattle.toml_span_tree.specs.declared.error.Error.{Error}
+use Rattle.toml_span_tree.specs.Error.{content_of}
+use Rattle.toml_span_tree.specs.Node.{Node}
+use Rattle.toml_span_typed.specs.Errors.{Errors, all}
+use Rattle.toml_span_typed.specs.TableHelper.{State, keeping}
+
+-- the element, or the last of the errors that are kept
+abbrev pub ReadsValue : {T : Type 0} → (Node → Result T Errors → Node → Type 0) → Node → State → Result T (Stop Error)
+    → State → Type 0
+ReadsValue reads value before (Ok x) after = (left : Node) × reads value (Ok x) left × (after ≡ before)
+ReadsValue reads value before (Err (stop.Fault error)) after = (faults : Errors) × (left : Node)
+    × reads value (Err faults) left × (content_of error ≡ faults.last) × (after ≡ keeping (all faults) before)
+ReadsValue reads value before (Err (stop.Memory error)) after = after ≡ before
+
+-- the element, or None, and the errors are kept
+abbrev pub TriesValue : {T : Type 0} → (Node → Result T Errors → Node → Type 0) → Node → State
+    → Result (Option T) AllocError → State → Type 0
+TriesValue reads value before (Ok (Some x)) after = (left : Node) × reads value (Ok x) left × (after ≡ before)
+TriesValue reads value before (Ok None) after = (faults : Errors) × (left : Node) × reads value (Err faults) left
+    × (after ≡ keeping (all faults) before)
+TriesValue reads value before (Err error) after = after ≡ before
 
 -- a key's name and its span
 abbrev pub key_text : String Global × Span → List ℕ × Span

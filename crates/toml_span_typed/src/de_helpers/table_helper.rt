@@ -58,10 +58,13 @@ impl<'de> TableHelper<'de> {
     ghost use Rattle.toml_span_tree.specs.Value.{is_taken, is_whole};
     ghost use Rattle.toml_span_typed.specs.Errors.{all};
     ghost use Rattle.toml_span_typed.specs.Reads.{Taken, result_map, spanned};
+    ghost use Rattle.std.specs.Prelude.{◌+◌, ◌≤◌};
+    ghost use Rattle.toml_span_typed.specs.Fields.{kept, lacking};
     ghost use Rattle.toml_span_typed.specs.TableHelper.{AllWhole, EndsWithErrors, Finalizes, HoldsRest, Leaves};
     ghost use Rattle.toml_span_typed.specs.TableHelper.{OpensTable, Refuses};
     ghost use Rattle.toml_span_typed.specs.TableHelper.{Requires, Takes, Tries, found, fresh, keeping, missing};
     ghost use Rattle.toml_span_typed.specs.TableHelper.{state_of, unasked, unexpected_entries};
+    ghost use Rattle.toml_span_typed.specs.code.TableHelper.{ReadsValue, TriesValue};
 
     /// A helper over the table that a value is, from which nothing may be taken. The value is taken.
     /// Of another kind, the error is `Wanted` "a table". Takes no memory.
@@ -120,20 +123,12 @@ impl<'de> TableHelper<'de> {
         ensures answer { Requires T.reads name.now (state_of self.old) result (state_of self.new) }
         ensures whole { AllWhole (state_of self.old) → AllWhole (state_of self.new) }
     {
-        match self.take(name) {
-            Err(e) => Err(Stop::Memory(e)),
-            Ok(None) => match self.keep(missing_field(name, self.span)) {
-                Ok(()) => Err(Stop::Fault(missing_field(name, self.span))),
-                Err(e) => Err(Stop::Memory(e)),
-            },
-            Ok(Some((_key, mut value))) => match T::deserialize(self.alloc, &mut value) {
-                Ok(x) => Ok(x),
-                Err(Stop::Memory(e)) => Err(Stop::Memory(e)),
-                Err(Stop::Fault(faults)) => match self.keep_all(faults) {
-                    Ok(last) => Err(Stop::Fault(last)),
-                    Err(e) => Err(Stop::Memory(e)),
-                },
-            },
+        match self.take(name)? {
+            Some((_key, mut value)) => self.read_value(&mut value),
+            None => {
+                self.keep(missing_field(name, self.span))?;
+                Err(Stop::Fault(missing_field(name, self.span)))
+            }
         }
     }
 
@@ -160,17 +155,9 @@ impl<'de> TableHelper<'de> {
         ensures answer { Tries T.reads name.now (state_of self.old) result (state_of self.new) }
         ensures whole { AllWhole (state_of self.old) → AllWhole (state_of self.new) }
     {
-        match self.take(name) {
-            Err(e) => Err(e),
-            Ok(None) => Ok(None),
-            Ok(Some((_key, mut value))) => match T::deserialize(self.alloc, &mut value) {
-                Ok(x) => Ok(Some(x)),
-                Err(Stop::Memory(e)) => Err(e),
-                Err(Stop::Fault(faults)) => match faults.append_to(&mut self.errors) {
-                    Ok(()) => Ok(None),
-                    Err(e) => Err(e),
-                },
-            },
+        match self.take(name)? {
+            Some((_key, mut value)) => self.try_value(&mut value),
+            None => Ok(None),
         }
     }
 
@@ -249,6 +236,42 @@ impl<'de> TableHelper<'de> {
         let keys = key_names(self.alloc, &self.table)?;
         let expected = copied_texts(self.alloc, self.asked.as_slice())?;
         Ok(Error::from((ErrorKind::UnexpectedKeys { keys, expected }, self.span)))
+    }
+
+    /// Reads a value. Where that fails, all its errors are kept, and the last one is answered; without memory
+    /// none is kept.
+    fn read_value<T: Deserialize<'de>>(
+        &mut self,
+        value: &mut Value<'de>,
+    ) -> Result<T, Stop<Error<'de>>>
+        requires { IsTrue (is_whole (view value.old)) }
+        ensures { ReadsValue T.reads (view value.old) (state_of self.old) result (state_of self.new) }
+    {
+        match T::deserialize(self.alloc, value) {
+            Ok(x) => Ok(x),
+            Err(Stop::Memory(e)) => Err(Stop::Memory(e)),
+            Err(Stop::Fault(faults)) => Err(Stop::Fault(self.keep_all(faults)?)),
+        }
+    }
+
+    /// Reads a value. Where that fails, all its errors are kept, and there is no answer; without memory none is
+    /// kept.
+    fn try_value<T: Deserialize<'de>>(
+        &mut self,
+        value: &mut Value<'de>,
+    ) -> Result<Option<T>, AllocError>
+        requires { IsTrue (is_whole (view value.old)) }
+        ensures answer { TriesValue T.reads (view value.old) (state_of self.old) result (state_of self.new) }
+        ensures told { IfOk result (λ field. kept (state_of self.old) + lacking field ≤ kept (state_of self.new)) }
+    {
+        match T::deserialize(self.alloc, value) {
+            Ok(x) => Ok(Some(x)),
+            Err(Stop::Memory(e)) => Err(e),
+            Err(Stop::Fault(faults)) => {
+                faults.append_to(&mut self.errors)?;
+                Ok(None)
+            }
+        }
     }
 
     /// Keeps one error.

@@ -72,20 +72,12 @@ impl<'de> TableHelper<'de> {
         ensures told { IfOk result (λ field. kept (state_of self.old) + lacking field ≤ kept (state_of self.new)) }
         ensures whole { AllWhole (state_of self.old) → AllWhole (state_of self.new) }
     {
-        match self.take(name) {
-            Err(e) => Err(e),
-            Ok(None) => match self.keep(missing_field(name, self.span)) {
-                Ok(()) => Ok(None),
-                Err(e) => Err(e),
-            },
-            Ok(Some((_key, mut value))) => match T::deserialize(self.alloc, &mut value) {
-                Ok(x) => Ok(Some(x)),
-                Err(Stop::Memory(e)) => Err(e),
-                Err(Stop::Fault(faults)) => match faults.append_to(&mut self.errors) {
-                    Ok(()) => Ok(None),
-                    Err(e) => Err(e),
-                },
-            },
+        match self.take(name)? {
+            Some((_key, mut value)) => self.try_value(&mut value),
+            None => {
+                self.keep(missing_field(name, self.span))?;
+                Ok(None)
+            }
         }
     }
 }
