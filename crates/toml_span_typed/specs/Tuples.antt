@@ -48,12 +48,6 @@ JoinsTwo (Ok a) (Ok b) answer = answer ≡ Ok (a, b)
 JoinsTwo first second (Err faults) = errors (first ∷ []) ++ errors (second ∷ []) ≡ all faults
 JoinsTwo first second (Ok pair) = ⊥
 
--- that, or want of memory
-abbrev pub IsPairRead : {A B : Type 0} → Result A Errors → Result B Errors → Result (A × B) (Stop Errors) → Type 0
-IsPairRead first second (Ok pair) = JoinsTwo first second (Ok pair)
-IsPairRead first second (Err (stop.Fault faults)) = JoinsTwo first second (Err faults)
-IsPairRead first second (Err (stop.Memory error)) = ⊤
-
 -- the readings of both elements of an array of two, joined; the array is taken
 abbrev pub pair_reads : {A B : Type 0} → (Node → Result A Errors → Node → Type 0)
     → (Node → Result B Errors → Node → Type 0)

@@ -1,8 +1,11 @@
 //! Reads of values as types of Rust.
-ghost use Rattle.std.specs.Prelude.{IsTrue, Result};
+ghost use Rattle.std.specs.Prelude.{◌≡◌, ◌+◌, ◌≤◌, IfOk, IsTrue, OnErr, Result, length, map};
+ghost use Rattle.toml_span_tree.specs.Error.{content_of};
 ghost use Rattle.toml_span_tree.specs.Node.{Node};
 ghost use Rattle.toml_span_tree.specs.Value.{is_whole, view};
 ghost use Rattle.toml_span_typed.specs.Errors.{Errors};
+ghost use Rattle.toml_span_typed.specs.Fields.{lacking};
+ghost use Rattle.toml_span_typed.specs.code.Arrays.{ReadsOrKeeps};
 ghost use Rattle.toml_span_typed.specs.Reads.{Answers};
 
 mod arrays;
@@ -15,9 +18,9 @@ mod tuples;
 
 use crate::deser_error::DeserError;
 pub use holders::Parsed;
-use std::alloc::Global;
+use std::alloc::{AllocError, Global};
 use toml_span_lex::stop::Stop;
-use toml_span_tree::Value;
+use toml_span_tree::{Error, Value};
 
 /// A type that can be read of a value.
 ///
@@ -33,4 +36,30 @@ pub trait Deserialize<'de>: Sized + Drop {
     fn deserialize(alloc: Global, value: &mut Value<'de>) -> Result<Self, Stop<DeserError<'de>>>
         requires { IsTrue (is_whole (view value.old)) }
         ensures { Answers reads starved (view value.old) result (view value.new) };
+}
+
+/// Reads a value. Where that fails, its errors are kept behind those of a list, and there is no answer; without
+/// memory none is kept.
+pub(crate) fn read_or_keep<'de, T: Deserialize<'de>>(
+    alloc: Global,
+    mut value: Value<'de>,
+    faults: &mut Vec<Error<'de>>,
+) -> Result<Option<T>, AllocError>
+    requires { IsTrue (is_whole (view value)) }
+    ensures ok { IfOk result (λ element. ReadsOrKeeps T.reads (view value.entry) (map content_of faults.old.items)
+        element (map content_of faults.new.items)) }
+    ensures told { IfOk result (λ element. length (map content_of faults.old.items) + lacking element
+        ≤ length (map content_of faults.new.items)) }
+    ensures err { OnErr result (faults.new.items ≡ faults.old.items) }
+{
+    let read = T::deserialize(alloc, &mut value);
+    drop(value);
+    match read {
+        Ok(element) => Ok(Some(element)),
+        Err(Stop::Fault(more)) => {
+            more.append_to(faults)?;
+            Ok(None)
+        }
+        Err(Stop::Memory(e)) => Err(e),
+    }
 }

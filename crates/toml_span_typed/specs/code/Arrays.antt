@@ -1,11 +1,12 @@
 -- How far the read of an array has come.
-use Rattle.std.specs.Prelude.{◌≡◌, ⊤, List, [], ◌∷◌, ◌++◌, Result, Ok, Err}
+use Rattle.std.specs.Prelude.{◌≡◌, ⊤, List, [], ◌∷◌, ◌++◌, Option, Some, None, Result, Ok, Err}
 use Rattle.toml_span_lex.specs.declared.stop.Stop.{Stop}
 use Rattle.toml_span_lex.specs.declared.stop.Stop.TheVariants as stop
 use Rattle.toml_span_tree.specs.Node.{Node}
 use Rattle.toml_span_tree.specs.Error.{ErrorContent}
-use Rattle.toml_span_typed.specs.Errors.{Errors}
+use Rattle.toml_span_typed.specs.Errors.{Errors, all}
 use Rattle.toml_span_typed.specs.Reads.{EachReads, elements, errors}
+use Rattle.toml_span_typed.specs.Tuples.{IsReadAs}
 
 -- the answer, if memory was there, is one that P allows
 abbrev pub Answered : {T : Type 0} → Result T (Stop Errors) → (Result T Errors → Type 0) → Type 0
@@ -27,3 +28,10 @@ abbrev pub AddsRead : {T : Type 0} → (Node → Result T Errors → Node → Ty
 AddsRead reads value xs faults ys more =
     (answer : Result _ Errors) × ((after : Node) × reads value answer after)
     × (ys ≡ xs ++ elements (answer ∷ [])) × (more ≡ faults ++ errors (answer ∷ []))
+
+-- a value is read: its element, or its errors are kept behind others
+abbrev pub ReadsOrKeeps : {T : Type 0} → (Node → Result T Errors → Node → Type 0) → Node → List ErrorContent → Option T
+    → List ErrorContent → Type 0
+ReadsOrKeeps reads value faults (Some x) more = IsReadAs reads value (Ok x) × (more ≡ faults)
+ReadsOrKeeps reads value faults None more =
+    (told : Errors) × IsReadAs reads value (Err told) × (more ≡ faults ++ all told)

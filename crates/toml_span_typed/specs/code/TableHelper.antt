@@ -1,6 +1,5 @@
 -- How a helper reads what it moved out of its table, and keys with their spans, as it lists them.
-use Rattle.std.specs.Prelude.{◌≡◌, ℕ, List, String, string_bytes, Option, Some, None, Result, Ok, Err}
-use Rattle.std.specs.declared.alloc.AllocError.{AllocError}
+use Rattle.std.specs.Prelude.{◌≡◌, ℕ, List, String, string_bytes, Result, Ok, Err}
 use Rattle.std.specs.declared.alloc.Global.{Global}
 use Rattle.toml_span_lex.specs.declared.span.Span.{Span}
 use Rattle.toml_span_lex.specs.declared.stop.Stop.{Stop}
@@ -18,14 +17,6 @@ ReadsValue reads value before (Ok x) after = (left : Node) × reads value (Ok x)
 ReadsValue reads value before (Err (stop.Fault error)) after = (faults : Errors) × (left : Node)
     × reads value (Err faults) left × (content_of error ≡ faults.last) × (after ≡ keeping (all faults) before)
 ReadsValue reads value before (Err (stop.Memory error)) after = after ≡ before
-
--- the element, or None, and the errors are kept
-abbrev pub TriesValue : {T : Type 0} → (Node → Result T Errors → Node → Type 0) → Node → State
-    → Result (Option T) AllocError → State → Type 0
-TriesValue reads value before (Ok (Some x)) after = (left : Node) × reads value (Ok x) left × (after ≡ before)
-TriesValue reads value before (Ok None) after = (faults : Errors) × (left : Node) × reads value (Err faults) left
-    × (after ≡ keeping (all faults) before)
-TriesValue reads value before (Err error) after = after ≡ before
 
 -- a key's name and its span
 abbrev pub key_text : String Global × Span → List ℕ × Span

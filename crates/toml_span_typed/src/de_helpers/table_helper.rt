@@ -11,7 +11,7 @@ mod fields;
 
 use crate::de_helpers::expected;
 use crate::deser_error::DeserError;
-use crate::deserialize::Deserialize;
+use crate::deserialize::{Deserialize, read_or_keep};
 use std::alloc::{AllocError, Global};
 use toml_span_lex::key::Key;
 use toml_span_lex::span::Span;
@@ -64,7 +64,7 @@ impl<'de> TableHelper<'de> {
     ghost use Rattle.toml_span_typed.specs.TableHelper.{OpensTable, Refuses};
     ghost use Rattle.toml_span_typed.specs.TableHelper.{Requires, Takes, Tries, found, fresh, keeping, missing};
     ghost use Rattle.toml_span_typed.specs.TableHelper.{state_of, unasked, unexpected_entries};
-    ghost use Rattle.toml_span_typed.specs.code.TableHelper.{ReadsValue, TriesValue};
+    ghost use Rattle.toml_span_typed.specs.code.TableHelper.{ReadsValue};
 
     /// A helper over the table that a value is, from which nothing may be taken. The value is taken.
     /// Of another kind, the error is `Wanted` "a table". Takes no memory.
@@ -124,7 +124,7 @@ impl<'de> TableHelper<'de> {
         ensures whole { AllWhole (state_of self.old) → AllWhole (state_of self.new) }
     {
         match self.take(name)? {
-            Some((_key, mut value)) => self.read_value(&mut value),
+            Some((_key, value)) => self.read_value(value),
             None => {
                 self.keep(missing_field(name, self.span))?;
                 Err(Stop::Fault(missing_field(name, self.span)))
@@ -156,7 +156,7 @@ impl<'de> TableHelper<'de> {
         ensures whole { AllWhole (state_of self.old) → AllWhole (state_of self.new) }
     {
         match self.take(name)? {
-            Some((_key, mut value)) => self.try_value(&mut value),
+            Some((_key, value)) => read_or_keep(self.alloc, value, &mut self.errors),
             None => Ok(None),
         }
     }
@@ -242,35 +242,17 @@ impl<'de> TableHelper<'de> {
     /// none is kept.
     fn read_value<T: Deserialize<'de>>(
         &mut self,
-        value: &mut Value<'de>,
+        mut value: Value<'de>,
     ) -> Result<T, Stop<Error<'de>>>
-        requires { IsTrue (is_whole (view value.old)) }
-        ensures { ReadsValue T.reads (view value.old) (state_of self.old) result (state_of self.new) }
+        requires { IsTrue (is_whole (view value)) }
+        ensures { ReadsValue T.reads (view value.entry) (state_of self.old) result (state_of self.new) }
     {
-        match T::deserialize(self.alloc, value) {
+        let read = T::deserialize(self.alloc, &mut value);
+        drop(value);
+        match read {
             Ok(x) => Ok(x),
             Err(Stop::Memory(e)) => Err(Stop::Memory(e)),
             Err(Stop::Fault(faults)) => Err(Stop::Fault(self.keep_all(faults)?)),
-        }
-    }
-
-    /// Reads a value. Where that fails, all its errors are kept, and there is no answer; without memory none is
-    /// kept.
-    fn try_value<T: Deserialize<'de>>(
-        &mut self,
-        value: &mut Value<'de>,
-    ) -> Result<Option<T>, AllocError>
-        requires { IsTrue (is_whole (view value.old)) }
-        ensures answer { TriesValue T.reads (view value.old) (state_of self.old) result (state_of self.new) }
-        ensures told { IfOk result (λ field. kept (state_of self.old) + lacking field ≤ kept (state_of self.new)) }
-    {
-        match T::deserialize(self.alloc, value) {
-            Ok(x) => Ok(Some(x)),
-            Err(Stop::Memory(e)) => Err(e),
-            Err(Stop::Fault(faults)) => {
-                faults.append_to(&mut self.errors)?;
-                Ok(None)
-            }
         }
     }
 
@@ -279,10 +261,8 @@ impl<'de> TableHelper<'de> {
         ensures ok { OnOk result (state_of self.new ≡ keeping (content_of error.entry ∷ []) (state_of self.old)) }
         ensures err { OnErr result (state_of self.new ≡ state_of self.old) }
     {
-        match self.errors.push(error) {
-            Ok(()) => Ok(()),
-            Err(_) => Err(AllocError),
-        }
+        self.errors.push(error)?;
+        Ok(())
     }
 
     /// Keeps the errors of a read, and gives a copy of the last one. Without memory it keeps none.

@@ -1,17 +1,16 @@
 //! Reads of arrays.
-ghost use Rattle.std.specs.Prelude.{◌≡◌, ◌++◌, IsTrue, OnOk};
+ghost use Rattle.std.specs.Prelude.{IsTrue, OnOk, map};
+ghost use Rattle.toml_span_tree.specs.Error.{content_of};
 ghost use Rattle.toml_span_tree.specs.Value.{all_whole, is_whole, items_view, view};
 ghost use Rattle.toml_span_typed.specs.code.Arrays.{AddsRead, Answered};
-ghost use Rattle.toml_span_typed.specs.Errors.{all};
-ghost use Rattle.toml_span_typed.specs.code.Errors.{all_of_option};
 ghost use Rattle.toml_span_typed.specs.Reads.{ReadsAll, Taken, array_reads, nodes_of, result_map};
 
 use crate::de_helpers::expected;
 use crate::deser_error::DeserError;
-use crate::deserialize::Deserialize;
+use crate::deserialize::{Deserialize, read_or_keep};
 use std::alloc::{AllocError, Global};
 use toml_span_lex::stop::Stop;
-use toml_span_tree::{Value, ValueInner};
+use toml_span_tree::{Error, Value, ValueInner};
 
 impl<'de, T: Deserialize<'de>> Deserialize<'de> for Vec<T> {
     ghost reads = { λ v r w. array_reads T.reads v (result_map (λ x. x.items) r) w };
@@ -36,13 +35,13 @@ fn read_all<'de, T: Deserialize<'de>>(
         (result_map (λ v. v.items) r)) }
 {
     let mut read = Vec::new(alloc);
-    let mut faults = None;
+    let mut faults = Vec::new(alloc);
     for item in items {
         if let Err(e) = read_next(alloc, item, &mut read, &mut faults) {
             return Err(Stop::Memory(e));
         }
     }
-    match faults {
+    match DeserError::from_list(faults) {
         None => Ok(read),
         Some(faults) => Err(Stop::Fault(faults)),
     }
@@ -51,40 +50,19 @@ fn read_all<'de, T: Deserialize<'de>>(
 /// Reads one more value.
 fn read_next<'de, T: Deserialize<'de>>(
     alloc: Global,
-    mut item: Value<'de>,
+    item: Value<'de>,
     read: &mut Vec<T>,
-    faults: &mut Option<DeserError<'de>>,
+    faults: &mut Vec<Error<'de>>,
 ) -> Result<(), AllocError>
     requires { IsTrue (is_whole (view item)) }
-    ensures { OnOk result (AddsRead T.reads (view item.entry) read.old.items (all_of_option faults.old)
-        read.new.items (all_of_option faults.new)) }
+    ensures { OnOk result (AddsRead T.reads (view item.entry) read.old.items (map content_of faults.old.items)
+        read.new.items (map content_of faults.new.items)) }
 {
-    match T::deserialize(alloc, &mut item) {
-        Ok(element) => match read.push(element) {
+    match read_or_keep(alloc, item, faults)? {
+        Some(element) => match read.push(element) {
             Ok(()) => Ok(()),
             Err(_) => Err(AllocError),
         },
-        Err(Stop::Fault(more)) => add(faults, alloc, more),
-        Err(Stop::Memory(e)) => Err(e),
-    }
-}
-
-/// Puts errors behind those that there may be.
-pub(crate) fn add<'s>(
-    faults: &mut Option<DeserError<'s>>,
-    alloc: Global,
-    more: DeserError<'s>,
-) -> Result<(), AllocError>
-    ensures { OnOk result (all_of_option faults.new ≡ all_of_option faults.old ++ all more.entry) }
-{
-    match faults {
-        Some(faults) => match faults.merge(alloc, more) {
-            Ok(()) => Ok(()),
-            Err(refused) => Err(refused.error),
-        },
-        None => {
-            *faults = Some(more);
-            Ok(())
-        }
+        None => Ok(()),
     }
 }

@@ -1,22 +1,21 @@
 //! Reads of tables whose keys are not known beforehand.
 ghost use Rattle.std.specs.Prelude.{◌≡◌, IsTrue, OnOk, map};
 ghost use Rattle.std.specs.Cow.{cow_str_bytes};
+ghost use Rattle.toml_span_tree.specs.Error.{content_of};
 ghost use Rattle.toml_span_tree.specs.Value.{all_members_whole, is_whole, members_view, view};
 ghost use Rattle.toml_span_typed.specs.code.Arrays.{Answered};
-ghost use Rattle.toml_span_typed.specs.code.Errors.{all_of_option};
 ghost use Rattle.toml_span_typed.specs.code.Maps.{AddsEntry};
 ghost use Rattle.toml_span_typed.specs.Maps.{ReadsEntries, holding, shown_pair, table_reads};
 ghost use Rattle.toml_span_typed.specs.Reads.{Taken, result_map};
 
 use crate::de_helpers::expected;
 use crate::deser_error::DeserError;
-use crate::deserialize::Deserialize;
-use crate::deserialize::arrays::add;
+use crate::deserialize::{Deserialize, read_or_keep};
 use std::alloc::{AllocError, Global};
 use std::collections::BTreeMap;
 use toml_span_lex::key::Key;
 use toml_span_lex::stop::Stop;
-use toml_span_tree::{Table, Value, ValueInner};
+use toml_span_tree::{Error, Table, Value, ValueInner};
 
 impl<'de, T: Deserialize<'de>> Deserialize<'de> for BTreeMap<String, T> {
     ghost reads = { λ v r w. table_reads T.reads v (result_map (λ m. map shown_pair m.entries) r) w };
@@ -44,13 +43,13 @@ fn read_entries<'de, T: Deserialize<'de>>(
         (result_map (λ m. map shown_pair m.entries) r)) }
 {
     let mut read = BTreeMap::new(alloc);
-    let mut faults = None;
+    let mut faults = Vec::new(alloc);
     for (key, item) in table {
         if let Err(e) = read_entry(alloc, key, item, &mut read, &mut faults) {
             return Err(Stop::Memory(e));
         }
     }
-    match faults {
+    match DeserError::from_list(faults) {
         None => Ok(read),
         Some(faults) => Err(Stop::Fault(faults)),
     }
@@ -60,19 +59,18 @@ fn read_entries<'de, T: Deserialize<'de>>(
 fn read_entry<'de, T: Deserialize<'de>>(
     alloc: Global,
     key: Key<'de>,
-    mut item: Value<'de>,
+    item: Value<'de>,
     read: &mut BTreeMap<String, T>,
-    faults: &mut Option<DeserError<'de>>,
+    faults: &mut Vec<Error<'de>>,
 ) -> Result<(), AllocError>
     requires { IsTrue (is_whole (view item)) }
     ensures { OnOk result (AddsEntry T.reads (cow_str_bytes key.entry.name) (view item.entry)
-        (map shown_pair read.old.entries) (all_of_option faults.old) (map shown_pair read.new.entries)
-        (all_of_option faults.new)) }
+        (map shown_pair read.old.entries) (map content_of faults.old.items) (map shown_pair read.new.entries)
+        (map content_of faults.new.items)) }
 {
-    match T::deserialize(alloc, &mut item) {
-        Ok(element) => put(alloc, read, key, element),
-        Err(Stop::Fault(more)) => add(faults, alloc, more),
-        Err(Stop::Memory(e)) => Err(e),
+    match read_or_keep(alloc, item, faults)? {
+        Some(element) => put(alloc, read, key, element),
+        None => Ok(()),
     }
 }
 

@@ -2,13 +2,12 @@
 ghost use Rattle.std.specs.Prelude.{◌≡◌, IfErr, IfOk, IsTrue};
 ghost use Rattle.toml_span_tree.specs.Value.{is_whole, view};
 ghost use Rattle.toml_span_typed.specs.Reads.{Taken};
-ghost use Rattle.toml_span_typed.specs.Tuples.{IsPairRead, IsReadAs, RefusesLength, TellsOne, holds_two, other_length};
-ghost use Rattle.toml_span_typed.specs.Tuples.{pair_reads};
+ghost use Rattle.toml_span_typed.specs.Tuples.{RefusesLength, TellsOne, holds_two, other_length, pair_reads};
 
 use crate::de_helpers::expected;
 use crate::deser_error::DeserError;
-use crate::deserialize::Deserialize;
-use std::alloc::{AllocError, Global};
+use crate::deserialize::{Deserialize, read_or_keep};
+use std::alloc::Global;
 use std::borrow::CowStr;
 use toml_span_lex::span::Span;
 use toml_span_lex::stop::Stop;
@@ -27,9 +26,13 @@ impl<'de, A: Deserialize<'de>, B: Deserialize<'de>> Deserialize<'de> for (A, B) 
             Ok(elements) => elements,
             Err(stop) => return Err(stop),
         };
-        let first: Result<A, DeserError<'de>> = read_one(alloc, first)?;
-        let second: Result<B, DeserError<'de>> = read_one(alloc, second)?;
-        both(alloc, first, second)
+        let mut faults: Vec<Error<'de>> = Vec::new(alloc);
+        let first: Option<A> = read_or_keep(alloc, first, &mut faults)?;
+        let second: Option<B> = read_or_keep(alloc, second, &mut faults)?;
+        match DeserError::from_list(faults) {
+            None => Ok((first.unwrap(), second.unwrap())),
+            Some(faults) => Err(Stop::Fault(faults)),
+        }
     }
 }
 
@@ -68,43 +71,5 @@ fn miscounted<'s>(alloc: Global, wanted: usize, found: usize, span: Span) -> Sto
             Stop::Fault(Error::from((kind, span)).into())
         }
         Err(e) => Stop::Memory(e),
-    }
-}
-
-/// Reads an element.
-fn read_one<'de, T: Deserialize<'de>>(
-    alloc: Global,
-    mut element: Value<'de>,
-) -> Result<Result<T, DeserError<'de>>, AllocError>
-    requires { IsTrue (is_whole (view element)) }
-    ensures { IfOk result (IsReadAs T.reads (view element.entry)) }
-{
-    match T::deserialize(alloc, &mut element) {
-        Ok(read) => Ok(Ok(read)),
-        Err(Stop::Fault(faults)) => Ok(Err(faults)),
-        Err(Stop::Memory(e)) => Err(e),
-    }
-}
-
-/// Both elements, or the errors of both.
-fn both<'s, A: Drop, B: Drop>(
-    alloc: Global,
-    first: Result<A, DeserError<'s>>,
-    second: Result<B, DeserError<'s>>,
-) -> Result<(A, B), Stop<DeserError<'s>>>
-    ensures { IsPairRead first.entry second.entry result }
-{
-    match first {
-        Ok(a) => match second {
-            Ok(b) => Ok((a, b)),
-            Err(faults) => Err(Stop::Fault(faults)),
-        },
-        Err(mut faults) => match second {
-            Ok(_) => Err(Stop::Fault(faults)),
-            Err(more) => match faults.merge(alloc, more) {
-                Ok(()) => Err(Stop::Fault(faults)),
-                Err(refused) => Err(Stop::Memory(refused.error)),
-            },
-        },
     }
 }

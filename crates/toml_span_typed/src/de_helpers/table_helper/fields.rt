@@ -6,7 +6,7 @@ ghost use Rattle.toml_span_typed.specs.TableHelper.{AllWhole, HoldsRest, Tries, 
 
 use crate::de_helpers::table_helper::{TableHelper, missing_field};
 use crate::deser_error::DeserError;
-use crate::deserialize::Deserialize;
+use crate::deserialize::{Deserialize, read_or_keep};
 use std::alloc::AllocError;
 use toml_span_lex::stop::Stop;
 use toml_span_tree::Value;
@@ -73,7 +73,7 @@ impl<'de> TableHelper<'de> {
         ensures whole { AllWhole (state_of self.old) → AllWhole (state_of self.new) }
     {
         match self.take(name)? {
-            Some((_key, mut value)) => self.try_value(&mut value),
+            Some((_key, value)) => read_or_keep(self.alloc, value, &mut self.errors),
             None => {
                 self.keep(missing_field(name, self.span))?;
                 Ok(None)

@@ -22,12 +22,12 @@ loop-item-preserved g c =
       done = rw (map-append view before (item ∷ [])) (read_more _ _ _ _ _ _ _ c.loop-item.invariant.done c.in_default.ensures);
     }
 
-pub returns-in-None-faults : goal.returns-in-None-faults
-returns-in-None-faults g c =
+pub returns-in-None-from_list : goal.returns-in-None-from_list
+returns-in-None-from_list g c =
     let ends : c.loop-item.yielded ≡ c.args.items.items = grind (arith, common_steps) in
-    rw (sym ends) (joined_elements _ _ _ _ (ap all_of_option c.in-None-faults.is) c.loop-item.invariant.done)
+    rw (sym ends) (joined_elements _ _ _ _ (sym c.from_list.ensures ∙ ap all_of_option c.in-None-from_list.is) c.loop-item.invariant.done)
 
 pub returns : goal.returns
 returns g c =
     let ends : c.loop-item.yielded ≡ c.args.items.items = grind (arith, common_steps) in
-    rw (sym ends) (joined_errors _ _ _ _ _ (ap all_of_option c.in-Some-faults.is) c.loop-item.invariant.done)
+    rw (sym ends) (joined_errors _ _ _ _ _ (sym c.from_list.ensures ∙ ap all_of_option c.in-Some-from_list.is) c.loop-item.invariant.done)

@@ -18,16 +18,16 @@ loop-key-preserved g c =
       done = entry_more _ before e _ _ _ _ c.loop-key.invariant.done c.in_default.ensures;
     }
 
-pub returns-in-None-faults : goal.returns-in-None-faults
-returns-in-None-faults g c =
+pub returns-in-None-from_list : goal.returns-in-None-from_list
+returns-in-None-from_list g c =
     let ends : c.loop-key.yielded ≡ c.args.table.entries = grind (arith, common_steps) in
     let done = read_as_members g.T.Deserialize.reads c.loop-key.yielded _ _ c.loop-key.invariant.done in
-    let none = ap all_of_option c.in-None-faults.is in
+    let none = sym c.from_list.ensures ∙ ap all_of_option c.in-None-from_list.is in
     rw (sym ends) (done.0, done.1, done.2, done.3 ∙ none)
 
 pub returns : goal.returns
 returns g c =
     let ends : c.loop-key.yielded ≡ c.args.table.entries = grind (arith, common_steps) in
     let done = read_as_members g.T.Deserialize.reads c.loop-key.yielded _ _ c.loop-key.invariant.done in
-    let some = ap all_of_option c.in-Some-faults.is in
+    let some = sym c.from_list.ensures ∙ ap all_of_option c.in-Some-from_list.is in
     rw (sym ends) (_, (done.0, done.1, done.2, done.3 ∙ some))
