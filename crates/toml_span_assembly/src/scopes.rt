@@ -104,6 +104,7 @@ fn assign<'de>(
     admit_beside_table(alloc, &node.tables, mark, &key)?;
     match node.values.entry(key)? {
         Entry::Occupied(entry) => {
+            drop(value);
             let earlier = entry.key();
             admit(
                 alloc,

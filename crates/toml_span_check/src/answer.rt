@@ -165,12 +165,14 @@ fn answer_text<'t>(
 {
     match parse(alloc, text) {
         Ok(root) => {
-            let answer = given(alloc, format, task, pointer, name, &root)?;
-            Ok(answer)
+            let answer = given(alloc, format, task, pointer, name, &root);
+            drop(root);
+            answer
         }
         Err(Stop::Fault(error)) => {
-            let out = error_text(alloc, format, &error, name, text)?;
-            Ok((1, out))
+            let out = error_text(alloc, format, &error, name, text);
+            drop(error);
+            Ok((1, out?))
         }
         Err(Stop::Memory(error)) => Err(error),
     }

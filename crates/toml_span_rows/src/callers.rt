@@ -26,16 +26,16 @@ use toml_span::{Value, from_str, parse};
 pub fn answer(alloc: Global, row: Row<'_>, out: &mut String) -> Result<bool, AllocError> {
     let Row { call, text, .. } = row;
     match call {
-        "span_at" => push_told(&span_at(alloc, text, row.word(0)), out),
-        "integer_at" => push_told(&integer_at(alloc, text, row.word(0)), out),
-        "refused_at" => push_told(&refused_at(alloc, text), out),
-        "port_of" => push_told(&port_of(alloc, text), out),
-        "port_told" => push_told(&port_told(alloc, text), out),
+        "span_at" => push_told(span_at(alloc, text, row.word(0)), out),
+        "integer_at" => push_told(integer_at(alloc, text, row.word(0)), out),
+        "refused_at" => push_told(refused_at(alloc, text), out),
+        "port_of" => push_told(port_of(alloc, text), out),
+        "port_told" => push_told(port_told(alloc, text), out),
         "settings_of" => push_settings(alloc, text, out),
         "servers_of" => push_servers(alloc, text, out),
         "with_value" => push_changed(alloc, row, out),
         "write_second" => push_second(alloc, text, out),
-        "holders" => push_told(&from_str::<Holders>(alloc, text), out),
+        "holders" => push_told(from_str::<Holders>(alloc, text), out),
         _ => return Ok(false),
     }?;
     Ok(true)
@@ -44,8 +44,8 @@ pub fn answer(alloc: Global, row: Row<'_>, out: &mut String) -> Result<bool, All
 /// Answers `settings_of`: the settings, or the errors.
 fn push_settings(alloc: Global, text: &str, out: &mut String) -> Result<(), AllocError> {
     match settings_of(alloc, text) {
-        Ok(read) => push_told(&(read.host.as_ref(), read.port, read.secure), out),
-        Err(stop) => push_told(&stop, out),
+        Ok(read) => push_told((read.host.as_ref(), read.port, read.secure), out),
+        Err(stop) => push_told(stop, out),
     }
 }
 
@@ -54,11 +54,11 @@ fn push_servers(alloc: Global, text: &str, out: &mut String) -> Result<(), Alloc
     match servers_of(alloc, text) {
         Ok(servers) => {
             for server in &servers {
-                push_told_line(&server.port, out)?;
+                push_told_line(server.port, out)?;
             }
             Ok(())
         }
-        Err(stop) => push_told(&stop, out),
+        Err(stop) => push_told(stop, out),
     }
 }
 
@@ -70,8 +70,8 @@ fn push_changed(alloc: Global, row: Row<'_>, out: &mut String) -> Result<(), All
         row.word(0),
         Value::new(ValueInner::Integer(7)),
     ) {
-        Ok(Some(root)) => push_lines(alloc, &root, 0, out),
-        other => push_told(&other, out),
+        Ok(Some(root)) => push_root(alloc, root, out),
+        other => push_told(other, out),
     }
 }
 
@@ -80,9 +80,18 @@ fn push_second(alloc: Global, text: &str, out: &mut String) -> Result<(), AllocE
     match parse(alloc, text) {
         Ok(mut root) => {
             let written = write_second(&mut root, Value::new(ValueInner::Integer(7)));
-            push_told_line(&written.is_ok(), out)?;
-            push_lines(alloc, &root, 0, out)
+            let done = written.is_ok();
+            drop(written);
+            out.push_str(if done { "true\n" } else { "false\n" })?;
+            push_root(alloc, root, out)
         }
-        Err(stop) => push_told(&stop, out),
+        Err(stop) => push_told(stop, out),
     }
+}
+
+/// Adds the lines of a tree.
+fn push_root(alloc: Global, root: Value<'_>, out: &mut String) -> Result<(), AllocError> {
+    let pushed = push_lines(alloc, &root, 0, out);
+    drop(root);
+    pushed
 }

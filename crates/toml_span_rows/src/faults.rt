@@ -16,13 +16,15 @@ const FILE: u8 = 7;
 fn push_error(alloc: Global, error: &Error<'_>, out: &mut String) -> Result<(), AllocError> {
     push_stand(error, out)?;
     writeln!(out, " {error}")?;
-    push_told(&error.to_diagnostic(alloc, FILE), out)
+    push_told(error.to_diagnostic(alloc, FILE), out)
 }
 
 /// Adds a further line if what an error's clone prints is not what was printed last.
-fn push_clone(alloc: Global, copy: &Error<'_>, out: &mut String) -> Result<(), AllocError> {
+fn push_clone(alloc: Global, copy: Error<'_>, out: &mut String) -> Result<(), AllocError> {
     let mut again = String::new(alloc);
-    push_error(alloc, copy, &mut again)?;
+    let pushed = push_error(alloc, &copy, &mut again);
+    drop(copy);
+    pushed?;
     if out.ends_with(again.as_str()) {
         return Ok(());
     }
@@ -32,16 +34,15 @@ fn push_clone(alloc: Global, copy: &Error<'_>, out: &mut String) -> Result<(), A
 /// Adds what an error prints, and its clone.
 pub fn push_twice(alloc: Global, error: &Error<'_>, out: &mut String) -> Result<(), AllocError> {
     push_error(alloc, error, out)?;
-    let copy = error.clone(alloc)?;
-    push_clone(alloc, &copy, out)
+    push_clone(alloc, error.clone(alloc)?, out)
 }
 
 /// Adds what clones of an error are and its diagnostic, each made twice, and then the error.
 fn push_copies(alloc: Global, error: &Error<'_>, out: &mut String) -> Result<(), AllocError> {
     for _ in 0..2 {
-        push_told_line(&error.kind.clone(alloc), out)?;
-        push_told_line(&error.clone(alloc), out)?;
-        push_told_line(&error.to_diagnostic(alloc, FILE), out)?;
+        push_told_line(error.kind.clone(alloc), out)?;
+        push_told_line(error.clone(alloc), out)?;
+        push_told_line(error.to_diagnostic(alloc, FILE), out)?;
     }
     push_told(error, out)
 }
@@ -58,10 +59,12 @@ pub fn answer(alloc: Global, row: Row<'_>, out: &mut String) -> Result<bool, All
     };
     let mut error = Error::from((kind, Span::new(4, 6)));
     error.line_info = Some((2, 3));
-    if copies {
+    let pushed = if copies {
         push_copies(alloc, &error, out)
     } else {
         push_twice(alloc, &error, out)
-    }?;
+    };
+    drop(error);
+    pushed?;
     Ok(true)
 }

@@ -55,7 +55,7 @@ fn span_of(row: Row<'_>) -> Option<Span> {
 fn push_span_told(span: Span, text: &str, out: &mut String) -> Result<(), AllocError> {
     let pair: (usize, usize) = span.into();
     let range: Range<usize> = span.into();
-    push_told(&(span.is_empty(), pair, range.start, range.end), out)?;
+    push_told((span.is_empty(), pair, range.start, range.end), out)?;
     if span.start <= span.end && span.end <= text.len() {
         let offset = Tokenizer::new(text).substr_offset(span);
         write!(out, " at {offset}")?;
@@ -76,9 +76,9 @@ fn push_spanned(
     let copy = wide.clone(alloc)?;
     let other = Spanned::new(u32::from(other));
     let same = (wide.eq_value(&other.value), copy == other);
-    push_told_line(&(copy.span, same, copy.cmp(&other)), out)?;
+    push_told_line((copy.span, same, copy.cmp(&other)), out)?;
     let default = Spanned::<u8>::default();
-    push_told(&(copy, default.span, default.take()), out)?;
+    push_told((copy, default.span, default.take()), out)?;
     Ok(true)
 }
 
@@ -88,7 +88,7 @@ fn push_key(alloc: Global, span: Span, row: Row<'_>, out: &mut String) -> Result
     let twin = key.clone(alloc)?;
     push_keys(&key, &twin, row.word(2), out)?;
     let default = Key::default();
-    push_told(&(default.span, default.name.as_ref()), out)
+    push_told((default.span, default.name.as_ref()), out)
 }
 
 /// Adds a key, the place of its clone, and how it compares with that and with one of another name.
@@ -112,8 +112,8 @@ fn push_copies(alloc: Global, span: Span, text: &str, out: &mut String) -> Resul
     let key = Key { name, span };
     let placed = Spanned::with_span(String::from_str(alloc, text)?, span);
     for _ in 0..2 {
-        push_told_line(&key.clone(alloc), out)?;
-        push_told_line(&placed.clone(alloc), out)?;
+        push_told_line(key.clone(alloc), out)?;
+        push_told_line(placed.clone(alloc), out)?;
     }
     Ok(())
 }

@@ -89,7 +89,11 @@ fn push_reading(
     match read_sections(alloc, row.text, limit) {
         Ok(_) if row.call == "reads" => out.push_str("read"),
         Ok(sections) => push_sections(out, sections.as_slice()),
-        Err(Stop::Fault(fault)) => push_fault(&fault, out),
+        Err(Stop::Fault(fault)) => {
+            let pushed = push_fault(&fault, out);
+            drop(fault);
+            pushed
+        }
         Err(Stop::Memory(refused)) => Err(refused),
     }
 }

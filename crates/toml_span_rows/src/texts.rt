@@ -35,8 +35,16 @@ fn is_within(text: &str, fault: &Error<'_>) -> bool {
 /// Whether a text gives a tree of which nothing is taken, or a fault within it.
 fn is_right(alloc: Global, text: &str) -> Result<bool, AllocError> {
     match parse(alloc, text) {
-        Ok(root) => Ok(root.is_whole()),
-        Err(Stop::Fault(fault)) => Ok(is_within(text, &fault)),
+        Ok(root) => {
+            let right = root.is_whole();
+            drop(root);
+            Ok(right)
+        }
+        Err(Stop::Fault(fault)) => {
+            let right = is_within(text, &fault);
+            drop(fault);
+            Ok(right)
+        }
         Err(Stop::Memory(refused)) => Err(refused),
     }
 }
@@ -49,7 +57,7 @@ fn push_cuts(alloc: Global, text: &str, out: &mut String) -> Result<(), AllocErr
             continue;
         };
         if !is_right(alloc, front)? {
-            return push_told(&front, out);
+            return push_told(front, out);
         }
         count = count.saturating_add(1);
     }

@@ -93,32 +93,40 @@ fn push_token(out: &mut String, span: Span, token: &Token<'_>) -> Result<(), All
 /// What a step answers.
 type Stepped<'t> = Result<Option<(Span, Token<'t>)>, Stop<Error>>;
 
-fn push_step(out: &mut String, answer: &Stepped<'_>) -> Result<(), AllocError> {
-    match answer {
+fn push_step(out: &mut String, answer: Stepped<'_>) -> Result<(), AllocError> {
+    let pushed = match &answer {
         Ok(Some((span, token))) => push_token(out, *span, token),
         Ok(None) => out.push_str("end"),
         Err(stop) => push_stop(out, stop),
-    }
+    };
+    drop(answer);
+    pushed
 }
 
 /// Adds the words for a token.
-fn push_words(out: &mut String, answer: &Stepped<'_>) -> Result<(), AllocError> {
-    match answer {
+fn push_words(out: &mut String, answer: Stepped<'_>) -> Result<(), AllocError> {
+    let pushed = match &answer {
         Ok(Some((_, token))) => out.push_str(token.describe()),
         Ok(None) => out.push_str("end"),
         Err(stop) => push_stop(out, stop),
-    }
+    };
+    drop(answer);
+    pushed
 }
 
-fn push_key(out: &mut String, answer: &Result<Key<'_>, Stop<Error>>) -> Result<(), AllocError> {
-    match answer {
-        Ok(key) => {
-            push_span(out, key.span)?;
-            write!(out, " {key}")?;
-            push_holder(out, &key.name)
-        }
+fn push_key(out: &mut String, answer: Result<Key<'_>, Stop<Error>>) -> Result<(), AllocError> {
+    let pushed = match &answer {
+        Ok(key) => push_name(out, key),
         Err(stop) => push_stop(out, stop),
-    }
+    };
+    drop(answer);
+    pushed
+}
+
+fn push_name(out: &mut String, key: &Key<'_>) -> Result<(), AllocError> {
+    push_span(out, key.span)?;
+    write!(out, " {key}")?;
+    push_holder(out, &key.name)
 }
 
 /// Makes the call of a name that expects a token, and adds its answer. Whether there is such a call.
@@ -130,10 +138,10 @@ fn push_expecting<'t>(
     out: &mut String,
 ) -> Result<bool, AllocError> {
     match name {
-        "eat" => push_told(&tokenizer.eat(alloc, token), out),
-        "eat_spanned" => push_told(&tokenizer.eat_spanned(alloc, token), out),
-        "expect" => push_told(&tokenizer.expect(alloc, token), out),
-        "expect_spanned" => push_told(&tokenizer.expect_spanned(alloc, token), out),
+        "eat" => push_told(tokenizer.eat(alloc, token), out),
+        "eat_spanned" => push_told(tokenizer.eat_spanned(alloc, token), out),
+        "expect" => push_told(tokenizer.expect(alloc, token), out),
+        "expect_spanned" => push_told(tokenizer.expect_spanned(alloc, token), out),
         _ => return Ok(false),
     }?;
     Ok(true)
@@ -155,14 +163,14 @@ fn push_call<'t>(
 ) -> Result<bool, AllocError> {
     let tokenizer = &mut tokenizers.used;
     match name {
-        "step" => push_step(out, &tokenizer.step(alloc)),
-        "peek" => push_step(out, &tokenizer.peek(alloc)),
-        "describe" => push_words(out, &tokenizer.step(alloc)),
-        "table_key" => push_key(out, &tokenizer.table_key(alloc)),
-        "eat_newline_or_eof" => push_told(&tokenizer.eat_newline_or_eof(alloc), out),
-        "eat_comment" => push_told(&tokenizer.eat_comment(), out),
-        "one" => push_told(&tokenizer.one(), out),
-        "current" => push_told(&tokenizer.current(), out),
+        "step" => push_step(out, tokenizer.step(alloc)),
+        "peek" => push_step(out, tokenizer.peek(alloc)),
+        "describe" => push_words(out, tokenizer.step(alloc)),
+        "table_key" => push_key(out, tokenizer.table_key(alloc)),
+        "eat_newline_or_eof" => push_told(tokenizer.eat_newline_or_eof(alloc), out),
+        "eat_comment" => push_told(tokenizer.eat_comment(), out),
+        "one" => push_told(tokenizer.one(), out),
+        "current" => push_told(tokenizer.current(), out),
         _ => return push_quiet_call(tokenizers, name, out),
     }?;
     Ok(true)
@@ -228,13 +236,14 @@ fn push_tokens(alloc: Global, text: &str, out: &mut String) -> Result<(), AllocE
     let mut tokenizer = Tokenizer::new(text);
     for _ in 0..=text.len() {
         let answer = tokenizer.step(alloc);
-        push_step(out, &answer)?;
-        if answer.is_err() {
+        let (failed, more) = (answer.is_err(), matches!(&answer, Ok(Some(_))));
+        push_step(out, answer)?;
+        if failed {
             let at = tokenizer.current();
             write!(out, " then {at}")?;
         }
         out.push('\n')?;
-        if !matches!(&answer, Ok(Some(_))) {
+        if !more {
             return Ok(());
         }
     }

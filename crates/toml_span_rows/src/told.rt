@@ -3,11 +3,11 @@ use std::alloc::AllocError;
 use std::fmt::Debug;
 
 /// Adds an answer.
-pub fn push_told<T: Debug>(told: &T, out: &mut String) -> Result<(), AllocError> {
+pub fn push_told<T: Debug + Drop>(told: T, out: &mut String) -> Result<(), AllocError> {
     write!(out, "{told:?}")
 }
 
 /// Adds an answer and a line end.
-pub fn push_told_line<T: Debug>(told: &T, out: &mut String) -> Result<(), AllocError> {
+pub fn push_told_line<T: Debug + Drop>(told: T, out: &mut String) -> Result<(), AllocError> {
     writeln!(out, "{told:?}")
 }

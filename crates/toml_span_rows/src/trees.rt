@@ -43,7 +43,7 @@ fn push_json(alloc: Global, root: &Value<'_>, out: &mut String) -> Result<(), Al
     let json = match root.to_json(alloc) {
         Ok(json) => json,
         Err(refused) => {
-            push_told_line(&refused, out)?;
+            push_told_line(refused, out)?;
             root.to_json(alloc)?
         }
     };
@@ -91,9 +91,15 @@ pub fn answer(alloc: Global, row: Row<'_>, out: &mut String) -> Result<bool, All
         return Ok(false);
     };
     match parse_with_limit(alloc, row.text, limit) {
-        Ok(mut root) => push_call(alloc, row, &mut root, out),
+        Ok(mut root) => {
+            let known = push_call(alloc, row, &mut root, out);
+            drop(root);
+            known
+        }
         Err(Stop::Fault(fault)) => {
-            push_refused(alloc, row.call, &fault, out)?;
+            let pushed = push_refused(alloc, row.call, &fault, out);
+            drop(fault);
+            pushed?;
             Ok(true)
         }
         Err(Stop::Memory(refused)) => Err(refused),

@@ -17,7 +17,7 @@ mod structs;
 use crate::Row;
 use crate::told::{push_told, push_told_line};
 use crate::trees::shown::push_lines;
-use crate::typed::lists::push_lists;
+use crate::typed::lists::{push_lists, push_told_lists};
 use crate::typed::odd::Never;
 use crate::typed::reads::{errors_of, push_read};
 use std::alloc::{AllocError, Global};
@@ -72,11 +72,10 @@ fn push_errors(
     value: &mut Value<'_>,
     out: &mut String,
 ) -> Result<bool, AllocError> {
-    let read = errors_of(alloc, name, value)?;
-    let Some(errors) = &read else {
+    let Some(errors) = errors_of(alloc, name, value)? else {
         return Ok(false);
     };
-    push_lists(errors, out)?;
+    push_told_lists(errors, out)?;
     Ok(true)
 }
 
@@ -126,7 +125,7 @@ fn push_merge<'de>(
     push_told_line(&merged, out)?;
     match merged {
         Ok(()) => Ok(()),
-        Err(unmerged) => push_told_line(&errors.merge(alloc, unmerged.other), out),
+        Err(unmerged) => push_told_line(errors.merge(alloc, unmerged.other), out),
     }
 }
 
@@ -135,7 +134,7 @@ fn push_expected(wanted: &str, value: &mut Value<'_>, out: &mut String) -> Resul
     if value.is_taken() {
         return Ok(());
     }
-    push_told(&expected(wanted, value.take(), value.span), out)
+    push_told(expected(wanted, value.take(), value.span), out)
 }
 
 /// Answers `parse_string`.
@@ -149,8 +148,8 @@ fn push_parsed(
         return Ok(false);
     }
     match name {
-        "u8" => push_told(&parse::<u8, _>(alloc, value), out),
-        "Never" => push_told(&parse::<Never, _>(alloc, value), out),
+        "u8" => push_told(parse::<u8, _>(alloc, value), out),
+        "Never" => push_told(parse::<Never, _>(alloc, value), out),
         _ => return Ok(false),
     }?;
     Ok(true)
@@ -162,7 +161,10 @@ fn push_opened(alloc: Global, value: &mut Value<'_>, out: &mut String) -> Result
         return Ok(());
     }
     match TableHelper::new(alloc, value) {
-        Ok(_helper) => out.push_str("opened"),
-        Err(errors) => push_told(&errors, out),
+        Ok(helper) => {
+            drop(helper);
+            out.push_str("opened")
+        }
+        Err(errors) => push_told(errors, out),
     }
 }

@@ -80,5 +80,6 @@ pub(crate) fn port_of<'de>(alloc: Global, text: &'de str) -> Result<u16, Stop<Er
     let Ok(mut helper) = TableHelper::new(alloc, &mut root) else {
         unreachable!()
     };
+    drop(root);
     helper.required::<u16>("port")
 }

@@ -30,7 +30,9 @@ pub fn from_str<'de, T: Deserialize<'de>>(
         Err(Stop::Memory(e)) => return Err(Stop::Memory(e)),
         Err(Stop::Fault(error)) => return Err(Stop::Fault(Error::Refused(error))),
     };
-    match read_lent(alloc, text, &root) {
+    let read = read_lent(alloc, text, &root);
+    drop(root);
+    match read {
         Ok(read) => Ok(read),
         Err(Stop::Memory(e)) => Err(Stop::Memory(e)),
         Err(Stop::Fault(misfit)) => Err(Stop::Fault(Error::Misfit(lined(text, misfit)))),

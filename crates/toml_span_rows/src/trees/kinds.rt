@@ -34,11 +34,11 @@ fn inner_kinds(inner: &ValueInner<'_>) -> [bool; 7] {
 
 fn push_place(place: &Place<'_, '_>, out: &mut String) -> Result<(), AllocError> {
     push_line(place, 0, out)?;
-    push_told_line(&value_kinds(place.value), out)?;
+    push_told_line(value_kinds(place.value), out)?;
     if place.value.is_taken() {
         return Ok(());
     }
-    push_told_line(&inner_kinds(place.value.as_ref()), out)
+    push_told_line(inner_kinds(place.value.as_ref()), out)
 }
 
 /// Adds the calls for each value of a tree.

@@ -10,7 +10,7 @@ pub fn push_order(alloc: Global, root: &Value<'_>, out: &mut String) -> Result<(
         return Ok(());
     };
     for (key, _) in in_text_order(alloc, table)?.iter() {
-        push_told_line(&(key.name.as_str(), key.span), out)?;
+        push_told_line((key.name.as_str(), key.span), out)?;
     }
     Ok(())
 }

@@ -21,8 +21,15 @@ fn push_moved_lines(alloc: Global, root: &Value<'_>, out: &mut String) -> Result
 fn push_reread(alloc: Global, piece: &str, out: &mut String) -> Result<(), AllocError> {
     let text = format!(in alloc; "{FRONT}{piece}")?;
     match parse(alloc, text.as_str()) {
-        Ok(root) => push_moved_lines(alloc, &root, out),
-        Err(Stop::Fault(_)) => Ok(()),
+        Ok(root) => {
+            let pushed = push_moved_lines(alloc, &root, out);
+            drop(root);
+            pushed
+        }
+        Err(Stop::Fault(fault)) => {
+            drop(fault);
+            Ok(())
+        }
         Err(Stop::Memory(refused)) => Err(refused),
     }
 }

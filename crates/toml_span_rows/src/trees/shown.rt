@@ -45,7 +45,7 @@ fn push_key(key: &Key<'_>, from: usize, out: &mut String) -> Result<(), AllocErr
 fn push_left(value: &Value<'_>, out: &mut String) -> Result<(), AllocError> {
     let kinds = value_kinds(value);
     if kinds.contains(&true) {
-        return push_told(&kinds, out);
+        return push_told(kinds, out);
     }
     Ok(())
 }
@@ -97,6 +97,13 @@ pub fn push_back(said: &str, value: &Value<'_>, out: &mut String) -> Result<(), 
     out.push_str(said)?;
     push_kind(value, 0, out)?;
     push_scalar(value, out)
+}
+
+/// The same of a value that is told once.
+pub fn push_told_back(said: &str, value: Value<'_>, out: &mut String) -> Result<(), AllocError> {
+    let pushed = push_back(said, &value, out);
+    drop(value);
+    pushed
 }
 
 /// Adds what a pointer names.

@@ -14,7 +14,7 @@
 //! | `debug=POINTER` | what `{:?}` writes of it |
 //! | `has_key=NAME`, `has_keys`, `whole` | `has_key`, `has_keys` and `is_whole` of the root |
 use crate::told::push_told;
-use crate::trees::shown::{push_back, push_lines, push_named, push_string};
+use crate::trees::shown::{push_lines, push_named, push_string, push_told_back};
 use std::alloc::{AllocError, Global};
 use toml_span::value::{Pointer, Value, ValueInner};
 
@@ -50,7 +50,7 @@ fn push_take(value: &mut Value<'_>, out: &mut String) -> Result<(), AllocError> 
     if value.is_taken() {
         return out.push_str("taken");
     }
-    push_told(&value.take(), out)
+    push_told(value.take(), out)
 }
 
 /// Takes a value's string, which is not taken.
@@ -63,8 +63,12 @@ fn push_take_string(
         return out.push_str("taken");
     }
     match value.take_string(message) {
-        Ok(text) => push_string(&text, out),
-        Err(fault) => push_told(&fault, out),
+        Ok(text) => {
+            let pushed = push_string(&text, out);
+            drop(text);
+            pushed
+        }
+        Err(fault) => push_told(fault, out),
     }
 }
 
@@ -75,8 +79,8 @@ fn push_replace<'t>(
     out: &mut String,
 ) -> Result<(), AllocError> {
     match root.replace(pointer, Value::new(ValueInner::Integer(number))) {
-        Ok(old) => push_back("gives ", &old, out),
-        Err(back) => push_back("gives back ", &back, out),
+        Ok(old) => push_told_back("gives ", old, out),
+        Err(back) => push_told_back("gives back ", back, out),
     }
 }
 
@@ -142,11 +146,11 @@ fn push_operation<'t>(
         "find" => push_named(root.pointer(place), out),
         "look" => push_named(root.look_up(place), out),
         "at" => push_at(alloc, root, place, out),
-        "taken" => push_told(&root.pointer(place).map(Value::is_taken), out),
-        "debug" => push_told(&root.pointer(place), out),
-        "has_key" => push_told(&root.has_key(place), out),
-        "has_keys" => push_told(&root.has_keys(), out),
-        "whole" => push_told(&root.is_whole(), out),
+        "taken" => push_told(root.pointer(place).map(Value::is_taken), out),
+        "debug" => push_told(root.pointer(place), out),
+        "has_key" => push_told(root.has_key(place), out),
+        "has_keys" => push_told(root.has_keys(), out),
+        "whole" => push_told(root.is_whole(), out),
         _ => return push_write(root, operation, out),
     }?;
     Ok(true)

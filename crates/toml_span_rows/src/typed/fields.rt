@@ -8,7 +8,7 @@ ghost use Rattle.toml_span_typed.specs.TableHelper.{AllWhole, state_of};
 
 use crate::told::{push_told, push_told_line};
 use crate::trees::shown::push_back;
-use crate::typed::lists::push_lists;
+use crate::typed::lists::push_told_lists;
 use std::alloc::{AllocError, Global};
 use std::fmt::Debug;
 use toml_span::de_helpers::{TableHelper, Unfinished};
@@ -75,8 +75,13 @@ fn push_call<'de>(
         return Ok(false);
     };
     match name {
-        "contains" => push_told(&helper.contains(arguments), out),
-        "take" => push_entry(&helper.take(arguments), out),
+        "contains" => push_told(helper.contains(arguments), out),
+        "take" => {
+            let entry = helper.take(arguments);
+            let pushed = push_entry(&entry, out);
+            drop(entry);
+            pushed
+        }
         _ => return push_field(helper, name, arguments, out),
     }?;
     Ok(true)
@@ -89,7 +94,7 @@ fn push_entry(
 ) -> Result<(), AllocError> {
     match entry {
         Ok(Some((key, value))) => {
-            push_told(&(key, key.span), out)?;
+            push_told((key, key.span), out)?;
             push_back(" ", value, out)
         }
         other => push_told(other, out),
@@ -131,22 +136,25 @@ fn push_as<'de, T: Deserialize<'de> + Debug>(
     ensures { AllWhole (state_of helper.new) }
 {
     match how {
-        "required" => push_told(&helper.required::<T>(name), out),
-        "required_s" => push_spanned(&helper.required_s::<T>(name), out),
-        "optional" => push_told(&helper.optional::<T>(name), out),
-        "optional_s" => push_told(&helper.optional_s::<T>(name), out),
+        "required" => push_told(helper.required::<T>(name), out),
+        "required_s" => push_spanned(helper.required_s::<T>(name), out),
+        "optional" => push_told(helper.optional::<T>(name), out),
+        "optional_s" => push_told(helper.optional_s::<T>(name), out),
         _ => return Ok(false),
     }?;
     Ok(true)
 }
 
 /// Adds what was read with its place.
-fn push_spanned<T: Debug>(
-    read: &Result<Spanned<T>, Stop<Error<'_>>>,
+fn push_spanned<T: Debug + Drop>(
+    read: Result<Spanned<T>, Stop<Error<'_>>>,
     out: &mut String,
 ) -> Result<(), AllocError> {
     match read {
-        Ok(found) => push_told(&(found, found.span), out),
+        Ok(found) => {
+            let span = found.span;
+            push_told((found, span), out)
+        }
         other => push_told(other, out),
     }
 }
@@ -165,7 +173,7 @@ fn push_last<'de>(
     };
     match ended {
         Ok(()) => out.push_str("no error")?,
-        Err(Unfinished::Faults(errors)) => push_lists(&errors, out)?,
+        Err(Unfinished::Faults(errors)) => push_told_lists(errors, out)?,
         Err(Unfinished::Memory(helper)) => push_again(helper, out)?,
     }
     Ok(true)
@@ -173,10 +181,13 @@ fn push_last<'de>(
 
 /// Adds that there was no memory for the last call, and what it answers now.
 fn push_again(helper: TableHelper<'_>, out: &mut String) -> Result<(), AllocError> {
-    push_told_line(&AllocError, out)?;
+    push_told_line(AllocError, out)?;
     match helper.finalize(None) {
         Ok(()) => out.push_str("no error"),
-        Err(Unfinished::Faults(errors)) => push_lists(&errors, out),
-        Err(Unfinished::Memory(_helper)) => push_told(&AllocError, out),
+        Err(Unfinished::Faults(errors)) => push_told_lists(errors, out),
+        Err(Unfinished::Memory(helper)) => {
+            drop(helper);
+            push_told(AllocError, out)
+        }
     }
 }

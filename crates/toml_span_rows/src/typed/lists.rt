@@ -9,11 +9,18 @@ pub fn push_lists(errors: &DeserError<'_>, out: &mut String) -> Result<(), Alloc
     let len = errors.len();
     writeln!(out, "{len}")?;
     for index in 0..=len {
-        push_told_line(&errors.get(index), out)?;
+        push_told_line(errors.get(index), out)?;
     }
     for error in errors.iter() {
         push_told_line(error, out)?;
     }
     push_told_line(errors.last(), out)?;
     write!(out, "{errors}")
+}
+
+/// The same for errors that are told once.
+pub fn push_told_lists(errors: DeserError<'_>, out: &mut String) -> Result<(), AllocError> {
+    let pushed = push_lists(&errors, out);
+    drop(errors);
+    pushed
 }

@@ -19,10 +19,11 @@ fn push_as<'de, T: Deserialize<'de> + Debug>(
         return Ok(false);
     }
     let read = T::deserialize(alloc, value);
-    push_told(&read, out)?;
-    if matches!(&read, Err(Stop::Memory(_))) && value.is_whole() {
+    let again = matches!(&read, Err(Stop::Memory(_))) && value.is_whole();
+    push_told(read, out)?;
+    if again {
         out.push('\n')?;
-        push_told(&T::deserialize(alloc, value), out)?;
+        push_told(T::deserialize(alloc, value), out)?;
     }
     Ok(true)
 }

@@ -52,6 +52,7 @@ pub(crate) fn servers_of<'de>(
     let Ok(mut helper) = TableHelper::new(alloc, &mut root) else {
         unreachable!()
     };
+    drop(root);
     let servers = field(helper.required::<Vec<Server>>("servers"))?;
     match helper.finalize(None) {
         Ok(()) => Ok(servers.unwrap()),

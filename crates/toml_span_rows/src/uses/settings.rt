@@ -27,7 +27,10 @@ pub(crate) fn field<'de, T: Drop>(
 {
     match read {
         Ok(x) => Ok(Some(x)),
-        Err(Stop::Fault(_)) => Ok(None),
+        Err(Stop::Fault(error)) => {
+            drop(error);
+            Ok(None)
+        }
         Err(Stop::Memory(error)) => Err(Stop::Memory(error)),
     }
 }
@@ -59,6 +62,7 @@ pub(crate) fn settings_of<'de>(
     let Ok(mut helper) = TableHelper::new(alloc, &mut root) else {
         unreachable!()
     };
+    drop(root);
     let host = field(helper.required::<CowStr<'de>>("host"))?;
     let port = field(helper.required::<u16>("port"))?;
     let secure = match helper.optional::<bool>("secure") {

@@ -4,11 +4,11 @@ use Rattle.toml_span_claims.proofs.Ordered.{one-each}
 use Rattle.toml_span_serde.specs.Misfits.{Names, path_of}
 use Rattle.toml_span_serde.proofs.read.from_str.Goals as goal
 
-pub returns-clause-refused : goal.returns-clause-refused
-returns-clause-refused g c =
+pub returns-in-Err-Fault-read-clause-refused : goal.returns-in-Err-Fault-read-clause-refused
+returns-in-Err-Fault-read-clause-refused g c =
     let root = c.in-Ok.root in
-    let misfit = c.in-Err-Fault-read_lent.misfit in
-    let told = rw c.in-Err-Fault-read_lent.field-0-is at c.in-Err-Fault-read_lent.ensures in
+    let misfit = c.in-Err-Fault-read.misfit in
+    let told = rw c.in-Err-Fault-read.field-0-is at c.in-Err-Fault-read.ensures in
     let place : Names (path_of misfit.path.items) misfit.span (view root) = told (one-each (view root) c.in-Ok.ensures.ordered) in
     let spanned = subst (λ span. Names (path_of misfit.path.items) span (view root)) (sym c.lined.ensures.place.0) place in
     let placed = subst (λ path. Names (path_of path.items) c.lined.result.span (view root)) (sym c.lined.ensures.place.1) spanned in

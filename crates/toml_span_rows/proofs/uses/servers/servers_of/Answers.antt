@@ -29,8 +29,8 @@ returns-in-Ok-finalize-clause-servers c =
     } in
     list-read (λ (v : Vec Server Global). v.items) c.args.text.now c.in-Ok.root c.in_ok-servers.servers _ _ c.required.result c.in-Ok-finalize.field-0 c.unwrap.result calls c.in-Ok-finalize.ensures.answer c.unwrap.ensures
 
-pub returns-clause-refused : goal.returns-clause-refused
-returns-clause-refused c =
+pub returns-in-Err-clause-refused : goal.returns-in-Err-clause-refused
+returns-in-Err-clause-refused c =
     let calls : Calls (λ (v : Vec Server Global). v.items) c.args.text.now c.in-Ok.root c.in_ok-servers.servers (state_of c.in-Ok-new.helper) _ c.required.result = record {
       tree = c.in-Ok.ensures.tree;
       ordered = c.in-Ok.ensures.ordered;
