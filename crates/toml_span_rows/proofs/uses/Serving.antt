@@ -21,8 +21,8 @@ use Rattle.toml_span_assembly.specs.Parsing.{IsTree, IsRoot}
 use Rattle.toml_span.specs.Document.{IsDocument, IsValueOf, subtree, without_key}
 use Rattle.toml_span.specs.Helpers.{IsOver, ReadsPart, HasNoKeyBut, except, left_over}
 use Rattle.toml_span.proofs.Fields.{ends-ok, ends-faults, required-at, required-over}
-use Rattle.toml_span_rows.specs.uses.Fields.{IsField, IsStopped, errors_in, number, whole}
-use Rattle.toml_span_rows.specs.uses.Servers.{AreServers, ListErrors, NoServers, ReadsList, ServerReads, lacks, list_reads, number_or, port_in}
+use Rattle.toml_span_rows.specs.uses.Fields.{IsField, IsStopped, errors_in, lacks, number, whole}
+use Rattle.toml_span_rows.specs.uses.Servers.{AreServers, ListErrors, NoServers, ReadsList, ServerReads, list_reads, number_or, port_in}
 use Rattle.toml_span_rows.specs.declared.uses.servers.Server.{Server}
 use Rattle.toml_span_rows.proofs.uses.Reading.{Over, after-noted, after-read, never-empty, on-document, over-root}
 

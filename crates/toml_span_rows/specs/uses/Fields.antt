@@ -31,12 +31,14 @@ abbrev pub read_or : {T : Type 0} → Result T Errors → (Node → Result T Err
 read_or otherwise read None = otherwise
 read_or otherwise read (Some x) = read (face x)
 
+-- the error that a table at the span has no such key
+abbrev pub lacks : List ℕ → Span → ErrorContent
+lacks name span = record { kind = missing_field name; span = span; line_info = None }
+
 -- what is read at a key of the root, whose span this is; `MissingField` where nothing stands there
 abbrev pub required_field : {T : Type 0} → (Node → Result T Errors) → List ℕ → Span → (Path → Option Place)
     → Result T Errors
-required_field read name span places =
-    read_or (Err (one (record { kind = missing_field name; span = span; line_info = None }))) read
-    (places (key name ∷ []))
+required_field read name span places = read_or (Err (one (lacks name span))) read (places (key name ∷ []))
 
 -- the same; None where nothing stands there
 abbrev pub optional_field : {T : Type 0} → (Node → Result T Errors) → List ℕ → (Path → Option Place)

@@ -5,7 +5,7 @@ use Rattle.toml_span_lex.specs.declared.span.Span.{Span}
 use Rattle.toml_span_lex.specs.declared.stop.Stop.{Stop}
 use Rattle.toml_span_lex.specs.declared.stop.Stop.TheVariants as stops
 use Rattle.toml_span_tree.specs.declared.error.Error.{Error}
-use Rattle.toml_span_tree.specs.Error.{ErrorContent, content_of, missing_field}
+use Rattle.toml_span_tree.specs.Error.{ErrorContent, content_of}
 use Rattle.toml_span_tree.specs.Node.{Members, Node, entry_at, node, table}
 use Rattle.toml_span_tree.specs.Path.{Path, Place, key}
 use Rattle.toml_span_typed.specs.Errors.{Errors, all, one}
@@ -14,14 +14,11 @@ use Rattle.toml_span_typed.specs.TableHelper.{without}
 use Rattle.toml_span_assembly.specs.Parsing.{IsRefusal}
 use Rattle.toml_span.specs.Document.{IsDocument, IsValueOf, subtree}
 use Rattle.toml_span.specs.Helpers.{HasNoKeyBut, ReadsPart, except, left_over}
-use Rattle.toml_span_rows.specs.uses.Fields.{errors_in, number, whole}
+use Rattle.toml_span_rows.specs.uses.Fields.{errors_in, lacks, number, whole}
 use Rattle.toml_span_rows.specs.declared.uses.servers.Server.{Server}
 use Rattle.toml_span_read.specs.Limits.{depth_limit}
 
 -- ---- one server
-
-abbrev pub lacks : List ℕ → Span → ErrorContent
-lacks name span = record { kind = missing_field name; span = span; line_info = None }
 
 abbrev pub number_or : Errors → Option Node → Result ℕ Errors
 number_or otherwise None = Err otherwise
@@ -29,8 +26,8 @@ number_or otherwise (Some n) = number n
 
 -- the port of a table that stands at the span
 abbrev pub port_in : Members → Span → Result ℕ Errors
-port_in ms span = number_or (one (lacks (codes "port") span)) (option_map (λ entry. entry.1) (entry_at
-    (codes "port") ms))
+port_in ms span =
+    number_or (one (lacks (codes "port") span)) (option_map (λ entry. entry.1) (entry_at (codes "port") ms))
 
 -- the errors of its port, and behind them that of its other keys
 abbrev pub server_errors : Members → Span → List ErrorContent
@@ -62,8 +59,7 @@ ListErrors span places errors = MatchOption (places (key (codes "servers") ∷ [
     (λ _. (answer : Result (List Server) Errors) × ReadsList places answer × (errors ≡ errors_in answer))
 
 -- The text is refused, and the one error tells why; or it is read, and these are the errors of its list and,
--- behind them, that of
--- the other keys.
+-- behind them, that of the other keys.
 abbrev pub NoServers : List ℕ → Stop Errors → Type 0
 NoServers text (stops.Memory e) = ⊤
 NoServers text (stops.Fault faults) =
