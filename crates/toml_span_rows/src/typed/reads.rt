@@ -4,9 +4,10 @@ use crate::typed::marked::{Held, Placed};
 use crate::typed::odd::{Half, Odd, Untouched};
 use crate::typed::structs::{Config, Server};
 use std::alloc::{AllocError, Global};
+use std::collections::BTreeMap;
 use std::fmt::Debug;
 use toml_span::value::{DateText, FloatText, Value};
-use toml_span::{DeserError, Deserialize, Stop};
+use toml_span::{DeserError, Deserialize, Parsed, Stop};
 
 /// Reads a value as a type, if the value is whole, and adds the answer. Without memory it is read again, if it still is
 /// whole.
@@ -68,6 +69,22 @@ fn push_other<'de>(
         "Spanned<u8>" => push_as::<Placed<u8>>(alloc, value, out),
         "Vec<Spanned<u8>>" => push_as::<Vec<Placed<u8>>>(alloc, value, out),
         "Spanned<Vec<Spanned<u8>>>" => push_as::<Placed<Vec<Placed<u8>>>>(alloc, value, out),
+        _ => push_held(alloc, name, value, out),
+    }
+}
+
+/// The same for a table as a map, a value behind a box, and what `FromStr` makes of a string.
+fn push_held<'de>(
+    alloc: Global,
+    name: &str,
+    value: &mut Value<'de>,
+    out: &mut String,
+) -> Result<bool, AllocError> {
+    match name {
+        "BTreeMap<String,u8>" => push_as::<BTreeMap<String, u8>>(alloc, value, out),
+        "Box<u8>" => push_as::<Box<u8>>(alloc, value, out),
+        "char" => push_as::<char>(alloc, value, out),
+        "Parsed<u8>" => push_as::<Parsed<u8>>(alloc, value, out),
         _ => push_own(alloc, name, value, out),
     }
 }
