@@ -10,5 +10,4 @@ pub mod Order
 pub mod Laws
 pub mod Outcomes
 pub mod Helpers
-pub mod Reading
 pub mod Again

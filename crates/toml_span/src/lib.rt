@@ -2,10 +2,9 @@
 #![tactic(auto)]
 
 pub mod laws;
-mod read;
 
-pub use read::{from_str, line_and_byte};
 pub use toml_span_assembly::de::parse;
+pub use toml_span_assembly::read::{from_str, line_and_byte};
 pub use toml_span_lex::span::Span;
 pub use toml_span_lex::spanned::Spanned;
 pub use toml_span_lex::stop::Stop;

@@ -9,7 +9,7 @@ use toml_span_lex::span::Span;
 use toml_span_tree::{Error, ErrorKind};
 
 /// What is due at a place, where another token stands.
-#[derive(Clone, Copy, PartialEq, Eq, Debug)]
+#[derive(Clone, Copy)]
 pub enum Due {
     Value,
     TableKey,
@@ -40,7 +40,7 @@ impl Due {
 }
 
 /// What stands at a place: a token, or the end of the text.
-#[derive(Clone, Copy, PartialEq, Eq, Debug)]
+#[derive(Clone, Copy)]
 pub enum Found {
     EndOfText,
     Whitespace,
@@ -90,7 +90,7 @@ impl Found {
 }
 
 /// What is wrong.
-#[derive(Clone, Copy, PartialEq, Eq, Debug)]
+#[derive(Clone, Copy)]
 pub enum FaultKind {
     UnexpectedEof,
     ExceededDepthLimit,
@@ -109,7 +109,7 @@ pub enum FaultKind {
 }
 
 /// What is wrong, and where.
-#[derive(Clone, Copy, PartialEq, Eq, Debug)]
+#[derive(Clone, Copy)]
 pub struct Fault {
     pub kind: FaultKind,
     pub span: Span,

@@ -1,10 +1,10 @@
 //! Reads a document as a type, and tells where a span stands.
 ghost use Rattle.std.specs.Prelude.{◌≡◌, ◌+◌, ℕ, IfOk, IfErr, Ok, length, min};
 ghost use Rattle.toml_span_read.specs.Places.{IsLineInfo};
-ghost use Rattle.toml_span.specs.Reading.{IsRead, NotRead};
+ghost use Rattle.toml_span_assembly.specs.Reading.{IsRead, NotRead};
 
+use crate::de::parse;
 use std::alloc::Global;
-use toml_span_assembly::de::parse;
 use toml_span_lex::span::Span;
 use toml_span_lex::stop::Stop;
 use toml_span_read::fault::line_info;
