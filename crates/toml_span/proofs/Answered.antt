@@ -81,8 +81,8 @@ line_info-one text i l c m d a b = (
 same-clash : (text : List ℕ) (bs : List Block) (e f : Error) → IsClashOf bs text e → IsClashOf bs text f → content_of e ≡ content_of f
 same-clash text bs e f a b =
     let same = one-first (claims bs) a.clash b.clash a.first b.first in
-    let here = subst (λ t. IsLineInfo text t.meeting.place.start b.line b.column) (sym same) b.place in
-    let info = line_info-one text a.clash.meeting.place.start a.line a.column b.line b.column a.place here in
+    let here = subst (λ t. IsLineInfo text t.meeting.span.start b.line b.column) (sym same) b.place in
+    let info = line_info-one text a.clash.meeting.span.start a.line a.column b.line b.column a.place here in
     a.tells ∙ ap (λ t. content_of_clash t.meeting t.name (a.line, a.column)) same
     ∙ ap (λ l. content_of_clash b.clash.meeting b.clash.name (l, a.column)) info.0
     ∙ ap (λ c. content_of_clash b.clash.meeting b.clash.name (b.line, c)) info.1 ∙ sym b.tells

@@ -171,7 +171,7 @@ unkeyed shape span = Some (record { shape = shape; key_span = None; span = span 
 
 -- what is told: the name of the key that is claimed again, and both places
 abbrev tells : Blame → List ℕ → Span → Span → NamedClash
-tells blame name first place = record { meeting = record { blame = blame; first = first; place = place }; name = name }
+tells blame name first place = record { meeting = record { blame = blame; first = first; span = place }; name = name }
 
 abbrev table_of : tree.Members → Span → tree.Node
 table_of members span = tree.node (tree.table members) span

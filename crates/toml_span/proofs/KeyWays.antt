@@ -5,7 +5,7 @@ use Rattle.std.proofs.lemmas.List.{append_cancel_left}
 use Rattle.toml_span_lex.specs.declared.span.Span.{Span}
 use Rattle.toml_span_tree.specs.Path.{Path, key}
 use Rattle.toml_span_read.specs.Data.{ParsedValue, parsed, ParsedInner, scalar, array, inline, ParsedItems, no_items, item, ParsedPairs, no_pairs, pair, KeyValue}
-use Rattle.toml_span_read.specs.Earlier.{Clear, NoneAt, path}
+use Rattle.toml_span_read.specs.Earlier.{Clear, NoneAt, part_names}
 use Rattle.toml_span_read.specs.Grammar.{Spells, SpellsInner, SpellsItems, SpellsPairs, SpellsKeyValues}
 use Rattle.toml_span_read.specs.Keys.{SimpleKey}
 use Rattle.toml_span_claims.specs.declared.claims.Sort.TheVariants.{Dotted, Assigned}
@@ -66,7 +66,7 @@ unfolding keys
 keys-append [] ys = refl
 keys-append (x ∷ xs) ys = ap (λ l. key x.name ∷ l) (keys-append xs ys)
 
-names-same : (xs ys : List SimpleKey) → keys xs ≡ keys ys → path xs ≡ path ys
+names-same : (xs ys : List SimpleKey) → keys xs ≡ keys ys → part_names xs ≡ part_names ys
 unfolding keys
 names-same [] [] h = refl
 names-same [] (y ∷ ys) h = cc
@@ -74,7 +74,7 @@ names-same (x ∷ xs) [] h = cc
 names-same (x ∷ xs) (y ∷ ys) h =
     let first : x.name ≡ y.name = cc in
     let rest : keys xs ≡ keys ys = cc in
-    ap (λ n. n ∷ path xs) first ∙ ap (λ l. y.name ∷ l) (names-same xs ys rest)
+    ap (λ n. n ∷ part_names xs) first ∙ ap (λ l. y.name ∷ l) (names-same xs ys rest)
 
 -- the assignment is one of these
 abbrev pub IsKeyValue : KeyValue → List KeyValue → Type 0
@@ -129,9 +129,9 @@ split-last : (m : SimpleKey) (more : List SimpleKey) → (rest : List SimpleKey)
 split-last m [] = ([], m, refl)
 split-last m (n ∷ more) = let (rest, last, is) = split-last n more in (m ∷ rest, last, ap (λ l. m ∷ l) is)
 
-none-there : (names : List (List ℕ)) (es : List KeyValue) (e : KeyValue) → NoneAt names es → IsKeyValue e es → path e.parts ≡ names → ⊥
+none-there : (names : List (List ℕ)) (es : List KeyValue) (e : KeyValue) → NoneAt names es → IsKeyValue e es → part_names e.parts ≡ names → ⊥
 none-there names [] e none here is = here
-none-there names (x ∷ es) e none (inl same) is = none.0 (ap (λ y. path y.parts) (sym same) ∙ is)
+none-there names (x ∷ es) e none (inl same) is = none.0 (ap (λ y. part_names y.parts) (sym same) ∙ is)
 none-there names (x ∷ es) e none (inr more) is = none-there names es e none.1 more is
 
 not-clear : (base : Path) (es : List KeyValue) (next : KeyValue) (outer : List SimpleKey) (k m : SimpleKey) (more : List SimpleKey) (p : Path) → Clear es next → next.parts ≡ outer ++ (k ∷ m ∷ more)
@@ -140,7 +140,7 @@ not-clear base es next outer k m more p clear is (e, among, there) on =
     let (rest, last, split) = split-last m more in
     let whole : next.parts ≡ (outer ++ (k ∷ rest)) ++ (last ∷ []) = is ∙ ap (λ l. outer ++ (k ∷ l)) split ∙ sym (append_assoc outer (k ∷ rest) (last ∷ [])) in
     let none = clear (outer ++ (k ∷ rest)) last whole outer k rest refl in
-    none-there (path (outer ++ (k ∷ []))) es e none among (names-same e.parts (outer ++ (k ∷ [])) (append_cancel_left base (keys e.parts) (keys (outer ++ (k ∷ []))) (sym there ∙ on)))
+    none-there (part_names (outer ++ (k ∷ []))) es e none among (names-same e.parts (outer ++ (k ∷ [])) (append_cancel_left base (keys e.parts) (keys (outer ++ (k ∷ []))) (sym there ∙ on)))
 
 -- ---- claims
 

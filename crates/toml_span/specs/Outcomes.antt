@@ -38,7 +38,7 @@ IsAnswered text limit (Err stop) = IsRefusal text limit stop
 -- the error tells this clash, with its line and its column
 abbrev pub TellsClash : List ℕ → NamedClash → Error → Type 0
 TellsClash text clash error =
-    (line column : ℕ) × IsLineInfo text clash.meeting.place.start line column
+    (line column : ℕ) × IsLineInfo text clash.meeting.span.start line column
     × (content_of error ≡ content_of_clash clash.meeting clash.name (line, column))
 
 -- The tree of these sections, an error that tells this clash, or one that tells this fault; or want of memory.

@@ -127,7 +127,7 @@ pub fn paths_within()
 {}
 
 /// The claims of a document, of every scope, stand in the order of the text: each starts behind the one
-/// before it, but for an array of tables and its entry, which one key claims.
+/// before it, but for an array of tables and its element, which one key claims.
 pub fn claims_ascend()
     ensures { (text : List ℕ) (limit : ℕ) (blocks : List Block) → SpellsDocument blocks text limit
         → Ascends (all_claims (claims blocks)) }

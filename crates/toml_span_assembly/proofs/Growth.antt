@@ -63,7 +63,7 @@ pub right-more : (text : List ℕ) (ps : List SimpleKey) (root new : Branch) (o 
 right-more text ps root new None none right keeps = keeps right
 right-more text ps root new (Some c) none right keeps = tt
 
-pub halt-inside : (n : ℕ) (halt : Halt) (c : Clash) → halt ≡ halts.Clash c → IsHaltInside n halt → IsInside n c.meeting.place
+pub halt-inside : (n : ℕ) (halt : Halt) (c : Clash) → halt ≡ halts.Clash c → IsHaltInside n halt → IsInside n c.meeting.span
 halt-inside n halt c is inside = rw is at inside
 
 pub finish-tree : (bs : List Block) (length : ℕ) (t : BTreeMap Key Value) (root : Branch) (v : Value) → GrowsTo bs root None

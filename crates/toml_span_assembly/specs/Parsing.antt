@@ -58,9 +58,9 @@ pub record IsClashOf (blocks : List Block) (text : List ℕ) (error : Error) : T
   pub column : ℕ
   pub first : IsFirstClash [] (claims blocks) clash
   pub tells : content_of error ≡ content_of_clash clash.meeting clash.name (line, column)
-  pub within : clash.meeting.place.start ≤ length text
-  pub forward : clash.meeting.place.start ≤ clash.meeting.place.end
-  pub place : IsLineInfo text clash.meeting.place.start line column
+  pub within : clash.meeting.span.start ≤ length text
+  pub forward : clash.meeting.span.start ≤ clash.meeting.span.end
+  pub place : IsLineInfo text clash.meeting.span.start line column
 
 -- The text spells sections within the limit, and their first clash is told.
 abbrev pub IsClash : List ℕ → ℕ → Error → Type 0

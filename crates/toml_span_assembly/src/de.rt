@@ -64,13 +64,13 @@ fn tree_of<'de>(grown: Grown<'de>, text: &'de str) -> Result<Value<'de>, Stop<Er
         Ok(root) => Ok(root),
         Err(Halt::Memory(error)) => Err(Stop::Memory(error)),
         Err(Halt::Clash(clash)) => {
-            let place = line_info(text, clash.meeting.place.start);
+            let place = line_info(text, clash.meeting.span.start);
             Err(Stop::Fault(clash.into_error(place)))
         }
     }
 }
 
-/// The tree of a document, with the limit of 128 levels.
+/// The tree of a document, with the limit 128 (see `parse_with_limit`).
 ///
 /// The error is the first fault of reading or, where the text is read, the first clash of two claims on
 /// one path; or `Stop::Memory`, where a request for memory was refused. There is no tree then.

@@ -1,4 +1,4 @@
-//! Assignments placed into a scope: a section's table, or an inline table.
+//! Assignments placed below a branch: a section's table, or an inline table.
 ghost use Rattle.std.specs.Prelude.{◌≡◌, ⊤, ℕ, List, map, [], IfOk, IfErr};
 ghost use Rattle.std.specs.Cow.{cow_str_bytes};
 ghost use Rattle.toml_span_tree.specs.Value.{items_view, inner_view};
@@ -32,7 +32,7 @@ use toml_span_tree::{Array, Table, Value, ValueInner};
 
 /// Up to so many assignments are taken apart without giving their memory back on the way, which takes
 /// time: the system clears memory that is asked for anew.
-const FEW: usize = 65_536;
+const SHORT_LIST: usize = 65_536;
 
 /// The claim of a part of an assignment's key.
 fn pair_mark(sort: Sort, key: &Key<'_>, span: Span) -> Mark
@@ -121,6 +121,9 @@ fn assign<'de>(
 }
 
 /// Places an assignment below a branch, inner part by inner part. `span` is the value's.
+///
+/// An inline table is a scope of its own. What clashes in it is told behind the clashes of the key to
+/// which it is assigned, since it stands behind that key.
 #[cycle(place_pair)]
 fn place_pair<'de>(
     alloc: Global,
@@ -156,7 +159,7 @@ fn place_pair<'de>(
     }
 }
 
-/// From the branch of an inner part on, which stands already.
+/// From the branch of an inner part on, in its block.
 #[cycle(place_pair)]
 fn pass_child<'de>(
     alloc: Global,
@@ -227,9 +230,6 @@ fn place_one<'de>(alloc: Global, pair: Assignment<'de>, node: &mut Branch<'de>) 
 }
 
 /// Places assignments below a branch.
-///
-/// An inline table is a scope of its own. What clashes in it is told behind the clashes of the key to
-/// which it is assigned, since it stands behind that key.
 #[cycle(value_of)]
 fn place_pairs<'de>(
     alloc: Global,
@@ -260,7 +260,7 @@ pub(crate) fn place_all<'de>(
     ensures borrows { (text : List ℕ) → (ps : List SimpleKey) → AreFrom text ps (assignments_written pairs.entry.items)
         → Keeps text ps node.old node.new result }
 {
-    if pairs.len() <= FEW {
+    if pairs.len() <= SHORT_LIST {
         return place_pairs(alloc, pairs, node);
     }
     for pair in Rest::new(pairs) {

@@ -109,7 +109,7 @@ fn pass_child<'de>(
     pass_header(alloc, child.as_mut(), part, rest, head, pairs)
 }
 
-/// From the branch of a part on: into the latest entry where it is an array.
+/// From the branch of a part on: into the latest element where it is an array of tables.
 #[cycle(place_section)]
 fn pass_header<'de>(
     alloc: Global,
@@ -165,7 +165,7 @@ fn descend<'de>(
     place_section(alloc, node, rest, head, pairs)
 }
 
-/// Claims a branch for a section or an entry, and places the assignments below it.
+/// Claims a branch for a section or an element, and places the assignments below it.
 fn open_table<'de>(
     alloc: Global,
     node: &mut Branch<'de>,
@@ -186,7 +186,7 @@ fn open_table<'de>(
     place_all(alloc, pairs, node)
 }
 
-/// Adds an entry to an array of tables.
+/// Adds an element to an array of tables.
 fn add_entry<'de>(
     alloc: Global,
     node: &mut Branch<'de>,

@@ -4,7 +4,8 @@ use Rattle.std.proofs.lemmas.Bool.{cases_lt, false≢true}
 use Rattle.std.proofs.lemmas.Str.{IsUtf8-from_is_utf8, is_utf8-from_IsUtf8}
 use Rattle.std.specs.Str.{IsUtf8, is_utf8}
 use Rattle.toml_span_tree.specs.Node.{Node}
-use Rattle.toml_span_check.specs.Answer.{bound, found, given, IsAnswer, IsRead}
+use Rattle.toml_span_lines.specs.Run.{bound}
+use Rattle.toml_span_check.specs.Answer.{found, given, IsAnswer, IsRead}
 use Rattle.toml_span_check.specs.Run.{Reading, Gathered, nothing, answered, unread}
 use Rattle.toml_span_check.specs.declared.answer.Form.{Form}
 use Rattle.toml_span_check.specs.declared.answer.Task.{Task}

@@ -18,11 +18,8 @@ use Rattle.toml_span_check.specs.declared.answer.Task.TheVariants.{Check, Show}
 use Rattle.toml_span_check.specs.declared.answer.Form.{Form}
 use Rattle.toml_span_check.specs.declared.answer.Form.TheVariants.{Plain, Tagged, Items}
 use Rattle.toml_span_lines.specs.Lines.{tree_lines}
+use Rattle.toml_span_lines.specs.Run.{bound}
 use Rattle.toml_span_read.specs.Limits.{depth_limit}
-
--- the most bytes that a document may have
-abbrev pub bound : ℕ
-bound = 16777216
 
 abbrev pub nothing_there : Format → List ℕ → List ℕ → ℕ × List ℕ
 nothing_there format pointer name =

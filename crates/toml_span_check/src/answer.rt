@@ -10,9 +10,7 @@ use std::alloc::{AllocError, Global};
 use toml_span::de::parse;
 use toml_span::{Diagnostic, Error, Stop, Value};
 use toml_span_lines::lines::tree_lines;
-
-/// The most bytes that a document may have.
-pub(crate) const BOUND: usize = 16_777_216;
+use toml_span_lines::run::BOUND;
 
 /// How a document is shown.
 #[derive(Clone, Copy, PartialEq, Eq)]

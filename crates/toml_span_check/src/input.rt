@@ -2,11 +2,11 @@
 ghost use Rattle.std.specs.Prelude.{◌≡◌, ◌∷◌, List, [], IfOk, Option, None};
 ghost use Rattle.toml_span_check.specs.Run.{Reading, Logs, read_of};
 
-use crate::answer::BOUND;
 use std::alloc::{AllocError, Global};
 use std::fs::File;
 use std::io;
 use std::io::{ErrorKind, Read};
+use toml_span_lines::run::BOUND;
 
 /// Why a file can't be read.
 #[derive(Clone, Copy, PartialEq, Eq, Drop)]

@@ -53,7 +53,7 @@ entry = header true
 -- ---- how answers are written
 
 abbrev tells : Blame → List ℕ → Span → Span → Option NamedClash
-tells blame name first place = Some (record { meeting = record { blame = blame; first = first; place = place }; name = name })
+tells blame name first place = Some (record { meeting = record { blame = blame; first = first; span = place }; name = name })
 
 -- what stands at a key
 abbrev keyed : Shape → Span → Span → Option Place

@@ -61,7 +61,7 @@ blame_told Assigned TableElement = tt
 blame_told Assigned Dotted = tt
 blame_told Assigned Assigned = tt
 
-meeting_inside : (n : ℕ) (earlier later : Mark) (o : Option Blame) → IfSome o (IsTold later.sort) → IsMarkInside n later → IfSome (option_map (meeting earlier later) o) (λ m. IsInside n m.place)
+meeting_inside : (n : ℕ) (earlier later : Mark) (o : Option Blame) → IfSome o (IsTold later.sort) → IsMarkInside n later → IfSome (option_map (meeting earlier later) o) (λ m. IsInside n m.span)
 meeting_inside n earlier later None told inside = tt
 meeting_inside n earlier later (Some blames.DuplicateTable) told inside = inside.1 told
 meeting_inside n earlier later (Some blames.DuplicateKey) told inside = inside.0
@@ -71,10 +71,10 @@ or_else_if : {A : Type 0} (P : A → Type 0) (o p : Option A) → IfSome o P →
 or_else_if P (Some x) p h i = h
 or_else_if P None p h i = i
 
-partner_inside : (n : ℕ) (marks : List Mark) (later : Mark) → IsMarkInside n later → IfSome (partner marks later) (λ m. IsInside n m.place)
+partner_inside : (n : ℕ) (marks : List Mark) (later : Mark) → IsMarkInside n later → IfSome (partner marks later) (λ m. IsInside n m.span)
 partner_inside n [] later inside = tt
 partner_inside n (earlier ∷ marks) later inside =
-    or_else_if (λ m. IsInside n m.place) (meets earlier later) (partner marks later)
+    or_else_if (λ m. IsInside n m.span) (meets earlier later) (partner marks later)
     (meeting_inside n earlier later (blame earlier.sort later.sort) (blame_told earlier.sort later.sort) inside)
     (partner_inside n marks later inside)
 
@@ -85,7 +85,7 @@ pub halt_inside : (n : ℕ) (marks : List Mark) (mark : Mark) (o : Option Meetin
     → o ≡ Some m → o ≡ partner marks mark → Halts halt m name → IsMarkInside n mark → IsHaltInside n halt
 halt_inside n marks mark o m (Memory e) name some is halts inside = tt
 halt_inside n marks mark o m (Clash c) name some is halts inside =
-    rw halts.0 (meeting_is (λ x. IsInside n x.place) (partner marks mark) m (sym is ∙ some) (partner_inside n marks mark inside))
+    rw halts.0 (meeting_is (λ x. IsInside n x.span) (partner marks mark) m (sym is ∙ some) (partner_inside n marks mark inside))
 
 -- ---- claims
 
@@ -99,5 +99,5 @@ header_inside n mark sort key line extent is inside at_line = rw is (inside, λ 
 
 -- ---- halts
 
-pub clash_inside : (n : ℕ) (halt : Halt) (c : ClashFound) → halt ≡ Clash c → IsHaltInside n halt → IsInside n c.meeting.place
+pub clash_inside : (n : ℕ) (halt : Halt) (c : ClashFound) → halt ≡ Clash c → IsHaltInside n halt → IsInside n c.meeting.span
 clash_inside n halt c is h = rw is at h

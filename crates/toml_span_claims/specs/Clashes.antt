@@ -37,9 +37,9 @@ blame _ _ = None
 
 -- of two tables their headers, of two keys the keys
 abbrev pub meeting : Mark → Mark → Blame → Meeting
-meeting earlier later DuplicateTable = record { blame = DuplicateTable; first = earlier.line; place = later.line }
-meeting earlier later DuplicateKey = record { blame = DuplicateKey; first = earlier.key; place = later.key }
-meeting earlier later RedefineAsArray = record { blame = RedefineAsArray; first = earlier.line; place = later.line }
+meeting earlier later DuplicateTable = record { blame = DuplicateTable; first = earlier.line; span = later.line }
+meeting earlier later DuplicateKey = record { blame = DuplicateKey; first = earlier.key; span = later.key }
+meeting earlier later RedefineAsArray = record { blame = RedefineAsArray; first = earlier.line; span = later.line }
 
 -- the clash of two claims on one path
 abbrev pub meets : Mark → Mark → Option Meeting
@@ -101,4 +101,4 @@ kind_of_clash RedefineAsArray name m = redefine_as_array
 
 abbrev pub content_of_clash : Meeting → List ℕ → ℕ × ℕ → ErrorContent
 content_of_clash m name line_info =
-    record { kind = kind_of_clash m.blame name m; span = m.place; line_info = Some line_info }
+    record { kind = kind_of_clash m.blame name m; span = m.span; line_info = Some line_info }

@@ -32,7 +32,7 @@ pub struct Branch<'de> {
     pub values: Table<'de>,
     /// What headers and dotted keys made: tables, and arrays of tables.
     pub tables: Branches<'de>,
-    /// The entries, if this is an array of tables. An array has one at least.
+    /// The elements, if this is an array of tables. An array has one at least.
     pub entries: Vec<Branch<'de>>,
 }
 
@@ -88,7 +88,8 @@ fn in_order(table: &Table<'_>)
     let _ = table.len();
 }
 
-/// The table of what these branches have become, and of these values.
+/// The table of what these branches have become, and of these values. Only want of memory is refused, and
+/// none is wanted where there are no branches.
 #[cycle(finish)]
 pub fn into_table<'de>(
     tables: Branches<'de>,
@@ -144,7 +145,7 @@ fn into_value<'de>(node: Branch<'de>) -> Result<(Span, Value<'de>), AllocError>
     Ok((key_span, Value::with_span(ValueInner::Array(array), span)))
 }
 
-/// The elements that the entries of an array of tables have become.
+/// The elements of an array of tables as finished values.
 #[cycle(finish)]
 fn into_array<'de>(entries: Vec<Branch<'de>>) -> Result<Array<'de>, AllocError>
     ensures becomes { EachBecomes entries.entry.items result }

@@ -38,7 +38,7 @@ pub struct Mark {
     pub sort: Sort,
     /// The part of the header or of the dotted key that names the path.
     pub key: Span,
-    /// The header's line. Of an assignment its value.
+    /// The header's line. Of an assignment, and of a part of its key, the value.
     pub line: Span,
     /// Where the branch stands if this claim decides: the header's section, or the assigned value.
     pub extent: Span,
@@ -91,7 +91,7 @@ pub struct Meeting {
     /// The earlier claim's header, or its key.
     pub first: Span,
     /// The later claim's header, or its key.
-    pub place: Span,
+    pub span: Span,
 }
 
 fn meeting_of(earlier: Mark, later: Mark, blame: Blame) -> Meeting
@@ -101,12 +101,12 @@ fn meeting_of(earlier: Mark, later: Mark, blame: Blame) -> Meeting
         Blame::DuplicateKey => Meeting {
             blame,
             first: earlier.key,
-            place: later.key,
+            span: later.key,
         },
         Blame::DuplicateTable | Blame::RedefineAsArray => Meeting {
             blame,
             first: earlier.line,
-            place: later.line,
+            span: later.line,
         },
     }
 }
@@ -147,7 +147,7 @@ impl Clash {
         };
         Error {
             kind,
-            span: meeting.place,
+            span: meeting.span,
             line_info: Some(line_info),
         }
     }
@@ -202,7 +202,7 @@ fn knows(marks: &[Mark], mark: Mark) -> Result<bool, Meeting>
     Ok(known)
 }
 
-/// Halts at a clash over a key.
+/// The halt at a clash over a key, or want of memory for the key's name.
 fn halted(alloc: Global, meeting: Meeting, key: &Key<'_>) -> Halt
     ensures { kept.Halts result meeting (cow_str_bytes key.now.name) }
 {
@@ -212,7 +212,8 @@ fn halted(alloc: Global, meeting: Meeting, key: &Key<'_>) -> Halt
     }
 }
 
-/// Halts where a claim clashes with one of the earlier ones.
+/// Halts where a claim clashes with one of the earlier ones: with the first of these, or for want of memory for
+/// the key's name.
 pub fn admit(alloc: Global, marks: &[Mark], mark: Mark, key: &Key<'_>) -> Result<(), Halt>
     ensures gives { Gives result (met marks.now mark (cow_str_bytes key.now.name)) (λ _. ⊤) }
     ensures placed { (n : ℕ) → IsMarkInside n mark → IfErr result (IsHaltInside n) }
@@ -223,7 +224,8 @@ pub fn admit(alloc: Global, marks: &[Mark], mark: Mark, key: &Key<'_>) -> Result
     }
 }
 
-/// Keeps a claim on a branch, unless it clashes with an earlier one. Of each sort the first one is kept.
+/// Keeps a claim on a branch, unless it clashes with an earlier one. Of each sort the first one is kept. Halts as
+/// `admit` does, or where there is no memory to keep the claim.
 pub fn claim(alloc: Global, marks: &mut Marks, mark: Mark, key: &Key<'_>) -> Result<(), Halt>
     ensures gives { Gives result (met marks.old.items mark (cow_str_bytes key.now.name))
         (λ _. marks.new.items ≡ kept.remember marks.old.items mark) }

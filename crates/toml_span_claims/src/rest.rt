@@ -5,12 +5,12 @@ ghost use Rattle.std.specs.Iterator.{YieldsFirst, item_count};
 use std::marker::Model;
 
 /// A block of so many items is small enough to be given back whole.
-const FEW: usize = 4096;
+const SMALL_BLOCK: usize = 4096;
 
 /// What is left of a list that is taken apart from its front.
 ///
 /// A `Vec` keeps its block until it is dropped. This one gives back what stands empty once it is a
-/// quarter of the block, so each item is moved a bounded number of times.
+/// quarter of the block. All moves together are fewer than three for each item.
 #[derive(Drop)]
 pub struct Rest<T> {
     /// The items, the next one last.
@@ -45,7 +45,7 @@ impl<T: Drop> Iterator for Rest<T> {
     fn next(&mut self) -> Option<T> {
         let next = self.turned.pop();
         let capacity = self.turned.capacity();
-        if capacity > FEW && self.turned.len() < capacity / 4 * 3 {
+        if capacity > SMALL_BLOCK && self.turned.len() < capacity / 4 * 3 {
             self.turned.shrink_to_fit();
         }
         next

@@ -173,7 +173,7 @@ fn push_entries(shown: &mut Shown, table: &Table<'_>) -> Result<(), AllocError>
     Ok(())
 }
 
-/// The lines of a tree: one for each node, in the order of the paths.
+/// The lines of a tree: one for each node, in the order of the paths. Only want of memory is refused.
 pub fn tree_lines(alloc: Global, root: &Value<'_>) -> Result<Vec<u8>, AllocError>
     ensures { IfOk result (λ out. out.items ≡ spec.tree_lines (view root.now)) }
 {

@@ -11,7 +11,7 @@ use toml_span::Stop;
 use toml_span::de::parse_with_limit;
 
 /// The most bytes that a document may have.
-const BOUND: usize = 16_777_216;
+pub const BOUND: usize = 16_777_216;
 
 /// How deep a value, a header and a dotted key of a document may be.
 const LIMIT: usize = 128;
@@ -94,7 +94,8 @@ fn answer(alloc: Global, bytes: &[u8], limit: usize) -> Result<(u8, Vec<u8>), Al
 /// Reads a document, and writes its tree or its error and nothing else. The limit is that of `parse_with_limit`.
 ///
 /// Answers the status with which the program ends: 0 for a tree, 1 for an error of the text, 2 for bytes that are too
-/// many or no UTF-8, 3 where reading or writing broke off, 4 for want of memory, of which nothing is written.
+/// many or no UTF-8, 3 where reading broke off, of which nothing is written, or writing, of which a front of the text
+/// is written, 4 for want of memory, of which nothing is written.
 pub fn run_with_limit<R: Source, W: Sink>(
     alloc: Global,
     limit: usize,
@@ -123,7 +124,7 @@ pub fn run_with_limit<R: Source, W: Sink>(
     }
 }
 
-/// The run with the limit of 128 levels.
+/// The run with the limit 128 (see `parse_with_limit`).
 pub fn run<R: Source, W: Sink>(alloc: Global, reader: &mut R, writer: &mut W) -> u8
     requires reader { R.failed reader.old ≡ false }
     requires writer { W.failed writer.old ≡ false }

@@ -14,7 +14,8 @@ pub trait Sink {
     /// A write has answered an error, or has taken nothing of something.
     ghost failed: { Self → Bool };
 
-    /// Writes bytes from the front of the buffer, and answers how many.
+    /// Writes bytes from the front of the buffer, and answers how many. Not called once a write has answered an
+    /// error, or has taken nothing of something, which `has_failed` then tells.
     fn write(&mut self, buf: &[u8]) -> io::Result<usize>
         requires { failed self.old ≡ false }
         ensures bound { WritesAtMost result buf.now }

@@ -15,7 +15,7 @@ pub trait Source {
     ghost failed: { Self → Bool };
 
     /// Reads bytes into the front of the buffer, and answers how many. 0 is the end of what there is,
-    /// unless the buffer is empty.
+    /// unless the buffer is empty. Not called once a read has answered an error, which `has_failed` then tells.
     fn read(&mut self, buf: &mut [u8]) -> io::Result<usize>
         requires { failed self.old ≡ false }
         ensures bound { ReadsAtMost result buf.new }

@@ -10,7 +10,7 @@ use Rattle.toml_span_read.specs.Data.{KeyValue, key_value, parsed_span}
 use Rattle.toml_span_lex.specs.declared.key.Key.{Key}
 use Rattle.toml_span_read.specs.declared.value.Assignment.{Assignment}
 use Rattle.toml_span_read.specs.Keys.{SimpleKey, simple_key}
-use Rattle.toml_span_read.specs.Earlier.{path, NoneAt, EarliestAt, NoneThrough, Clear, Crossing}
+use Rattle.toml_span_read.specs.Earlier.{part_names, NoneAt, EarliestAt, NoneThrough, Clear, Crossing}
 use Rattle.toml_span_read.specs.code.Earlier.{Holds, holds, Puts, HoldsNone, FindsOutermost, TellsEarliest, EachLonger, Knows}
 use Rattle.toml_span_read.proofs.EarlierLemmas.{clear_of}
 use Rattle.toml_span_read.proofs.EarlierTree.{same, same_name, same-self}
@@ -40,7 +40,7 @@ same_path (x ∷ xs) (y ∷ ys) = decided x y (name x y) xs ys (same_path xs ys)
 
 -- ---- one more assignment
 
-none_more : (names : Path) (key_values : List KeyValue) (e : KeyValue) → NoneAt names key_values → (path e.parts ≡ names → ⊥) → NoneAt names (key_values ++ (e ∷ []))
+none_more : (names : Path) (key_values : List KeyValue) (e : KeyValue) → NoneAt names key_values → (part_names e.parts ≡ names → ⊥) → NoneAt names (key_values ++ (e ∷ []))
 none_more names [] e h apart = (apart, tt)
 none_more names (x ∷ xs) e h apart = (h.0, none_more names xs e h.1 apart)
 
@@ -58,11 +58,11 @@ earliest_more names key_values e first h = record {
   span = h.span;
 }
 
-tells_other : (names : Path) (key_values : List KeyValue) (e : KeyValue) (o : Option Span) → (path e.parts ≡ names → ⊥) → TellsEarliest names key_values o → TellsEarliest names (key_values ++ (e ∷ [])) o
+tells_other : (names : Path) (key_values : List KeyValue) (e : KeyValue) (o : Option Span) → (part_names e.parts ≡ names → ⊥) → TellsEarliest names key_values o → TellsEarliest names (key_values ++ (e ∷ [])) o
 tells_other names key_values e None apart h = none_more names key_values e h apart
 tells_other names key_values e (Some first) apart h = earliest_more names key_values e first h
 
-tells_same : (names : Path) (key_values : List KeyValue) (e : KeyValue) (inner : List SimpleKey) (last : SimpleKey) (o : Option Span) → path e.parts ≡ names → e.parts ≡ inner ++ (last ∷ [])
+tells_same : (names : Path) (key_values : List KeyValue) (e : KeyValue) (inner : List SimpleKey) (last : SimpleKey) (o : Option Span) → part_names e.parts ≡ names → e.parts ≡ inner ++ (last ∷ [])
     → TellsEarliest names key_values o → TellsEarliest names (key_values ++ (e ∷ [])) (Some (unwrap_or o last.span))
 tells_same names key_values e inner last None same key h = record {
   before = key_values;
@@ -80,15 +80,15 @@ tells_same names key_values e inner last (Some first) same key h = earliest_more
 
 -- what the tree tells, once an assignment more is put in
 pub tells_more : (key_values : List KeyValue) (e : KeyValue) (inner : List SimpleKey) (last : SimpleKey) (f g : Holds) → e.parts ≡ inner ++ (last ∷ [])
-    → ((names : Path) → TellsEarliest names key_values (f names)) → Puts (path (inner ++ (last ∷ []))) last.span f g → (names : Path) → TellsEarliest names (key_values ++ (e ∷ [])) (g names)
-tells_more key_values e inner last f g key tells puts names = go (same_path (path e.parts) names)
+    → ((names : Path) → TellsEarliest names key_values (f names)) → Puts (part_names (inner ++ (last ∷ []))) last.span f g → (names : Path) → TellsEarliest names (key_values ++ (e ∷ [])) (g names)
+tells_more key_values e inner last f g key tells puts names = go (same_path (part_names e.parts) names)
   where
-    is : path e.parts ≡ path (inner ++ (last ∷ []))
-    is = ap path key
+    is : part_names e.parts ≡ part_names (inner ++ (last ∷ []))
+    is = ap part_names key
 
-    go : ((path e.parts ≡ names) ⊎ (path e.parts ≡ names → ⊥)) → TellsEarliest names (key_values ++ (e ∷ [])) (g names)
+    go : ((part_names e.parts ≡ names) ⊎ (part_names e.parts ≡ names → ⊥)) → TellsEarliest names (key_values ++ (e ∷ [])) (g names)
     go (inl same) =
-        let at : path (inner ++ (last ∷ [])) ≡ names = sym is ∙ same in
+        let at : part_names (inner ++ (last ∷ [])) ≡ names = sym is ∙ same in
         subst (λ (o : Option Span). TellsEarliest names (key_values ++ (e ∷ [])) o)
         (sym (subst (λ (q : Path). g q ≡ Some (unwrap_or (f q) last.span)) at puts.0))
         (tells_same names key_values e inner last (f names) same key (tells names))
@@ -99,7 +99,7 @@ tells_more key_values e inner last f g key tells puts names = go (same_path (pat
 
 -- ---- short keys
 
-length_path : (ps : List SimpleKey) → length (path ps) ≡ length ps
+length_path : (ps : List SimpleKey) → length (part_names ps) ≡ length ps
 length_path [] = refl
 length_path (p ∷ ps) = ap suc (length_path ps)
 
@@ -113,7 +113,7 @@ none_shorter n names (e ∷ es) h short =
     let long = length_path e.parts in
     ((λ is. let l = ap length is in omega (arith, h.0, long, l)), none_shorter n names es h.1 short)
 
-outer_shorter : (outer : List SimpleKey) (p : SimpleKey) (rest : List SimpleKey) → length (path (outer ++ (p ∷ []))) ≤ length (outer ++ (p ∷ rest))
+outer_shorter : (outer : List SimpleKey) (p : SimpleKey) (rest : List SimpleKey) → length (part_names (outer ++ (p ∷ []))) ≤ length (outer ++ (p ∷ rest))
 outer_shorter [] p rest = omega arith
 outer_shorter (q ∷ outer) p rest = let h = outer_shorter outer p rest in omega arith
 
@@ -121,7 +121,7 @@ outer_shorter (q ∷ outer) p rest = let h = outer_shorter outer p rest in omega
 pub clear_short : (key_values : List KeyValue) (next : KeyValue) (inner : List SimpleKey) (last : SimpleKey) (n : ℕ) → next.parts ≡ inner ++ (last ∷ []) → EachLonger n key_values → length inner ≤ n → Clear key_values next
 clear_short key_values next inner last n key long short =
     clear_of key_values next inner last key
-    (λ outer p rest split. none_shorter n (path (outer ++ (p ∷ []))) key_values long
+    (λ outer p rest split. none_shorter n (part_names (outer ++ (p ∷ []))) key_values long
     (let h = outer_shorter outer p rest in let l = ap length split in omega (arith, h, l, short)))
 
 longer_more : (n : ℕ) (key_values : List KeyValue) (e : KeyValue) → EachLonger n key_values → n < length e.parts → EachLonger n (key_values ++ (e ∷ []))
@@ -171,7 +171,7 @@ none_told : (names : Path) (key_values : List KeyValue) (o : Option Span) → o 
 none_told names key_values o is h = subst (λ (o : Option Span). TellsEarliest names key_values o) is h
 
 none_through : (key_values : List KeyValue) (f : Holds) (parts : List SimpleKey) → ((names : Path) → TellsEarliest names key_values (f names)) → HoldsNone f parts → NoneThrough parts key_values
-none_through key_values f parts tells none outer p rest split = none_told _ key_values (f (path (outer ++ (p ∷ [])))) (none outer p rest split) (tells (path (outer ++ (p ∷ []))))
+none_through key_values f parts tells none outer p rest split = none_told _ key_values (f (part_names (outer ++ (p ∷ [])))) (none outer p rest split) (tells (part_names (outer ++ (p ∷ []))))
 
 pub clear_found : (key_values : List KeyValue) (next : KeyValue) (inner : List SimpleKey) (last : SimpleKey) (f : Holds) → next.parts ≡ inner ++ (last ∷ [])
     → ((names : Path) → TellsEarliest names key_values (f names)) → FindsOutermost f inner None → Clear key_values next
@@ -194,7 +194,7 @@ crossing_found key_values next inner last f start first end key tells (outer, p,
       first = first;
       key = key ∙ ap (λ ps. ps ++ (last ∷ [])) split ∙ append_assoc outer (p ∷ rest) (last ∷ []) ∙ ap (λ ps. outer ++ (p ∷ ps)) more.2;
       outermost = none_through key_values f outer tells none;
-      met = subst (λ (o : Option Span). TellsEarliest (path (outer ++ (p ∷ []))) key_values o) at (tells (path (outer ++ (p ∷ []))));
+      met = subst (λ (o : Option Span). TellsEarliest (part_names (outer ++ (p ∷ []))) key_values o) at (tells (part_names (outer ++ (p ∷ []))));
       fault_is = let a = begins in let b = ending in cc;
     }
 
@@ -213,13 +213,13 @@ tells_init old values h names = subst (λ (es : List KeyValue). TellsEarliest na
 
 pub tells_next : (values : List Assignment) (i : ℕ) (v : Assignment) (inner keys : List Key) (last : Key) (f g : Holds) → i < length values → v ≡ get_or values i v → inner ≡ keys
     → map simple_key inner ++ (simple_key last ∷ []) ≡ (key_value v).parts
-    → ((names : Path) → TellsEarliest names (map key_value (take i values)) (f names)) → Puts (path (map simple_key keys ++ (simple_key last ∷ []))) last.span f g
+    → ((names : Path) → TellsEarliest names (map key_value (take i values)) (f names)) → Puts (part_names (map simple_key keys ++ (simple_key last ∷ []))) last.span f g
     → (names : Path) → TellsEarliest names (map key_value (take (i + 1) values)) (g names)
 tells_next values i v inner keys last f g below at same key tells puts names =
     let more : map key_value (take (i + 1) values) ≡ map key_value (take i values) ++ (key_value v ∷ []) =
     map_more key_value values i v below ∙ ap (λ x. map key_value (take i values) ++ (key_value x ∷ [])) (sym at) in
     subst (λ (es : List KeyValue). TellsEarliest names es (g names)) (sym more)
-    (tells_more (map key_value (take i values)) (key_value v) (map simple_key inner) (simple_key last) f g (sym key) tells (subst (λ (ks : List Key). Puts (path (map simple_key ks ++ (simple_key last ∷ []))) last.span f g) (sym same) puts) names)
+    (tells_more (map key_value (take i values)) (key_value v) (map simple_key inner) (simple_key last) f g (sym key) tells (subst (λ (ks : List Key). Puts (part_names (map simple_key ks ++ (simple_key last ∷ []))) last.span f g) (sym same) puts) names)
 
 pub knows_caught : (old new : Earlier) (values : List Assignment) (i : ℕ) → Knows old (map key_value values) → new.fewest ≡ old.fewest → new.known ≡ length values → length values ≤ i
     → ((names : Path) → TellsEarliest names (map key_value (take i values)) (holds new.tree names)) → Knows new (map key_value values)

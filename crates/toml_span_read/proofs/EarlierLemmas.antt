@@ -2,11 +2,11 @@
 use Rattle.std.proofs.Common.{◌≡◌, ℕ, List, [], ◌∷◌, ◌++◌, refl, sym, subst, ◌∙◌}
 use Rattle.toml_span_read.specs.Keys.{SimpleKey}
 use Rattle.toml_span_read.specs.Data.{KeyValue}
-use Rattle.toml_span_read.specs.Earlier.{path, NoneThrough, Clear}
+use Rattle.toml_span_read.specs.Earlier.{part_names, NoneThrough, Clear}
 
 -- whichever of the parts is taken, the path that ends with it has the property
 abbrev pub Through : (List (List ℕ) → Type 0) → List SimpleKey → Type 0
-Through P parts = (outer : List SimpleKey) (p : SimpleKey) (rest : List SimpleKey) → parts ≡ outer ++ (p ∷ rest) → P (path (outer ++ (p ∷ [])))
+Through P parts = (outer : List SimpleKey) (p : SimpleKey) (rest : List SimpleKey) → parts ≡ outer ++ (p ∷ rest) → P (part_names (outer ++ (p ∷ [])))
 
 pub through_none : (P : List (List ℕ) → Type 0) → Through P []
 through_none P [] p rest e = absurd (cc)
@@ -19,7 +19,7 @@ through_more P x xs here on [] p rest e =
 through_more P x xs here on (y ∷ outer) p rest e =
     let same : x ≡ y = cc in
     let more : xs ≡ outer ++ (p ∷ rest) = cc in
-    subst (λ (q : SimpleKey). P (q.name ∷ path (outer ++ (p ∷ [])))) same (on outer p rest more)
+    subst (λ (q : SimpleKey). P (q.name ∷ part_names (outer ++ (p ∷ [])))) same (on outer p rest more)
 
 -- the front and the last of a list
 pub snoc_same : {A : Type 0} (xs ys : List A) (x y : A) → xs ++ (x ∷ []) ≡ ys ++ (y ∷ []) → (xs ≡ ys) × (x ≡ y)

@@ -21,7 +21,7 @@ use Rattle.toml_span_read.specs.declared.earlier.Node.TheViews.{roll-Node, out-N
 use Rattle.toml_span_read.specs.declared.earlier.Node.TheFolds.{fold-roll-Node}
 use Rattle.toml_span_read.specs.declared.earlier.Node.TheOpen.{Node-F}
 use Rattle.toml_span_read.specs.code.Earlier.{is_named, child, nothing, below, Holds, holds_step, holds, Puts, HoldsNone, FindsOutermost}
-use Rattle.toml_span_read.specs.Earlier.{path}
+use Rattle.toml_span_read.specs.Earlier.{part_names}
 
 -- the order of keys
 abbrev pub key_cmp : Key → Key → Ordering
@@ -221,7 +221,7 @@ puts-full x first (Some s) is h = puts-again x first s (holds-value x ∙ is)
 
 -- the parts of a key, the first of which is at hand
 pub parts-front : (xs : List Key) (key d last : Key) → 1 ≤ length xs → key ≡ get_or xs 0 d
-    → path (map simple_key xs ++ (simple_key last ∷ [])) ≡ cow_str_bytes key.name ∷ path (map simple_key (take (length xs - 1) (drop 1 xs)) ++ (simple_key last ∷ []))
+    → part_names (map simple_key xs ++ (simple_key last ∷ [])) ≡ cow_str_bytes key.name ∷ part_names (map simple_key (take (length xs - 1) (drop 1 xs)) ++ (simple_key last ∷ []))
 parts-front [] key d last some same = absurd (omega arith)
 parts-front (x ∷ xs) key d last some same =
     let all : take (suc (length xs) - 1) xs ≡ xs = take_all _ xs (omega arith) in
@@ -247,7 +247,7 @@ holds-under n k names o is = ap (λ m. holds m (k ∷ names)) (sym (roll-out n))
 pub finds-missing : (n : Tree) (p : SimpleKey) (ps : List SimpleKey) → child p.name (out-Node n).below.entries ≡ None → FindsOutermost (holds n) (p ∷ ps) None
 finds-missing n p ps missing =
     through_more (λ names. holds n names ≡ None) p ps (holds-under n p.name [] None missing)
-    (λ outer q rest e. holds-under n p.name (path (outer ++ (q ∷ []))) None missing)
+    (λ outer q rest e. holds-under n p.name (part_names (outer ++ (q ∷ []))) None missing)
 
 pub finds-here : (n : Tree) (p : SimpleKey) (ps : List SimpleKey) (x : Tree) (first : Span) → child p.name (out-Node n).below.entries ≡ Some x → (out-Node x).value ≡ Some first
     → FindsOutermost (holds n) (p ∷ ps) (Some (p.span.start, first))
@@ -258,10 +258,10 @@ none-under : (n : Tree) (p : SimpleKey) (ps : List SimpleKey) (x : Tree) → chi
     → HoldsNone (holds x) ps → HoldsNone (holds n) (p ∷ ps)
 none-under n p ps x found value h =
     through_more (λ names. holds n names ≡ None) p ps (holds-under n p.name [] (Some x) found ∙ holds-value x ∙ value)
-    (λ outer q rest e. holds-under n p.name (path (outer ++ (q ∷ []))) (Some x) found ∙ h outer q rest e)
+    (λ outer q rest e. holds-under n p.name (part_names (outer ++ (q ∷ []))) (Some x) found ∙ h outer q rest e)
 
 pub finds-below : (n : Tree) (p : SimpleKey) (ps : List SimpleKey) (x : Tree) (r : Option (ℕ × Span)) → child p.name (out-Node n).below.entries ≡ Some x → (out-Node x).value ≡ None
     → FindsOutermost (holds x) ps r → FindsOutermost (holds n) (p ∷ ps) r
 finds-below n p ps x None found value h = none-under n p ps x found value h
 finds-below n p ps x (Some s) found value (outer, q, rest, key, none, at, start) =
-    (p ∷ outer, q, rest, ap (λ l. p ∷ l) key, none-under n p outer x found value none, holds-under n p.name (path (outer ++ (q ∷ []))) (Some x) found ∙ at, start)
+    (p ∷ outer, q, rest, ap (λ l. p ∷ l) key, none-under n p outer x found value none, holds-under n p.name (part_names (outer ++ (q ∷ []))) (Some x) found ∙ at, start)

@@ -6,16 +6,16 @@ use Rattle.toml_span_read.specs.Data.{KeyValue, parsed_span}
 use Rattle.toml_span_read.specs.declared.fault.Fault.{Fault}
 use Rattle.toml_span_read.specs.declared.fault.FaultKind.TheVariants as kinds
 
--- the path that a key's parts spell
-abbrev pub path : List SimpleKey → List (List ℕ)
-path parts = map (λ p. p.name) parts
+-- the names of a key's parts
+abbrev pub part_names : List SimpleKey → List (List ℕ)
+part_names parts = map (λ p. p.name) parts
 
--- none of the assignments is of this path
+-- the parts of none of the assignments have these names
 abbrev pub NoneAt : List (List ℕ) → List KeyValue → Type 0
 NoneAt names [] = Unit {0}
-NoneAt names (e ∷ es) = (path e.parts ≡ names → ⊥) × NoneAt names es
+NoneAt names (e ∷ es) = (part_names e.parts ≡ names → ⊥) × NoneAt names es
 
--- the earliest of the assignments that are of this path has a key whose last part has this span
+-- the earliest of the assignments whose parts have these names has a last part with this span
 pub record EarliestAt (names : List (List ℕ)) (key_values : List KeyValue) (first : Span) : Type 0 where
   pub before : List KeyValue
   pub found : KeyValue
@@ -24,7 +24,7 @@ pub record EarliestAt (names : List (List ℕ)) (key_values : List KeyValue) (fi
   pub last : SimpleKey
   pub stands : key_values ≡ before ++ (found ∷ behind)
   pub none_before : NoneAt names before
-  pub same : path found.parts ≡ names
+  pub same : part_names found.parts ≡ names
   pub key : found.parts ≡ inner ++ (last ∷ [])
   pub span : first ≡ last.span
 
@@ -32,7 +32,7 @@ pub record EarliestAt (names : List (List ℕ)) (key_values : List KeyValue) (fi
 abbrev pub NoneThrough : List SimpleKey → List KeyValue → Type 0
 NoneThrough parts key_values =
     (outer : List SimpleKey) (p : SimpleKey) (rest : List SimpleKey) → parts ≡ outer ++ (p ∷ rest)
-    → NoneAt (path (outer ++ (p ∷ []))) key_values
+    → NoneAt (part_names (outer ++ (p ∷ []))) key_values
 
 -- no inner part of the next key names the path of an earlier value
 abbrev pub Clear : List KeyValue → KeyValue → Type 0
@@ -48,7 +48,7 @@ pub record Crossing (earlier : List KeyValue) (next : KeyValue) (fault : Fault) 
   pub first : Span
   pub key : next.parts ≡ outer ++ (part ∷ more ∷ rest)
   pub outermost : NoneThrough outer earlier
-  pub met : EarliestAt (path (outer ++ (part ∷ []))) earlier first
+  pub met : EarliestAt (part_names (outer ++ (part ∷ []))) earlier first
   pub fault_is : fault ≡ record {
     kind = kinds.DottedKeyInvalidType first;
     span = record { start = part.span.start; end = (parsed_span next.value).end };

@@ -40,8 +40,8 @@ fn put<'de>(
     inner: &[Key<'de>],
     last: &Key<'de>,
 ) -> Result<(), AllocError>
-    ensures { OnOk result (code.Puts (spec.path (map simple_key inner.now ++ (simple_key last.now ∷ []))) last.now.span
-        (code.holds node.old) (code.holds node.new)) }
+    ensures { OnOk result (code.Puts (spec.part_names (map simple_key inner.now ++ (simple_key last.now ∷ [])))
+        last.now.span (code.holds node.old) (code.holds node.new)) }
 {
     match inner {
         [] => put_last(alloc, node, last),

@@ -6,7 +6,7 @@ use Rattle.toml_span_lex.specs.Bytes.{is_keylike}
 use Rattle.toml_span_read.specs.Gaps.{Separator, Closes}
 use Rattle.toml_span_read.specs.Keys.{SimpleKey, SpellsSimpleKey, Onward, SpellsKey}
 use Rattle.toml_span_read.specs.Data.{ParsedValue, parsed, ParsedInner, scalar, array, inline, ParsedItems, no_items, item, ParsedPairs, no_pairs, pair, KeyValue}
-use Rattle.toml_span_read.specs.Earlier.{path, NoneAt, NoneThrough, Clear}
+use Rattle.toml_span_read.specs.Earlier.{part_names, NoneAt, NoneThrough, Clear}
 use Rattle.toml_span_read.specs.Grammar.{Spells, SpellsInner, SpellsItems, SpellsPairs}
 use Rattle.toml_span_read_laws.specs.Again.{moved_span, moved_parts, moved, moved_inner, moved_items, moved_pairs}
 use Rattle.toml_span_read.proofs.SpanLaws.{value_lies}
@@ -68,7 +68,7 @@ dotted a b s t w (p ∷ ps) i j k l o e f u (m, h, more) =
 moved_key_value : ℕ → ℕ → KeyValue → KeyValue
 moved_key_value s t e = record { parts = moved_parts s t e.parts; value = moved s t e.value; extent = moved_span s t e.extent }
 
-path_moved : (s t : ℕ) (ps : List SimpleKey) → path (moved_parts s t ps) ≡ path ps
+path_moved : (s t : ℕ) (ps : List SimpleKey) → part_names (moved_parts s t ps) ≡ part_names ps
 path_moved s t [] = refl
 path_moved s t (p ∷ ps) = ap (λ (ns : List (List ℕ)). p.name ∷ ns) (path_moved s t ps)
 
@@ -106,17 +106,17 @@ cut_moved s t (p ∷ ps) (x ∷ xs) y ys e =
       behind_is = c.behind_is;
     }
 
-path_cut : (s t : ℕ) (us xs : List SimpleKey) (v y : SimpleKey) → moved_parts s t us ≡ xs → moved_part s t v ≡ y → path (us ++ (v ∷ [])) ≡ path (xs ++ (y ∷ []))
+path_cut : (s t : ℕ) (us xs : List SimpleKey) (v y : SimpleKey) → moved_parts s t us ≡ xs → moved_part s t v ≡ y → part_names (us ++ (v ∷ [])) ≡ part_names (xs ++ (y ∷ []))
 unfolding moved_part
 path_cut s t us xs v y e f =
     let m : moved_parts s t (us ++ (v ∷ [])) ≡ moved_parts s t us ++ (moved_part s t v ∷ []) = map-append _ us (v ∷ []) in
-    let p : path (us ++ (v ∷ [])) ≡ path (moved_parts s t us ++ (moved_part s t v ∷ [])) = sym (path_moved s t (us ++ (v ∷ []))) ∙ ap (λ (l : List SimpleKey). path l) m in
-    subst (λ (z : SimpleKey). path (us ++ (v ∷ [])) ≡ path (xs ++ (z ∷ []))) f (subst (λ (z : List SimpleKey). path (us ++ (v ∷ [])) ≡ path (z ++ (moved_part s t v ∷ []))) e p)
+    let p : part_names (us ++ (v ∷ [])) ≡ part_names (moved_parts s t us ++ (moved_part s t v ∷ [])) = sym (path_moved s t (us ++ (v ∷ []))) ∙ ap (λ (l : List SimpleKey). part_names l) m in
+    subst (λ (z : SimpleKey). part_names (us ++ (v ∷ [])) ≡ part_names (xs ++ (z ∷ []))) f (subst (λ (z : List SimpleKey). part_names (us ++ (v ∷ [])) ≡ part_names (z ++ (moved_part s t v ∷ []))) e p)
 
 through_moved : (s t : ℕ) (ps qs : List SimpleKey) (es : List KeyValue) → moved_parts s t ps ≡ qs → NoneThrough ps es → NoneThrough qs (map (moved_key_value s t) es)
 through_moved s t ps qs es m h outer p rest e =
     let c = cut_moved s t ps outer p rest (m ∙ e) in
-    none_moved s t (path (outer ++ (p ∷ []))) es (subst (λ (n : List (List ℕ)). NoneAt n es) (path_cut s t c.before outer c.here p c.before_is c.here_is) (h c.before c.here c.behind c.is))
+    none_moved s t (part_names (outer ++ (p ∷ []))) es (subst (λ (n : List (List ℕ)). NoneAt n es) (path_cut s t c.before outer c.here p c.before_is c.here_is) (h c.before c.here c.behind c.is))
 
 none_of : (s t : ℕ) (ps : List SimpleKey) → moved_parts s t ps ≡ [] → ps ≡ []
 none_of s t [] e = refl

@@ -6,7 +6,7 @@ use Rattle.toml_span_read.specs.declared.fault.Fault.{Fault}
 use Rattle.toml_span_read.specs.declared.fault.FaultKind.TheVariants as kinds
 use Rattle.toml_span_read.specs.Data.{KeyValue, parsed_span}
 use Rattle.toml_span_read.specs.Keys.{SimpleKey}
-use Rattle.toml_span_read.specs.Earlier.{path, NoneAt, EarliestAt, NoneThrough, Clear, Crossing}
+use Rattle.toml_span_read.specs.Earlier.{part_names, NoneAt, EarliestAt, NoneThrough, Clear, Crossing}
 use Rattle.toml_span_read.proofs.EarlierLemmas.{snoc_same, clear_of, through_none}
 use Rattle.toml_span_read.proofs.EarlierKnows.{same_path, behind_part}
 
@@ -28,7 +28,7 @@ cuts [] (b ∷ ys) us vs x y e = inr (inl (ys, cc))
 cuts (a ∷ xs) [] us vs x y e = inr (inr (xs, cc))
 cuts (a ∷ xs) (b ∷ ys) us vs x y e = cuts_more a b xs ys x y (cc) (cuts xs ys us vs x y (cc))
 
-none_found : (names : List (List ℕ)) (key_values before behind : List KeyValue) (found : KeyValue) → NoneAt names key_values → key_values ≡ before ++ (found ∷ behind) → path found.parts ≡ names → ⊥
+none_found : (names : List (List ℕ)) (key_values before behind : List KeyValue) (found : KeyValue) → NoneAt names key_values → key_values ≡ before ++ (found ∷ behind) → part_names found.parts ≡ names → ⊥
 none_found names key_values before behind found none stands same = go before (subst (λ (es : List KeyValue). NoneAt names es) stands none)
   where
     go : (before : List KeyValue) → NoneAt names (before ++ (found ∷ behind)) → ⊥
@@ -67,7 +67,7 @@ crossing_one earlier next f g c d = go (cuts c.outer d.outer (c.more ∷ c.rest)
   where
     go : Cuts c.outer c.part d.outer d.part → f ≡ g
     go (inl e) =
-        let names : path (c.outer ++ (c.part ∷ [])) ≡ path (d.outer ++ (d.part ∷ [])) = ap (λ l. path (l ++ (c.part ∷ []))) e.0 ∙ ap (λ p. path (d.outer ++ (p ∷ []))) e.1 in
+        let names : part_names (c.outer ++ (c.part ∷ [])) ≡ part_names (d.outer ++ (d.part ∷ [])) = ap (λ l. part_names (l ++ (c.part ∷ []))) e.0 ∙ ap (λ p. part_names (d.outer ++ (p ∷ []))) e.1 in
         let first : c.first ≡ d.first = one_earliest _ earlier c.first d.first (subst (λ (q : List (List ℕ)). EarliestAt q earlier c.first) names c.met) d.met in
         let start : c.part.span.start ≡ d.part.span.start = ap (λ (p : SimpleKey). p.span.start) e.1 in
         let a = c.fault_is in
@@ -82,14 +82,14 @@ crossing_one earlier next f g c d = go (cuts c.outer d.outer (c.more ∷ c.rest)
 EarliestOrNone : List (List ℕ) → List KeyValue → Type 0
 EarliestOrNone names key_values = NoneAt names key_values ⊎ ((first : Span) × EarliestAt names key_values first)
 
-told_first : (names : List (List ℕ)) (e : KeyValue) (es : List KeyValue) (ps : List SimpleKey) → e.parts ≡ ps → path e.parts ≡ names → (names ≡ [] → ⊥) → EarliestOrNone names (e ∷ es)
+told_first : (names : List (List ℕ)) (e : KeyValue) (es : List KeyValue) (ps : List SimpleKey) → e.parts ≡ ps → part_names e.parts ≡ names → (names ≡ [] → ⊥) → EarliestOrNone names (e ∷ es)
 unfolding EarliestOrNone
-told_first names e es [] is same some = absurd (some (sym same ∙ ap path is))
+told_first names e es [] is same some = absurd (some (sym same ∙ ap part_names is))
 told_first names e es (p ∷ ps) is same some =
     let end = front_last p ps in
     inr (end.1.span, record { before = []; found = e; behind = es; inner = end.0; last = end.1; stands = refl; none_before = tt; same = same; key = is ∙ end.2; span = refl })
 
-told_later : (names : List (List ℕ)) (e : KeyValue) (es : List KeyValue) → (path e.parts ≡ names → ⊥) → EarliestOrNone names es → EarliestOrNone names (e ∷ es)
+told_later : (names : List (List ℕ)) (e : KeyValue) (es : List KeyValue) → (part_names e.parts ≡ names → ⊥) → EarliestOrNone names es → EarliestOrNone names (e ∷ es)
 unfolding EarliestOrNone
 told_later names e es apart (inl none) = inl (apart, none)
 told_later names e es apart (inr (first, h)) = inr (
@@ -108,23 +108,23 @@ told_later names e es apart (inr (first, h)) = inr (
   },
 )
 
-told_of : (names : List (List ℕ)) (e : KeyValue) (es : List KeyValue) → (names ≡ [] → ⊥) → ((path e.parts ≡ names) ⊎ (path e.parts ≡ names → ⊥)) → EarliestOrNone names es → EarliestOrNone names (e ∷ es)
+told_of : (names : List (List ℕ)) (e : KeyValue) (es : List KeyValue) → (names ≡ [] → ⊥) → ((part_names e.parts ≡ names) ⊎ (part_names e.parts ≡ names → ⊥)) → EarliestOrNone names es → EarliestOrNone names (e ∷ es)
 told_of names e es some (inl same) more = told_first names e es e.parts refl same some
 told_of names e es some (inr apart) more = told_later names e es apart more
 
 told : (names : List (List ℕ)) (key_values : List KeyValue) → (names ≡ [] → ⊥) → EarliestOrNone names key_values
 unfolding EarliestOrNone
 told names [] some = inl tt
-told names (e ∷ es) some = told_of names e es some (same_path (path e.parts) names) (told names es some)
+told names (e ∷ es) some = told_of names e es some (same_path (part_names e.parts) names) (told names es some)
 
-not_empty : (outer : List SimpleKey) (p : SimpleKey) → path (outer ++ (p ∷ [])) ≡ [] → ⊥
+not_empty : (outer : List SimpleKey) (p : SimpleKey) → part_names (outer ++ (p ∷ [])) ≡ [] → ⊥
 not_empty [] p e = cc
 not_empty (q ∷ outer) p e = cc
 
-none_push : (outer : List SimpleKey) (p : SimpleKey) (key_values : List KeyValue) → NoneThrough outer key_values → NoneAt (path (outer ++ (p ∷ []))) key_values → NoneThrough (outer ++ (p ∷ [])) key_values
+none_push : (outer : List SimpleKey) (p : SimpleKey) (key_values : List KeyValue) → NoneThrough outer key_values → NoneAt (part_names (outer ++ (p ∷ []))) key_values → NoneThrough (outer ++ (p ∷ [])) key_values
 none_push outer p key_values none here front q [] split =
     let same = snoc_same outer front p q split in
-    subst (λ (l : List SimpleKey). NoneAt (path l) key_values) (ap (λ l. l ++ (p ∷ [])) same.0 ∙ ap (λ r. front ++ (r ∷ [])) same.1) here
+    subst (λ (l : List SimpleKey). NoneAt (part_names l) key_values) (ap (λ l. l ++ (p ∷ [])) same.0 ∙ ap (λ r. front ++ (r ∷ [])) same.1) here
 none_push outer p key_values none here front q (r ∷ rest) split =
     let end = front_last r rest in
     let cut = snoc_same outer (front ++ (q ∷ end.0)) p end.1 (split ∙ ap (λ l. front ++ (q ∷ l)) end.2 ∙ sym (append_assoc front (q ∷ end.0) (end.1 ∷ []))) in
@@ -135,7 +135,7 @@ Judged : List KeyValue → KeyValue → Type 0
 Judged earlier next = Clear earlier next ⊎ ((fault : Fault) × Crossing earlier next fault)
 
 judged_at : (earlier : List KeyValue) (next : KeyValue) (outer : List SimpleKey) (p : SimpleKey) (ps : List SimpleKey) (last : SimpleKey) → next.parts ≡ (outer ++ (p ∷ ps)) ++ (last ∷ []) → NoneThrough outer earlier
-    → EarliestOrNone (path (outer ++ (p ∷ []))) earlier → (NoneThrough (outer ++ (p ∷ [])) earlier → Judged earlier next) → Judged earlier next
+    → EarliestOrNone (part_names (outer ++ (p ∷ []))) earlier → (NoneThrough (outer ++ (p ∷ [])) earlier → Judged earlier next) → Judged earlier next
 unfolding EarliestOrNone Judged
 judged_at earlier next outer p ps last key none (inl here) more = more (none_push outer p earlier none here)
 judged_at earlier next outer p ps last key none (inr (first, met)) more =
@@ -159,7 +159,7 @@ judged_from : (earlier : List KeyValue) (next : KeyValue) (outer parts : List Si
 unfolding Judged
 judged_from earlier next outer [] last key none = inl (clear_of earlier next outer last (key ∙ ap (λ l. l ++ (last ∷ [])) (append-nil outer)) none)
 judged_from earlier next outer (p ∷ ps) last key none =
-    judged_at earlier next outer p ps last key none (told (path (outer ++ (p ∷ []))) earlier (not_empty outer p))
+    judged_at earlier next outer p ps last key none (told (part_names (outer ++ (p ∷ []))) earlier (not_empty outer p))
     (λ more. judged_from earlier next (outer ++ (p ∷ [])) ps last (key ∙ ap (λ l. l ++ (last ∷ [])) (sym (append_assoc outer (p ∷ []) ps))) more)
 
 judged : (earlier : List KeyValue) (next : KeyValue) (parts : List SimpleKey) → next.parts ≡ parts → Judged earlier next

@@ -41,9 +41,9 @@ abbrev pub main_part : List MarkedLine → Option MarkedLine
 main_part parts = or_else (first_primary parts) (first_of parts)
 
 -- `:line:column`, both counted from 1
-abbrev pub shown_place : Option MarkedLine → List ℕ
-shown_place None = []
-shown_place (Some p) = codes ":" ++ decimal p.number ++ codes ":" ++ decimal p.column
+abbrev pub place_told : Option MarkedLine → List ℕ
+place_told None = []
+place_told (Some p) = codes ":" ++ decimal p.number ++ codes ":" ++ decimal p.column
 
 -- the columns that the greatest of the line numbers takes
 abbrev pub greatest : List MarkedLine → ℕ
@@ -104,7 +104,7 @@ abbrev pub report_of : Style → List ℕ → List ℕ → List ℕ → List Mar
 report_of style code message name parts =
     headline style code message
     ++ painted style Blue (replicate (width_of parts) 32 ++ codes "--> ") ++ shown name
-    ++ shown_place (main_part parts) ++ codes "\n" ++ drawn style (width_of parts) None parts
+    ++ place_told (main_part parts) ++ codes "\n" ++ drawn style (width_of parts) None parts
 
 abbrev pub report : {F : Type 0} → Style → List ℕ → List ℕ → List (LabelContent F) → List ℕ → List ℕ → List ℕ
 report style code message marks name text = report_of style code message name (all_marked_lines text marks)
@@ -117,7 +117,7 @@ report_of_fault style name text f =
 -- one line: `name:line:column: code: message`
 abbrev pub brief_of : List ℕ → List ℕ → List ℕ → List MarkedLine → List ℕ
 brief_of code message name parts =
-    shown name ++ shown_place (main_part parts) ++ codes ": " ++ shown code ++ codes ": " ++ shown message ++ codes "\n"
+    shown name ++ place_told (main_part parts) ++ codes ": " ++ shown code ++ codes ": " ++ shown message ++ codes "\n"
 
 abbrev pub brief : {F : Type 0} → List ℕ → List ℕ → List (LabelContent F) → List ℕ → List ℕ → List ℕ
 brief code message marks name text = brief_of code message name (all_marked_lines text marks)

@@ -5,7 +5,7 @@ ghost use Rattle.toml_span_report.specs.Characters as spec;
 use std::alloc::{AllocError, Global};
 use unicode_width::UnicodeWidthStr;
 
-/// A control character from U+0080 on, or one that turns the direction of the text.
+/// Whether this is a control character from U+0080 on, or one that turns the direction of the text.
 fn is_hidden(c: char) -> bool
     ensures { result ≡ spec.is_hidden c }
 {

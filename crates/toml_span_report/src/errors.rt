@@ -9,7 +9,8 @@ use std::alloc::{AllocError, Global};
 use toml_span_lex::stop::Stop;
 use toml_span_typed::DeserError;
 
-/// The text that shows all errors of a read, each as `render_error` shows it, in their order.
+/// The text that shows all errors of a read, each as `render_error` shows it, in their order. Only want of memory
+/// is refused.
 pub fn render_errors(
     alloc: Global,
     style: Style,

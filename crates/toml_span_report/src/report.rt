@@ -59,7 +59,7 @@ fn main_strip<'a>(strips: &[Strip<'a>]) -> Option<Strip<'a>>
 /// Adds the line and the column of a strip.
 fn push_place(out: &mut String, strip: Option<Strip<'_>>) -> Result<(), AllocError>
     ensures { OnOk result (string_bytes out.new ≡ string_bytes out.old
-        ++ spec.shown_place (option_map marked_line_of strip.entry)) }
+        ++ spec.place_told (option_map marked_line_of strip.entry)) }
 {
     let Some(strip) = strip else {
         return Ok(());
@@ -241,8 +241,9 @@ fn report(
 /// another. Labels stand in the order of the text. A span may be any: what lies past the text or within a character
 /// is moved to the nearest place before it, and a reversed span is empty. An empty one has one mark.
 ///
-/// A tab is shown as four spaces, and control characters by pictures of theirs. Of a long line 80 bytes before a label
-/// and 160 from it on are shown. Colours, where the style has them, add nothing else. Only want of memory is refused.
+/// A tab is shown as four spaces, another control character below U+0080 by its picture, one from U+0080 on, or one
+/// that turns the direction of the text, as U+FFFD. Of a long line 80 bytes before a label and 160 from it on are
+/// shown. Colours, where the style has them, add nothing else. Only want of memory is refused.
 pub fn render<F>(
     alloc: Global,
     style: Style,
@@ -265,7 +266,7 @@ pub fn render<F>(
     )
 }
 
-/// The line of brief for a code, a message and strips.
+/// The one line for a code, a message and strips.
 fn brief(
     alloc: Global,
     code: &str,
@@ -288,7 +289,7 @@ fn brief(
 }
 
 /// The one line `name:line:column: code: message` that tells a diagnostic of a text, which editors read. The place is
-/// that of `render`, and is left out where there is no label.
+/// that of `render`, and is left out where there is no label. Only want of memory is refused.
 pub fn render_line<F>(
     alloc: Global,
     diagnostic: &Diagnostic<F>,
@@ -309,7 +310,8 @@ pub fn render_line<F>(
     )
 }
 
-/// The text that shows an error, as `render` shows its diagnostic, with the error's own text as the message.
+/// The text that shows an error, as `render` shows its diagnostic, with the error's own text as the message. Only
+/// want of memory is refused.
 pub fn render_error(
     alloc: Global,
     style: Style,

@@ -1,7 +1,7 @@
 //! What an editor or a terminal shows of an error.
-ghost use Rattle.std.specs.Prelude.{◌≡◌, [], ◌∷◌, IfOk, map, string_bytes};
+ghost use Rattle.std.specs.Prelude.{◌≡◌, [], ◌∷◌, ◌++◌, IfOk, map, string_bytes};
 ghost use Rattle.toml_span_tree.specs.Error.{kind_of, marked_keys};
-ghost use Rattle.toml_span_tree.specs.Message.{code_of};
+ghost use Rattle.toml_span_tree.specs.Message.{code_of, told_char};
 ghost use Rattle.toml_span_tree.specs.Diagnostic.{label_text_of, labels_of, label_content, message_of, secondary};
 ghost use Rattle.toml_span_tree.specs.Diagnostic.{unexpected_keys_message};
 
@@ -73,22 +73,14 @@ impl ErrorKind<'_> {
         match self {
             ErrorKind::ExceededDepthLimit => String::from_str(alloc, "too deeply nested"),
             ErrorKind::InvalidCharInString(c) => {
-                let c = Shown(*c);
-                format!(in alloc; "invalid character '{c}' in string")
+                around(alloc, "invalid character '", *c, "' in string")
             }
             ErrorKind::InvalidEscape(c) => {
-                let c = Shown(*c);
-                format!(in alloc; "invalid escape character '{c}' in string")
+                around(alloc, "invalid escape character '", *c, "' in string")
             }
-            ErrorKind::InvalidHexEscape(c) => {
-                let c = Shown(*c);
-                format!(in alloc; "invalid hex escape '{c}'")
-            }
+            ErrorKind::InvalidHexEscape(c) => around(alloc, "invalid hex escape '", *c, "'"),
             ErrorKind::InvalidEscapeValue(_) => String::from_str(alloc, "invalid escape value"),
-            ErrorKind::Unexpected(c) => {
-                let c = Shown(*c);
-                format!(in alloc; "unexpected character '{c}'")
-            }
+            ErrorKind::Unexpected(c) => around(alloc, "unexpected character '", *c, "'"),
             ErrorKind::UnterminatedString => {
                 String::from_str(alloc, "eof reached before string terminator")
             }
@@ -110,6 +102,14 @@ impl ErrorKind<'_> {
             _ => Ok(String::new(alloc)),
         }
     }
+}
+
+/// A text with a character in it.
+fn around(alloc: Global, before: &str, c: char, after: &str) -> Result<String, AllocError>
+    ensures { IfOk result (λ text. string_bytes text ≡ before.now ++ told_char c ++ after.now) }
+{
+    let c = Shown(c);
+    format!(in alloc; "{before}{c}{after}")
 }
 
 /// How many keys were found, and which were expected.

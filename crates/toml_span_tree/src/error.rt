@@ -1,14 +1,13 @@
 //! What is told of a document, and where.
 ghost use Rattle.std.specs.Prelude.{◌≡◌, map, IfOk, string_bytes};
-ghost use Rattle.std.specs.Cow.{cow_str_bytes};
 ghost use Rattle.toml_span_tree.specs.Error.{content_of, kind_of, marked_keys};
 
 use std::alloc::{AllocError, Global};
 use std::borrow::CowStr;
 use toml_span_lex::span::Span;
 
-/// What is wrong. The first lines of a variant say of what it is told; texts of a document are told by
-/// `parse`, the others by typed reads of a tree.
+/// What is wrong. A kind marked `Of a read` comes from typed reads of a tree, any other from `parse`, and
+/// `Wanted` from both.
 #[derive(Debug, Drop)]
 pub enum ErrorKind<'s> {
     /// The end of the text in the place of a value.

@@ -1,5 +1,5 @@
 //! How names and keys are printed in lists.
-ghost use Rattle.std.specs.Prelude.{◌≡◌, ◌++◌, codes, List, map, ℕ, Some, string_bytes};
+ghost use Rattle.std.specs.Prelude.{◌++◌, codes, List, map, ℕ, Some, string_bytes};
 ghost use Rattle.std.specs.Fmt.{WritesOnOk};
 ghost use Rattle.std.specs.List.{flat_map, join_by};
 ghost use Rattle.std.specs.Str.{chars};

@@ -1,5 +1,5 @@
 //! Look-ups by texts that are read while the program runs.
-ghost use Rattle.std.specs.Prelude.{◌≡◌, option_map, option_and_then};
+ghost use Rattle.std.specs.Prelude.{◌≡◌, option_map};
 ghost use Rattle.toml_span_tree.specs.Node.{get_member};
 ghost use Rattle.toml_span_tree.specs.code.Pointer.{entry, value_named, untaken_entry};
 ghost use Rattle.toml_span_tree.specs.Pointer.{pointed, segments};

@@ -1,8 +1,8 @@
 //! What errors print.
-ghost use Rattle.std.specs.Prelude.{◌≡◌, map, Some, string_bytes};
+ghost use Rattle.std.specs.Prelude.{◌≡◌, ◌++◌, codes, map, Some, string_bytes};
 ghost use Rattle.std.specs.Fmt.{WritesOnOk};
 ghost use Rattle.toml_span_tree.specs.Error.{kind_of, marked_keys};
-ghost use Rattle.toml_span_tree.specs.Message.{code_of, deprecated_text, shown_char, display_text};
+ghost use Rattle.toml_span_tree.specs.Message.{code_of, deprecated_text, told_char, display_text};
 ghost use Rattle.toml_span_tree.specs.Message.{unexpected_keys_text, unexpected_value_text};
 
 use crate::error::{Error, ErrorKind};
@@ -57,7 +57,7 @@ impl Display for ErrorKind<'_> {
 pub(crate) struct Shown(pub(crate) char);
 
 impl Display for Shown {
-    ghost output = { λ shown. Some (shown_char shown.0) };
+    ghost output = { λ shown. Some (told_char shown.0) };
 
     fn fmt<W: Write>(&self, f: &mut Formatter<W>) -> fmt::Result {
         let c = self.0;
@@ -66,6 +66,14 @@ impl Display for Shown {
         }
         write_escaped(f, c)
     }
+}
+
+/// Writes a text that ends with a back quote, a character, and one more back quote.
+fn with_char<W: Write>(f: &mut Formatter<W>, text: &str, c: char) -> fmt::Result
+    ensures { WritesOnOk W.write_str_gives f.old result (text.now ++ told_char c ++ codes "`") f.new }
+{
+    let c = Shown(c);
+    write!(f, "{text}{c}`")
 }
 
 /// Writes that a field has a new name.
@@ -109,23 +117,17 @@ impl Display for Error<'_> {
             ErrorKind::ExceededDepthLimit => {
                 f.write_str("input exceeds the maximum allowed nesting depth")
             }
-            ErrorKind::InvalidCharInString(c) => {
-                let c = Shown(*c);
-                write!(f, "invalid character in string: `{c}`")
-            }
-            ErrorKind::InvalidEscape(c) => {
-                let c = Shown(*c);
-                write!(f, "invalid escape character in string: `{c}`")
-            }
+            ErrorKind::InvalidCharInString(c) => with_char(f, "invalid character in string: `", *c),
+            ErrorKind::InvalidEscape(c) => with_char(
+                f,
+                "invalid escape character in string: `",
+                *c,
+            ),
             ErrorKind::InvalidHexEscape(c) => {
-                let c = Shown(*c);
-                write!(f, "invalid hex escape character in string: `{c}`")
+                with_char(f, "invalid hex escape character in string: `", *c)
             }
             ErrorKind::InvalidEscapeValue(value) => write!(f, "invalid escape value: `{value}`"),
-            ErrorKind::Unexpected(c) => {
-                let c = Shown(*c);
-                write!(f, "unexpected character found: `{c}`")
-            }
+            ErrorKind::Unexpected(c) => with_char(f, "unexpected character found: `", *c),
             ErrorKind::UnterminatedString => f.write_str("unterminated string"),
             ErrorKind::InvalidNumber => f.write_str("invalid number"),
             ErrorKind::InvalidDatetime => f.write_str("invalid datetime"),

@@ -32,7 +32,7 @@ pub fn expected<'s>(expected: &'s str, found: ValueInner, span: Span) -> Error<'
     ))
 }
 
-/// What `FromStr` makes of a value's string. The value, from which nothing may be taken before, is
+/// What `FromStr` makes of a value's string. The value, which must not be taken before (`is_taken`), is
 /// taken in every case.
 ///
 /// Of another kind, the error is `Wanted` "a string". Where `FromStr` refuses the string, it is

@@ -9,7 +9,7 @@
 /// - `port: u16 = "listen-port";` reads another key;
 /// - `tags: Option<Vec<String>>;` is None where the key is not there; so is `tags: Vec<String>, optional;`,
 ///   for a type that is written in another way;
-/// - `port: u16, or(80);` is the value in brackets where the key is not there, which is evaluated only
+/// - `port: u16, or(80);` is the value in parentheses where the key is not there, which is evaluated only
 ///   then;
 /// - `port: u16 = "listen-port", or(80);` is both;
 /// - `level: Level, parsed;` is what `FromStr` makes of a string; the type may be an `Option`, and `or(..)`

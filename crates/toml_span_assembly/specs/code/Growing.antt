@@ -53,7 +53,7 @@ Grows bs g = GrowsTo bs g.root g.clash
 
 -- a clash is told inside the first n bytes
 abbrev pub IsGrownInside : ℕ → Grown → Type 0
-IsGrownInside n g = IfSome g.clash (λ c. IsInside n c.meeting.place)
+IsGrownInside n g = IfSome g.clash (λ c. IsInside n c.meeting.span)
 
 -- what stands in the tree is borrowed as it was read
 abbrev pub GrownRight : List ℕ → List SimpleKey → Grown → Type 0

@@ -57,4 +57,4 @@ IsMarkInside n mark = IsInside n mark.key × (by_header mark.sort ≡ true → I
 -- a clash is told inside the first n bytes
 abbrev pub IsHaltInside : ℕ → Halt → Type 0
 IsHaltInside n (Memory e) = ⊤
-IsHaltInside n (Clash c) = IsInside n c.meeting.place
+IsHaltInside n (Clash c) = IsInside n c.meeting.span

@@ -13,7 +13,7 @@ use Rattle.toml_span_lex.specs.declared.stop.Stop.TheVariants as stops
 use Rattle.toml_span_read.specs.Keys.{SimpleKey}
 use Rattle.toml_span_read.specs.declared.earlier.Node.TheOpen.{Node-F}
 use Rattle.toml_span_read.specs.declared.earlier.Node.{Node as Tree, fold-Node}
-use Rattle.toml_span_read.specs.Earlier.{path, NoneAt, EarliestAt, Clear, Crossing}
+use Rattle.toml_span_read.specs.Earlier.{part_names, NoneAt, EarliestAt, Clear, Crossing}
 use Rattle.toml_span_read.specs.Data.{KeyValue, key_value}
 use Rattle.toml_span_read.specs.declared.earlier.Earlier.{Earlier}
 use Rattle.toml_span_read.specs.declared.fault.Fault.{Fault}
@@ -62,14 +62,14 @@ Puts names first old new =
 abbrev pub HoldsNone : Holds → List SimpleKey → Type 0
 HoldsNone tree parts =
     (outer : List SimpleKey) (p : SimpleKey) (rest : List SimpleKey) → parts ≡ outer ++ (p ∷ rest)
-    → tree (path (outer ++ (p ∷ []))) ≡ None
+    → tree (part_names (outer ++ (p ∷ []))) ≡ None
 
 -- the outermost of the parts at whose path the tree holds a span starts at `found.0`, and the span is `found.1`
 abbrev pub FindsOutermost : Holds → List SimpleKey → Option (ℕ × Span) → Type 0
 FindsOutermost tree parts None = HoldsNone tree parts
 FindsOutermost tree parts (Some found) =
     (outer : List SimpleKey) × (p : SimpleKey) × (rest : List SimpleKey)
-    × (parts ≡ outer ++ (p ∷ rest)) × HoldsNone tree outer × (tree (path (outer ++ (p ∷ []))) ≡ Some found.1)
+    × (parts ≡ outer ++ (p ∷ rest)) × HoldsNone tree outer × (tree (part_names (outer ++ (p ∷ []))) ≡ Some found.1)
     × (found.0 ≡ p.span.start)
 
 -- of the assignments at the path, the earliest is told, if there is one

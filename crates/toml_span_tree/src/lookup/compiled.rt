@@ -1,6 +1,5 @@
 //! Pointers that are read once, and looked up many times.
-ghost use Rattle.std.specs.Prelude.{◌≡◌, ◌++◌, IfOk, OnOk, map, option_map, option_and_then};
-ghost use Rattle.std.specs.Cow.{cow_str_bytes};
+ghost use Rattle.std.specs.Prelude.{◌≡◌, ◌++◌, IfOk, OnOk, map, option_map};
 ghost use Rattle.toml_span_tree.specs.Names.{name_in, names_in};
 ghost use Rattle.toml_span_tree.specs.Node.{get_member};
 ghost use Rattle.toml_span_tree.specs.code.Pointer.{entry, value_named, untaken_entry};

@@ -3,7 +3,7 @@ ghost use Rattle.std.specs.Prelude.{◌≡◌, true, Some, None, IfOk, IfSome, i
 ghost use Rattle.std.specs.Cow.{cow_str_bytes};
 ghost use Rattle.toml_span_tree.specs.Error.{content_of, missing_field};
 ghost use Rattle.toml_span_tree.specs.Node.{entry_at};
-ghost use Rattle.toml_span_tree.specs.Value.{is_filled, members_view, span_of, view};
+ghost use Rattle.toml_span_tree.specs.Value.{is_filled, members_view, view};
 ghost use Rattle.toml_span_typed.specs.TableHelper.{EndsWithErrors, remaining_keys, without};
 ghost use Rattle.toml_span_typed.specs.code.TableHelper.{key_text};
 
@@ -58,15 +58,13 @@ impl<'de> TableHelper<'de> {
     ghost use Rattle.toml_span_tree.specs.Value.{is_taken, is_whole};
     ghost use Rattle.toml_span_typed.specs.Errors.{all};
     ghost use Rattle.toml_span_typed.specs.Reads.{Taken, result_map, spanned};
-    ghost use Rattle.std.specs.Prelude.{◌+◌, ◌≤◌};
-    ghost use Rattle.toml_span_typed.specs.Fields.{kept, lacking};
     ghost use Rattle.toml_span_typed.specs.TableHelper.{AllWhole, EndsWithErrors, Finalizes, HoldsRest, Leaves};
     ghost use Rattle.toml_span_typed.specs.TableHelper.{OpensTable, Refuses};
-    ghost use Rattle.toml_span_typed.specs.TableHelper.{Requires, Takes, Tries, found, fresh, keeping, missing};
+    ghost use Rattle.toml_span_typed.specs.TableHelper.{Requires, Takes, Tries, found, fresh, keeping};
     ghost use Rattle.toml_span_typed.specs.TableHelper.{state_of, unasked, unexpected_entries};
     ghost use Rattle.toml_span_typed.specs.code.TableHelper.{ReadsValue};
 
-    /// A helper over the table that a value is, from which nothing may be taken. The value is taken.
+    /// A helper over the table that a value is, which must not be taken (`is_taken`). The value is taken.
     /// Of another kind, the error is `Wanted` "a table". Takes no memory.
     pub fn new(alloc: Global, value: &mut Value<'de>) -> Result<TableHelper<'de>, DeserError<'de>>
         requires { is_taken (view value.old) ≡ false }

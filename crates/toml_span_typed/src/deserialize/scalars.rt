@@ -1,5 +1,5 @@
 //! Reads of strings, truth values, floats and dates.
-ghost use Rattle.std.specs.Prelude.{◌≡◌, string_bytes};
+ghost use Rattle.std.specs.Prelude.{string_bytes};
 ghost use Rattle.std.specs.Cow.{cow_str_bytes};
 ghost use Rattle.toml_span_tree.specs.Value.{float_value, date_bytes};
 ghost use Rattle.toml_span_typed.specs.Reads.{Gives, Never, Unchanged, result_map, read_string, read_boolean};

@@ -3,7 +3,8 @@ use Rattle.std.specs.Global.{Global}
 use Rattle.std.specs.declared.alloc.AllocError.{AllocError}
 use Rattle.toml_span_check.specs.declared.answer.Task.{Task}
 use Rattle.toml_span_check.specs.declared.faults.Format.{Format}
-use Rattle.toml_span_check.specs.Answer.{bound, too_long, not_utf8, IsRead, IsAnswer}
+use Rattle.toml_span_lines.specs.Run.{bound}
+use Rattle.toml_span_check.specs.Answer.{too_long, not_utf8, IsRead, IsAnswer}
 use Rattle.toml_span_check.proofs.answer.answer.Goals as goal
 
 abbrev Made : Type 0
