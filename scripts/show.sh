@@ -1,5 +1,5 @@
 #!/usr/bin/env bash
-# Prints the items of a TOML file: bash scripts/show.sh [FILE]
+# Prints the values of a TOML file, a line each: bash scripts/show.sh [FILE]
 #
 # With no FILE, or `-`, it reads standard input; a FIFO and /dev/stdin are fine too. The status is the program's: 0 a
 # document, 1 none, 2 no UTF-8 or more than 16 MiB, 3 a failed read or write, 4 no memory. It is 2 too where FILE can't
