@@ -11,6 +11,7 @@ use toml_span::de::parse;
 use toml_span::{Diagnostic, Error, Stop, Value};
 use toml_span_lines::lines::tree_lines;
 use toml_span_lines::run::BOUND;
+use toml_span_report::diagnostic_of;
 
 /// How a document is shown.
 #[derive(Clone, Copy, PartialEq, Eq)]
@@ -60,8 +61,7 @@ fn error_text(
 ) -> Result<Vec<u8>, AllocError>
     ensures { IfOk result (λ out. out.items ≡ spec.error_text format error.now name.now text.now) }
 {
-    let mut diagnostic = error.to_diagnostic(alloc, 0usize)?;
-    diagnostic.message = error.to_string(alloc)?;
+    let diagnostic = diagnostic_of(alloc, error, 0usize)?;
     Ok(fault_text(alloc, format, &diagnostic, name, text)?.into_bytes())
 }
 

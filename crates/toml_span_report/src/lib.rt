@@ -11,4 +11,4 @@ mod strips;
 pub use colours::Style;
 pub use errors::{render_errors, render_stop};
 pub use places::line_column;
-pub use report::{render, render_error, render_line};
+pub use report::{diagnostic_of, render, render_error, render_line};

@@ -1,7 +1,8 @@
 //! The text that shows a diagnostic.
-ghost use Rattle.std.specs.Prelude.{◌≡◌, ◌++◌, IfOk, OnOk, map, length, None, option_map, string_bytes};
-ghost use Rattle.toml_span_tree.specs.Diagnostic.{label_content};
-ghost use Rattle.toml_span_tree.specs.Error.{content_of};
+ghost use Rattle.std.specs.Prelude.{◌≡◌, ◌++◌, IfOk, OnOk, map, None, option_map, string_bytes};
+ghost use Rattle.toml_span_tree.specs.Diagnostic.{label_content, labels_of};
+ghost use Rattle.toml_span_tree.specs.Error.{content_of, kind_of};
+ghost use Rattle.toml_span_tree.specs.Message.{code_of, display_text};
 ghost use Rattle.toml_span_report.specs.Report as spec;
 ghost use Rattle.toml_span_report.specs.Strips.{marked_line_of};
 
@@ -310,8 +311,23 @@ pub fn render_line<F>(
     )
 }
 
-/// The text that shows an error, as `render` shows its diagnostic, with the error's own text as the message. Only
-/// want of memory is refused.
+/// The diagnostic of an error, with the error's own text as the message, where that of `Error::to_diagnostic` is empty
+/// if a label says all. Only want of memory is refused.
+pub fn diagnostic_of<F: Copy + PartialEq>(
+    alloc: Global,
+    error: &Error<'_>,
+    file: F,
+) -> Result<Diagnostic<F>, AllocError>
+    ensures { IfOk result (λ made. (string_bytes made.code ≡ code_of (kind_of error.now.kind))
+        × (string_bytes made.message ≡ display_text (kind_of error.now.kind))
+        × (map label_content made.labels.items ≡ labels_of file error.now.span (kind_of error.now.kind))) }
+{
+    let mut diagnostic = error.to_diagnostic(alloc, file)?;
+    diagnostic.message = error.to_string(alloc)?;
+    Ok(diagnostic)
+}
+
+/// The text that shows an error: `render` of its `diagnostic_of`. Only want of memory is refused.
 pub fn render_error(
     alloc: Global,
     style: Style,
@@ -322,15 +338,6 @@ pub fn render_error(
     ensures { IfOk result
         (λ out. string_bytes out ≡ spec.report_of_fault style name.now text.now (content_of error.now)) }
 {
-    let diagnostic = error.to_diagnostic(alloc, 0usize)?;
-    let message = error.to_string(alloc)?;
-    let strips = all_strips(alloc, text, diagnostic.labels.as_slice())?;
-    report(
-        alloc,
-        style,
-        diagnostic.code.as_str(),
-        message.as_str(),
-        name,
-        strips.as_slice(),
-    )
+    let diagnostic = diagnostic_of(alloc, error, 0usize)?;
+    render(alloc, style, &diagnostic, name, text)
 }
