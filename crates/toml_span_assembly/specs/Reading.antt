@@ -13,7 +13,8 @@ use Rattle.toml_span_read.specs.Limits.{depth_limit}
 
 -- the text has a tree, of which the type's reading allows the answer
 abbrev pub IsRead : {T : Type 0} → (Node → Result T Errors → Node → Type 0) → List ℕ → Result T Errors → Type 0
-IsRead reads text answer = (root : Value) × (left : Node) × IsTree text depth_limit root × reads (view root) answer left
+IsRead reads text answer =
+    (root : Value) × (left : Node) × IsTree text depth_limit root × reads (view root) answer left
 
 -- the text is refused, and the one error tells why; or it has a tree, and these are the errors of its read
 abbrev pub NotRead : {T : Type 0} → (Node → Result T Errors → Node → Type 0) → List ℕ → Stop Errors → Type 0

@@ -10,7 +10,7 @@ const SMALL_BLOCK: usize = 4096;
 /// What is left of a list that is taken apart from its front.
 ///
 /// A `Vec` keeps its block until it is dropped. This one gives back what stands empty once it is a
-/// quarter of the block. All moves together are fewer than three for each item.
+/// quarter of the block. That may move what is left: fewer than four moves for each item, taken together.
 #[derive(Drop)]
 pub struct Rest<T> {
     /// The items, the next one last.
