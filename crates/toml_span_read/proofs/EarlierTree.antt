@@ -20,7 +20,7 @@ use Rattle.toml_span_read.specs.declared.earlier.Node.{Node as Tree, the_lemmas}
 use Rattle.toml_span_read.specs.declared.earlier.Node.TheViews.{roll-Node, out-Node}
 use Rattle.toml_span_read.specs.declared.earlier.Node.TheFolds.{fold-roll-Node}
 use Rattle.toml_span_read.specs.declared.earlier.Node.TheOpen.{Node-F}
-use Rattle.toml_span_read.specs.code.Earlier.{is_named, child, nothing, below, Holds, holds_step, holds, Puts, HoldsNone, FindsOutermost}
+use Rattle.toml_span_read.specs.code.Earlier.{is_named, child, nothing, below, Holds, holds_step, holds, Puts, PutsBelow, HoldsNone, FindsOutermost}
 use Rattle.toml_span_read.specs.Earlier.{part_names}
 
 -- the order of keys
@@ -139,30 +139,36 @@ puts-insert key w (e ∷ es) l =
 
 -- ---- what is put
 
--- what the tree holds below a name, that may be missing
-abbrev pub under : Node-F Tree → List ℕ → Holds
-under a k names = below (option_map holds (child k a.below.entries)) names
-
--- what is put into a child is put under its name
-pub puts-child : (a b : Node-F Tree) (k : List ℕ) (names : List (List ℕ)) (first : Span) (w : Tree) → b.value ≡ a.value → PutsChild k w a.below.entries b.below.entries
-    → Puts names first (under a k) (holds w) → Puts (k ∷ names) first (holds (roll-Node a)) (holds (roll-Node b))
-puts-child a b k names first w value puts h = (here, others)
+-- the child of a name is another one
+pub puts-below : (a b : Node-F Tree) (k : List ℕ) (w : Tree) → b.value ≡ a.value → PutsChild k w a.below.entries b.below.entries
+    → PutsBelow k (holds w) (holds (roll-Node a)) (holds (roll-Node b))
+puts-below a b k w value puts = (λ names. at k names true (same-self k), holds-here b ∙ value ∙ sym (holds-here a), others)
   where
     at : (l : List ℕ) (rest : List (List ℕ)) (s : Bool) → same k l ≡ s → holds (roll-Node b) (l ∷ rest) ≡ below (option_map holds (cond s (Some w) (child l a.below.entries))) rest
     at l rest s e = holds-below b l rest ∙ ap (λ o. below (option_map holds o) rest) (puts l ∙ ap (λ s. cond s (Some w) (child l a.below.entries)) e)
 
-    here : holds (roll-Node b) (k ∷ names) ≡ Some (unwrap_or (holds (roll-Node a) (k ∷ names)) first)
-    here = at k names true (same-self k) ∙ h.0 ∙ ap (λ o. Some (unwrap_or o first)) (sym (holds-below a k names))
+    others : (l : List ℕ) (rest : List (List ℕ)) → (l ≡ k → ⊥) → holds (roll-Node b) (l ∷ rest) ≡ holds (roll-Node a) (l ∷ rest)
+    others l rest ne =
+        elim (cases_Bool (same k l)) [
+          | inl s ↦ absurd (ne (sym (same_name k l s)))
+          | inr s ↦ at l rest false s ∙ sym (holds-below a l rest)
+        ]
 
-    others : (other : List (List ℕ)) → (other ≡ k ∷ names → ⊥) → holds (roll-Node b) other ≡ holds (roll-Node a) other
-    others [] ne = holds-here b ∙ value ∙ sym (holds-here a)
+-- what is put into a child is put under its name
+pub puts-child : (k : List ℕ) (names : List (List ℕ)) (first : Span) (x w old new : Holds) → ((rest : List (List ℕ)) → old (k ∷ rest) ≡ x rest)
+    → PutsBelow k w old new → Puts names first x w → Puts (k ∷ names) first old new
+puts-child k names first x w old new was (under_k, here, beside) (at, apart) =
+    (under_k names ∙ at ∙ ap (λ o. Some (unwrap_or o first)) (sym (was names)), others)
+  where
+    others : (other : List (List ℕ)) → (other ≡ k ∷ names → ⊥) → new other ≡ old other
+    others [] ne = here
     others (l ∷ rest) ne =
         elim (cases_Bool (same k l)) [
           | inl s ↦
               let e : k ≡ l = same_name k l s in
               let ne' : rest ≡ names → ⊥ = λ r. ne (ap (λ q. q ∷ rest) (sym e) ∙ ap (λ q. k ∷ q) r) in
-              at l rest true s ∙ h.1 rest ne' ∙ ap (λ q. under a q rest) e ∙ sym (holds-below a l rest)
-          | inr s ↦ at l rest false s ∙ sym (holds-below a l rest)
+              ap (λ q. new (q ∷ rest)) (sym e) ∙ under_k rest ∙ apart rest ne' ∙ sym (was rest) ∙ ap (λ q. old (q ∷ rest)) e
+          | inr s ↦ beside l rest (λ e. false≢true (sym s ∙ ap (same k) e ∙ same-self k))
         ]
 
 -- a value where there was none
@@ -180,24 +186,35 @@ puts-again x first known some = (some ∙ ap (λ o. Some (unwrap_or o first)) (s
 pub holds-value : (x : Tree) → holds x [] ≡ (out-Node x).value
 holds-value x = ap (λ n. holds n []) (sym (roll-out x)) ∙ holds-here (out-Node x)
 
+-- what the tree holds below a name is what the name's child holds
+pub holds-under : (n : Tree) (k : List ℕ) (names : List (List ℕ)) (o : Option Tree) → child k (out-Node n).below.entries ≡ o → holds n (k ∷ names) ≡ below (option_map holds o) names
+holds-under n k names o is = ap (λ m. holds m (k ∷ names)) (sym (roll-out n)) ∙ holds-below (out-Node n) k names ∙ ap (λ o. below (option_map holds o) names) is
+
 -- puts in the child that is found under a name
 pub puts-found : (n : Tree) (b : Node-F Tree) (k : List ℕ) (names : List (List ℕ)) (first : Span) (x w : Tree)
     → child k (out-Node n).below.entries ≡ Some x → b.value ≡ (out-Node n).value → b.below.entries ≡ set_value (is_named k) (out-Node n).below.entries w
     → Puts names first (holds x) (holds w) → Puts (k ∷ names) first (holds n) (holds (roll-Node b))
-puts-found n b k names first x w found value written h =
-    subst (λ (m : Tree). Puts (k ∷ names) first (holds m) (holds (roll-Node b))) (roll-out n)
-    (puts-child (out-Node n) b k names first w value (λ l. ap (child l) written ∙ puts-set_value k w x (out-Node n).below.entries found l)
-    (subst (λ (o : Option Tree). Puts names first (below (option_map holds o)) (holds w)) (sym found) h))
+puts-found n b k names first x w found value written =
+    puts-child k names first (holds x) (holds w) (holds n) (holds (roll-Node b)) (λ rest. holds-under n k rest (Some x) found)
+    (subst (λ (m : Tree). PutsBelow k (holds w) (holds m) (holds (roll-Node b))) (roll-out n)
+    (puts-below (out-Node n) b k w value (λ l. ap (child l) written ∙ puts-set_value k w x (out-Node n).below.entries found l)))
 
 -- puts a new child under a name that is missing
-pub puts-missing : (n : Tree) (b : Node-F Tree) (k : List ℕ) (names : List (List ℕ)) (first : Span) (key : Key) (fresh w : Tree)
-    → cow_str_bytes key.name ≡ k → child k (out-Node n).below.entries ≡ None → b.value ≡ (out-Node n).value → b.below.entries ≡ insert_entry key_cmp (out-Node n).below.entries key w
-    → holds fresh ≡ nothing → Puts names first (holds fresh) (holds w) → Puts (k ∷ names) first (holds n) (holds (roll-Node b))
-puts-missing n b k names first key fresh w is missing value written none h =
-    subst (λ (m : Tree). Puts (k ∷ names) first (holds m) (holds (roll-Node b))) (roll-out n)
-    (puts-child (out-Node n) b k names first w value
-    (λ l. ap (child l) written ∙ puts-insert key w (out-Node n).below.entries l ∙ ap (λ q. cond (same q l) (Some w) (child l (out-Node n).below.entries)) is)
-    (subst (λ (o : Option Tree). Puts names first (below (option_map holds o)) (holds w)) (sym missing) (subst (λ (f : Holds). Puts names first f (holds w)) none h)))
+pub puts-missing : (n : Tree) (lent : BTreeMap Key Tree) (k : List ℕ) (names : List (List ℕ)) (first : Span) (fresh w new : Holds)
+    → lent ≡ (out-Node n).below → child k (out-Node n).below.entries ≡ None → fresh ≡ nothing → Puts names first fresh w
+    → PutsBelow k w (holds (roll-Node (record { value = (out-Node n).value; below = lent }))) new → Puts (k ∷ names) first (holds n) new
+puts-missing n lent k names first fresh w new kept missing none h below =
+    let same : roll-Node (record { value = (out-Node n).value; below = lent }) ≡ n = ap (λ (m : BTreeMap Key Tree). roll-Node (record { value = (out-Node n).value; below = m })) kept ∙ roll-out n in
+    puts-child k names first fresh w (holds n) new (λ rest. holds-under n k rest None missing ∙ ap (λ f. f rest) (sym none))
+    (subst (λ (m : Tree). PutsBelow k w (holds m) new) same below) h
+
+-- a child under the name of a key
+pub puts-key : (n : Tree) (b : Node-F Tree) (k : List ℕ) (key : Key) (w : Tree) → cow_str_bytes key.name ≡ k → b.value ≡ (out-Node n).value
+    → b.below.entries ≡ insert_entry key_cmp (out-Node n).below.entries key w → PutsBelow k (holds w) (holds n) (holds (roll-Node b))
+puts-key n b k key w is value written =
+    subst (λ (m : Tree). PutsBelow k (holds w) (holds m) (holds (roll-Node b))) (roll-out n)
+    (puts-below (out-Node n) b k w value
+    (λ l. ap (child l) written ∙ puts-insert key w (out-Node n).below.entries l ∙ ap (λ q. cond (same q l) (Some w) (child l (out-Node n).below.entries)) is))
 
 -- ---- look-ups
 
@@ -234,15 +251,11 @@ parts-first (x ∷ xs) key d some same =
     let all : take (suc (length xs) - 1) xs ≡ xs = take_all _ xs (omega arith) in
     rw (same, all)
 
-pub then-puts : {E : Type 0} (r : Result (Unit {0}) E) (names : List (List ℕ)) (first : Span) (f g : Holds) (more : List (List ℕ)) (f' g' : Holds)
-    → OnOk r (Puts names first f g) → (Puts names first f g → Puts more first f' g') → OnOk r (Puts more first f' g')
-then-puts (Ok u) names first f g more f' g' h k = k h
-then-puts (Err e) names first f g more f' g' h k = tt
+pub then-puts : {E : Type 0} (r : Result (Unit {0}) E) (done then : Type 0) → OnOk r done → (done → then) → OnOk r then
+then-puts (Ok u) done then h k = k h
+then-puts (Err e) done then h k = tt
 
 -- ---- the outermost value
-
-holds-under : (n : Tree) (k : List ℕ) (names : List (List ℕ)) (o : Option Tree) → child k (out-Node n).below.entries ≡ o → holds n (k ∷ names) ≡ below (option_map holds o) names
-holds-under n k names o is = ap (λ m. holds m (k ∷ names)) (sym (roll-out n)) ∙ holds-below (out-Node n) k names ∙ ap (λ o. below (option_map holds o) names) is
 
 pub finds-missing : (n : Tree) (p : SimpleKey) (ps : List SimpleKey) → child p.name (out-Node n).below.entries ≡ None → FindsOutermost (holds n) (p ∷ ps) None
 finds-missing n p ps missing =

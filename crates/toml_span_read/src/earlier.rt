@@ -50,8 +50,7 @@ fn put<'de>(
             None => {
                 let mut child = empty(alloc);
                 put(alloc, &mut child, rest, last)?;
-                node.below.insert(part.clone(alloc)?, child)?;
-                Ok(())
+                put_child(alloc, node, part, child)
             }
         },
     }
@@ -67,13 +66,28 @@ fn put_last<'de>(alloc: Global, node: &mut Node<'de>, last: &Key<'de>) -> Result
             if child.value.is_none() {
                 child.value = Some(last.span);
             }
+            Ok(())
         }
         None => {
             let mut child = empty(alloc);
             child.value = Some(last.span);
-            node.below.insert(last.clone(alloc)?, child)?;
+            put_child(alloc, node, last, child)
         }
     }
+}
+
+/// Puts a child under a key that has none.
+fn put_child<'de>(
+    alloc: Global,
+    node: &mut Node<'de>,
+    key: &Key<'de>,
+    child: Node<'de>,
+) -> Result<(), AllocError>
+    ensures { OnOk result (code.PutsBelow (cow_str_bytes key.now.name) (code.holds child.entry) (code.holds node.old)
+        (code.holds node.new)) }
+{
+    let key = key.clone(alloc)?;
+    node.below.insert(key, child)?;
     Ok(())
 }
 

@@ -58,6 +58,13 @@ Puts names first old new =
     (new names ≡ Some (unwrap_or (old names) first))
     × ((other : List (List ℕ)) → (other ≡ names → ⊥) → new other ≡ old other)
 
+-- below a name the tree holds what another one does, and nothing else changes
+abbrev pub PutsBelow : List ℕ → Holds → Holds → Holds → Type 0
+PutsBelow name under old new =
+    ((names : List (List ℕ)) → new (name ∷ names) ≡ under names)
+    × (new [] ≡ old [])
+    × ((other : List ℕ) (names : List (List ℕ)) → (other ≡ name → ⊥) → new (other ∷ names) ≡ old (other ∷ names))
+
 -- the tree holds nothing at the path that ends with one of the parts
 abbrev pub HoldsNone : Holds → List SimpleKey → Type 0
 HoldsNone tree parts =
