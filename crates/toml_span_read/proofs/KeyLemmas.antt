@@ -14,7 +14,8 @@ use Rattle.toml_span_read.specs.Places.{StartsInside}
 use Rattle.toml_span_read.specs.declared.fault.Fault.{Fault}
 use Rattle.toml_span_read.specs.Gaps.{Dot}
 use Rattle.toml_span_read.specs.Keys.{SimpleKey, simple_key, SpellsSimpleKey, Onward, SpellsKey}
-use Rattle.toml_span_read.specs.code.Keys.{KeyGives, DottedGives, HeaderKeyGives}
+use Rattle.toml_span_read.specs.code.Keys.{KeyGives, DottedGives, HeaderKeyGives, PartGives}
+use Rattle.toml_span_read.specs.code.Faults.{IsPlacedStop}
 use Rattle.toml_span_read.specs.code.Stuck.{StuckOnward, part_here, StuckKey, no_first, onward, StuckHeaderKey, header_part_here}
 
 -- an error that `?` hands on
@@ -64,10 +65,18 @@ parts_length (k ∷ ks) last = let h = parts_length ks last in omega arith
 
 -- ---- the parts of headers
 
-pub header_fault : (stop : Stop Fault) (text : List ℕ) (limit i n m : ℕ) → ((e : Fault) → StuckHeaderKey text limit n m e → StuckHeaderKey text limit 0 i e)
-    → KeyGives text m (Err stop) → HeaderKeyGives text limit i (Err stop)
-header_fault (stops.Memory e) text limit i n m stuck h = tt
-header_fault (stops.Fault e) text limit i n m stuck h = stuck e (header_part_here n m e (inl h))
+pub no_part : (stop : Stop Fault) (text : List ℕ) (limit i : ℕ) (ps qs : List Key) → KeyGives text i (Err stop) → IsPlacedStop text stop → PartGives text limit i ps qs (Err stop)
+no_part (stops.Memory e) text limit i ps qs h placed = tt
+no_part (stops.Fault e) text limit i ps qs h placed = (inl h, placed)
+
+pub header_fault : (stop : Stop Fault) (text : List ℕ) (limit i m : ℕ) (ps qs : List Key) → ((e : Fault) → StuckHeaderKey text limit (length ps) m e → StuckHeaderKey text limit 0 i e)
+    → PartGives text limit m ps qs (Err stop) → HeaderKeyGives text limit i (Err stop)
+header_fault (stops.Memory e) text limit i m ps qs stuck h = tt
+header_fault (stops.Fault e) text limit i m ps qs stuck h = stuck e (header_part_here _ m e h.0)
+
+pub part_placed : (stop : Stop Fault) (text : List ℕ) (limit m : ℕ) (ps qs : List Key) → PartGives text limit m ps qs (Err stop) → IsPlacedStop text stop
+part_placed (stops.Memory e) text limit m ps qs h = tt
+part_placed (stops.Fault e) text limit m ps qs h = h.1
 
 pub header_more : (ps qs : List Key) (key : Key) (text : List ℕ) (i m n p : ℕ) → qs ≡ ps ++ (key ∷ [])
     → ((tail : List SimpleKey) (j : ℕ) → SpellsKey tail text m j → SpellsKey (map simple_key ps ++ tail) text i j)

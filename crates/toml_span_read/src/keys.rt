@@ -4,7 +4,7 @@ ghost use Rattle.std.specs.Str.{IsCharBoundary};
 ghost use Rattle.toml_span_lex.specs.Bytes.{quotation_mark, apostrophe};
 ghost use Rattle.toml_span_lex.specs.Strings.{BorrowsWhereSame};
 ghost use Rattle.toml_span_read.specs.Borrowed.{AreWrittenRight, dotted_written, keys_written};
-ghost use Rattle.toml_span_read.specs.code.Keys.{KeyGives, DottedGives, HeaderKeyGives};
+ghost use Rattle.toml_span_read.specs.code.Keys.{KeyGives, DottedGives, HeaderKeyGives, PartGives};
 ghost use Rattle.toml_span_read.specs.code.Faults.{Advances};
 
 use crate::fault::{Due, Fault, FaultKind, fault_at};
@@ -136,19 +136,34 @@ pub(crate) fn header_key<'de>(
     let mut parts = SmallVec::new(alloc);
     let mut next = at;
     'parts: loop {
-        let (key, end) = simple_key(alloc, text, next)?;
-        if parts.len() >= limit {
-            return Err(Stop::Fault(Fault {
-                kind: FaultKind::ExceededDepthLimit,
-                span: key.span,
-            }));
-        }
-        if let Err(e) = parts.push(key) {
-            return Err(Stop::Memory(e.into()));
-        }
+        let end = add_part(alloc, text, next, limit, &mut parts)?;
         match dot(text, end) {
             None => return Ok((parts, end)),
             Some(on) => next = on,
         }
+    }
+}
+
+/// Puts the key at a place behind the other parts of a header, `limit` parts at most, and tells where it ends.
+fn add_part<'de>(
+    alloc: Global,
+    text: &'de str,
+    at: usize,
+    limit: usize,
+    parts: &mut SmallVec<Key<'de>, 5>,
+) -> Result<usize, Stop<Fault>>
+    requires { IsCharBoundary text.now at }
+    ensures { PartGives text.now limit at parts.old.items parts.new.items result }
+{
+    let (key, end) = simple_key(alloc, text, at)?;
+    if parts.len() >= limit {
+        return Err(Stop::Fault(Fault {
+            kind: FaultKind::ExceededDepthLimit,
+            span: key.span,
+        }));
+    }
+    match parts.push(key) {
+        Ok(()) => Ok(end),
+        Err(e) => Err(Stop::Memory(e.into())),
     }
 }
