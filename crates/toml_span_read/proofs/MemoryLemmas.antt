@@ -46,6 +46,12 @@ pub keeps : (A E : Type 0) → (stop : Stop E) (text : List ℕ) (at : ℕ) → 
 keeps A E (stops.Memory e) text at (start, k, first, g, l) under = (start, first, (k, g, omega (arith, l, under)))
 keeps A E (stops.Fault e) text at (start, k, first, g, l) under = (start, first, tt)
 
+-- whatever is not read for want of memory
+pub keeps_same : {E : Type 0} (A B : Type 0) (stop : Stop E) (text : List ℕ) → (start : ℕ) × FirstPlace text start × OnlyFormsTakeMemory {A = A} {E = E} text start (Err stop)
+    → (start : ℕ) × FirstPlace text start × OnlyFormsTakeMemory {A = B} {E = E} text start (Err stop)
+keeps_same A B (stops.Memory e) text h = h
+keeps_same A B (stops.Fault e) text h = h
+
 -- assignments before the first header are something to keep
 pub lines_keep : (s : Section) (es : List KeyValue) (text : List ℕ) (limit start at : ℕ) → first_blocks (Some s) ≡ first_block es → FirstPlace text start
     → SpellsLines es text limit start at → (i : ℕ) × FirstPlace text i × HoldsForm text i

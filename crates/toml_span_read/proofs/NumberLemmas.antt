@@ -20,7 +20,7 @@ use Rattle.toml_span_tree.specs.Value.{float_value}
 use Rattle.toml_span_read.specs.declared.value.ValKind.{ValKind}
 use Rattle.std.specs.Char.{is_ascii_hexdigit, digit_value}
 use Rattle.toml_span_read.specs.Numbers.{is_digit_in, is_figure, Digits, behind_sign, is_negative, is_exponent, radix_at, IsNumber, FloatLiteral, Exponent, Fraction, sum_of_digits, cleaned, magnitude, goes_on}
-use Rattle.toml_span_read.specs.code.Numbers.{DigitGives, SpecialGives, UnsignedGives, NumberGives, ExponentDigitsGive, ExponentGives, FractionGives, IntegerGives, RadixIntegerGives}
+use Rattle.toml_span_read.specs.code.Numbers.{DigitGives, SpecialGives, UnsignedGives, NumberGives, ExponentDigitsGive, ExponentGives, FractionGives, IntegerGives, RadixIntegerGives, NumberEnds}
 
 -- ---- bytes
 
@@ -528,3 +528,7 @@ plus_prefix text i b p u h = let r = some_of (radix_at text (i + 1)) h in plus_b
 pub or_first : (a b : Bool) → (a || b) ≡ true → b ≡ false → a ≡ true
 or_first true b h n = refl
 or_first false b h n = absurd (false≢true (sym n ∙ h))
+
+pub ends_before : (r : Result ℕ Fault) (text : List ℕ) (a b : ℕ) → a ≤ b → NumberEnds text b r → NumberEnds text a r
+ends_before (Ok j) text a b l h = (omega (arith, l, h.0), h.1)
+ends_before (Err fault) text a b l h = h

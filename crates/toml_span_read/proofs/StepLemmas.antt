@@ -13,7 +13,7 @@ use Rattle.toml_span_read.specs.Data.{KeyValue}
 use Rattle.toml_span_read.specs.Places.{KeyValuesInside}
 use Rattle.toml_span_read.specs.Keys.{simple_key}
 use Rattle.toml_span_read.specs.Limits.{WithinSection, WithinSections}
-use Rattle.toml_span_read.specs.code.Sections.{HeaderGives, LinesGive, first_blocks, IsReadFirst, FirstGives, SectionGives}
+use Rattle.toml_span_read.specs.code.Sections.{HeaderGives, LinesGive, first_blocks, IsReadFirst, FirstGives, SectionGives, SectionsGive}
 use Rattle.toml_span_read.specs.Reading.{HoldsForm}
 use Rattle.toml_span_read.specs.code.Stuck.{before_headers, in_header, in_section}
 use Rattle.toml_span_read.specs.Grammar.{first_block}
@@ -34,6 +34,14 @@ lines_stuck (stops.Fault e) h text limit i header lines = in_section i h.extent.
 pub first_stuck : (stop : Stop Fault) (text : List ℕ) (limit i : ℕ) → FirstPlace text i → LinesGive text limit i (Err stop) → FirstGives text limit (Err stop)
 first_stuck (stops.Memory e) text limit i begins h = tt
 first_stuck (stops.Fault e) text limit i begins h = before_headers i e begins h
+
+pub first_refused : (stop : Stop Fault) (text : List ℕ) (limit : ℕ) → FirstGives text limit (Err stop) → SectionsGive text limit (Err stop)
+first_refused (stops.Memory e) text limit h = tt
+first_refused (stops.Fault e) text limit h = h
+
+pub section_refused : (stop : Stop Fault) (text : List ℕ) (limit at : ℕ) → StuckFrom text limit at → SectionGives text limit at (Err stop) → SectionsGive text limit (Err stop)
+section_refused (stops.Memory e) text limit at stuck h = tt
+section_refused (stops.Fault e) text limit at stuck h = stuck e h
 
 pub first_read : (text : List ℕ) (limit : ℕ) (o : Option Section) (evs : List KeyValue) (vs : List Assignment) → first_blocks o ≡ first_block evs → KeyValuesInside (length text) evs
     → IfSome o (λ s. WithinSection limit s) → IfSome o (λ s. section_written s ≡ assignments_written vs) → AreWrittenRight text (assignments_written vs) → IsReadFirst text limit o

@@ -1,4 +1,4 @@
-use Rattle.std.proofs.Common.{rules, ◌≡◌, ◌+◌, ◌<◌, true, false, get_or, is_some, refl}
+use Rattle.std.proofs.Common.{rules, arith, ◌≡◌, ◌+◌, ◌<◌, true, false, get_or, is_some, refl}
 use Rattle.std.specs.Prelude.{◌==◌}
 use Rattle.toml_span_lex.specs.Bytes.{is_keylike}
 use Rattle.toml_span_read.specs.Faults.{Run, plus_alone, plus_before_minus}
@@ -50,3 +50,20 @@ returns-clause-gives c =
     let m : (get_or text (c.args.at + 1) 0 == 45) ≡ false = search rules in
     let x : is_some (radix_at text (c.args.at + 1)) ≡ false = search rules in
     number_behind_plus _ _ _ _ p (record { some = l; run = c.keylike_end-2.ensures.run }) m (no_some _ x) c.unsigned-2.ensures.gives
+
+pub returns-then-byte_at-ne43-clause-advances : goal.returns-then-byte_at-ne43-clause-advances
+returns-then-byte_at-ne43-clause-advances c = c.unsigned.ensures.advances
+
+pub returns-then-byte_at-ne43-clause-scalar : goal.returns-then-byte_at-ne43-clause-scalar
+returns-then-byte_at-ne43-clause-scalar c = c.unsigned.ensures.scalar
+
+pub returns-then-first-clause-advances : goal.returns-then-first-clause-advances
+returns-then-first-clause-advances c =
+    let run = c.keylike_end-2.ensures.run in
+    rw c.invalid_number.ensures (record { within = omega (arith, run.forward, run.within); forward = omega arith })
+
+pub returns-clause-advances : goal.returns-clause-advances
+returns-clause-advances c = c.unsigned-2.ensures.advances
+
+pub returns-clause-scalar : goal.returns-clause-scalar
+returns-clause-scalar c = c.unsigned-2.ensures.scalar

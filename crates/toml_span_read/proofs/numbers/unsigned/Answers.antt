@@ -1,4 +1,5 @@
 use Rattle.std.proofs.Common.{rules, arith, ◌≡◌, ◌≤◌, true, false, get_or, inl, inr, Some, None}
+use Rattle.std.specs.Str.{IsCharBoundary}
 use Rattle.std.specs.Prelude.{◌==◌, slice_range, string_bytes}
 use Rattle.toml_span_lex.specs.Bytes.{is_keylike}
 use Rattle.toml_span_tree.specs.Node.{integer, float, finite}
@@ -66,3 +67,26 @@ returns-in-Ok-cleaned-clause-gives c =
     let v : c.range.result.now ≡ slice_range text a c.in-Ok-Float.end = c.range.ensures.value in
     let e : string_bytes c.in-Ok-cleaned.digits ≡ cleaned c.range.result.now = c.in-Ok-cleaned.ensures in
     (float (finite (string_bytes c.in-Ok-cleaned.digits)), c.float_kind-in-Ok-cleaned.ensures, (f, rw v at e))
+
+pub returns-in-Ok-clause-advances : goal.returns-in-Ok-clause-advances
+returns-in-Ok-clause-advances c = record { on = omega (arith, c.requires.start, c.requires.run.some); boundary = c.requires.run.end_boundary }
+
+pub returns-in-Some-special_float-clause-advances : goal.returns-in-Some-special_float-clause-advances
+returns-in-Some-special_float-clause-advances c = record { on = omega (arith, c.requires.start, c.requires.run.some); boundary = c.requires.run.end_boundary }
+
+pub returns-in-Ok-Integer-clause-advances : goal.returns-in-Ok-Integer-clause-advances
+returns-in-Ok-Integer-clause-advances c = record { on = omega (arith, c.requires.start, c.requires.run.some); boundary = c.requires.run.end_boundary }
+
+pub returns-in-Err-clause-advances : goal.returns-in-Err-clause-advances
+returns-in-Err-clause-advances c = c.in-Err.ensures.placed
+
+pub returns-then-byte_at-eq46-clause-advances : goal.returns-then-byte_at-eq46-clause-advances
+returns-then-byte_at-eq46-clause-advances c = c.special_dot.ensures.placed
+
+pub returns-in-Err-decimal_number-clause-advances : goal.returns-in-Err-decimal_number-clause-advances
+returns-in-Err-decimal_number-clause-advances c = c.in-Err-decimal_number.ensures.ends
+
+pub returns-in-Ok-cleaned-clause-advances : goal.returns-in-Ok-cleaned-clause-advances
+returns-in-Ok-cleaned-clause-advances c =
+    let e : (c.args.first.end ≤ c.in-Ok-Float.end) × IsCharBoundary c.args.text.now c.in-Ok-Float.end = rw c.in-Ok-Float.field-0-is at c.in-Ok-Float.ensures.ends in
+    record { on = omega (arith, c.requires.start, c.requires.run.some, e.0); boundary = e.1 }

@@ -1,9 +1,13 @@
-use Rattle.std.proofs.Common.{arith, ◌≡◌, length}
+use Rattle.std.proofs.Common.{arith, ◌≡◌, ℕ, length, Option, Vec}
+use Rattle.std.specs.Global.{Global}
+use Rattle.toml_span_read.specs.declared.fault.Fault.{Fault}
+use Rattle.toml_span_read.specs.declared.section.Section.{Section}
 use Rattle.toml_span_read.proofs.BorrowLemmas as borrow
+use Rattle.toml_span_read.proofs.KeyLemmas.{handed_on}
 use Rattle.toml_span_read.proofs.LimitLemmas.{sections_more}
 use Rattle.toml_span_read.proofs.LineLemmas as lines
-use Rattle.toml_span_read.proofs.MemoryLemmas.{begun_on}
-use Rattle.toml_span_read.proofs.StepLemmas.{Begins, begins_none, begins_some, first_keeps}
+use Rattle.toml_span_read.proofs.MemoryLemmas.{begun_on, keeps, keeps_same}
+use Rattle.toml_span_read.proofs.StepLemmas.{Begins, begins_none, begins_some, first_keeps, first_refused, section_refused}
 use Rattle.toml_span_read.proofs.sections.sections.Goals as goal
 use Rattle.toml_span_read.proofs.sections.sections.Goals.{in-Some+in_default, in-None}
 
@@ -47,3 +51,27 @@ returns-clause-gives c =
 
 pub returns-in-Err-clause-memory : goal.returns-in-Err-clause-memory
 returns-in-Err-clause-memory c = first_keeps c.args.text.now c.args.limit c.in_ok-first.at c.in_ok-first.first _ c.in-Some.is c.in_ok-first.ensures.gives
+
+pub returns-in_err-first-clause-reads : goal.returns-in_err-first-clause-reads
+returns-in_err-first-clause-reads c = rw (handed_on c.from_residual.result c.in_err-first.field-0.0 c.from_residual.ensures.1) c.in_err-first.ensures.reads
+
+pub returns-in_err-first-clause-gives : goal.returns-in_err-first-clause-gives
+returns-in_err-first-clause-gives c = rw (handed_on c.from_residual.result c.in_err-first.field-0.0 c.from_residual.ensures.1) (first_refused c.in_err-first.field-0.0 c.args.text.now c.args.limit c.in_err-first.ensures.gives)
+
+pub returns-in_err-first-clause-borrows : goal.returns-in_err-first-clause-borrows
+returns-in_err-first-clause-borrows c = rw (handed_on c.from_residual.result c.in_err-first.field-0.0 c.from_residual.ensures.1) tt
+
+pub returns-in_err-first-clause-memory : goal.returns-in_err-first-clause-memory
+returns-in_err-first-clause-memory c = rw (handed_on c.from_residual.result c.in_err-first.field-0.0 c.from_residual.ensures.1) (keeps_same (Option Section × ℕ) (Vec Section Global) c.in_err-first.field-0.0 c.args.text.now c.in_err-first.ensures.memory)
+
+pub returns-in_err-section-clause-reads : goal.returns-in_err-section-clause-reads
+returns-in_err-section-clause-reads c = rw (handed_on c.from_residual-in_err-section.result c.in_err-section.field-0.0 c.from_residual-in_err-section.ensures.1) c.in_err-section.ensures.reads
+
+pub returns-in_err-section-clause-gives : goal.returns-in_err-section-clause-gives
+returns-in_err-section-clause-gives c = rw (handed_on c.from_residual-in_err-section.result c.in_err-section.field-0.0 c.from_residual-in_err-section.ensures.1) (section_refused c.in_err-section.field-0.0 c.args.text.now c.args.limit c.sections.at c.sections.invariant.stuck c.in_err-section.ensures.gives)
+
+pub returns-in_err-section-clause-borrows : goal.returns-in_err-section-clause-borrows
+returns-in_err-section-clause-borrows c = rw (handed_on c.from_residual-in_err-section.result c.in_err-section.field-0.0 c.from_residual-in_err-section.ensures.1) tt
+
+pub returns-in_err-section-clause-memory : goal.returns-in_err-section-clause-memory
+returns-in_err-section-clause-memory c = rw (handed_on c.from_residual-in_err-section.result c.in_err-section.field-0.0 c.from_residual-in_err-section.ensures.1) (keeps (Vec Section Global) Fault c.in_err-section.field-0.0 c.args.text.now c.sections.at c.sections.invariant.begun (omega arith))
