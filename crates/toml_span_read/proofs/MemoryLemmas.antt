@@ -47,6 +47,10 @@ keeps A E (stops.Memory e) text at (start, k, first, g, l) under = (start, first
 keeps A E (stops.Fault e) text at (start, k, first, g, l) under = (start, first, tt)
 
 -- whatever is not read for want of memory
+pub forms_keep : {E : Type 0} (A : Type 0) (stop : Stop E) (text : List ℕ) (i : ℕ) → HoldsForm text i → OnlyFormsTakeMemory {A = A} {E = E} text i (Err stop)
+forms_keep A (stops.Memory e) text i h = h
+forms_keep A (stops.Fault e) text i h = tt
+
 pub keeps_same : {E : Type 0} (A B : Type 0) (stop : Stop E) (text : List ℕ) → (start : ℕ) × FirstPlace text start × OnlyFormsTakeMemory {A = A} {E = E} text start (Err stop)
     → (start : ℕ) × FirstPlace text start × OnlyFormsTakeMemory {A = B} {E = E} text start (Err stop)
 keeps_same A B (stops.Memory e) text h = h

@@ -1,8 +1,10 @@
-use Rattle.std.proofs.Common.{arith, rules, [], ◌<◌, length}
+use Rattle.std.proofs.Common.{arith, rules, [], ◌<◌, ℕ, length, Vec, Global}
+use Rattle.toml_span_read.specs.declared.value.Assignment.{Assignment}
 use Rattle.toml_span_read.specs.Borrowed.{IsWrittenRight, assignment_written}
 use Rattle.toml_span_read.proofs.BorrowLemmas.{joined_more}
 use Rattle.toml_span_read.proofs.LimitLemmas.{crossing_placed, key_values_more}
 use Rattle.toml_span_read.proofs.LineLemmas.{lines_begin, lines_more, stuck_more, lines_end, in_line_fault, newline_fault, crossing_fault}
+use Rattle.toml_span_read.proofs.MemoryLemmas.{forms_keep}
 use Rattle.toml_span_read.proofs.sections.assignments.Goals as goal
 
 pub lines-init : goal.lines-init
@@ -60,3 +62,27 @@ lines-preserved c =
 
 pub returns-clause-gives : goal.returns-clause-gives
 returns-clause-gives c = lines_end c.lines.found.items c.args.text.now c.args.limit c.args.from c.lines.at c.lines.invariant.whole
+
+pub returns-in-Err-clause-read : goal.returns-in-Err-clause-read
+returns-in-Err-clause-read c = c.in-Err.ensures.reads
+
+pub returns-in-Err-clause-memory : goal.returns-in-Err-clause-memory
+returns-in-Err-clause-memory c =
+    let begun = c.lines.invariant.begun in
+    forms_keep (Vec Assignment Global × ℕ) c.in-Err.stop c.args.text.now c.args.from (begun.0, begun.1, omega (arith, begun.2))
+
+pub returns-in-Err-next_line-clause-read : goal.returns-in-Err-next_line-clause-read
+returns-in-Err-next_line-clause-read c = c.in-Err-next_line.ensures.reads
+
+pub returns-in-Err-next_line-clause-memory : goal.returns-in-Err-next_line-clause-memory
+returns-in-Err-next_line-clause-memory c =
+    let begun = c.lines.invariant.begun in
+    forms_keep (Vec Assignment Global × ℕ) c.in-Err-next_line.stop c.args.text.now c.args.from (begun.0, begun.1, omega (arith, begun.2))
+
+pub returns-in-Err-add_clear-clause-memory : goal.returns-in-Err-add_clear-clause-memory
+returns-in-Err-add_clear-clause-memory c =
+    let begun = c.lines.invariant.begun in
+    forms_keep (Vec Assignment Global × ℕ) c.in-Err-add_clear.stop c.args.text.now c.args.from (begun.0, begun.1, omega (arith, begun.2))
+
+pub returns-clause-read : goal.returns-clause-read
+returns-clause-read c = (c.lines.invariant.within, c.lines.invariant.forward, c.lines.invariant.boundary)

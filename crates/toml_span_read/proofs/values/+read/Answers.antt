@@ -16,6 +16,45 @@ value-returns-in-91-clause-gives t c =
     let b : opens_nested (get_or c.args.text.now c.args.at 0) ≡ true = search rules in
     deep_stuck c.too_deep.result c.args.text.now c.args.limit c.args.depth c.args.at (omega arith) (nested_begins c.args.text.now c.args.at b) c.too_deep.ensures.gives
 
+pub value-returns-in-91-clause-reads : goal.value-returns-in-91-clause-reads
+value-returns-in-91-clause-reads t c = c.too_deep.ensures.placed
+
+pub value-returns-in-91-2-clause-reads : goal.value-returns-in-91-2-clause-reads
+value-returns-in-91-2-clause-reads t c = c.array.ensures.reads
+
+pub value-returns-in-91-2-clause-gives : goal.value-returns-in-91-2-clause-gives
+value-returns-in-91-2-clause-gives t c = c.array.ensures.gives
+
+pub value-returns-in-91-2-clause-borrows : goal.value-returns-in-91-2-clause-borrows
+value-returns-in-91-2-clause-borrows t c = c.array.ensures.borrows
+
+pub value-returns-in-123-clause-reads : goal.value-returns-in-123-clause-reads
+value-returns-in-123-clause-reads t c = c.inline_table.ensures.reads
+
+pub value-returns-in-123-clause-gives : goal.value-returns-in-123-clause-gives
+value-returns-in-123-clause-gives t c = c.inline_table.ensures.gives
+
+pub value-returns-in-123-clause-borrows : goal.value-returns-in-123-clause-borrows
+value-returns-in-123-clause-borrows t c = c.inline_table.ensures.borrows
+
+pub value-returns-in-34-clause-reads : goal.value-returns-in-34-clause-reads
+value-returns-in-34-clause-reads t c = c.string_value.ensures.reads
+
+pub value-returns-in-34-clause-gives : goal.value-returns-in-34-clause-gives
+value-returns-in-34-clause-gives t c = c.string_value.ensures.gives
+
+pub value-returns-in-34-clause-borrows : goal.value-returns-in-34-clause-borrows
+value-returns-in-34-clause-borrows t c = c.string_value.ensures.borrows
+
+pub value-returns-in_default-clause-reads : goal.value-returns-in_default-clause-reads
+value-returns-in_default-clause-reads t c = c.scalar.ensures.reads
+
+pub value-returns-in_default-clause-gives : goal.value-returns-in_default-clause-gives
+value-returns-in_default-clause-gives t c = c.scalar.ensures.gives
+
+pub value-returns-in_default-clause-borrows : goal.value-returns-in_default-clause-borrows
+value-returns-in_default-clause-borrows t c = c.scalar.ensures.borrows
+
 -- ---- arrays
 
 pub array-returns-in-Err-clause-gives : goal.array-returns-in-Err-clause-gives
@@ -59,6 +98,21 @@ array-returns-in-Closed-clause-gives t c =
 pub array-returns-in-Neither-clause-gives : goal.array-returns-in-Neither-clause-gives
 array-returns-in-Neither-clause-gives t c =
     behind_stuck c.wanted.result c.in-Ok.found.0 c.args.text.now c.args.limit c.args.depth c.args.at _ c.items.next _ _ (omega arith) c.requires.1.1.1.0 c.opened-next.ensures.run c.items.invariant.stuck c.in-Ok.ensures.gives c.in-Neither.ensures.0 c.wanted.ensures.gives
+
+pub array-returns-in-Err-clause-reads : goal.array-returns-in-Err-clause-reads
+array-returns-in-Err-clause-reads t c = c.in-Err.ensures.reads
+
+pub array-returns-in-Neither-clause-reads : goal.array-returns-in-Neither-clause-reads
+array-returns-in-Neither-clause-reads t c = c.wanted.ensures.placed
+
+pub array-returns-then-byte_at-eq93-clause-reads : goal.array-returns-then-byte_at-eq93-clause-reads
+array-returns-then-byte_at-eq93-clause-reads t c =
+    let s = c.behind_byte-close.ensures.further in
+    let m = array_made _ _ c.args.limit c.args.depth c.args.at c.behind_byte-close.result c.array_of.ensures.view c.requires.1.1.1.1.1.1 (omega arith) (c.items.invariant.whole no_items tt) in
+    (m.0, record { on = omega (arith, s.on, c.items.invariant.forward); boundary = s.boundary }, m.1)
+
+pub array-returns-then-byte_at-eq93-clause-borrows : goal.array-returns-then-byte_at-eq93-clause-borrows
+array-returns-then-byte_at-eq93-clause-borrows t c = rw c.array_of.ensures.written c.items.invariant.borrows
 
 -- ---- inline tables
 
@@ -118,6 +172,21 @@ inline_table-returns-in-Neither-clause-gives t c =
     pair_behind_stuck c.wanted.result c.pairs.pairs.items c.in-Ok.found.0 c.args.text.now c.args.limit c.args.depth c.args.at _ c.pairs.next _ _ (omega arith)
     c.requires.1.1.1.0 c.opened-next.ensures.run c.pairs.invariant.stuck c.in-Ok.ensures.gives c.in_default.ensures.adds.1 c.in-Neither.ensures.0 c.wanted.ensures.gives
 
+pub inline_table-returns-in-Err-clause-reads : goal.inline_table-returns-in-Err-clause-reads
+inline_table-returns-in-Err-clause-reads t c = c.in-Err.ensures.reads
+
+pub inline_table-returns-in-Neither-clause-reads : goal.inline_table-returns-in-Neither-clause-reads
+inline_table-returns-in-Neither-clause-reads t c = c.wanted.ensures.placed
+
+pub inline_table-returns-then-byte_at-eq125-clause-reads : goal.inline_table-returns-then-byte_at-eq125-clause-reads
+inline_table-returns-then-byte_at-eq125-clause-reads t c =
+    let s = c.behind_byte-close.ensures.further in
+    let m = inline_made _ _ c.args.limit c.args.depth c.args.at c.behind_byte-close.result c.inline_of.ensures.view c.requires.1.1.1.1.1.1 (omega arith) (c.pairs.invariant.whole no_pairs tt) in
+    (m.0, record { on = omega (arith, s.on, c.pairs.invariant.forward); boundary = s.boundary }, m.1)
+
+pub inline_table-returns-then-byte_at-eq125-clause-borrows : goal.inline_table-returns-then-byte_at-eq125-clause-borrows
+inline_table-returns-then-byte_at-eq125-clause-borrows t c = rw c.inline_of.ensures.written c.pairs.invariant.borrows
+
 -- ---- pairs
 
 pub pair-returns-in_err-parts-clause-gives : goal.pair-returns-in_err-parts-clause-gives
@@ -156,3 +225,15 @@ pair-returns-clause-gives t c =
     let q = c.in-Ok.ensures in
     let u : c.args.depth + (c.len.result + 1) ≡ c.args.depth + length (parts c.in_ok-parts.parts) = omega (arith, parts_length c.in_ok-parts.parts.inner.items c.in_ok-parts.parts.last, c.len.ensures) in
     value_stuck c.in-Err-value.stop (parts c.in_ok-parts.parts) c.args.text.now c.args.limit c.args.depth _ c.args.at c.in_ok-parts.key_end c.in-Ok.from k.0 k.1 q.0 u c.in-Err-value.ensures.gives
+
+pub pair-returns-in_err-parts-clause-reads : goal.pair-returns-in_err-parts-clause-reads
+pair-returns-in_err-parts-clause-reads t c = rw (handed_on c.from_residual.result c.in_err-parts.field-0.0 c.from_residual.ensures.1) c.in_err-parts.ensures.advances
+
+pub pair-returns-in_err-parts-clause-borrows : goal.pair-returns-in_err-parts-clause-borrows
+pair-returns-in_err-parts-clause-borrows t c = rw (handed_on c.from_residual.result c.in_err-parts.field-0.0 c.from_residual.ensures.1) tt
+
+pub pair-returns-in-Err-clause-reads : goal.pair-returns-in-Err-clause-reads
+pair-returns-in-Err-clause-reads t c = c.wanted.ensures.placed
+
+pub pair-returns-clause-reads : goal.pair-returns-clause-reads
+pair-returns-clause-reads t c = c.in-Err-value.ensures.reads
