@@ -52,3 +52,21 @@ parts-preserved c =
 
 pub returns-clause-borrows : goal.returns-clause-borrows
 returns-clause-borrows c = all_append (IsWrittenRight c.args.text.now) (keys_written c.parts.inner.items) (key_written c.parts.last ∷ []) c.parts.invariant.borrows.0 (c.parts.invariant.borrows.1, tt)
+
+pub returns-in_err-last-clause-advances : goal.returns-in_err-last-clause-advances
+returns-in_err-last-clause-advances c = rw (handed_on c.from_residual.result c.in_err-last.field-0.0 c.from_residual.ensures.1) c.in_err-last.ensures.advances
+
+pub returns-in_err-last-clause-borrows : goal.returns-in_err-last-clause-borrows
+returns-in_err-last-clause-borrows c = rw (handed_on c.from_residual.result c.in_err-last.field-0.0 c.from_residual.ensures.1) tt
+
+pub returns-in_err-key-clause-advances : goal.returns-in_err-key-clause-advances
+returns-in_err-key-clause-advances c = rw (handed_on c.from_residual-in_err-key.result c.in_err-key.field-0.0 c.from_residual-in_err-key.ensures.1) c.in_err-key.ensures.advances
+
+pub returns-in_err-key-clause-borrows : goal.returns-in_err-key-clause-borrows
+returns-in_err-key-clause-borrows c = rw (handed_on c.from_residual-in_err-key.result c.in_err-key.field-0.0 c.from_residual-in_err-key.ensures.1) tt
+
+pub returns-then-len-limit-clause-advances : goal.returns-then-len-limit-clause-advances
+returns-then-len-limit-clause-advances c = rw c.fault_at.ensures (record { within = c.in-Some.ensures.1.boundary.0; forward = omega arith })
+
+pub returns-clause-advances : goal.returns-clause-advances
+returns-clause-advances c = record { on = c.parts.invariant.forward; boundary = c.parts.invariant.boundary }

@@ -4,7 +4,7 @@ use Rattle.toml_span_lex.specs.Bytes.{is_keylike}
 use Rattle.toml_span_read.specs.Numbers.{behind_sign}
 use Rattle.toml_span_read.specs.Faults.{letter_last}
 use Rattle.toml_span_read.proofs.Places.{behind_byte}
-use Rattle.toml_span_read.proofs.NumberLemmas.{run_stops, behind_minus, behind_either, exponent_in_run, exponent_behind_plus, and_none_left, and_none_right}
+use Rattle.toml_span_read.proofs.NumberLemmas.{run_stops, behind_minus, behind_either, exponent_in_run, exponent_behind_plus, and_none_left, and_none_right, ends_before}
 use Rattle.toml_span_read.proofs.numbers.exponent_end.Goals as goal
 use Rattle.toml_span_read.proofs.numbers.exponent_end.Goals.{then-minus, else-minus}
 
@@ -47,3 +47,16 @@ returns-clause-gives c =
     let h : get_or c.args.text.now c.args.end 0 ≡ 43 = search rules in
     let l : c.args.end + 1 < c.keylike_end.result = search rules in
     exponent_behind_plus _ _ _ _ _ _ _ e h (record { some = l; run = c.keylike_end.ensures.run }) c.requires.letter c.exponent_digits-2.ensures.gives
+
+pub returns-then-letter-end-clause-ends : goal.returns-then-letter-end-clause-ends
+returns-then-letter-end-clause-ends c = c.exponent_digits.ensures.ends
+
+pub returns-then-byte_at-ne43-clause-ends : goal.returns-then-byte_at-ne43-clause-ends
+returns-then-byte_at-ne43-clause-ends c = let q = c.requires in rw c.invalid_number.ensures (record { within = omega (arith, q.first, q.within, q.boundary.0); forward = q.first })
+
+pub returns-then-piece-clause-ends : goal.returns-then-piece-clause-ends
+returns-then-piece-clause-ends c = let q = c.requires in rw c.invalid_number-then-piece.ensures (record { within = omega (arith, q.first, q.within, q.boundary.0); forward = q.first })
+
+pub returns-clause-ends : goal.returns-clause-ends
+returns-clause-ends c =
+    ends_before c.exponent_digits-2.result c.args.text.now c.args.end c.keylike_end.result (omega (arith, c.keylike_end.ensures.run.forward)) c.exponent_digits-2.ensures.ends

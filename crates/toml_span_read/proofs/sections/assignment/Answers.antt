@@ -40,3 +40,15 @@ returns-clause-gives c =
 
 pub returns-in-Ok-value-clause-borrows : goal.returns-in-Ok-value-clause-borrows
 returns-in-Ok-value-clause-borrows c = assignment_right c.args.text.now _ c.in_ok-parts.parts c.in-Ok-value.value c.assigned.ensures.written c.in_ok-parts.ensures.borrows c.in-Ok-value.ensures.borrows
+
+pub returns-in_err-parts-clause-reads : goal.returns-in_err-parts-clause-reads
+returns-in_err-parts-clause-reads c = rw (handed_on c.from_residual.result c.in_err-parts.field-0.0 c.from_residual.ensures.1) c.in_err-parts.ensures.advances
+
+pub returns-in_err-parts-clause-borrows : goal.returns-in_err-parts-clause-borrows
+returns-in_err-parts-clause-borrows c = rw (handed_on c.from_residual.result c.in_err-parts.field-0.0 c.from_residual.ensures.1) tt
+
+pub returns-in-Err-clause-reads : goal.returns-in-Err-clause-reads
+returns-in-Err-clause-reads c = c.wanted.ensures.placed
+
+pub returns-clause-reads : goal.returns-clause-reads
+returns-clause-reads c = c.in-Err-value.ensures.reads

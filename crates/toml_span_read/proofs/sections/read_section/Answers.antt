@@ -34,3 +34,9 @@ returns-clause-reads c =
 pub returns-clause-gives : goal.returns-clause-gives
 returns-clause-gives c =
     section_made _ c.in_ok-header.header _ c.args.text.now c.args.limit c.args.at _ c.section_of.ensures.gives c.in_ok-header.ensures.gives c.in_ok-behind.ensures.gives
+
+pub returns-in_err-header-clause-reads : goal.returns-in_err-header-clause-reads
+returns-in_err-header-clause-reads c = rw (handed_on c.from_residual.result c.in_err-header.field-0.0 c.from_residual.ensures.1) c.in_err-header.ensures.reads
+
+pub returns-in_err-behind-clause-reads : goal.returns-in_err-behind-clause-reads
+returns-in_err-behind-clause-reads c = rw (handed_on c.from_residual-in_err-behind.result c.in_err-behind.field-0.0 c.from_residual-in_err-behind.ensures.1) c.in_err-behind.ensures.read

@@ -27,3 +27,15 @@ pub returns-clause-borrows : goal.returns-clause-borrows
 returns-clause-borrows c =
     let b : begins_bare (get_or c.args.text.now c.args.at 0) ≡ true = search rules in
     scalar_right _ c.in_ok-kind.kind _ c.args.text.now c.args.at c.in_ok-kind.end b c.in_ok-kind.ensures.gives c.scalar_of.ensures.written
+
+pub returns-then-byte-ne43-clause-reads : goal.returns-then-byte-ne43-clause-reads
+returns-then-byte-ne43-clause-reads c = c.no_value.ensures.placed
+
+pub returns-then-depth-limit-clause-reads : goal.returns-then-depth-limit-clause-reads
+returns-then-depth-limit-clause-reads c = c.too_deep.ensures.placed
+
+pub returns-in_err-kind-clause-reads : goal.returns-in_err-kind-clause-reads
+returns-in_err-kind-clause-reads c = rw (handed_on c.from_residual.result c.in_err-kind.field-0.0 c.from_residual.ensures.1) c.in_err-kind.ensures.advances
+
+pub returns-in_err-kind-clause-borrows : goal.returns-in_err-kind-clause-borrows
+returns-in_err-kind-clause-borrows c = rw (handed_on c.from_residual.result c.in_err-kind.field-0.0 c.from_residual.ensures.1) tt

@@ -21,3 +21,12 @@ returns-clause-reads c =
 
 pub returns-clause-gives : goal.returns-clause-gives
 returns-clause-gives c = string_spelled _ c.args.text.now c.args.limit c.args.depth c.args.at c.in_ok-token.token c.string_of.ensures.view (omega arith) c.in_ok-token.ensures.gives
+
+pub returns-in_err-token-clause-reads : goal.returns-in_err-token-clause-reads
+returns-in_err-token-clause-reads c = rw (handed_on c.from_residual.result c.in_err-token.field-0.0 c.from_residual.ensures.1) c.in_err-token.ensures.placed
+
+pub returns-in_err-token-clause-borrows : goal.returns-in_err-token-clause-borrows
+returns-in_err-token-clause-borrows c = rw (handed_on c.from_residual.result c.in_err-token.field-0.0 c.from_residual.ensures.1) tt
+
+pub returns-then-depth-limit-clause-reads : goal.returns-then-depth-limit-clause-reads
+returns-then-depth-limit-clause-reads c = c.too_deep.ensures.placed
