@@ -50,7 +50,9 @@ pub fn parse<'de, T: FromStr<Err = E>, E: Display + Drop>(
         Ok(text) => text,
         Err(error) => return Err(Stop::Fault(error)),
     };
-    match text.as_str().parse::<T>() {
+    let read = text.as_str().parse::<T>();
+    drop(text);
+    match read {
         Ok(parsed) => Ok(parsed),
         Err(refusal) => match unparsed(alloc, refusal, value.span) {
             Ok(error) => Err(Stop::Fault(error)),

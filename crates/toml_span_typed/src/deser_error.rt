@@ -134,23 +134,18 @@ impl<'s> DeserError<'s> {
         ensures ok { OnOk result (all self.new ≡ all self.old ++ all other.entry) }
         ensures err { IfErr result (λ u. (self.new ≡ self.old) × (u.other ≡ other.entry)) }
     {
-        let mut earlier = match self.earlier.take() {
-            Some(earlier) => earlier,
-            None => Vec::new(alloc),
-        };
+        let earlier = self.earlier.get_or_insert(Vec::new(alloc));
         if let Err(error) = earlier.reserve(other.len()) {
-            self.earlier = Some(earlier);
             return Err(Unmerged { other, error });
         }
         let DeserError {
             earlier: more,
             last,
         } = other;
-        earlier.push(mem::replace(&mut self.last, last)).unwrap();
+        earlier.push_reserved(mem::replace(&mut self.last, last));
         if let Some(mut more) = more {
             earlier.append(&mut more).unwrap();
         }
-        self.earlier = Some(earlier);
         Ok(())
     }
 
@@ -159,12 +154,15 @@ impl<'s> DeserError<'s> {
         ensures ok { OnOk result (map content_of list.new.items ≡ map content_of list.old.items ++ all self.entry) }
         ensures err { OnErr result (list.new.items ≡ list.old.items) }
     {
-        list.reserve(self.len())?;
+        if let Err(e) = list.reserve(self.len()) {
+            drop(self);
+            return Err(e);
+        }
         let DeserError { earlier, last } = self;
         if let Some(mut earlier) = earlier {
             list.append(&mut earlier).unwrap();
         }
-        list.push(last).unwrap();
+        list.push_reserved(last);
         Ok(())
     }
 

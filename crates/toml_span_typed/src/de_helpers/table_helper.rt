@@ -121,12 +121,16 @@ impl<'de> TableHelper<'de> {
         ensures answer { Requires T.reads name.now (state_of self.old) result (state_of self.new) }
         ensures whole { AllWhole (state_of self.old) → AllWhole (state_of self.new) }
     {
-        match self.take(name)? {
-            Some((_key, value)) => self.read_value(value),
-            None => {
+        match self.take(name) {
+            Ok(Some((key, value))) => {
+                drop(key);
+                self.read_value(value)
+            }
+            Ok(None) => {
                 self.keep(missing_field(name, self.span))?;
                 Err(Stop::Fault(missing_field(name, self.span)))
             }
+            Err(e) => Err(Stop::Memory(e)),
         }
     }
 
@@ -153,9 +157,13 @@ impl<'de> TableHelper<'de> {
         ensures answer { Tries T.reads name.now (state_of self.old) result (state_of self.new) }
         ensures whole { AllWhole (state_of self.old) → AllWhole (state_of self.new) }
     {
-        match self.take(name)? {
-            Some((_key, value)) => read_or_keep(self.alloc, value, &mut self.errors),
-            None => Ok(None),
+        match self.take(name) {
+            Ok(Some((key, value))) => {
+                drop(key);
+                read_or_keep(self.alloc, value, &mut self.errors)
+            }
+            Ok(None) => Ok(None),
+            Err(e) => Err(e),
         }
     }
 
@@ -250,7 +258,10 @@ impl<'de> TableHelper<'de> {
         match read {
             Ok(x) => Ok(x),
             Err(Stop::Memory(e)) => Err(Stop::Memory(e)),
-            Err(Stop::Fault(faults)) => Err(Stop::Fault(self.keep_all(faults)?)),
+            Err(Stop::Fault(faults)) => match self.keep_all(faults) {
+                Ok(last) => Err(Stop::Fault(last)),
+                Err(e) => Err(Stop::Memory(e)),
+            },
         }
     }
 
@@ -269,9 +280,20 @@ impl<'de> TableHelper<'de> {
             × (state_of self.new ≡ keeping (all faults.entry) (state_of self.old))) }
         ensures err { OnErr result (state_of self.new ≡ state_of self.old) }
     {
-        let last = faults.last().clone(self.alloc)?;
-        faults.append_to(&mut self.errors)?;
-        Ok(last)
+        let last = match faults.last().clone(self.alloc) {
+            Ok(last) => last,
+            Err(e) => {
+                drop(faults);
+                return Err(e);
+            }
+        };
+        match faults.append_to(&mut self.errors) {
+            Ok(()) => Ok(last),
+            Err(e) => {
+                drop(last);
+                Err(e)
+            }
+        }
     }
 }
 

@@ -85,8 +85,9 @@ fn put<T: Drop>(
     ensures { OnOk result (map shown_pair read.new.entries
         ≡ holding (map shown_pair read.old.entries) (cow_str_bytes key.entry.name) element) }
 {
-    let name = String::from_str(alloc, key.name.as_str())?;
-    match read.insert(name, element) {
+    let name = String::from_str(alloc, key.name.as_str());
+    drop(key);
+    match read.insert(name?, element) {
         Ok(old) => {
             drop(old);
             Ok(())

@@ -27,7 +27,13 @@ impl<'de, A: Deserialize<'de>, B: Deserialize<'de>> Deserialize<'de> for (A, B) 
             Err(stop) => return Err(stop),
         };
         let mut faults: Vec<Error<'de>> = Vec::new(alloc);
-        let first: Option<A> = read_or_keep(alloc, first, &mut faults)?;
+        let first: Option<A> = match read_or_keep(alloc, first, &mut faults) {
+            Ok(first) => first,
+            Err(e) => {
+                drop(second);
+                return Err(Stop::Memory(e));
+            }
+        };
         let second: Option<B> = read_or_keep(alloc, second, &mut faults)?;
         match DeserError::from_list(faults) {
             None => Ok((first.unwrap(), second.unwrap())),

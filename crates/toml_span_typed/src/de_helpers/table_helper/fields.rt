@@ -49,8 +49,10 @@ impl<'de> TableHelper<'de> {
         ensures answer { Finishes (state_of self.entry) result }
         ensures none { OnOk result (kept (state_of self.entry) ≡ 0) }
     {
-        self.finalize(None)?;
-        Ok(())
+        match self.refuse_rest() {
+            Ok(()) => Ok(()),
+            Err(unfinished) => Err(unfinished.into()),
+        }
     }
 
     /// Ends the reads, as `finalize(Some(value))` does: the keys that remain are put back into the value.
@@ -61,8 +63,10 @@ impl<'de> TableHelper<'de> {
         ensures none { OnOk result (kept (state_of self.entry) ≡ 0) }
         ensures rest { HoldsRest self.entry.table value.old value.new }
     {
-        self.put_back(value)?;
-        Ok(())
+        match self.put_back(value) {
+            Ok(()) => Ok(()),
+            Err(unfinished) => Err(unfinished.into()),
+        }
     }
 
     /// Records the name, moves its entry out and reads it. The helper keeps all errors.
@@ -72,12 +76,16 @@ impl<'de> TableHelper<'de> {
         ensures told { IfOk result (λ field. kept (state_of self.old) + lacking field ≤ kept (state_of self.new)) }
         ensures whole { AllWhole (state_of self.old) → AllWhole (state_of self.new) }
     {
-        match self.take(name)? {
-            Some((_key, value)) => read_or_keep(self.alloc, value, &mut self.errors),
-            None => {
+        match self.take(name) {
+            Ok(Some((key, value))) => {
+                drop(key);
+                read_or_keep(self.alloc, value, &mut self.errors)
+            }
+            Ok(None) => {
                 self.keep(missing_field(name, self.span))?;
                 Ok(None)
             }
+            Err(e) => Err(e),
         }
     }
 }

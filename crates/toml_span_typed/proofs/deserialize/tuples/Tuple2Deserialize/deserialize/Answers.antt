@@ -11,7 +11,7 @@ unwrap-requires g c =
     let both = map content_of c.read_or_keep-2.new.faults.items in
     let left = sym c.from_list.ensures ∙ ap all_of_option c.in-None.is in
     let none = element_read g.B.Deserialize.reads _ _ first both c.in_ok-second.ensures.ok left in
-    (element_read g.A.Deserialize.reads _ _ _ first c.in_ok-first.ensures.ok none.1).0
+    (element_read g.A.Deserialize.reads _ _ _ first c.in-Ok-read_or_keep.ensures.ok none.1).0
 
 pub returns-in-Some : goal.returns-in-Some
 returns-in-Some g c =
@@ -20,4 +20,4 @@ returns-in-Some g c =
     let both = map content_of c.read_or_keep-2.new.faults.items in
     let left = sym c.from_list.ensures ∙ ap all_of_option c.in-Some.is in
     pair_failed g.A.Deserialize.reads g.B.Deserialize.reads (view c.args.value.now) _ _ _ _ _ _ none first both _ c.in-Ok.ensures.ok
-    c.two.ensures.taken (ap (map content_of) c.new-faults.ensures.items) c.in_ok-first.ensures.ok c.in_ok-second.ensures.ok left
+    c.two.ensures.taken (ap (map content_of) c.new-faults.ensures.items) c.in-Ok-read_or_keep.ensures.ok c.in_ok-second.ensures.ok left
