@@ -1,4 +1,5 @@
 pub mod Arrays
+pub mod Integers
 pub mod Tables
 pub mod Whole
 pub mod Maps

@@ -1,14 +1,17 @@
 //! Helpers for reads.
 ghost use Rattle.std.specs.Prelude.{◌≡◌, IfOk, false};
+ghost use Rattle.toml_span_lex.specs.declared.stop.Stop.TheVariants.{Fault};
 ghost use Rattle.toml_span_tree.specs.Error.{content_of};
 ghost use Rattle.toml_span_tree.specs.Node.{node};
 ghost use Rattle.toml_span_tree.specs.Value.{inner_view, is_taken, wrong_kind, view};
+ghost use Rattle.toml_span_typed.specs.Errors.{one};
 ghost use Rattle.toml_span_typed.specs.Parse.{Parses, TellsRefusal};
 ghost use Rattle.toml_span_typed.specs.Reads.{Taken};
 
 mod strings;
 mod table_helper;
 
+use crate::deser_error::DeserError;
 use std::alloc::{AllocError, Global};
 use std::borrow::CowStr;
 use std::fmt::Display;
@@ -30,6 +33,13 @@ pub fn expected<'s>(expected: &'s str, found: ValueInner, span: Span) -> Error<'
         },
         span,
     ))
+}
+
+/// Why a read ends where another kind of value stands: the error of `expected`, and no other.
+pub(crate) fn refused<'s>(wanted: &'s str, found: ValueInner, span: Span) -> Stop<DeserError<'s>>
+    ensures { result ≡ Fault (one (wrong_kind wanted.now (node (inner_view found.entry) span))) }
+{
+    Stop::Fault(expected(wanted, found, span).into())
 }
 
 /// What `FromStr` makes of a value's string. The value, which must not be taken before (`is_taken`), is

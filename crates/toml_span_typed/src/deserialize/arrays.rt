@@ -5,7 +5,7 @@ ghost use Rattle.toml_span_tree.specs.Value.{all_whole, is_whole, items_view, vi
 ghost use Rattle.toml_span_typed.specs.code.Arrays.{AddsRead, Answered};
 ghost use Rattle.toml_span_typed.specs.Reads.{ReadsAll, Taken, array_reads, nodes_of, result_map};
 
-use crate::de_helpers::expected;
+use crate::de_helpers::refused;
 use crate::deser_error::DeserError;
 use crate::deserialize::{Deserialize, read_or_keep};
 use std::alloc::{AllocError, Global};
@@ -20,7 +20,7 @@ impl<'de, T: Deserialize<'de>> Deserialize<'de> for Vec<T> {
     fn deserialize(alloc: Global, value: &mut Value<'de>) -> Result<Vec<T>, Stop<DeserError<'de>>> {
         match value.take() {
             ValueInner::Array(items) => read_all(alloc, items),
-            other => Err(Stop::Fault(expected("an array", other, value.span).into())),
+            other => Err(refused("an array", other, value.span)),
         }
     }
 }

@@ -1,27 +1,18 @@
 //! Reads of integers.
-ghost use Rattle.std.specs.Prelude.{◌≡◌, ◌^◌, codes, Some, false};
+ghost use Rattle.std.specs.Prelude.{◌≡◌, ◌^◌, ℤ, Option, codes, false};
 ghost use Rattle.toml_span_tree.specs.Value.{is_taken, view};
 ghost use Rattle.toml_span_typed.specs.Errors.{one};
+ghost use Rattle.toml_span_typed.specs.code.Integers.{Converts};
 ghost use Rattle.toml_span_typed.specs.Reads.{Answers, Gives, Never, read_integer, beyond_range, unsigned, signed};
 
-use crate::de_helpers::expected;
+use crate::de_helpers::refused;
 use crate::deser_error::DeserError;
 use crate::deserialize::Deserialize;
 use std::alloc::Global;
+use std::num::TryFromIntError;
 use toml_span_lex::span::Span;
 use toml_span_lex::stop::Stop;
 use toml_span_tree::{Error, ErrorKind, Value, ValueInner};
-
-/// The integer that stands there, for the type of this name.
-fn integer<'s>(name: &'s str, value: &mut Value) -> Result<i64, Stop<DeserError<'s>>>
-    requires { is_taken (view value.old) ≡ false }
-    ensures { Answers (Gives (read_integer name.now Some)) Never (view value.old) result (view value.new) }
-{
-    match value.take() {
-        ValueInner::Integer(i) => Ok(i),
-        other => Err(Stop::Fault(expected(name, other, value.span).into())),
-    }
-}
 
 /// The error of an integer that the type of this name does not hold.
 fn out_of_range<'s>(name: &'s str, span: Span) -> DeserError<'s>
@@ -30,17 +21,22 @@ fn out_of_range<'s>(name: &'s str, span: Span) -> DeserError<'s>
     Error::from((ErrorKind::OutOfRange(name), span)).into()
 }
 
-/// The integer of the value as this type, or the errors of the read.
-macro_rules! narrowed {
-    ($ty:ident, $value:expr) => {
-        match integer(stringify!($ty), $value) {
-            Ok(i) => match $ty::try_from(i) {
-                Ok(n) => Ok(n),
-                Err(_) => Err(Stop::Fault(out_of_range(stringify!($ty), $value.span))),
-            },
-            Err(stop) => Err(stop),
-        }
-    };
+/// The integer that stands there, as the type of this name.
+fn narrowed<'s, T: TryFrom<i64, Error = TryFromIntError> + Drop>(
+    name: &'s str,
+    value: &mut Value,
+) -> Result<T, Stop<DeserError<'s>>>
+    requires { is_taken (view value.old) ≡ false }
+    ensures { (held : ℤ → Option T) → Converts T.try_from_gives held
+        → Answers (Gives (read_integer name.now held)) Never (view value.old) result (view value.new) }
+{
+    match value.take() {
+        ValueInner::Integer(i) => match T::try_from(i) {
+            Ok(n) => Ok(n),
+            Err(_) => Err(Stop::Fault(out_of_range(name, value.span))),
+        },
+        other => Err(refused(name, other, value.span)),
+    }
 }
 
 impl<'de> Deserialize<'de> for u8 {
@@ -49,7 +45,7 @@ impl<'de> Deserialize<'de> for u8 {
     ghost starved = { Never };
 
     fn deserialize(_alloc: Global, value: &mut Value<'de>) -> Result<u8, Stop<DeserError<'de>>> {
-        narrowed!(u8, value)
+        narrowed("u8", value)
     }
 }
 
@@ -59,7 +55,7 @@ impl<'de> Deserialize<'de> for u16 {
     ghost starved = { Never };
 
     fn deserialize(_alloc: Global, value: &mut Value<'de>) -> Result<u16, Stop<DeserError<'de>>> {
-        narrowed!(u16, value)
+        narrowed("u16", value)
     }
 }
 
@@ -69,7 +65,7 @@ impl<'de> Deserialize<'de> for u32 {
     ghost starved = { Never };
 
     fn deserialize(_alloc: Global, value: &mut Value<'de>) -> Result<u32, Stop<DeserError<'de>>> {
-        narrowed!(u32, value)
+        narrowed("u32", value)
     }
 }
 
@@ -79,7 +75,7 @@ impl<'de> Deserialize<'de> for u64 {
     ghost starved = { Never };
 
     fn deserialize(_alloc: Global, value: &mut Value<'de>) -> Result<u64, Stop<DeserError<'de>>> {
-        narrowed!(u64, value)
+        narrowed("u64", value)
     }
 }
 
@@ -89,7 +85,7 @@ impl<'de> Deserialize<'de> for usize {
     ghost starved = { Never };
 
     fn deserialize(_alloc: Global, value: &mut Value<'de>) -> Result<usize, Stop<DeserError<'de>>> {
-        narrowed!(usize, value)
+        narrowed("usize", value)
     }
 }
 
@@ -99,7 +95,7 @@ impl<'de> Deserialize<'de> for i8 {
     ghost starved = { Never };
 
     fn deserialize(_alloc: Global, value: &mut Value<'de>) -> Result<i8, Stop<DeserError<'de>>> {
-        narrowed!(i8, value)
+        narrowed("i8", value)
     }
 }
 
@@ -109,7 +105,7 @@ impl<'de> Deserialize<'de> for i16 {
     ghost starved = { Never };
 
     fn deserialize(_alloc: Global, value: &mut Value<'de>) -> Result<i16, Stop<DeserError<'de>>> {
-        narrowed!(i16, value)
+        narrowed("i16", value)
     }
 }
 
@@ -119,7 +115,7 @@ impl<'de> Deserialize<'de> for i32 {
     ghost starved = { Never };
 
     fn deserialize(_alloc: Global, value: &mut Value<'de>) -> Result<i32, Stop<DeserError<'de>>> {
-        narrowed!(i32, value)
+        narrowed("i32", value)
     }
 }
 
@@ -129,7 +125,7 @@ impl<'de> Deserialize<'de> for i64 {
     ghost starved = { Never };
 
     fn deserialize(_alloc: Global, value: &mut Value<'de>) -> Result<i64, Stop<DeserError<'de>>> {
-        narrowed!(i64, value)
+        narrowed("i64", value)
     }
 }
 
@@ -139,6 +135,6 @@ impl<'de> Deserialize<'de> for isize {
     ghost starved = { Never };
 
     fn deserialize(_alloc: Global, value: &mut Value<'de>) -> Result<isize, Stop<DeserError<'de>>> {
-        narrowed!(isize, value)
+        narrowed("isize", value)
     }
 }

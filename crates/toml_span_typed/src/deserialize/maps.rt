@@ -8,7 +8,7 @@ ghost use Rattle.toml_span_typed.specs.code.Maps.{AddsEntry};
 ghost use Rattle.toml_span_typed.specs.Maps.{ReadsEntries, holding, shown_pair, table_reads};
 ghost use Rattle.toml_span_typed.specs.Reads.{Taken, result_map};
 
-use crate::de_helpers::expected;
+use crate::de_helpers::refused;
 use crate::deser_error::DeserError;
 use crate::deserialize::{Deserialize, read_or_keep};
 use std::alloc::{AllocError, Global};
@@ -28,7 +28,7 @@ impl<'de, T: Deserialize<'de>> Deserialize<'de> for BTreeMap<String, T> {
     ) -> Result<BTreeMap<String, T>, Stop<DeserError<'de>>> {
         match value.take() {
             ValueInner::Table(table) => read_entries(alloc, table),
-            other => Err(Stop::Fault(expected("a table", other, value.span).into())),
+            other => Err(refused("a table", other, value.span)),
         }
     }
 }

@@ -5,7 +5,7 @@ ghost use Rattle.toml_span_tree.specs.Value.{float_value, date_bytes};
 ghost use Rattle.toml_span_typed.specs.Reads.{Gives, Never, Unchanged, result_map, read_string, read_boolean};
 ghost use Rattle.toml_span_typed.specs.Reads.{read_float, read_datetime};
 
-use crate::de_helpers::expected;
+use crate::de_helpers::refused;
 use crate::deser_error::DeserError;
 use crate::deserialize::Deserialize;
 use std::alloc::Global;
@@ -21,7 +21,7 @@ impl<'de> Deserialize<'de> for bool {
     fn deserialize(_alloc: Global, value: &mut Value<'de>) -> Result<bool, Stop<DeserError<'de>>> {
         match value.take() {
             ValueInner::Boolean(b) => Ok(b),
-            other => Err(Stop::Fault(expected("a bool", other, value.span).into())),
+            other => Err(refused("a bool", other, value.span)),
         }
     }
 }
@@ -37,7 +37,7 @@ impl<'de> Deserialize<'de> for FloatText {
     ) -> Result<FloatText, Stop<DeserError<'de>>> {
         match value.take() {
             ValueInner::Float(x) => Ok(x),
-            other => Err(Stop::Fault(expected("a float", other, value.span).into())),
+            other => Err(refused("a float", other, value.span)),
         }
     }
 }
@@ -53,7 +53,7 @@ impl<'de> Deserialize<'de> for DateText<'de> {
     ) -> Result<DateText<'de>, Stop<DeserError<'de>>> {
         match value.take() {
             ValueInner::Datetime(d) => Ok(d),
-            other => Err(Stop::Fault(expected("a datetime", other, value.span).into())),
+            other => Err(refused("a datetime", other, value.span)),
         }
     }
 }
@@ -69,7 +69,7 @@ impl<'de> Deserialize<'de> for CowStr<'de> {
     ) -> Result<CowStr<'de>, Stop<DeserError<'de>>> {
         match value.take() {
             ValueInner::String(s) => Ok(s),
-            other => Err(Stop::Fault(expected("a string", other, value.span).into())),
+            other => Err(refused("a string", other, value.span)),
         }
     }
 }
@@ -89,7 +89,7 @@ impl<'de> Deserialize<'de> for String {
                     Err(Stop::Memory(e))
                 }
             },
-            other => Err(Stop::Fault(expected("a string", other, value.span).into())),
+            other => Err(refused("a string", other, value.span)),
         }
     }
 }

@@ -4,7 +4,7 @@ ghost use Rattle.toml_span_tree.specs.Value.{is_whole, view};
 ghost use Rattle.toml_span_typed.specs.Reads.{Taken};
 ghost use Rattle.toml_span_typed.specs.Tuples.{RefusesLength, TellsOne, holds_two, other_length, pair_reads};
 
-use crate::de_helpers::expected;
+use crate::de_helpers::refused;
 use crate::deser_error::DeserError;
 use crate::deserialize::{Deserialize, read_or_keep};
 use std::alloc::Global;
@@ -63,7 +63,7 @@ fn two<'de>(
             let first = elements.pop().unwrap();
             Ok((first, second))
         }
-        other => Err(Stop::Fault(expected("an array", other, span).into())),
+        other => Err(refused("an array", other, span)),
     }
 }
 
