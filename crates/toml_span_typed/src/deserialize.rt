@@ -56,10 +56,10 @@ pub(crate) fn read_or_keep<'de, T: Deserialize<'de>>(
     drop(value);
     match read {
         Ok(element) => Ok(Some(element)),
-        Err(Stop::Fault(more)) => match more.append_to(faults) {
-            Ok(()) => Ok(None),
-            Err(e) => Err(e),
-        },
+        Err(Stop::Fault(more)) => {
+            more.append_to(faults)?;
+            Ok(None)
+        }
         Err(Stop::Memory(e)) => Err(e),
     }
 }

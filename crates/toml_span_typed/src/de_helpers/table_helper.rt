@@ -258,10 +258,7 @@ impl<'de> TableHelper<'de> {
         match read {
             Ok(x) => Ok(x),
             Err(Stop::Memory(e)) => Err(Stop::Memory(e)),
-            Err(Stop::Fault(faults)) => match self.keep_all(faults) {
-                Ok(last) => Err(Stop::Fault(last)),
-                Err(e) => Err(Stop::Memory(e)),
-            },
+            Err(Stop::Fault(faults)) => Err(Stop::Fault(self.keep_all(faults)?)),
         }
     }
 

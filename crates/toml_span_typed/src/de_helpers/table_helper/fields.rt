@@ -49,10 +49,8 @@ impl<'de> TableHelper<'de> {
         ensures answer { Finishes (state_of self.entry) result }
         ensures none { OnOk result (kept (state_of self.entry) ≡ 0) }
     {
-        match self.refuse_rest() {
-            Ok(()) => Ok(()),
-            Err(unfinished) => Err(unfinished.into()),
-        }
+        self.finalize(None)?;
+        Ok(())
     }
 
     /// Ends the reads, as `finalize(Some(value))` does: the keys that remain are put back into the value.
@@ -63,10 +61,8 @@ impl<'de> TableHelper<'de> {
         ensures none { OnOk result (kept (state_of self.entry) ≡ 0) }
         ensures rest { HoldsRest self.entry.table value.old value.new }
     {
-        match self.put_back(value) {
-            Ok(()) => Ok(()),
-            Err(unfinished) => Err(unfinished.into()),
-        }
+        self.put_back(value)?;
+        Ok(())
     }
 
     /// Records the name, moves its entry out and reads it. The helper keeps all errors.
