@@ -1,22 +1,30 @@
 -- Pieces of a string, and what is kept of them.
-use Rattle.std.proofs.Common.{◌≡◌, ℕ, ◌+◌, ◌-◌, ◌<◌, ◌≤◌, ◌⊎◌, Bool, true, false, Option, Some, None, Result, Ok, Err, IfErr, List, [], ◌∷◌, ◌++◌, length, get_or, take, drop, arith, inl, inr, sym, refl, ap, length-append, length-take, length-drop, append_assoc, append-nil, cond, get_or-take, get_or-drop, drop-cons}
+use Rattle.std.proofs.Common.{◌≡◌, ℕ, ◌+◌, ◌-◌, ◌<◌, ◌≤◌, ◌⊎◌, Bool, true, false, Option, Some, None, Result, Ok, Err, IfErr, List, [], ◌∷◌, ◌++◌, length, get_or, take, drop, arith, inl, inr, sym, ◌∙◌, refl, ap, length-append, length-take, length-drop, append_assoc, append-nil, cond, get_or-take, get_or-drop, drop-cons, take-add, drop-drop}
 use Rattle.std.specs.Prelude.{encode_utf8, slice_range, string_bytes, ◌==◌}
 use Rattle.std.specs.Char.{len_utf8, digit_value}
 use Rattle.std.specs.Str.Parse.{digits_value}
-use Rattle.toml_span_lex.proofs.Runs.{read_within, behind, crlf_first}
+use Rattle.toml_span_lex.proofs.Runs.{read_within, behind, crlf_first, neither}
 use Rattle.std.specs.declared.string.String.{String}
+use Rattle.std.proofs.lemmas.Bool.{cases_lt, false≢true}
 use Rattle.std.proofs.lemmas.Bool.Decides.{nat_tests}
 use Rattle.std.proofs.lemmas.Str.{length-encode, len_utf8_bounds, len_utf8_ascii}
 use Rattle.std.specs.Str.{IsUtf8}
 use Rattle.std.proofs.lemmas.Str.{IsCharBoundary-before_ascii}
-use Rattle.toml_span_lex.specs.Bytes.{quotation_mark, backslash, carriage_return}
+use Rattle.toml_span_lex.specs.Bytes.{quotation_mark, backslash, carriage_return, is_blank, MaximalRun}
 use Rattle.toml_span_lex.specs.declared.pieces.Piece.{Piece}
 use Rattle.toml_span_lex.specs.declared.pieces.Piece.TheVariants as pieces
-use Rattle.toml_span_lex.specs.Text.{LineEnd}
+use Rattle.toml_span_lex.specs.Text.{LineEnd, NoLineEnd}
 use Rattle.toml_span_lex.specs.Escapes.{simple_escape, hex_len, hex_value, is_hex, HexRun, IsHexEscape, IsEscape}
-use Rattle.toml_span_lex.specs.Pieces.{IsDropped, IsPiece, piece_value, IsClose}
+use Rattle.toml_span_lex.specs.Pieces.{is_ws_or_newline, IsDropped, IsPiece, piece_value, IsClose}
 use Rattle.toml_span_lex.specs.Strings.{Cut, content, content_end, HasChange}
 use Rattle.toml_span_lex.specs.code.Strings.{Kept, Ends}
+
+-- two parts of a text side by side
+pub slice_join : (text : List ℕ) (i j k : ℕ) → i ≤ j → j ≤ k → slice_range text i j ++ slice_range text j k ≡ slice_range text i k
+slice_join text i j k f g =
+    let all : k - i ≡ (j - i) + (k - j) = omega arith in
+    let at : i + (j - i) ≡ j = omega arith in
+    rw (all, take-add, drop-drop, at) refl
 
 -- a kept content is no longer than the text
 pub kept_length : {Z : Type 0} (q : ℕ) (text : List ℕ) (from at : ℕ) (v : List ℕ) (kept : Option (String Z)) → from ≤ at → Kept q text from at v kept → length v + from ≤ at
@@ -99,6 +107,18 @@ crlf_return text i j (inr h) n = crlf_first text i h.0
 
 pub dropped_shorter : (text : List ℕ) (i j : ℕ) → IsDropped text (i + 1) j → i < j
 dropped_shorter text i j (k, l, run, line, gap) = let f = line_forward text k l line in omega arith
+
+-- Where white space begins and no line end follows its spaces and tabs, there is one of these at least.
+pub blanks_forward : (text : List ℕ) (i j : ℕ) → i < length text → is_ws_or_newline text i ≡ true → MaximalRun is_blank text i j → NoLineEnd text j → i < j
+blanks_forward text i j l gap run none =
+    elim (cases_lt i j) [
+      | inl lt ↦ lt
+      | inr ge ↦
+          let same : j ≡ i = omega (arith, run.forward) in
+          let blank : is_blank (get_or text i 0) ≡ false = rw same at (run.stops (omega arith)) in
+          let line : NoLineEnd text i = rw same at none in
+          absurd (false≢true (sym (neither _ _ (neither _ _ blank line.0) line.1) ∙ gap))
+    ]
 
 -- a backslash or a carriage return here is a change from every place before it to every place behind it
 pub change_at : (q : ℕ) (text : List ℕ) (from at next : ℕ) → from ≤ at → at < next → ((q ≡ quotation_mark) × (get_or text at 0 ≡ backslash)) ⊎ (get_or text at 0 ≡ carriage_return) → HasChange q text from next

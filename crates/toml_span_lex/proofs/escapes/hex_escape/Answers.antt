@@ -32,7 +32,7 @@ loop-k-preserved c =
     let here : (c.args.at + 1) + l.k < length text = omega arith in
     let is : is_hex (get_or text ((c.args.at + 1) + l.k) 0) ≡ true = grind (arith, nat_tests, d.0) in
     record {
-      run = rw add_assoc at (HexRun-more text _ _ l.invariant.run here is);
+      run = rw (add_assoc (c.args.at + 1) l.k 1) at (HexRun-more text _ _ l.invariant.run here is);
       value = hex_value_step text _ _ _ _ here l.invariant.value (cc (d.1, c.from.ensures));
       below = grows l.value c.in-Some.digit l.k l.invariant.below (omega (arith, d.0, d.1));
       boundary = behind text ((c.args.at + 1) + l.k) _ (omega arith) c.utf8.text here (hex_ascii _ is);

@@ -1,6 +1,16 @@
 use Rattle.std.proofs.Common.{inl, inr}
-use Rattle.toml_span_lex.proofs.Unfolded.{after_fault}
+use Rattle.toml_span_lex.specs.Tokens.{lexeme}
+use Rattle.toml_span_lex.proofs.MadeStrings.{string_stands}
+use Rattle.toml_span_lex.proofs.Unfolded.{after_token, after_fault}
 use Rattle.toml_span_lex.proofs.tokenizer.Tokenizer.step.Goals as goal
+
+pub invariant_of-self : goal.invariant_of-self
+invariant_of-self c =
+    let arm = c.in-Ok in
+    let text = c.self.inside.input.now in
+    let at = c.self.inside.at in
+    let stands = string_stands text at arm.end arm.span arm.token arm.ensures.gives in
+    (arm.ensures.ends, after_token text at arm.end arm.span (lexeme arm.token) c.self.invariant.1 stands.0)
 
 pub invariant_of-self-in-Err-Fault : goal.invariant_of-self-in-Err-Fault
 invariant_of-self-in-Err-Fault c =
