@@ -7,7 +7,7 @@ use Rattle.std.proofs.lemmas.Str.{IsCharBoundary-after_ascii, IsUtf8-drop, IsCha
 use Rattle.std.proofs.lemmas.Bool.{cases_lt, false≢true}
 use Rattle.std.proofs.lemmas.List.{get_or_past}
 use Rattle.std.proofs.lemmas.Bool.Decides.{nat_tests}
-use Rattle.toml_span_lex.specs.Bytes.{is_blank, is_keylike, is_printed}
+use Rattle.toml_span_lex.specs.Bytes.{MaximalRun, is_blank, is_keylike, is_printed}
 use Rattle.toml_span_lex.specs.Text.{is_crlf, CharAt, NoLineEnd}
 use Rattle.toml_span_lex.specs.Pieces.{is_ws_or_newline, is_plain}
 use Rattle.toml_span_lex.specs.Tokens.{begins_token, begins_alone}
@@ -26,6 +26,17 @@ boundary_after p text i j ascii u b f w passes =
     elim (cases_lt i j) [
       | inl lt ↦ behind text (j - 1) j (omega arith) u (omega arith) (ascii _ (passes (j - 1) (omega arith) (omega arith)))
       | inr ge ↦ let e : i ≡ j = omega arith in rw e at b
+    ]
+
+-- a run whose first byte passes has that byte at least
+pub run_forward : (p : ℕ → Bool) (text : List ℕ) (i j : ℕ) → i < length text → p (get_or text i 0) ≡ true → MaximalRun p text i j → i < j
+run_forward p text i j l h run =
+    elim (cases_lt i j) [
+      | inl lt ↦ lt
+      | inr ge ↦
+          let same : j ≡ i = omega (arith, run.forward) in
+          let stops : p (get_or text i 0) ≡ false = rw same at (run.stops (omega arith)) in
+          absurd (false≢true (sym stops ∙ h))
     ]
 
 pub blank_ascii : (c : ℕ) → is_blank c ≡ true → c < 128

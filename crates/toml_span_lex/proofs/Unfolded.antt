@@ -17,7 +17,7 @@ use Rattle.toml_span_lex.specs.Tokens.{Lexeme, whitespace, newline, comment, pun
 use Rattle.toml_span_lex.proofs.OneToken.{differs}
 use Rattle.toml_span_lex.proofs.OneFault.{HexCase, ends, other, value, hex_case, stray}
 use Rattle.toml_span_lex.proofs.Folded.{second}
-use Rattle.toml_span_lex.proofs.Runs.{read_within}
+use Rattle.toml_span_lex.proofs.Runs.{read_within, run_forward}
 use Rattle.toml_span_lex.proofs.PieceLemmas.{closing}
 
 -- ---- the byte before a place
@@ -124,10 +124,4 @@ after_token text i j s (string src v m) b h = after_string text i j s src v m h
 -- a comment has its first byte at least
 pub comment_forward : (text : List ℕ) (i j : ℕ) → get_or text i 0 ≡ 35 → MaximalRun is_printed text i j → i < j
 comment_forward text i j e run =
-    elim (cases_lt i j) [
-      | inl lt ↦ lt
-      | inr ge ↦
-          let same : j ≡ i = omega (arith, run.forward) in
-          let stops : is_printed (get_or text i 0) ≡ false = rw same at (run.stops (omega (arith, read_within text i (omega (arith, e))))) in
-          absurd (false≢true (sym (rw e at stops)))
-    ]
+    run_forward is_printed text i j (read_within text i (omega (arith, e))) (rw e refl) run
