@@ -10,3 +10,6 @@ returns-in-Some-clause-boundary c = behind c.args.text.now c.args.at _ refl c.ut
 pub returns-else-len-gt0-clause-gives : goal.returns-else-len-gt0-clause-gives
 returns-else-len-gt0-clause-gives c =
     inr (inl (_, refl, char_fails opens_escape c.args.text.now _ _ _ past_escape refl (closed (get_or c.args.text.now c.args.at 0) c.hex_len-len.result (cc c.in_default.ensures) (rw c.as_bytes-bytes.ensures.value at c.hex_len-len.ensures) c.if-len-gt0.false) c.char_at-c.ensures.gives, c.char_at-c.ensures.gives))
+
+pub returns-else-len-gt0-clause-boundary : goal.returns-else-len-gt0-clause-boundary
+returns-else-len-gt0-clause-boundary c = c.char_at-c.ensures.boundary

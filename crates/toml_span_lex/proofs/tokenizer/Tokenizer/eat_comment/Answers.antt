@@ -9,6 +9,9 @@ pub invariant_of-self-in-None : goal.invariant_of-self-in-None
 invariant_of-self-in-None c =
     (c.char_at-c.ensures.boundary, after_char c.self.inside.input.now c.printed_end-end.result c.char_at-c.result.0 c.char_at-c.result.1 c.char_at-c.ensures.gives)
 
+pub returns-in-None-clause-text : goal.returns-in-None-clause-text
+returns-in-None-clause-text c = rw (← c.self.view_is) refl
+
 pub returns-in-None-clause-gives : goal.returns-in-None-clause-gives
 returns-in-None-clause-gives c =
     let text = c.self.inside.input.now in
