@@ -1,5 +1,6 @@
-use Rattle.std.proofs.Common.{inl, inr}
+use Rattle.std.proofs.Common.{inl, inr, Ok, Some, subst}
 use Rattle.toml_span_lex.specs.Tokens.{lexeme}
+use Rattle.toml_span_lex.specs.Tokenizer.{BorrowsAt}
 use Rattle.toml_span_lex.proofs.MadeStrings.{string_stands}
 use Rattle.toml_span_lex.proofs.Unfolded.{after_token, after_fault}
 use Rattle.toml_span_lex.proofs.tokenizer.Tokenizer.step.Goals as goal
@@ -21,3 +22,15 @@ invariant_of-self-in-Err-Fault c =
 pub invariant_of-self-in-Err : goal.invariant_of-self-in-Err
 invariant_of-self-in-Err c =
     (c.in-Err.ensures.boundary, after_fault c.self.inside.input.now c.self.inside.at c.in-Err.next c.in-Err.error (inl c.in-Err.ensures.gives))
+
+pub returns-in-Ok-clause-gives : goal.returns-in-Ok-clause-gives
+returns-in-Ok-clause-gives c =
+    let arm = c.in-Ok in
+    let stands = string_stands c.self.inside.input.now c.self.inside.at arm.end arm.span arm.token arm.ensures.gives in
+    rw (← c.self.view_is) stands.0
+
+pub returns-in-Ok-clause-borrows : goal.returns-in-Ok-clause-borrows
+returns-in-Ok-clause-borrows c =
+    let arm = c.in-Ok in
+    let stands = string_stands c.self.inside.input.now c.self.inside.at arm.end arm.span arm.token arm.ensures.gives in
+    subst (λ old. BorrowsAt old.text old.at (Ok (Some (arm.span, arm.token))) arm.end) c.self.view_is stands.1
