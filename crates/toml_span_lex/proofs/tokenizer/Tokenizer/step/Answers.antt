@@ -1,7 +1,8 @@
-use Rattle.std.proofs.Common.{inl, inr, Ok, Some, subst}
+use Rattle.std.proofs.Common.{inl, inr, refl, Ok, Some, subst}
 use Rattle.toml_span_lex.specs.Tokens.{lexeme}
 use Rattle.toml_span_lex.specs.Tokenizer.{BorrowsAt}
 use Rattle.toml_span_lex.proofs.MadeStrings.{string_stands}
+use Rattle.toml_span_lex.proofs.Standing.{token_stands}
 use Rattle.toml_span_lex.proofs.Unfolded.{after_token, after_fault}
 use Rattle.toml_span_lex.proofs.tokenizer.Tokenizer.step.Goals as goal
 
@@ -34,3 +35,14 @@ returns-in-Ok-clause-borrows c =
     let arm = c.in-Ok in
     let stands = string_stands c.self.inside.input.now c.self.inside.at arm.end arm.span arm.token arm.ensures.gives in
     subst (λ old. BorrowsAt old.text old.at (Ok (Some (arm.span, arm.token))) arm.end) c.self.view_is stands.1
+
+pub returns-in-Ok-token_at-clause-text : goal.returns-in-Ok-token_at-clause-text
+returns-in-Ok-token_at-clause-text c = rw (← c.self.view_is) refl
+
+pub returns-in-Ok-token_at-clause-gives : goal.returns-in-Ok-token_at-clause-gives
+returns-in-Ok-token_at-clause-gives c =
+    let arm = c.in-Ok-token_at in
+    rw (← c.self.view_is) (token_stands c.self.inside.input.now c.self.inside.at arm.end (lexeme arm.token) arm.ensures.gives)
+
+pub returns-in-Err-clause-gives : goal.returns-in-Err-clause-gives
+returns-in-Err-clause-gives c = rw (← c.self.view_is) (inl c.in-Err.ensures.gives)
