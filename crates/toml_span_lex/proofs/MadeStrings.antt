@@ -1,5 +1,5 @@
 -- Strings as they are made.
-use Rattle.std.proofs.Common.{◌≡◌, ℕ, ◌+◌, ◌-◌, ◌<◌, ◌≤◌, ◌⊎◌, Bool, true, false, Some, Ok, Err, List, [], ◌++◌, length, get_or, drop, arith, inl, inr, sym, ◌∙◌, refl, ap, length-take, length-drop, cond, subst}
+use Rattle.std.proofs.Common.{◌≡◌, ℕ, ◌+◌, ◌-◌, ◌<◌, ◌≤◌, ◌⊎◌, Bool, true, false, Ok, Err, List, [], ◌++◌, length, get_or, drop, arith, inl, inr, sym, ◌∙◌, refl, ap, length-take, length-drop, cond, subst}
 use Rattle.std.specs.Prelude.{slice_range, ◌==◌}
 use Rattle.std.proofs.lemmas.Bool.{false≢true}
 use Rattle.std.proofs.lemmas.Bool.Decides.{nat_tests}
@@ -19,7 +19,6 @@ use Rattle.toml_span_lex.specs.code.Strings.{ContentGives, EndsWell}
 use Rattle.toml_span_lex.specs.Pieces.{IsClose}
 use Rattle.toml_span_lex.specs.code.Strings.{StringGives, StringEnds}
 use Rattle.toml_span_lex.specs.Tokens.{lexeme, Stands}
-use Rattle.toml_span_lex.specs.Tokenizer.{BorrowsAt}
 
 pub third_quote : (text : List ℕ) (i : ℕ) → opens_multi text i ≡ true → get_or text (i + 2) 0 ≡ get_or text i 0
 third_quote text i h = grind (arith, nat_tests)
@@ -136,9 +135,9 @@ scanned text q i from at j m ps qe me h b cut closes =
     let is : IsContent q m text from v to j = record { pieces = ps; at = at; cut = cut; closes = closes; to_is = refl; value_is = refl } in
     (content_span m i from to, slice_range text i j, v, rw (← me) (is_string text q i from to j m _ _ v v qe me h b is refl refl refl))
 
--- a string that was read stands there, and borrows the text as it should
-pub string_stands : (text : List ℕ) (i j : ℕ) (span : Span) (token : Token) → StringGives text i (Ok (span, token, j)) → Stands text i j span (lexeme token) × BorrowsAt text i (Ok (Some (span, token))) j
-string_stands text i j span (tokens.String src val m) h = h
+-- a string that was read stands there
+pub string_stands : (text : List ℕ) (i j : ℕ) (span : Span) (token : Token) → StringGives text i (Ok (span, token, j)) → Stands text i j span (lexeme token)
+string_stands text i j span (tokens.String src val m) h = h.0
 string_stands text i j span (tokens.Whitespace s) h = absurd h
 string_stands text i j span tokens.Newline h = absurd h
 string_stands text i j span (tokens.Comment s) h = absurd h

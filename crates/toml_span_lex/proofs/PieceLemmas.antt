@@ -124,26 +124,12 @@ blanks_forward text i j l gap run none =
 pub change_at : (q : ℕ) (text : List ℕ) (from at next : ℕ) → from ≤ at → at < next → ((q ≡ quotation_mark) × (get_or text at 0 ≡ backslash)) ⊎ (get_or text at 0 ≡ carriage_return) → HasChange q text from next
 change_at q text from at next f on is = (at, f, on, is)
 
--- so is a line end of two characters, an escape, and what a backslash drops
-pub line_change : (q : ℕ) (text : List ℕ) (from at next : ℕ) → from ≤ at → LineEnd text at next → (next ≡ at + 1 → ⊥) → HasChange q text from next
-line_change q text from at next f h n = change_at q text from at next f (omega (arith, crlf_shorter text at next h n)) (inr (crlf_return text at next h n))
-
-pub escape_change : (q : ℕ) (text : List ℕ) (from at next c : ℕ) → from ≤ at → q ≡ quotation_mark → get_or text at 0 ≡ backslash → IsEscape text (at + 1) c next → HasChange q text from next
-escape_change q text from at next c f e b h = change_at q text from at next f (omega (arith, escape_shorter text at c next h)) (inl (e, b))
-
-pub dropped_change : (q : ℕ) (text : List ℕ) (from at next : ℕ) → from ≤ at → q ≡ quotation_mark → get_or text at 0 ≡ backslash → IsDropped text (at + 1) next → HasChange q text from next
-dropped_change q text from at next f e b h = change_at q text from at next f (dropped_shorter text at next h) (inl (e, b))
-
 pub HasChange-more : (q : ℕ) (text : List ℕ) (from at next : ℕ) → at ≤ next → HasChange q text from at → HasChange q text from next
 HasChange-more q text from at next on (k, f, below, is) = (k, f, omega arith, is)
 
 pub change_more : {A E : Type 0} (q : ℕ) (text : List ℕ) (from at next : ℕ) (r : Result A E) → at ≤ next → IfErr r (λ e. HasChange q text from at) → IfErr r (λ e. HasChange q text from next)
 change_more q text from at next (Ok x) on h = h
 change_more q text from at next (Err e) on h = HasChange-more q text from at next on h
-
-pub for_err : {A E P : Type 0} (r : Result A E) → P → IfErr r (λ e. P)
-for_err (Ok x) h = tt
-for_err (Err e) h = h
 
 -- a piece that is shorter than its text goes into a text of its own
 pub kept_own : {Z : Type 0} (q : ℕ) (text : List ℕ) (from at next : ℕ) (v w : List ℕ) (kept : Option (String Z)) (s : String Z) → from ≤ at → Kept q text from at v kept → HasChange q text from next → length w + at < next → string_bytes s ≡ v ++ w → Kept q text from next (v ++ w) (Some s)

@@ -1,6 +1,6 @@
 use Rattle.std.specs.Prelude.{encode_utf8}
 use Rattle.std.proofs.Common.{arith, ◌<◌, ◌+◌, ◌∙◌, ap, sym, ◌++◌, ◌∷◌, [], inl, inr, append-nil}
-use Rattle.toml_span_lex.proofs.PieceLemmas.{kept_own, line_change, escape_change, dropped_change, change_more, for_err, escape_shorter, dropped_shorter, line_feed, crlf_shorter}
+use Rattle.toml_span_lex.proofs.PieceLemmas.{kept_own, change_at, change_more, escape_shorter, dropped_shorter, line_feed, crlf_shorter, crlf_return}
 use Rattle.toml_span_lex.proofs.strings.with_piece.Goals as goal
 
 pub returns-in-Plain-clause-ok : goal.returns-in-Plain-clause-ok
@@ -21,43 +21,18 @@ pub returns-in_ok-push-in-LineEnd-2-clause-ok : goal.returns-in_ok-push-in-LineE
 unfolding lib.Utf8.encode
 returns-in_ok-push-in-LineEnd-2-clause-ok c = λ q m v p k.
     let h = rw c.in-LineEnd-2.is at p in
-    let change = line_change q c.args.text.now c.args.from c.args.at c.args.next c.requires.forward h.1 c.if-next-at.false in
+    let change = change_at q c.args.text.now c.args.from c.args.at c.args.next c.requires.forward (omega (arith, crlf_shorter _ _ _ h.1 c.if-next-at.false)) (inr (crlf_return _ _ _ h.1 c.if-next-at.false)) in
     rw c.in-LineEnd-2.is (kept_own q c.args.text.now c.args.from c.args.at c.args.next v (10 ∷ []) c.args.kept c.push.new.self c.requires.forward k change (crlf_shorter _ _ _ h.1 c.if-next-at.false) (c.in_ok-push-in-LineEnd-2.ensures.bytes ∙ ap (λ b. b ++ 10 ∷ []) (c.in_ok-s-in-LineEnd-2.ensures q v k)))
 
 pub returns-in_ok-push-in-Escape-clause-ok : goal.returns-in_ok-push-in-Escape-clause-ok
 returns-in_ok-push-in-Escape-clause-ok c = λ q m v p k.
     let h = rw c.in-Escape.is at p in
-    let change = escape_change q c.args.text.now c.args.from c.args.at c.args.next c.in-Escape.c c.requires.forward h.0 h.1 h.2 in
+    let change = change_at q c.args.text.now c.args.from c.args.at c.args.next c.requires.forward (omega (arith, escape_shorter _ _ _ _ h.2)) (inl (h.0, h.1)) in
     rw c.in-Escape.is (kept_own q c.args.text.now c.args.from c.args.at c.args.next v _ c.args.kept c.push-in-Escape.new.self c.requires.forward k change (escape_shorter _ _ _ _ h.2) (c.in_ok-push-in-Escape.ensures.bytes ∙ ap (λ b. b ++ encode_utf8 c.in-Escape.c) (c.in_ok-s-in-Escape.ensures q v k)))
 
 pub returns-in_ok-owned-in-Dropped-clause-ok : goal.returns-in_ok-owned-in-Dropped-clause-ok
 returns-in_ok-owned-in-Dropped-clause-ok c = λ q m v p k.
     let h = rw c.in-Dropped.is at p in
     let on : 0 + c.args.at < c.args.next = omega (arith, dropped_shorter c.args.text.now c.args.at c.args.next h.3) in
-    let change = dropped_change q c.args.text.now c.args.from c.args.at c.args.next c.requires.forward h.0 h.2 h.3 in
+    let change = change_at q c.args.text.now c.args.from c.args.at c.args.next c.requires.forward (omega arith) (inl (h.0, h.2)) in
     rw c.in-Dropped.is (kept_own q c.args.text.now c.args.from c.args.at c.args.next v [] c.args.kept c.in_ok-owned-in-Dropped.field-0 c.requires.forward k change on (c.in_ok-owned-in-Dropped.ensures q v k ∙ sym (append-nil v)))
-
-pub returns-in_err-s-in-LineEnd-2-clause-memory : goal.returns-in_err-s-in-LineEnd-2-clause-memory
-returns-in_err-s-in-LineEnd-2-clause-memory c = λ q m v p k.
-    let h = rw c.in-LineEnd-2.is at p in
-    for_err c.from_residual.result (line_change q c.args.text.now c.args.from c.args.at c.args.next c.requires.forward h.1 c.if-next-at.false)
-
-pub returns-in_err-push-in-LineEnd-2-clause-memory : goal.returns-in_err-push-in-LineEnd-2-clause-memory
-returns-in_err-push-in-LineEnd-2-clause-memory c = λ q m v p k.
-    let h = rw c.in-LineEnd-2.is at p in
-    for_err c.from_residual-in_err-push-in-LineEnd-2.result (line_change q c.args.text.now c.args.from c.args.at c.args.next c.requires.forward h.1 c.if-next-at.false)
-
-pub returns-in_err-s-in-Escape-clause-memory : goal.returns-in_err-s-in-Escape-clause-memory
-returns-in_err-s-in-Escape-clause-memory c = λ q m v p k.
-    let h = rw c.in-Escape.is at p in
-    for_err c.from_residual-in_err-s-in-Escape.result (escape_change q c.args.text.now c.args.from c.args.at c.args.next c.in-Escape.c c.requires.forward h.0 h.1 h.2)
-
-pub returns-in_err-push-in-Escape-clause-memory : goal.returns-in_err-push-in-Escape-clause-memory
-returns-in_err-push-in-Escape-clause-memory c = λ q m v p k.
-    let h = rw c.in-Escape.is at p in
-    for_err c.from_residual-in_err-push-in-Escape.result (escape_change q c.args.text.now c.args.from c.args.at c.args.next c.in-Escape.c c.requires.forward h.0 h.1 h.2)
-
-pub returns-in_err-owned-in-Dropped-clause-memory : goal.returns-in_err-owned-in-Dropped-clause-memory
-returns-in_err-owned-in-Dropped-clause-memory c = λ q m v p k.
-    let h = rw c.in-Dropped.is at p in
-    for_err c.from_residual-in_err-owned-in-Dropped.result (dropped_change q c.args.text.now c.args.from c.args.at c.args.next c.requires.forward h.0 h.2 h.3)

@@ -1,6 +1,5 @@
-use Rattle.std.proofs.Common.{inl, inr, refl, Ok, Some, subst}
+use Rattle.std.proofs.Common.{inl, inr, refl}
 use Rattle.toml_span_lex.specs.Tokens.{lexeme}
-use Rattle.toml_span_lex.specs.Tokenizer.{BorrowsAt}
 use Rattle.toml_span_lex.proofs.MadeStrings.{string_stands}
 use Rattle.toml_span_lex.proofs.Standing.{token_stands}
 use Rattle.toml_span_lex.proofs.Unfolded.{after_token, after_fault}
@@ -12,7 +11,7 @@ invariant_of-self c =
     let text = c.self.inside.input.now in
     let at = c.self.inside.at in
     let stands = string_stands text at arm.end arm.span arm.token arm.ensures.gives in
-    (arm.ensures.ends, after_token text at arm.end arm.span (lexeme arm.token) c.self.invariant.1 stands.0)
+    (arm.ensures.ends, after_token text at arm.end arm.span (lexeme arm.token) c.self.invariant.1 stands)
 
 pub invariant_of-self-in-Err-Fault : goal.invariant_of-self-in-Err-Fault
 invariant_of-self-in-Err-Fault c =
@@ -23,18 +22,6 @@ invariant_of-self-in-Err-Fault c =
 pub invariant_of-self-in-Err : goal.invariant_of-self-in-Err
 invariant_of-self-in-Err c =
     (c.in-Err.ensures.boundary, after_fault c.self.inside.input.now c.self.inside.at c.in-Err.next c.in-Err.error (inl c.in-Err.ensures.gives))
-
-pub returns-in-Ok-clause-gives : goal.returns-in-Ok-clause-gives
-returns-in-Ok-clause-gives c =
-    let arm = c.in-Ok in
-    let stands = string_stands c.self.inside.input.now c.self.inside.at arm.end arm.span arm.token arm.ensures.gives in
-    rw (← c.self.view_is) stands.0
-
-pub returns-in-Ok-clause-borrows : goal.returns-in-Ok-clause-borrows
-returns-in-Ok-clause-borrows c =
-    let arm = c.in-Ok in
-    let stands = string_stands c.self.inside.input.now c.self.inside.at arm.end arm.span arm.token arm.ensures.gives in
-    subst (λ old. BorrowsAt old.text old.at (Ok (Some (arm.span, arm.token))) arm.end) c.self.view_is stands.1
 
 pub returns-in-Ok-token_at-clause-text : goal.returns-in-Ok-token_at-clause-text
 returns-in-Ok-token_at-clause-text c = rw (← c.self.view_is) refl
