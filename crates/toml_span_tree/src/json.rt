@@ -1,5 +1,7 @@
 //! JSON values of trees.
-ghost use Rattle.std.specs.Prelude.{◌≡◌, true, IfOk};
+ghost use Rattle.std.specs.Prelude.{◌≡◌, ◌++◌, ◌∷◌, [], true, IfOk, OnOk, map, string_bytes};
+ghost use Rattle.std.specs.Cow.{cow_str_bytes};
+ghost use Rattle.serde_json.specs.Data.{put, string};
 ghost use Rattle.serde_json.specs.View.{view as json_view, items_view as json_items_view};
 ghost use Rattle.serde_json.specs.View.{members_view as json_members_view};
 ghost use Rattle.toml_span_tree.specs.Value.{view, inner_view, items_view, members_view, is_whole};
@@ -8,6 +10,7 @@ ghost use Rattle.toml_span_tree.specs.Json.{json_of, json_in, json_items, json_m
 use crate::value::{Array, Table, Value, ValueInner};
 use serde_json::{Map, Number, Value as Json};
 use std::alloc::{AllocError, Global};
+use toml_span_lex::key::Key;
 
 impl Value<'_> {
     /// The JSON value of the same shape, without spans: a text, a whole number, a truth value, an
@@ -37,14 +40,20 @@ fn json_of_inner(alloc: Global, inner: &ValueInner<'_>) -> Result<Json, AllocErr
     ensures { IfOk result (λ json. json_view json ≡ json_in (inner_view inner.now)) }
 {
     match inner {
-        ValueInner::String(text) => Ok(Json::String(String::from_str(alloc, text.as_ref())?)),
+        ValueInner::String(text) => json_of_text(alloc, text.as_ref()),
         ValueInner::Integer(number) => Ok(Json::Number(Number::from(*number))),
-        ValueInner::Float(float) => Ok(Json::String(String::from_str(alloc, float.text())?)),
+        ValueInner::Float(float) => json_of_text(alloc, float.text()),
         ValueInner::Boolean(truth) => Ok(Json::Bool(*truth)),
-        ValueInner::Datetime(date) => Ok(Json::String(String::from_str(alloc, date.text())?)),
+        ValueInner::Datetime(date) => json_of_text(alloc, date.text()),
         ValueInner::Array(array) => Ok(Json::Array(json_of_elements(alloc, array)?)),
         ValueInner::Table(table) => Ok(Json::Object(json_of_entries(alloc, table)?)),
     }
+}
+
+fn json_of_text(alloc: Global, text: &str) -> Result<Json, AllocError>
+    ensures { IfOk result (λ json. json_view json ≡ string text.now) }
+{
+    Ok(Json::String(String::from_str(alloc, text)?))
 }
 
 #[cycle(json)]
@@ -52,10 +61,32 @@ fn json_of_elements(alloc: Global, array: &Array<'_>) -> Result<Vec<Json>, Alloc
     ensures { IfOk result (λ made. json_items_view made.items ≡ json_items (items_view array.now.items)) }
 {
     let mut made = Vec::with_capacity(alloc, array.len())?;
-    for value in array {
-        made.push(json_of_value(alloc, value)?)?;
-    }
+    push_elements(alloc, array.as_slice(), &mut made)?;
     Ok(made)
+}
+
+/// Adds the values of these elements.
+#[cycle(json)]
+fn push_elements(
+    alloc: Global,
+    elements: &[Value<'_>],
+    made: &mut Vec<Json>,
+) -> Result<(), AllocError>
+    ensures { OnOk result (map json_view made.new.items ≡ map json_view made.old.items
+        ++ map (λ value. json_of (view value)) elements.now) }
+{
+    for value in elements {
+        let json = json_of_value(alloc, value)?;
+        push(made, json)?;
+    }
+    Ok(())
+}
+
+fn push(made: &mut Vec<Json>, json: Json) -> Result<(), AllocError>
+    ensures { OnOk result (made.new.items ≡ made.old.items ++ json ∷ []) }
+{
+    made.push(json)?;
+    Ok(())
 }
 
 #[cycle(json)]
@@ -64,8 +95,31 @@ fn json_of_entries(alloc: Global, table: &Table<'_>) -> Result<Map<String, Json>
 {
     let mut made = Map::new(alloc);
     for (key, value) in table.iter() {
-        let name = String::from_str(alloc, key.name.as_ref())?;
-        drop(made.insert(name, json_of_value(alloc, value)?)?);
+        put_entry(alloc, key, value, &mut made)?;
     }
     Ok(made)
+}
+
+/// Puts the value of an entry under the entry's name.
+#[cycle(json)]
+fn put_entry(
+    alloc: Global,
+    key: &Key<'_>,
+    value: &Value<'_>,
+    made: &mut Map<String, Json>,
+) -> Result<(), AllocError>
+    ensures { OnOk result (json_members_view made.new.entries
+        ≡ put (cow_str_bytes key.now.name) (json_of (view value.now)) (json_members_view made.old.entries)) }
+{
+    let name = String::from_str(alloc, key.name.as_ref())?;
+    let json = json_of_value(alloc, value)?;
+    insert(made, name, json)
+}
+
+fn insert(made: &mut Map<String, Json>, name: String, json: Json) -> Result<(), AllocError>
+    ensures { OnOk result (json_members_view made.new.entries
+        ≡ put (string_bytes name) (json_view json) (json_members_view made.old.entries)) }
+{
+    drop(made.insert(name, json)?);
+    Ok(())
 }

@@ -5,8 +5,9 @@ use Rattle.toml_span_tree.specs.Json.{json_of, json_members}
 use Rattle.toml_span_tree.proofs.Values.{Entry}
 use Rattle.toml_span_tree.proofs.json.+json.Given as goal
 
-abbrev pub invariant-json_of_elements-loop-value : goal.invariant-json_of_elements-loop-value
-invariant-json_of_elements-loop-value l = map made.view l.made.items ≡ map (λ v. json_of (view v)) (take l.value-index l.value-items)
+abbrev pub invariant-push_elements-loop-value : goal.invariant-push_elements-loop-value
+invariant-push_elements-loop-value l =
+    map made.view l.made.items ≡ map made.view l.fn.made.items ++ map (λ v. json_of (view v)) (take l.value-index l.elements)
 
 abbrev pub invariant-json_of_entries-loop-key : goal.invariant-json_of_entries-loop-key
 invariant-json_of_entries-loop-key l =
