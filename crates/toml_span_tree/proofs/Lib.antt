@@ -12,5 +12,6 @@ pub mod Positions
 pub mod Puts
 pub mod Sizes
 pub mod Values
+pub mod Visits
 pub mod Walks
 pub mod Clones

@@ -50,6 +50,21 @@ fn with_step<'t>(
     Ok(steps)
 }
 
+/// Adds a value with the steps that lead to it.
+fn push_visited<'t, 'de>(
+    alloc: Global,
+    value: &'t Value<'de>,
+    path: &[Step<'t>],
+    list: &mut Vec<Visited<'t, 'de>>,
+) -> Result<(), AllocError>
+    ensures { OnOk result (map seen list.new.items ≡ map seen list.old.items
+        ++ (map step_of path.now, view value.now) ∷ []) }
+{
+    let steps = Vec::from_slice(alloc, path)?;
+    list.push(Visited { path: steps, value })?;
+    Ok(())
+}
+
 /// Adds a value and those in it.
 #[cycle(push_node)]
 fn push_node<'t, 'de>(
@@ -61,8 +76,7 @@ fn push_node<'t, 'de>(
     ensures { OnOk result (map seen list.new.items ≡ map seen list.old.items
         ++ nodes_from (map step_of path.now) (view value.now)) }
 {
-    let steps = Vec::from_slice(alloc, path)?;
-    list.push(Visited { path: steps, value })?;
+    push_visited(alloc, value, path, list)?;
     if value.is_taken() {
         return Ok(());
     }
