@@ -41,8 +41,10 @@ impl<'de> Value<'de> {
     fn entry_of(&self, segment: &str) -> Option<&Self>
         ensures { option_map (λ v. view v.now) result ≡ untaken_entry segment.now (view self.now) }
     {
-        let child = self.value.as_ref()?.entry_of(segment)?;
-        if child.is_taken() { None } else { Some(child) }
+        match &self.value {
+            Some(inner) => inner.entry_of(segment)?.if_untaken(),
+            None => None,
+        }
     }
 
     /// What the segments name, from here on.

@@ -77,8 +77,17 @@ impl<'de> Value<'de> {
     fn entry(&self, segment: &'de str) -> Option<&Self>
         ensures { option_map (λ v. view v.now) result ≡ untaken_entry segment.now (view self.now) }
     {
-        let child = self.value.as_ref()?.entry(segment)?;
-        if child.is_taken() { None } else { Some(child) }
+        match &self.value {
+            Some(inner) => inner.entry(segment)?.if_untaken(),
+            None => None,
+        }
+    }
+
+    /// This value, unless it is taken.
+    pub(crate) fn if_untaken(&self) -> Option<&Self>
+        ensures { option_map (λ v. view v.now) result ≡ if_not_taken (view self.now) }
+    {
+        if self.is_taken() { None } else { Some(self) }
     }
 
     /// What the segments name, from here on.

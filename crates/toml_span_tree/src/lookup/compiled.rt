@@ -1,5 +1,5 @@
 //! Pointers that are read once, and looked up many times.
-ghost use Rattle.std.specs.Prelude.{◌≡◌, ◌++◌, IfOk, OnOk, map, option_map};
+ghost use Rattle.std.specs.Prelude.{◌≡◌, [], ◌∷◌, ◌++◌, IfOk, OnOk, map, option_map};
 ghost use Rattle.toml_span_tree.specs.Names.{name_in, names_in};
 ghost use Rattle.toml_span_tree.specs.Node.{get_member};
 ghost use Rattle.toml_span_tree.specs.code.Pointer.{entry, value_named, untaken_entry};
@@ -51,21 +51,22 @@ fn push_segments<'de>(
     ensures { OnOk result (names_in names.new ≡ names_in names.old ++ segments path.now) }
 {
     let (segment, rest) = cut(path);
-    names.push(owned(alloc, segment)?)?;
+    push_name(alloc, segment, names)?;
     match rest {
         Some(rest) => push_segments(alloc, rest, names),
         None => Ok(()),
     }
 }
 
-/// A key that owns its name, to look a table up by.
-fn owned<'de>(alloc: Global, name: &str) -> Result<Key<'de>, AllocError>
-    ensures { IfOk result (λ key. name_in key ≡ name.now) }
+/// Adds a key that owns its name, to look a table up by.
+fn push_name<'de>(alloc: Global, name: &str, names: &mut Vec<Key<'de>>) -> Result<(), AllocError>
+    ensures { OnOk result (names_in names.new ≡ names_in names.old ++ name.now ∷ []) }
 {
-    Ok(Key {
+    names.push(Key {
         name: CowStr::Owned(String::from_str(alloc, name)?),
         span: Span::default(),
-    })
+    })?;
+    Ok(())
 }
 
 fn table_at<'v, 'de>(table: &'v Table<'de>, name: &Key<'de>) -> Option<&'v Value<'de>>
@@ -92,8 +93,10 @@ impl<'de> Value<'de> {
     fn entry_at(&self, name: &Key<'de>) -> Option<&Self>
         ensures { option_map (λ v. view v.now) result ≡ untaken_entry (name_in name.now) (view self.now) }
     {
-        let child = self.value.as_ref()?.entry_at(name)?;
-        if child.is_taken() { None } else { Some(child) }
+        match &self.value {
+            Some(inner) => inner.entry_at(name)?.if_untaken(),
+            None => None,
+        }
     }
 
     /// What the names name one by one, from here on.
