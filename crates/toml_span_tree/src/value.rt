@@ -82,7 +82,7 @@ impl<'de> Value<'de> {
     pub fn set(&mut self, value: ValueInner<'de>)
         ensures { view self.new ≡ node (inner_view value.entry) self.old.span }
     {
-        self.value = Some(value);
+        drop(self.value.replace(value));
     }
 
     /// Whether the inner value is taken.
