@@ -5,6 +5,9 @@ The prover's processes below the command are looked at once a second: what each 
 it has --test, and whether it works in the folder of an edit; and its processor time. So a figure can lack up to a
 second of each process. Processor seconds in all are the system's own. The parts run side by side: the wall clock of
 one is from its first process's start to its last one's end. The status is the command's.
+
+Processors differ, and one that others share differs from hour to hour: the proof of toml_span_lex was seen to take 129
+processor seconds and 283. So runs are compared by their multiples of that line.
 """
 import os
 import resource
