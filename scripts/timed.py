@@ -7,8 +7,8 @@ second of each process. Processor seconds in all are the system's own. The parts
 one is from its first process's start to its last one's end. The status is the command's.
 
 Processors differ, and one that others share differs from hour to hour: the proof of toml_span_lex was seen to take 129
-processor seconds and 283. So runs on as many processors are compared by their multiples of that line: of `rt ci` on two
-processors, from nothing, 57 (docs/DECISIONS.md, "What the whole test costs").
+processor seconds and 283. So runs on as many processors are compared by their multiples of that line, if the speed is
+the same all along, and else by a fixed loop timed beside them (docs/DECISIONS.md, "What the whole test costs").
 """
 import os
 import resource
