@@ -1,5 +1,5 @@
 #!/usr/bin/env python3
-"""Checks that the pages (README.md, docs/*.md) say what the sources say: pages.py [--check] [PAGE..]
+"""Checks that the pages (README.md, docs/*.md) say what the sources say: pages.py [--check] [--needed] [PAGE..]
 
 What is looked at is marked:
 
@@ -40,8 +40,8 @@ What is looked at is marked:
                        `FUNCTION A B` gives, as `duplicate-key` of a line `FUNCTION A B = Some DuplicateKey`, and no
                        code where no such line is there
     <!-- reading order: FILE FUNCTION..; .. -->    before a table: its lines name the files of specs/ in which
-                       something stands that the clauses of these functions need, each behind those that it uses. The
-                       second cell says which of their definitions are needed: `A`, `B`, or all, or all but `A`, `B`
+                       something stands that the clauses of these functions need, each behind those that it uses;
+                       --needed prints which of their definitions are needed
 
 Besides, each path that stands in code and begins with `crates/`, `docs/` or `scripts/`, or is one of a crate, and each
 link leads somewhere; each name in code that is written as a definition, a function, a clause or a type stands in the
@@ -236,7 +236,7 @@ class Needed:
         return {it for it, _ in module.names.values()} | {*module.modules.values()}
 
     def said(self, path):
-        """What the page has to say of a module: which definitions are needed."""
+        """Which definitions of a module are needed."""
         bodies = self.module(path).bodies
         has = [name for name in bodies if name in self.found[path]]
         left = [name for name in bodies if name not in self.found[path]]
@@ -250,7 +250,7 @@ class Page:
     def __init__(self, path, sources):
         self.path, self.sources = path, sources
         self.lines = text_of(path).split("\n")
-        self.faults, self.counts = [], {}
+        self.faults, self.counts, self.needed = [], {}, []
         self.shown = set()
 
     def fault(self, at, what):
@@ -537,7 +537,7 @@ class Page:
             self.fault(at, f"no cell has `{function} {one} {two}` of {path}: add it")
 
     def reading_order(self, at, needed, end):
-        """Each file with something needed stands behind those that it uses, and the line says what is needed of it."""
+        """Each file with something needed stands behind those that it uses."""
         self.count("reading orders")
         read = set()
         for k in range(at + 2, end):
@@ -549,10 +549,9 @@ class Page:
             read.add(path)
             for other in sorted(needed.below(path) & needed.found.keys() - read):
                 self.fault(k, f"{cells[0]} uses {other}: write it behind the line of that file")
-            if cells[1] != needed.said(path):
-                self.fault(k, f"of {cells[0]} is needed: {needed.said(path)}")
+            self.needed.append(f"{cells[0].strip('`')}: {needed.said(path)}")
         for path in sorted(needed.found.keys() - read):
-            self.fault(at, f"no line says that of {path} is needed: {needed.said(path)}")
+            self.fault(at, f"no line names {path}, of which is needed: {needed.said(path)}")
 
     def calls(self, at, cells, first):
         """What is named as clauses belongs to the calls of the first cell."""
@@ -781,6 +780,8 @@ def main(words):
         if path == "docs/LANGUAGE.md":
             untold(page, sources)
         faults += page.faults
+        if "--needed" in words:
+            print("\n".join(page.needed), end="\n" if page.needed else "")
         for what, count in page.counts.items():
             counts[what] = counts.get(what, 0) + count
     for fault in faults:
