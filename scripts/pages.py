@@ -45,7 +45,8 @@ What is looked at is marked:
 
 Besides, each path that stands in code and begins with `crates/`, `docs/` or `scripts/`, or is one of a crate, and each
 link leads somewhere; each name in code that is written as a definition, a function, a clause or a type stands in the
-sources, or among FOREIGN; and each fault that a row of `parse` tells has an example in docs/LANGUAGE.md.
+sources, or among FOREIGN; clause `A` of `f`, or `f`, clause `A`, is a word of that contract; and each fault that a row of
+`parse` tells has an example in docs/LANGUAGE.md.
 """
 
 import glob
@@ -307,6 +308,11 @@ class Page:
             elif anchor and anchor not in anchors(path):
                 self.fault(at, f"no heading of {path} is called {anchor}")
 
+        told = re.findall(r"[Cc]lause `(\w+)` of (?:the law )?`([\w:]+)`", text)
+        told += [(clause, of) for of, clause in re.findall(r"`([\w:]+)`, clause `(\w+)`", text)]
+        for clause, function in told:
+            if clause not in self.sources.contracts_of([function]):
+                self.fault(at, f"{function} has no clause {clause}: say what is there now")
         for code in re.findall(r"`([A-Za-z][\w:]*)[!.]*(?:\([^`]*\))?`", text):
             for name in code.split("::"):
                 if re.search(r"_|[a-z][A-Z]|^[A-Z][a-z]", name) and name not in self.sources.names:
