@@ -45,8 +45,8 @@ What is looked at is marked:
 
 Besides, each path that stands in code and begins with `crates/`, `docs/` or `scripts/`, or is one of a crate, and each
 link leads somewhere; each name in code that is written as a definition, a function, a clause or a type stands in the
-sources, or among FOREIGN; clause `A` of `f`, or `f`, clause `A`, is a word of that contract; and each fault that a row of
-`parse` tells has an example in docs/LANGUAGE.md.
+sources, or among FOREIGN; clause `A` of `f`, or `f`, clause `A`, is a word of that contract; and each fault that a row
+of `parse` tells has an example in docs/LANGUAGE.md.
 """
 
 import glob
