@@ -685,12 +685,13 @@ class Sources:
         self.quotable = quotable()
         self.answers = answers()
         self.row_lines = text_of(f"{ROWS}/stdout").split("\n")
-        stored = glob.glob(f"{TOP}/crates/**/*stdout", recursive=True)
-        self.outputs = [text_of(os.path.relpath(path, TOP)).split("\n") for path in stored]
-        self.known, self.heads = {}, {}
-        self.names = {*FOREIGN}
-        for path in glob.glob("crates/**/*", root_dir=TOP, recursive=True) + os.listdir(f"{TOP}/scripts"):
-            self.names |= {os.path.basename(path).split(".")[0]}
+        self.known, self.heads, self.outputs = {}, {}, []
+        self.names = {*FOREIGN, *(it.split(".")[0] for it in os.listdir(f"{TOP}/scripts"))}
+        for folder, inner, files in os.walk(f"{TOP}/crates"):
+            inner[:] = [it for it in inner if it != "out"]
+            self.names |= {it.split(".")[0] for it in [*inner, *files]}
+            stored = [os.path.relpath(f"{folder}/{it}", TOP) for it in files if it.endswith("stdout")]
+            self.outputs += [text_of(path).split("\n") for path in stored]
         for path in glob.glob("crates/*/src/**/*.rt", root_dir=TOP, recursive=True):
             self.code(text_of(path))
         for path in glob.glob("crates/*/[sp][pr]*/**/*.antt", root_dir=TOP, recursive=True):
