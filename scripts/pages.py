@@ -697,7 +697,7 @@ class Sources:
         for path in glob.glob("crates/*/[sp][pr]*/**/*.antt", root_dir=TOP, recursive=True):
             text = bare(text_of(path))
             self.names |= {*re.findall(r"\bpub (?:data |record )?([^\s:(]+)", text)}
-            self.names |= {*re.findall(r"(?m)^ *([^\s:(]+)", text)}
+            self.names |= {*re.findall(r"(?m)^ *([^\s:(]+)", text), *imports(text_of(path))[0]}
 
     def code(self, text):
         """The names that a file of src/ has or uses, and the contracts by functions, types and traits."""
