@@ -7,7 +7,7 @@ What is looked at is marked:
                        `// ..` stands for lines that are left out.
     ```text clause     each paragraph stands in one file of crates/*/src or crates/*/specs, or in proofs/Examples.antt
                        of a crate, white space aside; in the file that is named, if one is, as in
-                       `text clause toml_span_claims/specs/Flat.antt`
+                       `text clause toml_span/specs/Flat.antt`
     ```text rows       stands line by line in the answers of toml_span_rows (its file stdout)
     ```toml row        is the text of a row of toml_span_rows
     ```toml run NAME   is the input crates/toml_span_show/runs/NAME (or `stdin`, beside it)
