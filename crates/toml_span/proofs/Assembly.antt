@@ -17,7 +17,7 @@ use Rattle.toml_span.specs.Paths.{elements_added, opened_by}
 use Rattle.toml_span.specs.Claims.{Claims, followed, key_value_claims, section_claims, claims_behind, claims, head_of}
 use Rattle.toml_span.specs.Clashes.{or_else}
 use Rattle.toml_span.specs.Flat.{flat, Shows}
-use Rattle.toml_span.specs.code.Machine.{nothing, clash_met, put_all, clash_told}
+use Rattle.toml_span.specs.code.Machine.{nothing, clash_met, put_all}
 use Rattle.toml_span.specs.Ordered.{HoldsOrdered}
 use Rattle.toml_span.specs.code.Placing.{Places, AreSections, Assembles, ShowsBelow, place_shown}
 use Rattle.toml_span.specs.code.Relative.{section_at, grown}

@@ -1,5 +1,5 @@
 -- What the reader and the assembly give is what `parse` gives.
-use Rattle.std.proofs.Common.{◌≡◌, ℕ, Bool, false, List, [], ◌∷◌, ◌++◌, length, inl, inr, refl, sym, subst, Result, Ok, Err}
+use Rattle.std.proofs.Common.{◌≡◌, Some, ℕ, Bool, false, List, [], ◌∷◌, ◌++◌, length, inl, inr, refl, sym, subst, Result, Ok, Err}
 use Rattle.std.specs.Result.{IfErr, IfOk}
 use Rattle.toml_span_lex.specs.declared.stop.Stop.{Stop}
 use Rattle.toml_span_lex.specs.declared.stop.Stop.TheVariants as stops
