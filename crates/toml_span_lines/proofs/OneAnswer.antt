@@ -7,11 +7,11 @@ use Rattle.std.specs.Io.KnownBytes.{Appends, Consumes, IsAtEnd}
 use Rattle.std.specs.Str.{IsUtf8, is_utf8}
 use Rattle.toml_span_tree.specs.Error.{content_of}
 use Rattle.toml_span_tree.specs.declared.error.Error.{Error}
-use Rattle.toml_span_claims.specs.Claims.{claims}
-use Rattle.toml_span_claims.specs.Clashes.{IsFirstClash}
-use Rattle.toml_span_claims.specs.Flat.{flat}
-use Rattle.toml_span_assembly.specs.Parsing.{IsClash}
-use Rattle.toml_span.proofs.Answered.{never-due, none-first, one-clash, one-document, one-refusal, fault-or-clash}
+use Rattle.toml_span.specs.Claims.{claims}
+use Rattle.toml_span.specs.Clashes.{IsFirstClash}
+use Rattle.toml_span.specs.Flat.{flat}
+use Rattle.toml_span.specs.Parsing.{IsClash}
+use Rattle.toml_span_laws.proofs.Answered.{never-due, none-first, one-clash, one-document, one-refusal, fault-or-clash}
 use Rattle.toml_span_lines.specs.Lines.{error_line}
 use Rattle.toml_span_lines.specs.Run.{bound, IsShown, IsAnswer, Runs}
 use Rattle.toml_span_lines.specs.Shown.{ShowsDocument, ShowsRefusal, ShowsPlaces}

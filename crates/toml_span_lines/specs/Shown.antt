@@ -9,11 +9,11 @@ use Rattle.toml_span_tree.specs.Path.{shape_table, Place}
 use Rattle.toml_span_tree.specs.Value.{scalar_kind}
 use Rattle.toml_span_read.specs.Data.{Block}
 use Rattle.toml_span_read.specs.Grammar.{SpellsDocument}
-use Rattle.toml_span_claims.specs.Claims.{claims}
-use Rattle.toml_span_claims.specs.Clashes.{Resolves}
-use Rattle.toml_span_claims.specs.Flat.{flat}
-use Rattle.toml_span_claims.specs.Ordered.{IsBefore, IsNameBefore}
-use Rattle.toml_span_assembly.specs.Parsing.{IsFault, IsClash}
+use Rattle.toml_span.specs.Claims.{claims}
+use Rattle.toml_span.specs.Clashes.{Resolves}
+use Rattle.toml_span.specs.Flat.{flat}
+use Rattle.toml_span.specs.Ordered.{IsBefore, IsNameBefore}
+use Rattle.toml_span.specs.Parsing.{IsFault, IsClash}
 use Rattle.toml_span_lines.specs.Lines.{key_segment, position_segment, line, error_line}
 
 -- ---- the order of paths
