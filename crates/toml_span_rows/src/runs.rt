@@ -11,7 +11,6 @@
 //! | `fail_read=K`, `fail_write=K` | which call answers an error, from 1 |
 //! | `take_nothing=K` | which write takes nothing |
 //! | `endless` | the text is read over and over; the answer has how many bytes were read |
-//! | `bytes` | each character of the text is the byte of its number |
 ghost use Rattle.std.specs.Prelude.{◌≤◌};
 
 use crate::Row;
@@ -53,7 +52,6 @@ impl Ends {
             "fail_write" => ends.fail_write = number,
             "take_nothing" => ends.take_nothing = number,
             "endless" => ends.endless = true,
-            "bytes" => {}
             _ => return None,
         }
         Some(ends)
@@ -170,7 +168,7 @@ struct Ended<'b> {
 }
 
 /// Runs the program on bytes.
-fn ended(alloc: Global, limit: usize, bytes: &[u8], ends: Ends) -> Ended<'_>
+fn run_on(alloc: Global, limit: usize, bytes: &[u8], ends: Ends) -> Ended<'_>
     requires some { 1 ≤ limit }
     requires small { limit ≤ 128 }
 {
@@ -231,7 +229,7 @@ fn push_each(
         let Some(ends) = ends_of(words, call) else {
             return Ok(());
         };
-        let cut = ended(alloc, limit, whole.reader.bytes, ends);
+        let cut = run_on(alloc, limit, whole.reader.bytes, ends);
         let status = cut.status;
         let pushed = push_front(&cut, whole.writer.bytes.as_slice(), out);
         drop(cut);
@@ -257,7 +255,7 @@ fn push_run(
     let Some(ends) = ends_of(words, 0) else {
         return Ok(false);
     };
-    let whole = ended(alloc, limit, bytes, ends);
+    let whole = run_on(alloc, limit, bytes, ends);
     push_ended(&whole, out)?;
     if says_each(words) {
         push_each(alloc, limit, words, &whole, out)?;
@@ -289,19 +287,6 @@ fn push_ends(
     Ok(true)
 }
 
-/// The bytes of a row: those of its text or, where a word says so, those that its characters number.
-fn bytes_of(alloc: Global, row: Row<'_>) -> Result<Vec<u8>, AllocError> {
-    let mut bytes = Vec::new(alloc);
-    if row.word(1) != "bytes" {
-        bytes.extend_from_slice(row.text.as_bytes())?;
-        return Ok(bytes);
-    }
-    for c in row.text.chars() {
-        bytes.push(u8::try_from(c).unwrap_or(0))?;
-    }
-    Ok(bytes)
-}
-
 /// Writes the answer of a row, or says that there is no such call.
 pub fn answer(alloc: Global, row: Row<'_>, out: &mut String) -> Result<bool, AllocError> {
     if row.call != "run" && row.call != "ends" {
@@ -310,12 +295,12 @@ pub fn answer(alloc: Global, row: Row<'_>, out: &mut String) -> Result<bool, All
     let Some(limit) = limit_of(row) else {
         return Ok(false);
     };
-    let bytes = bytes_of(alloc, row)?;
+    let bytes = row.text.as_bytes();
     if row.call == "ends" {
-        return push_ends(alloc, row.words, bytes.as_slice(), out);
+        return push_ends(alloc, row.words, bytes, out);
     }
     let Some((_, words)) = row.words.split_first() else {
         return Ok(false);
     };
-    push_run(alloc, limit, words, bytes.as_slice(), out)
+    push_run(alloc, limit, words, bytes, out)
 }
