@@ -2,7 +2,7 @@
 //!
 //! - `run LIMIT WORD ..` is `run` for the limit 128, else `run_with_limit`: the status, and what was written. Where a
 //!   word says `each`, a line follows for each call that can fail, and one for a call too late to be made: the status,
-//!   how many reads and writes were made, and how many bytes of the whole output were written.
+//!   and how many bytes were read and how many of the whole output written, in how many calls.
 //! - `ends WORD ..` reads and writes the text three times: what each call answers, and `has_failed` then.
 //!
 //! | Word | What it says |
@@ -10,7 +10,7 @@
 //! | `read=N`, `write=N` | how many bytes a read gives, or a write takes, at most |
 //! | `fail_read=K`, `fail_write=K` | which call answers an error, from 1 |
 //! | `take_nothing=K` | which write takes nothing |
-//! | `endless` | the text is read over and over; the answer has how many bytes were read |
+//! | `again=each` | the text begins again whenever it ends; one such line follows |
 ghost use Rattle.std.specs.Prelude.{◌≤◌};
 
 use crate::Row;
@@ -32,26 +32,30 @@ struct Ends {
     fail_read: usize,
     fail_write: usize,
     take_nothing: usize,
-    endless: bool,
+    again: bool,
+}
+
+/// A number, or that for `each`.
+fn number_of(word: &str, each: usize) -> Option<usize> {
+    if word == "each" {
+        return Some(each);
+    }
+    word.parse::<usize>().ok()
 }
 
 impl Ends {
     /// The same, but for what a word says, with a number for `each`.
     fn with(self, word: &str, each: usize) -> Option<Ends> {
         let mut ends = self;
-        let (name, value) = word.split_once('=').unwrap_or((word, "0"));
-        let number = if value == "each" {
-            each
-        } else {
-            value.parse::<usize>().ok()?
-        };
+        let (name, number) = word.split_once('=').unwrap_or((word, "0"));
+        let number = number_of(number, each)?;
         match name {
             "read" => ends.read = number,
             "write" => ends.write = number,
             "fail_read" => ends.fail_read = number,
             "fail_write" => ends.fail_write = number,
             "take_nothing" => ends.take_nothing = number,
-            "endless" => ends.endless = true,
+            "again" => ends.again = true,
             _ => return None,
         }
         Some(ends)
@@ -66,7 +70,7 @@ fn ends_of(words: &[String], each: usize) -> Option<Ends> {
         fail_read: 0,
         fail_write: 0,
         take_nothing: 0,
-        endless: false,
+        again: false,
     };
     for word in words {
         ends = ends.with(word.as_str(), each)?;
@@ -113,7 +117,7 @@ impl Read for Given<'_> {
         if self.calls == self.ends.fail_read {
             return Err(io::Error::from(ErrorKind::Other));
         }
-        if self.ends.endless && self.left.is_empty() {
+        if self.ends.again && self.left.is_empty() {
             self.left = self.bytes;
         }
         let room = buf.len().min(self.ends.read);
@@ -190,28 +194,25 @@ fn run_on(alloc: Global, limit: usize, bytes: &[u8], ends: Ends) -> Ended<'_>
 fn push_ended(ended: &Ended<'_>, out: &mut String) -> Result<(), AllocError> {
     let status = ended.status;
     writeln!(out, "status {status}")?;
-    if ended.reader.ends.endless {
-        let given = ended.reader.given;
-        writeln!(out, "{given} bytes read")?;
-    }
     match str::from_utf8(ended.writer.bytes.as_slice()) {
         Ok(text) => out.push_str(text),
         Err(_) => out.push_str("no text"),
     }
 }
 
-/// Adds the status of a run, its calls, and how many bytes of an output it wrote, or others that it wrote.
+/// Adds the status of a run, its calls, and how many bytes it read and, of an output, wrote; or others that it wrote.
 fn push_front(ended: &Ended<'_>, whole: &[u8], out: &mut String) -> Result<(), AllocError> {
-    let status = ended.status;
-    let reads = ended.reader.calls;
-    let writes = ended.writer.calls;
-    write!(out, "status {status}, reads {reads}, writes {writes}, ")?;
     let bytes = ended.writer.bytes.as_slice();
     if !whole.starts_with(bytes) {
         return push_told_line(bytes, out);
     }
-    let count = bytes.len();
-    writeln!(out, "bytes {count}")
+    let status = ended.status;
+    let (given, reads) = (ended.reader.given, ended.reader.calls);
+    let (written, writes) = (bytes.len(), ended.writer.calls);
+    writeln!(
+        out,
+        "status {status}, {given} bytes in {reads} reads, {written} bytes in {writes} writes"
+    )
 }
 
 /// Adds a line for each call that can fail, and one for a call that is not made.
@@ -241,40 +242,31 @@ fn push_each(
     Ok(())
 }
 
-/// Answers `run`. Whether each word says something of the ends.
-fn push_run(
+/// Adds what is said of a run.
+fn push_whole(
     alloc: Global,
     limit: usize,
     words: &[String],
-    bytes: &[u8],
+    whole: &Ended<'_>,
     out: &mut String,
-) -> Result<bool, AllocError>
+) -> Result<(), AllocError>
     requires some { 1 ≤ limit }
     requires small { limit ≤ 128 }
 {
-    let Some(ends) = ends_of(words, 0) else {
-        return Ok(false);
-    };
-    let whole = run_on(alloc, limit, bytes, ends);
-    push_ended(&whole, out)?;
+    push_ended(whole, out)?;
     if says_each(words) {
-        push_each(alloc, limit, words, &whole, out)?;
+        return push_each(alloc, limit, words, whole, out);
     }
-    Ok(true)
+    Ok(())
 }
 
-/// Answers `ends`. Whether each word says something of the ends.
-fn push_ends(
-    alloc: Global,
-    words: &[String],
+/// Adds what three reads and three writes answer.
+fn push_calls(
+    reader: &mut Told<Given<'_>>,
+    writer: &mut Told<Taken>,
     bytes: &[u8],
     out: &mut String,
-) -> Result<bool, AllocError> {
-    let Some(ends) = ends_of(words, 0) else {
-        return Ok(false);
-    };
-    let mut reader = Told::new(Given::new(bytes, ends));
-    let mut writer = Told::new(Taken::new(alloc, ends));
+) -> Result<(), AllocError> {
     let mut buf = [0u8; 8];
     for _ in 0..3 {
         let read = reader.read(&mut buf).ok();
@@ -284,23 +276,49 @@ fn push_ends(
             out,
         )?;
     }
-    Ok(true)
+    Ok(())
+}
+
+/// Answers `run`.
+fn push_run(
+    alloc: Global,
+    limit: usize,
+    words: &[String],
+    ends: Ends,
+    bytes: &[u8],
+    out: &mut String,
+) -> Result<(), AllocError>
+    requires some { 1 ≤ limit }
+    requires small { limit ≤ 128 }
+{
+    let whole = run_on(alloc, limit, bytes, ends);
+    let pushed = push_whole(alloc, limit, words, &whole, out);
+    drop(whole);
+    pushed
+}
+
+/// Answers `ends`.
+fn push_ends(alloc: Global, ends: Ends, bytes: &[u8], out: &mut String) -> Result<(), AllocError> {
+    let mut reader = Told::new(Given::new(bytes, ends));
+    let mut writer = Told::new(Taken::new(alloc, ends));
+    push_calls(&mut reader, &mut writer, bytes, out)
 }
 
 /// Writes the answer of a row, or says that there is no such call.
 pub fn answer(alloc: Global, row: Row<'_>, out: &mut String) -> Result<bool, AllocError> {
-    if row.call != "run" && row.call != "ends" {
-        return Ok(false);
-    }
-    let Some(limit) = limit_of(row) else {
+    let words = match row.call {
+        "run" => row.words.get(1..).unwrap_or(&[]),
+        "ends" => row.words,
+        _ => return Ok(false),
+    };
+    let (Some(limit), Some(ends)) = (limit_of(row), ends_of(words, 0)) else {
         return Ok(false);
     };
     let bytes = row.text.as_bytes();
     if row.call == "ends" {
-        return push_ends(alloc, row.words, bytes, out);
+        push_ends(alloc, ends, bytes, out)?;
+    } else {
+        push_run(alloc, limit, words, ends, bytes, out)?;
     }
-    let Some((_, words)) = row.words.split_first() else {
-        return Ok(false);
-    };
-    push_run(alloc, limit, words, bytes, out)
+    Ok(true)
 }
