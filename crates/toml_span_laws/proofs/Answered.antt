@@ -1,5 +1,5 @@
 -- Each document has a tree or a first clash, and one only.
-use Rattle.std.proofs.Common.{◌≡◌, ℕ, ◌<◌, arith, eq-eqb, slice_index, List, [], Option, Some, None, Result, Ok, Err, refl, sym, ap, ◌∙◌, subst, ◌⊎◌, inl, inr, length}
+use Rattle.std.proofs.Common.{◌≡◌, ℕ, ◌<◌, arith, eq-eqb, slice_index, List, Some, None, Result, Ok, Err, sym, ap, ◌∙◌, subst, ◌⊎◌, inl, inr, length}
 use Rattle.std.proofs.lemmas.Bool.{cases_order, false≢true}
 use Rattle.std.proofs.lemmas.Option.{same_Some, none-some}
 use Rattle.toml_span_lex.specs.declared.stop.Stop.{Stop}
@@ -19,7 +19,7 @@ use Rattle.toml_span_read.specs.Due.{IsDue}
 use Rattle.toml_span_laws.proofs.DueLaws.{due_one, due_excluded}
 use Rattle.toml_span_laws.proofs.LineLaws.{document_unique}
 use Rattle.toml_span_laws.proofs.ValueLaws.{value_unique}
-use Rattle.toml_span.specs.Claims.{Claims, claims}
+use Rattle.toml_span.specs.Claims.{claims}
 use Rattle.toml_span.specs.Clashes.{content_of_clash, NamedClash, first_clash}
 use Rattle.toml_span.specs.Flat.{flat}
 use Rattle.toml_span.specs.Parsing.{IsTreeOf, IsTree, IsFault, IsClashOf, IsClash, IsRefusal}

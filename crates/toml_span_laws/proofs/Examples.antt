@@ -1,18 +1,18 @@
 -- Documents, worked by evaluation: what they claim, whether it resolves or which clash is told, what stands at their paths, and
 -- their trees.
-use Rattle.std.specs.Prelude.{◌≡◌, refl, ⊤, ℕ, ◌+◌, Bool, true, false, List, [], ◌∷◌, ◌++◌, map, length, Option, Some, None, codes, pos}
+use Rattle.std.specs.Prelude.{◌≡◌, refl, ⊤, ℕ, ◌+◌, Bool, true, false, List, [], ◌∷◌, map, length, Option, Some, None, codes, pos}
 use Rattle.toml_span_lex.specs.declared.span.Span.{Span}
 use Rattle.toml_span_tree.specs.Error.{duplicate_key}
 use Rattle.toml_span_tree.specs.Node as tree
 use Rattle.toml_span_tree.specs.Node.{text, integer}
 use Rattle.toml_span_tree.specs.Path.{Path, key, position, Shape, shape_scalar, shape_array, shape_table, Place, place_at}
-use Rattle.toml_span_read.specs.Data.{ParsedValue, parsed, scalar, array, inline, no_items, item, no_pairs, pair, KeyValue, Block}
+use Rattle.toml_span_read.specs.Data.{ParsedValue, parsed, scalar, inline, no_pairs, pair, KeyValue, Block}
 use Rattle.toml_span_read.specs.Keys.{SimpleKey}
-use Rattle.toml_span_read.specs.Grammar.{first_block, last_end}
+use Rattle.toml_span_read.specs.Grammar.{last_end}
 use Rattle.toml_span.specs.declared.claims.Sort.{Sort}
 use Rattle.toml_span.specs.declared.claims.Sort.TheVariants.{Passed, StandardTable, ArrayOfTables, TableElement, Dotted, Assigned}
 use Rattle.toml_span.specs.declared.claims.Blame.{Blame}
-use Rattle.toml_span.specs.declared.claims.Blame.TheVariants.{DuplicateTable, DuplicateKey, RedefineAsArray}
+use Rattle.toml_span.specs.declared.claims.Blame.TheVariants.{DuplicateKey}
 use Rattle.toml_span.specs.Paths.{same_path, enter, target, opened_by}
 use Rattle.toml_span.specs.Claims.{Claim, Claims, no_claims, claimed, scope, table_claim, followed, key_claims, value_claims, inner_claims, item_claims, pair_claims, key_value_claims, end_claims, header_claims, section_claims, claims_behind, claims}
 use Rattle.toml_span.specs.Clashes.{NamedClash, Resolves, clash, clash_among, clash_behind, first_clash, content_of_clash}

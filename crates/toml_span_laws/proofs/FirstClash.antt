@@ -1,5 +1,6 @@
 -- The first clash form by form: claims that are free, and the claim that is not.
-use Rattle.std.proofs.Common.{◌≡◌, ⊤, List, [], ◌∷◌, ◌++◌, Option, Some, None, refl, sym, ap, ◌∙◌, ◌⊎◌, inl, inr}
+use Rattle.std.specs.Prelude.{⊤}
+use Rattle.std.proofs.Common.{◌≡◌, List, [], ◌∷◌, ◌++◌, Option, Some, None, refl, sym, ap, ◌∙◌, ◌⊎◌, inl, inr}
 use Rattle.std.proofs.lemmas.Option.{none-some}
 use Rattle.toml_span.specs.Claims.{Claim, Claims, no_claims, claimed, scope}
 use Rattle.toml_span.specs.Clashes.{NamedClash, or_else, clash, clash_among, clash_behind}
