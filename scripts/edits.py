@@ -1,6 +1,7 @@
 #!/usr/bin/env python3
 """Writes docs/EDITS.md: what each must-fail edit makes the code do, and the clause that refuses it. With --check it
-writes nothing, and fails if the page is not up to date or the first line of an edit names no clause of its crate."""
+writes nothing, and fails if the page is not up to date, the first line of an edit names no clause of its crate, or its
+second line does not say what the wrong code does."""
 
 import glob
 import os
@@ -13,8 +14,8 @@ PAGE = f"{TOP}/docs/EDITS.md"
 HEAD = """# Wrong bodies that the prover refuses
 
 An edit (`crates/*/must-fail/*.edit`) turns lines of the code into a mistake that somebody could make, and the tests pass
-only if the prover refuses it. Its name says what the wrong code does, and its first line which clause refuses it: of
-the function that is turned, or of one that calls it. `scripts/edits.py` writes this page from names and first lines.
+only if the prover refuses it. Its first line names the clause that refuses it, behind its function, and its second line
+says what the wrong code does. `scripts/edits.py` writes this page from these lines.
 
 """
 
@@ -68,26 +69,28 @@ def clauses(crate):
 
 
 def edits(crate):
-    """The crate's edits: the name, and each function and clause that the first line has."""
+    """The crate's edits: the name, each function and clause that the first line has, and the second line."""
     for path in sorted(glob.glob(f"{TOP}/crates/{crate}/must-fail/*.edit")):
-        first = text_of(path).split("\n")[0]
+        first, words = text_of(path).split("\n")[:2]
         told = split_outside(first.removeprefix("clause: "), ", ") if first.startswith("clause: ") else []
-        yield os.path.basename(path).removesuffix(".edit"), [tuple(it.rsplit(" ", 1)) for it in told]
+        yield os.path.basename(path), [tuple(it.rsplit(" ", 1)) for it in told], words
 
 
 def main():
     page, faults, count = HEAD, [], 0
     for crate in crates():
         known, rows = clauses(crate), ""
-        for name, told in edits(crate):
+        for name, told, words in edits(crate):
             count += 1
             if not told:
                 faults.append(f"{crate}/{name}: its first line is no 'clause: FUNCTION CLAUSE'")
+            if not words.endswith("."):
+                faults.append(f"{crate}/{name}: its second line is no sentence that says what the wrong code does")
             faults += [f"{crate}/{name}: no clause {' '.join(it)} in {crate}" for it in told if it not in known]
             refusing = ", ".join(f"`{' '.join(it).removesuffix(' ensures')}`" for it in told)
-            rows += f"| {name.replace('_', ' ')} | {refusing} |\n"
+            rows += f"| {words} | {refusing} | `{name}` |\n"
         if rows:
-            page += f"## {crate}\n\n| The wrong code | Refused by |\n| --- | --- |\n{rows}\n"
+            page += f"## {crate}\n\n| The wrong code | Refused by | Edit |\n| --- | --- | --- |\n{rows}\n"
     page = page.rstrip("\n") + "\n"
     if "--check" in sys.argv[1:]:
         if not os.path.isfile(PAGE) or text_of(PAGE) != page:
