@@ -3,15 +3,16 @@
 #
 # What is covered, each in a repository of a few files with a toolchain that stands in for the real one (its `rt`, clang
 # and rattle-link are scripts, its programs too), so that each step can be made to fail:
-# - scripts/native.sh: a build is made once, kept whole, and made again where what is kept is cut off or empty, where the
-#   sources, the script or the toolchain's version differ; sources that change meanwhile are not taken for what was
+# - scripts/native.sh: a build is made once, kept whole, and made again where what is kept is cut off or empty, and
+#   where the sources or the toolchain's version differ; sources that change meanwhile are not taken for what was
 #   built; two at once make one build; one that is stopped leaves nothing; CDPATH, TMPDIR that is relative or nowhere,
-#   HOME and XDG_CACHE_HOME that are not there, a checkout that can't be written, a full disk, sources that are refused,
-#   a compiler, a linker or a program that fails, and an `rt try` that works otherwise than the script takes for granted.
-#   Each is a build, or status 5 with a sentence.
+#   HOME and XDG_CACHE_HOME that are not there, a checkout that can't be written, a full disk, sources that are
+#   refused, a compiler, a linker or a program that fails, and an `rt try` that works otherwise than the script takes
+#   for granted. Each is a build, or status 5 with a sentence.
 # - scripts/check.sh, show.sh: their status is the program's or 5; links to them work; what they complain of is one line
 #   without control, escape or bidi characters, whatever the name.
 # - scripts/quick.sh without the toolchain: one line.
+# - scripts/install.sh: what it puts where; where something fails, what was there before is there still, and whole.
 # And once with the toolchain that is here: a build of a program of five lines (two thirds of what this takes).
 set -uo pipefail
 unset CDPATH
@@ -92,10 +93,29 @@ make_repository() {
     crate=$repository/crates/toml_span_show
     mkdir -p "$repository/crates/toml_span_check/src" "$crate/src" "$HOME"
     cp -r "$top/scripts" "$repository/"
+    mkdir "$repository/docs"
+    cp -r "$top/docs/man" "$repository/docs/"
     printf 'toml_span_show:\ntoml_span_check:\n' >"$repository/crates.txt"
     printf '#!/bin/sh\ncat\n' >"$crate/src/main.rt"
-    # shellcheck disable=SC2016 # (the words of a script)
-    printf '#!/bin/sh\nfor word; do echo "$word"; done\nexit $#\n' >"$repository/crates/toml_span_check/src/main.rt"
+    cat >"$repository/crates/toml_span_check/src/main.rt" <<'PROGRAM'
+#!/bin/sh
+if [ "$1" = --help ]; then
+    cat <<USAGE
+usage: toml_span_check [--format text|json]
+                       [--get POINTER]
+
+Tells faults.
+
+  --format text    in lines (the default)
+  --get POINTER    a value, as \\a
+
+Status: 0 fine, 1 not.
+USAGE
+    exit
+fi
+for word; do echo "$word"; done
+exit $#
+PROGRAM
     : >"$TRIES"
 }
 
@@ -216,7 +236,10 @@ is "of which one build was made" tried 1
 is "which is a program" gives_program
 make_repository
 for one in 1 2 3 4 5 6 7 8; do
-    (bash "$repository/scripts/native.sh" toml_span_show >"$work/at_once.$one" 2>/dev/null && "$(<"$work/at_once.$one")" <<<x) &
+    (
+        program=$(bash "$repository/scripts/native.sh" toml_span_show 2>/dev/null)
+        "$program" <<<x
+    ) &
 done >"$work/xs"
 wait
 is "eight at once all run" test "$(grep -c x "$work/xs")" -eq 8
@@ -311,7 +334,8 @@ if unshare -rm true 2>/dev/null; then
     run unshare -rm bash -c 'mount -t tmpfs -o size=300k none "$1" && XDG_CACHE_HOME=$1 bash "$2" toml_span_show' \
         bash "$work/small" "$repository/scripts/native.sh"
     is "a full disk" tells "there is no room left in $work/small/toml_span/toml_span_show"
-    run unshare -rm bash -c 'mount -t tmpfs -o size=300k none "$1"; XDG_CACHE_HOME=$1 bash "$2" toml_span_show 2>/dev/null
+    run unshare -rm bash -c 'mount -t tmpfs -o size=300k none "$1"
+        XDG_CACHE_HOME=$1 bash "$2" toml_span_show 2>/dev/null
         ls -A "$1/toml_span/toml_span_show"' bash "$work/small" "$repository/scripts/native.sh"
     is "keeps nothing but its lock" test "$(<"$work/out")" = lock
 else
@@ -403,11 +427,109 @@ PATH=$bare run bash "$repository/scripts/quick.sh"
 is "quick.sh without the toolchain" says "quick: the toolchain's command rt is not here: put it on PATH"
 is "has status 5" ended 5
 
+# ---- an installation
+
+# install [WORD..]: runs install.sh
+install() { run bash "$repository/scripts/install.sh" "$@"; }
+
+# refuses STATUS WORDS: whether it ended with this status, wrote nothing, and says this
+refuses() {
+    [ "$status" -eq "$1" ] && [ ! -s "$work/out" ] && grep -qF -- "$2" "$work/err"
+}
+
+# has_installed PREFIX: whether the four files are there and nothing else
+has_installed() {
+    [ "$status" -eq 0 ] && [ "$(find "$1" -type f | wc -l)" -eq 4 ] && [ "$("$1/bin/toml_span_check" x y)" = $'x\ny' ] &&
+        [ "$("$1/bin/toml_span_show" <<<copied)" = copied ] && [ -s "$1/share/man/man1/toml_span_show.1" ] &&
+        grep -q '^.B \\-\\-get POINTER$' "$1/share/man/man1/toml_span_check.1"
+}
+
+# is_as_before: whether $work/prefix has what was installed there before, and nothing else
+is_as_before() { diff -r "$work/before" "$work/prefix" >/dev/null; }
+
+make_repository
+install
+is "install.sh installs below HOME" has_installed "$HOME/.local"
+is "and says which builds" grep -qx "$HOME/.local/bin/toml_span_show: a build without its proofs" "$work/out"
+is "and that they are not on PATH" grep -q "is not on PATH" "$work/err"
+cd "$work" || exit
+PATH=$work/prefix/bin:$PATH install prefix
+is "install.sh takes a relative PREFIX" has_installed "$work/prefix"
+is "and says no more where it is on PATH" has_lines 0
+install prefix
+is "install.sh over what is there" has_installed "$work/prefix"
+cat >"$work/page" <<'PAGE'
+.TP
+.B \-\-format text
+in lines (the default)
+.TP
+.B \-\-get POINTER
+a value, as \ea
+PAGE
+sed -n '/^.SH OPTIONS/,/^.SH EXIT/p' prefix/share/man/man1/toml_span_check.1 | grep -v '^.SH' >"$work/out"
+is "the man page has the options" same_files "$work/out" "$work/page"
+
+cp -r prefix before
+printf '#!/bin/sh\nexec cat -\n' >"$crate/src/main.rt"
+FAULT=refused install prefix
+is "install.sh where the second program can't be built" refuses 5 "toml_span_show could not be built"
+is "leaves what was there" is_as_before
+printf '#!/bin/sh\ncat\n' >"$crate/src/main.rt"
+sed -i 's/@options@/@other@/' "$repository/docs/man/toml_span_check.1"
+install prefix
+is "install.sh where the man page can't be made" refuses 5 "mend docs/man/toml_span_check.1"
+is "leaves what was there, too" is_as_before
+make_repository
+rm prefix/bin/toml_span_show before/bin/toml_span_show
+mkdir prefix/bin/toml_span_show before/bin/toml_span_show
+install prefix
+is "install.sh where a folder is in the way" refuses 3 "prefix/bin/toml_span_show is a folder"
+is "leaves what was there and the folder" is_as_before
+: >file
+install file
+is "install.sh where PREFIX is a file" refuses 3 "$work/file can't be written"
+install file/$'\e[31m\n'
+is "install.sh tells a PREFIX in plain characters" grep -q "^install: $work/file/␛\\[31m␊ can't be written" "$work/err"
+install one two
+is "install.sh of two folders" refuses 2 "usage: bash scripts/install.sh [PREFIX]"
+install --prefix
+is "install.sh of an option" refuses 2 "usage: bash scripts/install.sh [PREFIX]"
+HOME='' install
+is "install.sh without HOME" refuses 2 "name one, bash scripts/install.sh PREFIX"
+# shellcheck disable=SC2016 # (the words of `bash -c` are its own)
+if unshare -rm true 2>/dev/null; then
+    head -c 200000 /dev/zero >>"$crate/src/main.rt"
+    sed -i '1a cat; exit' "$crate/src/main.rt"
+    run unshare -rm bash -c 'mount -t tmpfs -o size=100k none "$1" && mkdir "$1/bin" && echo old >"$1/bin/toml_span_show"
+        bash "$2" "$1"
+        status=$?
+        cat "$1/bin/toml_span_show" && find "$1" -type f && exit "$status"' bash "$work/small" "$repository/scripts/install.sh"
+    printf 'old\n%s\n' "$work/small/bin/toml_span_show" >"$work/wanted"
+    is "install.sh on a full disk" ended 3
+    is "leaves there what was there" same_files "$work/out" "$work/wanted"
+    is "and says so" grep -q "toml_span_show can't be written: is there room left?" "$work/err"
+fi
+
+# the pages of the programs themselves, where they are built
+program=$top/crates/toml_span_check/out/toml_span_check
+if [ -x "$program" ] && [ -x "$top/crates/toml_span_show/out/toml_span_show" ]; then
+    run bash "$top/scripts/install.sh" "$work/real"
+    is "install.sh installs the proved builds" ended 0
+    is "and nothing else" test "$(find "$work/real" -type f | wc -l)" -eq 4
+    "$program" --help | grep -oE -- '--[a-z-]+' | sort -u | sed 's/-/\\-/g' >"$work/words"
+    is "the usage has options" test -s "$work/words"
+    while IFS= read -r word; do
+        is "the man page has $word" grep -qF -- "$word" "$work/real/share/man/man1/toml_span_check.1"
+    done <"$work/words"
+else
+    echo "scripts: the man pages are not compared with the proved builds, since these are not there"
+fi
+
 # ---- with the toolchain that is here
 
 PATH=$real_path
 make_repository
-if command -v rt >/dev/null; then
+if [ -z "${FAKES_ALONE-}" ] && command -v rt >/dev/null; then
     cat >"$crate/src/main.rt" <<'SOURCE'
 //! Ends with a status of its own.
 #![tactic(auto)]
