@@ -13,6 +13,7 @@
 #   without control, escape or bidi characters, whatever the name.
 # - scripts/quick.sh without the toolchain: one line.
 # - scripts/install.sh: what it puts where; where something fails, what was there before is there still, and whole.
+# - docs/CI.md and the man page, where the checker is built: each command of the page, and each word of the usage.
 # And once with the toolchain that is here: a build of a program of five lines (two thirds of what this takes).
 set -uo pipefail
 unset CDPATH
@@ -70,6 +71,7 @@ cp "$from" "$to"
 CLANG
     cat >"$1/bin/rattle-link" <<'LINK'
 #!/bin/sh
+[ -d "${TMPDIR-}" ] || exit 1
 while [ $# -gt 1 ]; do
     case $1 in
     -o) to=$2 from=$3 ;;
@@ -333,7 +335,7 @@ if unshare -rm true 2>/dev/null; then
     : >"$crate/out"
     run unshare -rm bash -c 'mount -t tmpfs -o size=300k none "$1" && XDG_CACHE_HOME=$1 bash "$2" toml_span_show' \
         bash "$work/small" "$repository/scripts/native.sh"
-    is "a full disk" tells "there is no room left in $work/small/toml_span/toml_span_show"
+    is "a full disk" tells "there is too little room left in $work/small/toml_span/toml_span_show"
     run unshare -rm bash -c 'mount -t tmpfs -o size=300k none "$1"
         XDG_CACHE_HOME=$1 bash "$2" toml_span_show 2>/dev/null
         ls -A "$1/toml_span/toml_span_show"' bash "$work/small" "$repository/scripts/native.sh"
@@ -407,7 +409,8 @@ is "show.sh: a folder" says "show: $work: this is a folder"
 run bash "$show" one two
 is "show.sh: two files" says "usage: bash scripts/show.sh [FILE]"
 mkfifo "$work/fifo"
-printf 'from a pipe\n' >"$work/fifo" &
+# shellcheck disable=SC2016 # (the words of `bash -c` are its own)
+timeout 20 bash -c 'echo "from a pipe" >"$1"' bash "$work/fifo" &
 run bash "$show" "$work/fifo"
 is "show.sh: a FIFO" test "$(<"$work/out")" = "from a pipe"
 wait
@@ -439,8 +442,8 @@ refuses() {
 
 # has_installed PREFIX: whether the four files are there and nothing else
 has_installed() {
-    [ "$status" -eq 0 ] && [ "$(find "$1" -type f | wc -l)" -eq 4 ] && [ "$("$1/bin/toml_span_check" x y)" = $'x\ny' ] &&
-        [ "$("$1/bin/toml_span_show" <<<copied)" = copied ] && [ -s "$1/share/man/man1/toml_span_show.1" ] &&
+    [ "$status" -eq 0 ] && [ "$(find "$1" -type f | wc -l)" -eq 4 ] &&
+        [ "$("$1/bin/toml_span_check" x y)" = $'x\ny' ] && [ "$("$1/bin/toml_span_show" <<<copied)" = copied ] && [ -s "$1/share/man/man1/toml_span_show.1" ] &&
         grep -q '^.B \\-\\-get POINTER$' "$1/share/man/man1/toml_span_check.1"
 }
 
@@ -489,7 +492,8 @@ is "leaves what was there and the folder" is_as_before
 install file
 is "install.sh where PREFIX is a file" refuses 3 "$work/file can't be written"
 install file/$'\e[31m\n'
-is "install.sh tells a PREFIX in plain characters" grep -q "^install: $work/file/␛\\[31m␊ can't be written" "$work/err"
+is "install.sh tells a PREFIX in plain characters" \
+    grep -q "^install: $work/file/␛\\[31m␊ can't be written" "$work/err"
 install one two
 is "install.sh of two folders" refuses 2 "usage: bash scripts/install.sh [PREFIX]"
 install --prefix
@@ -500,36 +504,97 @@ is "install.sh without HOME" refuses 2 "name one, bash scripts/install.sh PREFIX
 if unshare -rm true 2>/dev/null; then
     head -c 200000 /dev/zero >>"$crate/src/main.rt"
     sed -i '1a cat; exit' "$crate/src/main.rt"
-    run unshare -rm bash -c 'mount -t tmpfs -o size=100k none "$1" && mkdir "$1/bin" && echo old >"$1/bin/toml_span_show"
+    run unshare -rm bash -c 'mount -t tmpfs -o size=100k none "$1"
+        mkdir "$1/bin" && echo old >"$1/bin/toml_span_show"
         bash "$2" "$1"
         status=$?
-        cat "$1/bin/toml_span_show" && find "$1" -type f && exit "$status"' bash "$work/small" "$repository/scripts/install.sh"
+        cat "$1/bin/toml_span_show" && find "$1" -type f && exit "$status"' \
+        bash "$work/small" "$repository/scripts/install.sh"
     printf 'old\n%s\n' "$work/small/bin/toml_span_show" >"$work/wanted"
     is "install.sh on a full disk" ended 3
     is "leaves there what was there" same_files "$work/out" "$work/wanted"
     is "and says so" grep -q "toml_span_show can't be written: is there room left?" "$work/err"
 fi
 
-# the pages of the programs themselves, where they are built
-program=$top/crates/toml_span_check/out/toml_span_check
-if [ -x "$program" ] && [ -x "$top/crates/toml_span_show/out/toml_span_show" ]; then
-    run bash "$top/scripts/install.sh" "$work/real"
-    is "install.sh installs the proved builds" ended 0
-    is "and nothing else" test "$(find "$work/real" -type f | wc -l)" -eq 4
-    "$program" --help | grep -oE -- '--[a-z-]+' | sort -u | sed 's/-/\\-/g' >"$work/words"
+# ---- what docs/CI.md says, with the checker itself
+
+# block WORDS: the part of the page that stands in a block with these words
+block() {
+    awk -v words="$1" '
+        /^```/ { if (is_in && index(text, words)) printf "%s", text; is_in = !is_in; text = ""; next }
+        is_in { text = text $0 "\n" }' "$top/docs/CI.md"
+}
+
+program=
+for kept in "$top"/crates/toml_span_check/out/{toml_span_check,unproved/*/toml_span_check}; do
+    if [ -x "$kept" ]; then program=$kept; fi
+done
+if [ -n "$program" ]; then
+    make_repository
+    printf '#!/bin/sh\nexec %q "$@"\n' "$program" >"$repository/crates/toml_span_check/src/main.rt"
+    install "$work/real"
+    is "install.sh installs the checker itself" ended 0
+    PATH=$work/real/bin:$real_path
+    toml_span_check --help | grep -oE -- '--[a-z-]+' | sort -u | sed 's/-/\\-/g' >"$work/words"
     is "the usage has options" test -s "$work/words"
     while IFS= read -r word; do
         is "the man page has $word" grep -qF -- "$word" "$work/real/share/man/man1/toml_span_check.1"
     done <"$work/words"
+
+    mkdir "$work/committed"
+    cd "$work/committed" || exit
+    git init -q . && git config user.name somebody && git config user.email some@body
+    block "#!/bin/sh" >.git/hooks/pre-commit
+    chmod +x .git/hooks/pre-commit
+    mkdir 'a folder'
+    echo 'a = 1' | tee -- good.toml -other.toml 'a folder/one.toml' >/dev/null
+    git add . && run git commit -qm one
+    is "the hook: files without faults" ended 0
+    printf 'a = 1\na = 2\n' >'a folder/one.toml'
+    echo 'a = ' >good.toml
+    git add 'a folder' && run git commit -qm two
+    is "the hook: a fault" ended 1
+    # shellcheck disable=SC2016 # (backticks of a message)
+    printf './a folder/one.toml:2:1: duplicate-key: duplicate key: `a`\n' >"$work/wanted"
+    cat "$work/out" "$work/err" >"$work/told"
+    is "which it tells, and no other" same_files "$work/told" "$work/wanted"
+    echo 'a = 2' >'a folder/one.toml'
+    run git commit -qm three
+    is "the hook looks at what is to be committed" ended 1
+    git add 'a folder' && git rm -q --cached -- -other.toml && run git commit -qm four
+    is "the hook: a file that goes, and one that is broken elsewhere" ended 0
+
+    block xargs >"$work/command"
+    git checkout -q good.toml
+    run sh "$work/command"
+    is "the command for CI: files without faults" ended 0
+    printf 'a = 1\na = 2\n' >good.toml
+    run sh "$work/command"
+    is "the command for CI: a fault" ended 123
+    # shellcheck disable=SC2016 # (backticks of a message)
+    is "which it tells" test "$(<"$work/out")" = 'good.toml:2:1: duplicate-key: duplicate key: `a`'
+
+    block "printf" >"$work/command"
+    run sh "$work/command"
+    is "the command for editors" ended 1
+    sed -n 's/^    \({"file".*\)/\1/p' "$top/docs/CI.md" >"$work/wanted"
+    is "gives what stands there" same_files "$work/out" "$work/wanted"
+    block "import json" >"$work/faults.py"
+    cat >>"$work/faults.py" <<'PYTHON'
+print(list(faults("a = 1")), list(faults('"é" = 1\n"é" = 2\n')))
+PYTHON
+    run python3 "$work/faults.py"
+    is "the lines of Python count characters" test "$(<"$work/out")" = "[] [('duplicate key: \`é\`', 9, 10)]"
 else
-    echo "scripts: the man pages are not compared with the proved builds, since these are not there"
+    echo "scripts: docs/CI.md is not tried, since the checker is not built"
 fi
+cd "$work" || exit
 
 # ---- with the toolchain that is here
 
 PATH=$real_path
 make_repository
-if [ -z "${FAKES_ALONE-}" ] && command -v rt >/dev/null; then
+if command -v rt >/dev/null; then
     cat >"$crate/src/main.rt" <<'SOURCE'
 //! Ends with a status of its own.
 #![tactic(auto)]
