@@ -443,7 +443,8 @@ refuses() {
 # has_installed PREFIX: whether the four files are there and nothing else
 has_installed() {
     [ "$status" -eq 0 ] && [ "$(find "$1" -type f | wc -l)" -eq 4 ] &&
-        [ "$("$1/bin/toml_span_check" x y)" = $'x\ny' ] && [ "$("$1/bin/toml_span_show" <<<copied)" = copied ] && [ -s "$1/share/man/man1/toml_span_show.1" ] &&
+        [ "$("$1/bin/toml_span_check" x y)" = $'x\ny' ] && [ "$("$1/bin/toml_span_show" <<<copied)" = copied ] &&
+        [ -s "$1/share/man/man1/toml_span_show.1" ] &&
         grep -q '^.B \\-\\-get POINTER$' "$1/share/man/man1/toml_span_check.1"
 }
 
