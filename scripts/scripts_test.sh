@@ -49,6 +49,7 @@ try)
     esac
     mkdir "$TMPDIR/rt-try" && cp src/main.rt "$TMPDIR/rt-try/module.bc" && cd "$TMPDIR/rt-try" || exit 2
     "$kit/toolchain/bin/clang" -c -x ir probe.bc -o probe.o -O0 || exit 2
+    if [ "${FAULT-}" = plain ]; then "$kit/toolchain/bin/clang" -c -x ir module.bc -o module.o -O0 && exit; fi
     "$kit/toolchain/bin/clang" -c -x ir module.bc -o module.o -fPIE -O0 -fsanitize=address || exit 2
     ;;
 esac
@@ -57,7 +58,7 @@ RT
 #!/bin/sh
 case " $* " in
 *" probe.bc "*) exit 0 ;;
-*" -fsanitize="* | *" -O0 "*) echo "not as rt run compiles" && exit 1 ;;
+*" -fsanitize="* | *" -O0 "*) exit 0 ;;
 esac
 if [ "${FAULT-}" = clang ]; then echo "clang: error: out of luck" >&2 && exit 1; fi
 while [ $# -gt 1 ]; do
@@ -360,6 +361,8 @@ FAULT=program native
 is "a program that fails" tells "native: the program toml_span_show was built, but does not run here"
 FAULT=otherwise native
 is "an rt try that calls no clang" tells "does not work as this script takes for granted"
+FAULT=plain native
+is "an rt try that calls clang without the sanitizer" tells "does not work as this script takes for granted"
 is "and how else to build" grep -qF "make the proved build" "$work/err"
 is "and nothing is kept of all these" leaves_nothing
 run bash "$repository/scripts/check.sh" </dev/null
@@ -528,7 +531,10 @@ block() {
 
 program=
 for kept in "$top"/crates/toml_span_check/out/{toml_span_check,unproved/*/toml_span_check}; do
-    if [ -x "$kept" ]; then program=$kept; fi
+    if [ -x "$kept" ]; then
+        program=$kept
+        break
+    fi
 done
 if [ -n "$program" ]; then
     make_repository
