@@ -41,16 +41,16 @@ mutual
   on-held (array ns) span way =
       let end = piece array_ends span ∷ [] in
       ap (λ l. (reverse way, span) ∷ l) (
-        spots_on-append (items_pieces ns) end (position 0 ∷ way)
-        ∙ ap (λ l. l ++ spots_on (walked (items_pieces ns) (position 0 ∷ way)) end) (on-items ns 0 way)
-        ∙ ap (λ w. items_spots (reverse way) 0 ns ++ spots_on w end) (walked-items ns 0 way)
+      spots_on-append (items_pieces ns) end (position 0 ∷ way)
+      ∙ ap (λ l. l ++ spots_on (walked (items_pieces ns) (position 0 ∷ way)) end) (on-items ns 0 way)
+      ∙ ap (λ w. items_spots (reverse way) 0 ns ++ spots_on w end) (walked-items ns 0 way)
       )
   on-held (table ms) span way =
       let end = piece table_ends span ∷ [] in
       ap (λ l. (reverse way, span) ∷ l) (
-        spots_on-append (members_pieces ms) end way
-        ∙ ap (λ l. l ++ spots_on (walked (members_pieces ms) way) end) (on-members ms way)
-        ∙ ap (λ w. members_spots (reverse way) ms ++ spots_on w end) (walked-members ms way)
+      spots_on-append (members_pieces ms) end way
+      ∙ ap (λ l. l ++ spots_on (walked (members_pieces ms) way) end) (on-members ms way)
+      ∙ ap (λ w. members_spots (reverse way) ms ++ spots_on w end) (walked-members ms way)
       )
 
   on-items : (ns : Items) (i : ℕ) (way : Way) → spots_on (position i ∷ way) (items_pieces ns) ≡ items_spots (reverse way) i ns
@@ -67,9 +67,9 @@ mutual
       let path = reverse way ++ (key name ∷ []) in
       ap (λ p. (p, span) ∷ spots_on (key name ∷ way) (pieces n ++ members_pieces ms)) (one-more (key name) way)
       ∙ ap (λ l. (path, span) ∷ l) (
-        on-next (key name) n way (members_pieces ms) (on-node n (key name ∷ way))
-        ∙ ap (λ w. spots path n ++ spots_on w (members_pieces ms)) (walked-node n (key name ∷ way))
-        ∙ ap (λ l. spots path n ++ l) (on-members ms way)
+      on-next (key name) n way (members_pieces ms) (on-node n (key name ∷ way))
+      ∙ ap (λ w. spots path n ++ spots_on w (members_pieces ms)) (walked-node n (key name ∷ way))
+      ∙ ap (λ l. spots path n ++ l) (on-members ms way)
       )
 
 spot-at : (k : ℕ) (ps : List Made) (p : Made) (way : Way) → k < length ps → get_or ps k p ≡ p →

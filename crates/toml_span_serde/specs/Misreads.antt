@@ -1,5 +1,5 @@
 -- What a reader tells of a step that read nothing: why, and at which piece of its row.
-use Rattle.std.specs.Prelude.{◌≡◌, ◌⊎◌, ◌<◌, ◌↔◌, ⊤, ℕ, ℤ, pos, negsuc, Bool, false, nat_lt, not, if◌then◌else◌}
+use Rattle.std.specs.Prelude.{◌≡◌, ◌⊎◌, ⊤, ℕ, ℤ, pos, negsuc, Bool, false, nat_lt, not, if◌then◌else◌}
 use Rattle.std.specs.Prelude.{List, [], ◌∷◌, String, string_bytes, Option, None, Some, slice_get}
 use Rattle.std.specs.Global.{Global}
 use Rattle.serde.specs.declared.format.Kind.{Kind}

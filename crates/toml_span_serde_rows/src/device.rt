@@ -6,33 +6,33 @@ use std::fmt::{Display, Formatter, Write};
 /// How it is reached, which the tag among the fields names.
 #[derive(Debug, Drop, Deserialize)]
 #[serde(tag = "kind", rename_all = "lowercase")]
-pub enum Transport {
+pub enum Transport<'a> {
     Tcp { port: u16 },
-    Unix,
+    Unix { path: &'a str },
 }
 
 /// What it reads, with the tag beside the content.
 #[derive(Debug, Drop, Deserialize)]
 #[serde(tag = "t", content = "c")]
-pub enum Reading {
+pub enum Reading<'a> {
     Level(i8),
-    Off,
+    Note(&'a str),
 }
 
 /// A name and a transport in one table.
 #[derive(Debug, Drop, Deserialize)]
-pub struct Link {
-    pub name: String,
+pub struct Link<'a> {
+    pub name: &'a str,
     #[serde(flatten)]
-    pub transport: Transport,
+    pub transport: Transport<'a>,
 }
 
 /// A number or a text, which no tag tells apart.
 #[derive(Debug, Drop, Deserialize)]
 #[serde(untagged)]
-pub enum Either {
+pub enum Either<'a> {
     Number(i8),
-    Text(String),
+    Text(&'a str),
 }
 
 /// An even number.
@@ -63,15 +63,15 @@ impl TryFrom<u8> for Even {
 }
 
 #[derive(Debug, Drop, Deserialize)]
-pub struct Device {
+pub struct Device<'a> {
     pub flag: Option<bool>,
     pub letter: Option<char>,
     pub pair: Option<(i8, i8)>,
     #[serde(alias = "max-body")]
     pub max_body: Option<u64>,
-    pub transport: Option<Transport>,
-    pub reading: Option<Reading>,
-    pub link: Option<Link>,
-    pub either: Option<Either>,
+    pub transport: Option<Transport<'a>>,
+    pub reading: Option<Reading<'a>>,
+    pub link: Option<Link<'a>>,
+    pub either: Option<Either<'a>>,
     pub even: Option<Even>,
 }

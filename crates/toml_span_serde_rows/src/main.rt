@@ -76,7 +76,7 @@ fn main(rt: HostRuntime) -> io::Result<()> {
         };
         match word {
             "settings" => tell(&rt, alloc, from_str::<Settings<'_>>(alloc, text.as_str()))?,
-            "device" => tell(&rt, alloc, from_str::<Device>(alloc, text.as_str()))?,
+            "device" => tell(&rt, alloc, from_str::<Device<'_>>(alloc, text.as_str()))?,
             "show" => match show(&rt, alloc, text.as_str()) {
                 Err(error) if error.kind() == ErrorKind::OutOfMemory => tell_no_memory(&rt)?,
                 shown => shown?,

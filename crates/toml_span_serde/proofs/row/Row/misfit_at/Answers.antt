@@ -1,5 +1,4 @@
-use Rattle.std.proofs.Common.{◌≡◌, ◌<◌, length, map, refl, sym, ap, ◌∙◌, subst}
-use Rattle.std.proofs.Common.{Some, slice_get, []}
+use Rattle.std.proofs.Common.{◌≡◌, ◌<◌, Some, [], length, map, slice_get, refl, sym, ap, ◌∙◌, subst}
 use Rattle.toml_span_serde.specs.Misfits.{Names}
 use Rattle.toml_span_serde.specs.Pieces.{pieces}
 use Rattle.toml_span_serde.specs.Stops.{spots}
