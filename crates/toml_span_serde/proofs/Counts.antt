@@ -3,7 +3,7 @@ use Rattle.std.proofs.Common.{◌≡◌, ℕ, zero, suc, ◌+◌, ◌<◌, ◌�
 use Rattle.std.proofs.lemmas.List.{drop_at, drop-drop, drop-map, drop_more, length-append}
 use Rattle.toml_span_lex.specs.declared.span.Span.{Span}
 use Rattle.toml_span_tree.specs.Node.{Node, node, Inner, taken, scalar, array, table, Items, no_items, item, Members, no_members, member}
-use Rattle.toml_span_serde.specs.Misreads.{Begins}
+use Rattle.toml_span_serde.specs.Misreads.{IsOpening}
 use Rattle.toml_span_serde.specs.Pieces.{Content, Piece, piece, pieces, held_pieces, items_pieces, members_pieces, value, nothing, array_begins, array_ends, table_begins, table_ends, key}
 use Rattle.toml_span_serde.specs.Tasks.{depth_behind, piece_content, piece_of}
 use Rattle.toml_span_serde.specs.declared.pieces.Piece.{Piece as Made}
@@ -106,7 +106,7 @@ counted-value (node (table ms) span) rest =
     ∙ last end rest (1 + length ps) 1 refl
     ∙ ap Some (omega (arith, inside ps rest first end))
 
-at-top : (c : Content) → ¬ Begins c → depth_behind c 0 ≡ 0
+at-top : (c : Content) → ¬ IsOpening c → depth_behind c 0 ≡ 0
 at-top (value s) single = refl
 at-top nothing single = refl
 at-top array_begins single = absurd (single (inl refl))
@@ -116,7 +116,7 @@ at-top table_ends single = refl
 at-top (key s) single = refl
 
 -- a piece that begins nothing
-pub counted-single : (p : Piece) (rest : List Piece) → ¬ Begins p.content → counted 0 0 (p ∷ rest) ≡ Some 1
+pub counted-single : (p : Piece) (rest : List Piece) → ¬ IsOpening p.content → counted 0 0 (p ∷ rest) ≡ Some 1
 counted-single p rest single = last p rest 0 0 (at-top p.content single)
 
 -- ---- a loop over a row

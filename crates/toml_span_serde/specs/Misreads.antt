@@ -8,7 +8,8 @@ use Rattle.toml_span_lex.specs.declared.stop.Stop.{Stop}
 use Rattle.toml_span_lex.specs.declared.stop.Stop.TheVariants as stop
 use Rattle.toml_span_tree.specs.Node as tree
 use Rattle.toml_span_serde.specs.Ahead.{laid}
-use Rattle.toml_span_serde.specs.Pieces.{Content, Piece, value, nothing, array_begins, array_ends, table_begins, table_ends, key}
+use Rattle.toml_span_serde.specs.Pieces.{Content, Piece, value, nothing, array_begins, array_ends, table_begins}
+use Rattle.toml_span_serde.specs.Pieces.{table_ends, key}
 use Rattle.toml_span_serde.specs.Reads.{IsText}
 use Rattle.toml_span_serde.specs.declared.misfit.Expected.{Expected}
 use Rattle.toml_span_serde.specs.declared.misfit.Found.{Found}
@@ -19,18 +20,18 @@ use Rattle.toml_span_serde.specs.declared.reader.Misread.{Misread}
 use Rattle.toml_span_serde.specs.declared.reader.Reader.{Reader}
 
 -- the kind of what stands there
-abbrev pub kind_of : Content → Found
-kind_of (value (tree.text s)) = found.String
-kind_of (value (tree.integer z)) = found.Integer
-kind_of (value (tree.float d)) = found.Float
-kind_of (value (tree.boolean b)) = found.Boolean
-kind_of (value (tree.datetime s)) = found.Datetime
-kind_of nothing = found.Nothing
-kind_of array_begins = found.Array
-kind_of array_ends = found.Array
-kind_of table_begins = found.Table
-kind_of table_ends = found.Table
-kind_of (key s) = found.Key
+abbrev pub found_of : Content → Found
+found_of (value (tree.text s)) = found.String
+found_of (value (tree.integer z)) = found.Integer
+found_of (value (tree.float d)) = found.Float
+found_of (value (tree.boolean b)) = found.Boolean
+found_of (value (tree.datetime s)) = found.Datetime
+found_of nothing = found.Nothing
+found_of array_begins = found.Array
+found_of array_ends = found.Array
+found_of table_begins = found.Table
+found_of table_ends = found.Table
+found_of (key s) = found.Key
 
 -- what serde takes an integer for
 abbrev pub kind_of_integer : ℤ → Kind
@@ -52,23 +53,23 @@ kind_ahead table_ends = kind.Map
 kind_ahead (key s) = kind.Str
 
 -- the text of a string or of a key, and of nothing else
-abbrev pub text_of : Content → List ℕ
-text_of (value (tree.text s)) = s
-text_of (key s) = s
-text_of c = []
+abbrev pub told_text : Content → List ℕ
+told_text (value (tree.text s)) = s
+told_text (key s) = s
+told_text c = []
 
-abbrev pub text_in : Option Piece → List ℕ
-text_in None = []
-text_in (Some p) = text_of p.content
+abbrev pub told_text_in : Option Piece → List ℕ
+told_text_in None = []
+told_text_in (Some p) = told_text p.content
 
 -- an array or a table begins
-abbrev pub Begins : Content → Type 0
-Begins c = (c ≡ array_begins) ⊎ (c ≡ table_begins)
+abbrev pub IsOpening : Content → Type 0
+IsOpening c = (c ≡ array_begins) ⊎ (c ≡ table_begins)
 
 -- memory is wanting, or this is told of that piece
-abbrev pub Tells : (Reason → Type 0) → ℕ → Stop Misread → Type 0
-Tells Why at (stop.Memory e) = ⊤
-Tells Why at (stop.Fault m) = Why m.reason × (m.at ≡ at)
+abbrev pub IsMisread : (Reason → Type 0) → ℕ → Stop Misread → Type 0
+IsMisread Why at (stop.Memory e) = ⊤
+IsMisread Why at (stop.Fault m) = Why m.reason × (m.at ≡ at)
 
 -- the reason has this text
 abbrev pub Says : (String Global → Reason) → List ℕ → Reason → Type 0
@@ -77,7 +78,7 @@ Says reason text why = (s : String Global) × (why ≡ reason s) × (string_byte
 -- nothing comes, or what comes is not what is wanted
 abbrev pub Misses : (Content → Type 0) → Expected → List Piece → Reason → Type 0
 Misses Fits expected [] why = why ≡ is.Invalid
-Misses Fits expected (p ∷ ps) why = ¬ Fits p.content × (why ≡ is.Wanted expected (kind_of p.content))
+Misses Fits expected (p ∷ ps) why = ¬ Fits p.content × (why ≡ is.Wanted expected (found_of p.content))
 
 abbrev pub IsAnyText : Content → Type 0
 IsAnyText c = (s : List ℕ) × IsText s c

@@ -1,6 +1,5 @@
--- What private clauses say: the pieces of the code as those of a tree, what is left to go through while a tree becomes
--- a row of pieces, the reasons that have a text, and how
--- deep the pieces stand.
+-- What private clauses say: the pieces of the code as those of a tree, and how deep they stand; what is left to go
+-- through while a tree becomes a row of pieces; and the reasons that have a text.
 use Rattle.std.specs.Prelude.{ℕ, ◌+◌, ◌-◌, List, [], ◌∷◌, ◌++◌, String, map, reverse}
 use Rattle.std.specs.Global.{Global}
 use Rattle.toml_span_tree.specs.Node.{text, integer, float, boolean, datetime}

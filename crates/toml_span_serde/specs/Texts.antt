@@ -27,6 +27,6 @@ place_text (s ∷ steps) = step_text s ++ flat_map further_text steps ++ codes "
 abbrev pub misfit_text : Misfit → List ℕ
 misfit_text m = place_text m.path.items ++ reason_text m.reason
 
-abbrev pub error_text : Error → List ℕ
-error_text (error.Refused e) = display_text (kind_of e.kind)
-error_text (error.Misfit m) = misfit_text m
+abbrev pub read_error_text : Error → List ℕ
+read_error_text (error.Refused e) = display_text (kind_of e.kind)
+read_error_text (error.Misfit m) = misfit_text m

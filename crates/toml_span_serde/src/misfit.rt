@@ -7,7 +7,7 @@ ghost use Rattle.toml_span_tree.specs.Diagnostic.{labels_of, label_content, mess
 ghost use Rattle.toml_span_tree.specs.Message.{code_of};
 ghost use Rattle.toml_span_serde.specs.Misfits.{content_of_error, content_of_misfit, kind_of_reason, name_of};
 ghost use Rattle.toml_span_serde.specs.Misfits.{reason_text, words_of};
-ghost use Rattle.toml_span_serde.specs.Texts.{error_text, further_text, misfit_text, place_text};
+ghost use Rattle.toml_span_serde.specs.Texts.{read_error_text, further_text, misfit_text, place_text};
 
 use crate::path::Step;
 use std::alloc::{AllocError, Global};
@@ -220,7 +220,7 @@ impl Display for Misfit {
 }
 
 impl Display for Error<'_> {
-    ghost output = { λ error. Some (error_text error) };
+    ghost output = { λ error. Some (read_error_text error) };
 
     fn fmt<W: Write>(&self, f: &mut Formatter<W>) -> fmt::Result {
         match self {

@@ -1,10 +1,11 @@
 //! A tree as a row of pieces, in the order in which a reader goes through it.
-ghost use Rattle.std.specs.Prelude.{◌≡◌, ◌<◌, ◌≤◌, ◌-◌, ◌^◌, ◌++◌, ◌∷◌, IfOk, IfSome, List, OnOk, Some, length, map};
+ghost use Rattle.std.specs.Prelude.{◌≡◌, ◌<◌, ◌≤◌, ◌-◌, ◌^◌, ◌++◌, ◌∷◌, IfOk, IfSome, List, OnOk, Some};
+ghost use Rattle.std.specs.Prelude.{length, map};
 ghost use Rattle.toml_span_tree.specs.Node.{Node};
 ghost use Rattle.toml_span_tree.specs.Value.{items_view, members_view, view};
-ghost use Rattle.toml_span_serde.specs.Misreads.{Begins, kind_ahead, kind_of, refusal, text_of};
-ghost use Rattle.toml_span_serde.specs.Pieces.{Piece as Laid, array_begins, items_pieces, members_pieces, piece, pieces};
-ghost use Rattle.toml_span_serde.specs.Pieces.{table_begins};
+ghost use Rattle.toml_span_serde.specs.Misreads.{IsOpening, found_of, kind_ahead, refusal, told_text};
+ghost use Rattle.toml_span_serde.specs.Pieces.{Piece as Laid, array_begins, items_pieces, members_pieces, piece};
+ghost use Rattle.toml_span_serde.specs.Pieces.{pieces, table_begins};
 ghost use Rattle.toml_span_serde.specs.Tasks.{all_pieces, depth_behind, piece_content, piece_of, task_pieces, turned};
 
 use crate::misfit::{Found, Reason};
@@ -39,7 +40,7 @@ pub(crate) struct Piece<'v> {
 impl<'v> Content<'v> {
     /// The kind of what stands there.
     pub(crate) fn kind(&self) -> Found
-        ensures { result ≡ kind_of (piece_content self.now) }
+        ensures { result ≡ found_of (piece_content self.now) }
     {
         match self {
             Content::Text(_) => Found::String,
@@ -94,7 +95,7 @@ impl<'v> Content<'v> {
 
     /// The text of a string or of a key, and of nothing else.
     pub(crate) fn text(&self) -> &'v str
-        ensures { result.now ≡ text_of (piece_content self.now) }
+        ensures { result.now ≡ told_text (piece_content self.now) }
     {
         match self {
             Content::Text(text) | Content::Key(text) => *text,
@@ -107,7 +108,7 @@ impl<'v> Content<'v> {
 pub(crate) fn count_value(ahead: &[Piece<'_>]) -> Option<usize>
     ensures value { (n : Node) (rest : List Laid) → map piece_of ahead.now ≡ pieces n ++ rest
         → result ≡ Some (length (pieces n)) }
-    ensures single { (p : Laid) (rest : List Laid) → map piece_of ahead.now ≡ p ∷ rest → ¬ Begins p.content
+    ensures single { (p : Laid) (rest : List Laid) → map piece_of ahead.now ≡ p ∷ rest → ¬ IsOpening p.content
         → result ≡ Some 1 }
     ensures inside { IfSome result (λ count. count ≤ length ahead.now) }
 {

@@ -1,12 +1,12 @@
 //! A tree as a `Format` of serde's.
-ghost use Rattle.std.specs.Prelude.{◌≡◌, ◌+◌, ◌-◌, ◌<◌, ◌^◌, ◌∷◌, ◌++◌, ◌↔◌, [], false, true, IfErr, IfOk, IsOk, IsTrue};
-ghost use Rattle.std.specs.Prelude.{List, MatchOption, OnOk, drop, length, map, slice_get};
+ghost use Rattle.std.specs.Prelude.{◌≡◌, ◌+◌, ◌-◌, ◌<◌, ◌^◌, ◌∷◌, ◌++◌, ◌↔◌, [], false, true, IfErr, IfOk, IsOk};
+ghost use Rattle.std.specs.Prelude.{IsTrue, List, MatchOption, OnOk, drop, length, map, slice_get};
 ghost use Rattle.serde.specs.Event as event;
 ghost use Rattle.toml_span_lex.specs.declared.stop.Stop.TheVariants as stop;
 ghost use Rattle.toml_span_tree.specs.Node.{Node, integer};
 ghost use Rattle.toml_span_serde.specs.Ahead.{ahead, laid};
-ghost use Rattle.toml_span_serde.specs.Misreads.{Begins, IsAnyInteger, IsAnyText, Misses, Says, Tells, invalid_reason};
-ghost use Rattle.toml_span_serde.specs.Misreads.{is_unknown, kind_ahead, kind_of, text_in, variant_place};
+ghost use Rattle.toml_span_serde.specs.Misreads.{IsAnyInteger, IsAnyText, IsMisread, IsOpening, Misses, Says, found_of};
+ghost use Rattle.toml_span_serde.specs.Misreads.{invalid_reason, is_unknown, kind_ahead, told_text_in, variant_place};
 ghost use Rattle.toml_span_serde.specs.Pieces.{Piece as Laid, pieces, value};
 ghost use Rattle.toml_span_serde.specs.Reads.{IsText, Picks, Reads, Sees, TakesPiece};
 ghost use Rattle.toml_span_serde.specs.Tasks.{piece_content, piece_of, reason_of};
@@ -89,7 +89,7 @@ impl<'p, 'v> Reader<'p, 'v> {
             ≡ piece_of p ∷ map piece_of (drop (self.old.next + 1) self.old.pieces.now)) }
         ensures inside { OnOk result (self.old.next < length self.old.pieces.now) }
         ensures small { OnOk result (self.old.next < 2 ^ 64 - 1) }
-        ensures none { IfErr result (λ e. (ahead self.old ≡ []) × Tells (λ why. why ≡ is.Invalid) self.old.next e) }
+        ensures none { IfErr result (λ e. (ahead self.old ≡ []) × IsMisread (λ why. why ≡ is.Invalid) self.old.next e) }
         ensures stays { (self.new.next ≡ self.old.next) × (self.new.pieces ≡ self.old.pieces) }
         ensures notes { (self.new.at ≡ self.old.next) × (self.new.variant ≡ self.old.variant)
             × (self.new.is_unknown ≡ false) }
@@ -105,7 +105,7 @@ impl<'p, 'v> Reader<'p, 'v> {
     /// What comes next, which is passed.
     fn take(&mut self) -> Result<Piece<'v>, Stop<Misread>>
         ensures next { IfOk result (λ p. ahead self.old ≡ piece_of p ∷ ahead self.new) }
-        ensures none { IfErr result (λ e. (ahead self.old ≡ []) × Tells (λ why. why ≡ is.Invalid) self.old.next e) }
+        ensures none { IfErr result (λ e. (ahead self.old ≡ []) × IsMisread (λ why. why ≡ is.Invalid) self.old.next e) }
         ensures notes { (self.new.at ≡ self.old.next) × (self.new.variant ≡ self.old.variant)
             × (self.new.is_unknown ≡ false) }
     {
@@ -126,7 +126,7 @@ impl<'p, 'v> Reader<'p, 'v> {
 
     /// The misread of this piece that tells a text.
     fn told_at(&self, at: usize, reason: TextReason, text: &str) -> Stop<Misread>
-        ensures { Tells (Says (reason_of reason) text.now) at result }
+        ensures { IsMisread (Says (reason_of reason) text.now) at result }
     {
         match String::from_str(self.alloc, text) {
             Ok(text) => Stop::Fault(Misread {
@@ -139,14 +139,14 @@ impl<'p, 'v> Reader<'p, 'v> {
 
     /// The misread of the piece that was looked at last, which tells a text.
     fn told(&self, reason: TextReason, text: &str) -> Stop<Misread>
-        ensures { Tells (Says (reason_of reason) text.now) self.now.at result }
+        ensures { IsMisread (Says (reason_of reason) text.now) self.now.at result }
     {
         self.told_at(self.at, reason, text)
     }
 
     /// The misread of this piece that tells the piece's text.
     fn told_of(&self, at: usize, reason: TextReason) -> Stop<Misread>
-        ensures { Tells (Says (reason_of reason) (text_in (slice_get (laid self.now) at))) at result }
+        ensures { IsMisread (Says (reason_of reason) (told_text_in (slice_get (laid self.now) at))) at result }
     {
         self.told_at(at, reason, self.text_at(at))
     }
@@ -163,7 +163,8 @@ impl<'p, 'v> Reader<'p, 'v> {
     }
 
     fn wanted(&self, expected: Expected, found: Content<'_>) -> Stop<Misread>
-        ensures { Tells (λ why. why ≡ is.Wanted expected (kind_of (piece_content found.entry))) self.now.at result }
+        ensures { IsMisread (λ why. why ≡ is.Wanted expected (found_of (piece_content found.entry)))
+            self.now.at result }
     {
         self.misread(Reason::Wanted {
             expected,
@@ -173,7 +174,7 @@ impl<'p, 'v> Reader<'p, 'v> {
 
     /// The text of a piece; one that is neither a string nor a key has none.
     fn text_at(&self, at: usize) -> &'v str
-        ensures { result.now ≡ text_in (slice_get (laid self.now) at) }
+        ensures { result.now ≡ told_text_in (slice_get (laid self.now) at) }
     {
         match self.pieces.get(at) {
             Some(piece) => piece.content.text(),
@@ -184,7 +185,7 @@ impl<'p, 'v> Reader<'p, 'v> {
     /// The text of a string or of a key.
     fn text(&mut self, expected: Expected) -> Result<&'v str, Stop<Misread>>
         ensures text { IfOk result (λ text. TakesPiece (IsText text.now) (ahead self.old) (ahead self.new)) }
-        ensures misses { IfErr result (Tells (Misses IsAnyText expected (ahead self.old)) self.old.next) }
+        ensures misses { IfErr result (IsMisread (Misses IsAnyText expected (ahead self.old)) self.old.next) }
         ensures notes { (self.new.variant ≡ self.old.variant) × (self.new.is_unknown ≡ false) }
     {
         match self.take()?.content {
@@ -195,7 +196,8 @@ impl<'p, 'v> Reader<'p, 'v> {
 
     fn integer(&mut self) -> Result<i64, Stop<Misread>>
         ensures integer { IfOk result (λ z. TakesPiece (λ c. c ≡ value (integer z)) (ahead self.old) (ahead self.new)) }
-        ensures misses { IfErr result (Tells (Misses IsAnyInteger expected.Integer (ahead self.old)) self.old.next) }
+        ensures misses { IfErr result (IsMisread (Misses IsAnyInteger expected.Integer (ahead self.old))
+            self.old.next) }
     {
         match self.take()?.content {
             Content::Integer(number) => Ok(number),
@@ -310,7 +312,7 @@ impl Format for Reader<'_, '_> {
     fn peek(&mut self, _input: &[u8]) -> Result<Kind, Stop<Misread>>
         ensures stays { OnOk result (ahead self.new ≡ ahead self.old) }
         ensures kind { IfOk result (λ kind. Sees (λ p. kind ≡ kind_ahead p.content) (ahead self.old) (ahead self.new)) }
-        ensures none { IfErr result (λ e. (ahead self.old ≡ []) × Tells (λ why. why ≡ is.Invalid) self.old.next e) }
+        ensures none { IfErr result (λ e. (ahead self.old ≡ []) × IsMisread (λ why. why ≡ is.Invalid) self.old.next e) }
     {
         Ok(self.look()?.content.serde_kind())
     }
@@ -400,7 +402,7 @@ impl Format for Reader<'_, '_> {
     fn skip(&mut self, _input: &[u8]) -> Result<(), Stop<Misread>>
         ensures value { (n : Node) (rest : List Laid) → ahead self.old ≡ pieces n ++ rest
             → IsOk result × (ahead self.new ≡ rest) }
-        ensures single { (p : Laid) (rest : List Laid) → ahead self.old ≡ p ∷ rest → ¬ Begins p.content
+        ensures single { (p : Laid) (rest : List Laid) → ahead self.old ≡ p ∷ rest → ¬ IsOpening p.content
             → IsOk result × (ahead self.new ≡ rest) }
         ensures notes { self.new.variant ≡ self.old.variant }
     {
@@ -439,40 +441,41 @@ impl Format for Reader<'_, '_> {
     }
 
     fn missing(&self, name: &str) -> Stop<Misread>
-        ensures { Tells (Says is.MissingField name.now) self.now.at result }
+        ensures { IsMisread (Says is.MissingField name.now) self.now.at result }
     {
         self.told(TextReason::MissingField, name)
     }
 
     fn duplicate(&self, name: &str) -> Stop<Misread>
-        ensures { Tells (Says is.DuplicateField name.now) self.now.at result }
+        ensures { IsMisread (Says is.DuplicateField name.now) self.now.at result }
     {
         self.told(TextReason::DuplicateField, name)
     }
 
     fn unknown_key(&self) -> Stop<Misread>
-        ensures { Tells (Says is.UnknownField (text_in (slice_get (laid self.now) self.now.at))) self.now.at result }
+        ensures { IsMisread (Says is.UnknownField (told_text_in (slice_get (laid self.now) self.now.at)))
+            self.now.at result }
     {
         self.told_of(self.at, TextReason::UnknownField)
     }
 
     /// A tag is held against the names before its table is read again, so its place is kept.
     fn unknown_variant(&self) -> Stop<Misread>
-        ensures { Tells (Says is.UnknownVariant (text_in (slice_get (laid self.now) (variant_place self.now))))
+        ensures { IsMisread (Says is.UnknownVariant (told_text_in (slice_get (laid self.now) (variant_place self.now))))
             (variant_place self.now) result }
     {
         self.told_of(self.variant_place(), TextReason::UnknownVariant)
     }
 
     fn wrong_len(&self) -> Stop<Misread>
-        ensures { Tells (λ why. why ≡ is.Length) self.now.at result }
+        ensures { IsMisread (λ why. why ≡ is.Length) self.now.at result }
     {
         self.misread(Reason::Length)
     }
 
     /// An integer that was read is out of the type's range. One that was only looked at is no unit.
     fn invalid(&self) -> Stop<Misread>
-        ensures { Tells (λ why. why ≡ invalid_reason self.now) self.now.at result }
+        ensures { IsMisread (λ why. why ≡ invalid_reason self.now) self.now.at result }
     {
         if self.at >= self.next {
             return self.misread(Reason::Invalid);
@@ -490,7 +493,7 @@ impl Format for Reader<'_, '_> {
     }
 
     fn custom(&self, message: &str) -> Stop<Misread>
-        ensures { Tells (Says is.Custom message.now) self.now.at result }
+        ensures { IsMisread (Says is.Custom message.now) self.now.at result }
     {
         self.told(TextReason::Custom, message)
     }

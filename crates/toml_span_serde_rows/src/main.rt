@@ -1,9 +1,9 @@
 //! Reads documents, a row each, and writes what each gives.
 //!
 //! A row is a word and a document on one line, with `;` for a line feed. `settings` is read as `Settings`, by derive,
-//! and `device` as `Device`; of `limits` the tree is read, as a map of numbers and their places. The answer is the value, or the code, the place,
-//! the line and the column of what is refused, the path to it, and why. `show` shows the settings, or an error with its
-//! lines. Of a row for which memory is wanting it says so, and goes on.
+//! and `device` as `Device`; of `limits` the tree is read, as a map of numbers and their places. The answer is the
+//! value, or the code, the place, the line and the column of what is refused, the path to it, and why. `show` shows the
+//! settings, or an error with its lines. Of a row for which memory is wanting it says so, and goes on.
 #![tactic(auto)]
 
 mod device;
