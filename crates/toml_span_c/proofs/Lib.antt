@@ -1,0 +1,4 @@
+pub mod Arrays
+pub mod Held
+pub mod Puts
+pub mod Walks
