@@ -17,7 +17,7 @@ use Rattle.toml_span.specs.Paths.{elements_added, opened_by}
 use Rattle.toml_span.specs.Claims.{Claims, followed, key_value_claims, section_claims, claims_behind, claims, head_of}
 use Rattle.toml_span.specs.Clashes.{or_else}
 use Rattle.toml_span.specs.Flat.{flat, Shows}
-use Rattle.toml_span.specs.code.Machine.{nothing, first_clash, put_all, clash_told}
+use Rattle.toml_span.specs.code.Machine.{nothing, clash_met, put_all}
 use Rattle.toml_span.specs.Ordered.{HoldsOrdered}
 use Rattle.toml_span.specs.code.Placing.{Places, AreSections, Assembles, ShowsBelow, place_shown}
 use Rattle.toml_span.specs.code.Relative.{section_at, grown}
@@ -25,7 +25,7 @@ use Rattle.toml_span.specs.code.Tree.{cells, counts, IsFresh, IsScope}
 use Rattle.toml_span.specs.code.Growing.{Placed, Remaining}
 use Rattle.toml_span.proofs.Absolute.{section_at-is, grown-is}
 use Rattle.toml_span.proofs.Grafts.{told-followed, put_all-followed}
-use Rattle.toml_span.proofs.Judged.{told-none, told-some}
+use Rattle.toml_span.proofs.Judged.{first-met}
 use Rattle.toml_span.proofs.Nodes.{cells-fresh, counts-fresh, sound-fresh}
 use Rattle.toml_span.proofs.Shown.{shown-flat}
 
@@ -70,8 +70,8 @@ remaining-next all old new b root w steps inv placed =
     record {
       earlier = b ∷ inv.earlier;
       headers = headers.1;
-      telling = sym (told-followed (cells root) now later ∙ ap (λ o. or_else o (first_clash (put_all (cells root) now) later)) h.0 ∙ ap (λ st. first_clash st later) (sym h.1.0))
-          ∙ ap (first_clash (cells root)) (sym split) ∙ inv.telling;
+      telling = sym (told-followed (cells root) now later ∙ ap (λ o. or_else o (clash_met (put_all (cells root) now) later)) h.0 ∙ ap (λ st. clash_met st later) (sym h.1.0))
+          ∙ ap (clash_met (cells root)) (sym split) ∙ inv.telling;
       putting = ap (λ st. put_all st later) h.1.0 ∙ sym (put_all-followed (cells root) now later) ∙ ap (put_all (cells root)) (sym split) ∙ inv.putting;
       counting = h.1.1;
       scope = h.1.2.0;
@@ -86,9 +86,9 @@ assembles-err all old new length b root w q (Clash c) steps inv same placed =
     let now = section_claims (elements_added (opened_by inv.earlier)) b in
     let later = claims_behind (b ∷ inv.earlier) new in
     let split = ap (claims_behind inv.earlier) steps ∙ next-claims inv.earlier b new in
-    rw same (told-some (claims all) (clash_told c)
-    (sym inv.telling ∙ ap (first_clash (cells root)) split ∙ told-followed (cells root) now later
-    ∙ ap (λ o. or_else o (first_clash (put_all (cells root) now) later)) h))
+    rw same (first-met (claims all)
+    ∙ (sym inv.telling ∙ ap (clash_met (cells root)) split ∙ told-followed (cells root) now later
+    ∙ ap (λ o. or_else o (clash_met (put_all (cells root) now) later)) h))
 
 -- the tree shows what the root's node keeps, and that is the flat document
 shows-flat : (length : ℕ) (cs : Claims) (t : BTreeMap Key Value) (root : Branch) → cells root ≡ put_all nothing cs → ShowsBelow (inner_view (table_inner t)) (cells root)
@@ -100,11 +100,11 @@ shows-flat length cs t root is below (s ∷ p) = below s p ∙ ap (λ st. place_
 pub assembles-ok : (all rest : List Block) (length : ℕ) (t : BTreeMap Key Value) (root : Branch) (v : Value) → rest ≡ [] → Remaining all rest root
     → (IsScope root → ShowsBelow (inner_view (table_inner t)) (cells root) × HoldsOrdered (inner_view (table_inner t))) → view v ≡ node (inner_view (table_inner t)) (record { start = 0; end = length })
     → Assembles all length (Ok v)
-unfolding claims_behind first_clash put_all
+unfolding claims_behind clash_met put_all
 assembles-ok all rest length t root v done inv finished is =
     let none = ap (claims_behind inv.earlier) done in
     let below = finished inv.scope in (
-      told-none (claims all) (sym inv.telling ∙ ap (first_clash (cells root)) none),
+      first-met (claims all) ∙ sym inv.telling ∙ ap (clash_met (cells root)) none,
       rw is (shows-flat length (claims all) t root (sym (ap (put_all (cells root)) none) ∙ inv.putting) below.0),
       rw is (below.1),
     )

@@ -27,8 +27,9 @@ use Rattle.toml_span.specs.declared.branch.Branch.TheViews.{out-Branch, roll-Bra
 use Rattle.toml_span.specs.declared.branch.Branch.TheOpen.{Branch-F}
 use Rattle.toml_span.specs.Paths.{same_path, with_key, with_position}
 use Rattle.toml_span.specs.Claims.{Claims, no_claims, claimed, scope, followed, assigned, pair_mark, key_claims, value_claims, inner_claims, item_claims, pair_claims}
-use Rattle.toml_span.specs.Clashes.{NamedClash, blame, meeting, named, or_else, partner}
-use Rattle.toml_span.specs.code.Machine.{Cell, State, nothing, change, with_claim, with_inner, Gives, met, first_clash, show_all, put_all, graft}
+use Rattle.toml_span.specs.Clashes.{NamedClash, blame, meeting, named, or_else}
+use Rattle.toml_span.specs.code.Marks.{partner}
+use Rattle.toml_span.specs.code.Machine.{Cell, State, nothing, change, with_claim, with_inner, Gives, met, clash_met, show_all, put_all, graft}
 use Rattle.toml_span.specs.Ordered.{IsOrdered}
 use Rattle.toml_span.specs.code.Placing.{Places, IsFinished, ValueGives}
 use Rattle.toml_span.specs.code.Relative.{pair_at}
@@ -68,12 +69,12 @@ gives-clash (Err (Memory e)) o p t P Q first all h = tt
 
 -- what is told of the value's own claim comes first
 told-own : (n : Branch) (k : Key) (v : Read) (ms : List Mark) → (cells n (key (simple_key k).name ∷ [])).marks ≡ ms
-    → first_clash (cells n) (pair_at [] (simple_key k) v)
-    ≡ or_else (met ms (value_mark k v) (simple_key k).name) (first_clash (change (λ q. cells n (key (simple_key k).name ∷ q)) [] (with_claim (assigned [] (simple_key k) v))) (value_claims v []))
-unfolding first_clash pair_at
+    → clash_met (cells n) (pair_at [] (simple_key k) v)
+    ≡ or_else (met ms (value_mark k v) (simple_key k).name) (clash_met (change (λ q. cells n (key (simple_key k).name ∷ q)) [] (with_claim (assigned [] (simple_key k) v))) (value_claims v []))
+unfolding clash_met pair_at
 told-own n k v ms is =
     told-under (key (simple_key k).name) (cells n) (claimed (assigned [] (simple_key k) v) (value_claims v []))
-    ∙ ap (λ ms. or_else (met ms (value_mark k v) (simple_key k).name) (first_clash (change (λ q. cells n (key (simple_key k).name ∷ q)) [] (with_claim (assigned [] (simple_key k) v))) (value_claims v []))) is
+    ∙ ap (λ ms. or_else (met ms (value_mark k v) (simple_key k).name) (clash_met (change (λ q. cells n (key (simple_key k).name ∷ q)) [] (with_claim (assigned [] (simple_key k) v))) (value_claims v []))) is
 
 -- the value's own claim clashes
 pub refused : (n new : Branch) (k : Key) (v : Read) (r : Result (Unit {0}) Halt) (ms : List Mark) (m : Mark) (P : Unit {0} → Type 0) (d : Path → ℕ)
@@ -82,8 +83,8 @@ pub refused : (n new : Branch) (k : Key) (v : Read) (r : Result (Unit {0}) Halt)
 refused n new k v r ms m P d is held same h before =
     let clash = clashes-named ms (value_mark k v) (simple_key k).name refl (held before) in
     let first = ap (λ m. met ms m (simple_key k).name) same ∙ clash.1 in
-    let all = told-own n k v ms (is before) ∙ ap (λ o. or_else o (first_clash (change (λ q. cells n (key (simple_key k).name ∷ q)) [] (with_claim (assigned [] (simple_key k) v))) (value_claims v []))) clash.1 in
-    gives-clash r (met ms m (simple_key k).name) (first_clash (cells n) (pair_at [] (simple_key k) v)) clash.0 _ _ first all h
+    let all = told-own n k v ms (is before) ∙ ap (λ o. or_else o (clash_met (change (λ q. cells n (key (simple_key k).name ∷ q)) [] (with_claim (assigned [] (simple_key k) v))) (value_claims v []))) clash.1 in
+    gives-clash r (met ms m (simple_key k).name) (clash_met (cells n) (pair_at [] (simple_key k) v)) clash.0 _ _ first all h
 
 -- the value's own claim clashes with what stands at its name
 pub refused-child : (n new : Branch) (k : Key) (v : Read) (q : Result (Unit {0}) Halt) (e : Halt) (m : Mark) (P : Unit {0} → Type 0) (d : Path → ℕ)
@@ -91,13 +92,13 @@ pub refused-child : (n new : Branch) (k : Key) (v : Read) (q : Result (Unit {0})
 refused-child n new k v q e m P d same is h before = go (child (simple_key k).name n) refl
   where
     later : Option NamedClash
-    later = first_clash (change (λ q. cells n (key (simple_key k).name ∷ q)) [] (with_claim (assigned [] (simple_key k) v))) (value_claims v [])
+    later = clash_met (change (λ q. cells n (key (simple_key k).name ∷ q)) [] (with_claim (assigned [] (simple_key k) v))) (value_claims v [])
 
     met-is : (o : Option Branch) → child (simple_key k).name n ≡ o → met (held_marks (child (simple_key k).name n)) m (simple_key k).name ≡ met (held_marks o) (value_mark k v) (simple_key k).name
     met-is o c = ap (λ x. met (held_marks x) m (simple_key k).name) c ∙ ap (λ x. met (held_marks o) x (simple_key k).name) same
 
     go : (o : Option Branch) → child (simple_key k).name n ≡ o
-        → Gives q (first_clash (cells n) (pair_at [] (simple_key k) v)) (λ _. (cells new ≡ put_all (cells n) (pair_at [] (simple_key k) v)) × (counts new ≡ d) × (IsScope new × (marks new ≡ marks n)))
+        → Gives q (clash_met (cells n) (pair_at [] (simple_key k) v)) (λ _. (cells new ≡ put_all (cells n) (pair_at [] (simple_key k) v)) × (counts new ≡ d) × (IsScope new × (marks new ≡ marks n)))
     go None c = gives-err q e (met (held_marks (child (simple_key k).name n)) m (simple_key k).name) _ _ _ is (λ t clash. absurd (none-some t (sym (met-is None c) ∙ clash))) h
     go (Some x) c =
         gives-err q e (met (held_marks (child (simple_key k).name n)) m (simple_key k).name) _ _ _ is
@@ -126,8 +127,8 @@ refused-value n new k earlier x v r ms m name P d missing found is same mark h =
 
 -- ---- what a value claims in a scope that has none of its name
 
-told-value : (st : State) (v : Read) (p : Path) → first_clash st (value_claims v p) ≡ first_clash nothing (value_claims v p)
-unfolding first_clash value_claims inner_claims
+told-value : (st : State) (v : Read) (p : Path) → clash_met st (value_claims v p) ≡ clash_met nothing (value_claims v p)
+unfolding clash_met value_claims inner_claims
 told-value st (parsed (scalar s) span) p = refl
 told-value st (parsed (array vs) span) p = refl
 told-value st (parsed (inline ps) span) p = refl
@@ -290,7 +291,7 @@ scope-value n new k x sets missing good (sound m table names items ordered below
 -- ---- a value of a new name
 
 -- what is told is what is told inside the value
-told-free : (n : Branch) (k : Key) (v : Read) → child (simple_key k).name n ≡ None → closed (simple_key k).name n ≡ None → first_clash (cells n) (pair_at [] (simple_key k) v) ≡ first_clash nothing (value_claims v [])
+told-free : (n : Branch) (k : Key) (v : Read) → child (simple_key k).name n ≡ None → closed (simple_key k).name n ≡ None → clash_met (cells n) (pair_at [] (simple_key k) v) ≡ clash_met nothing (value_claims v [])
 told-free n k v missing free =
     told-own n k v [] (ap (λ f. (f []).marks) (cells-closed n (simple_key k).name missing) ∙ ap closed_marks free)
     ∙ told-value (change (λ q. cells n (key (simple_key k).name ∷ q)) [] (with_claim (assigned [] (simple_key k) v))) v []
@@ -299,7 +300,7 @@ pub assigned-err : (n new : Branch) (k : Key) (v : Read) (value : Result Value H
     → m.sort ≡ Assigned → met (held_marks (child (simple_key k).name n)) m (simple_key k).name ≡ None → closed (simple_key k).name n ≡ None → value ≡ Err e → q ≡ Err e
     → ValueGives value v → Places n new q (pair_at [] (simple_key k) v) d
 assigned-err n new k v value q e m d sort admitted free was is h before =
-    gives-err q e (first_clash nothing (value_claims v [])) (first_clash (cells n) (pair_at [] (simple_key k) v)) (IsFinished v) _ is
+    gives-err q e (clash_met nothing (value_claims v [])) (clash_met (cells n) (pair_at [] (simple_key k) v)) (IsFinished v) _ is
     (λ t clash. told-free n k v (missing-free n (simple_key k).name m (simple_key k).name before sort admitted) free ∙ clash) (rw was at h)
 
 pub assigned-ok : (n new : Branch) (k : Key) (x : Value) (v : Read) (value : Result Value Halt) (m : Mark)

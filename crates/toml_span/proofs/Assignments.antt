@@ -17,7 +17,7 @@ use Rattle.toml_span.specs.declared.branch.Branch.{Branch}
 use Rattle.toml_span.specs.declared.branch.Branch.TheViews.{out-Branch}
 use Rattle.toml_span.specs.Claims.{Claims, followed, assignment_claims, key_value_claims}
 use Rattle.toml_span.specs.Clashes.{or_else}
-use Rattle.toml_span.specs.code.Machine.{State, nothing, show_all, put_all, first_clash}
+use Rattle.toml_span.specs.code.Machine.{State, nothing, show_all, put_all, clash_met}
 use Rattle.toml_span.specs.code.Placing.{Places, ScopeGives, ShowsBelow, ShowsPlain, Finishes, place_shown}
 use Rattle.toml_span.specs.code.Relative.{pair_at}
 use Rattle.toml_span.specs.code.Tree.{marks, cells, counts, plain, IsScope, IsFresh}
@@ -50,7 +50,7 @@ places-one a inner old new r is h =
 
 -- From n on the rest tells and gives what all of it does from the first node on.
 pub record Remains (n : Branch) (rest : Claims) (first : Branch) (all : Claims) : Type 0 where
-  pub tells : first_clash (cells n) rest ≡ first_clash (cells first) all
+  pub tells : clash_met (cells n) rest ≡ clash_met (cells first) all
   pub gives : put_all (cells n) rest ≡ put_all (cells first) all
   pub counted : counts n ≡ counts first
   pub scope : IsScope n
@@ -62,7 +62,7 @@ Placing n rest first all = IsScope first → Remains n (key_value_claims (map ke
 pub remains-first : (n : Branch) (rest all : List Assignment) → rest ≡ all → Placing n rest n all
 remains-first n rest all same =
     λ scope. record {
-      tells = ap (λ es. first_clash (cells n) (key_value_claims (map key_value es) [])) same;
+      tells = ap (λ es. clash_met (cells n) (key_value_claims (map key_value es) [])) same;
       gives = ap (λ es. put_all (cells n) (key_value_claims (map key_value es) [])) same;
       counted = refl;
       scope = scope;
@@ -79,8 +79,8 @@ remains-more n w first rest ps more all split inv placed =
     let h = placed inv.scope in
     record {
       tells =
-          sym (told-followed (cells n) ps more ∙ ap (λ o. or_else o (first_clash (put_all (cells n) ps) more)) h.0 ∙ ap (λ f. first_clash f more) (sym h.1.0))
-          ∙ ap (first_clash (cells n)) (sym split) ∙ inv.tells;
+          sym (told-followed (cells n) ps more ∙ ap (λ o. or_else o (clash_met (put_all (cells n) ps) more)) h.0 ∙ ap (λ f. clash_met f more) (sym h.1.0))
+          ∙ ap (clash_met (cells n)) (sym split) ∙ inv.tells;
       gives = ap (λ f. put_all f more) h.1.0 ∙ sym (put_all-followed (cells n) ps more) ∙ ap (put_all (cells n)) (sym split) ∙ inv.gives;
       counted = h.1.1 ∙ inv.counted;
       scope = h.1.2.0;
@@ -97,7 +97,7 @@ remains-err : (n w new first : Branch) (rest ps more all : Claims) (q : Result (
     → Places n w (Err e) ps (counts n) → Places first new q all (counts first)
 remains-err n w new first rest ps more all q (Clash c) split inv same placed =
     rw same
-    (λ scope. sym inv.tells ∙ ap (first_clash (cells n)) split ∙ told-followed (cells n) ps more ∙ ap (λ o. or_else o (first_clash (put_all (cells n) ps) more)) (placed inv.scope))
+    (λ scope. sym inv.tells ∙ ap (clash_met (cells n)) split ∙ told-followed (cells n) ps more ∙ ap (λ o. or_else o (clash_met (put_all (cells n) ps) more)) (placed inv.scope))
 remains-err n w new first rest ps more all q (Memory e) split inv same placed = rw same (λ scope. tt)
 
 pub placing-err : (n w first new : Branch) (old later all : List Assignment) (a : Assignment) (q : Result (Unit {0}) Halt) (e : Halt) → old ≡ a ∷ later → Placing n old first all → q ≡ Err e
@@ -107,11 +107,11 @@ placing-err n w first new old later all a q e is inv same placed =
     (key_values-more old later a is) (inv scope) same placed scope
 
 pub placing-none : (n first : Branch) (rest all : List Assignment) → rest ≡ [] → Placing n rest first all → Places first n (Ok tt) (key_value_claims (map key_value all) []) (counts first)
-unfolding first_clash put_all key_value_claims
+unfolding clash_met put_all key_value_claims
 placing-none n first rest all none inv =
     λ scope.
     let h = inv scope in
-    let told_none = ap (λ es. first_clash (cells n) (key_value_claims (map key_value es) [])) none in
+    let told_none = ap (λ es. clash_met (cells n) (key_value_claims (map key_value es) [])) none in
     let put_none = ap (λ es. put_all (cells n) (key_value_claims (map key_value es) [])) none in
     (sym h.tells ∙ told_none, (sym put_none ∙ h.gives, h.counted, (h.scope, h.kept)))
 
@@ -136,12 +136,12 @@ pub table-gives : (old new : Branch) (es : List KeyValue) (table : BTreeMap Key 
 table-gives old new es table fresh placed finished =
     let h = placed (fresh-scope old fresh) in
     let whole = finished new refl refl h.1.2.0 in (
-      ap (λ f. first_clash f (key_value_claims es [])) (sym (cells-fresh old fresh)) ∙ h.0,
+      ap (λ f. clash_met f (key_value_claims es [])) (sym (cells-fresh old fresh)) ∙ h.0,
       (shows-plain (inner_view (Table table)) es (cells new) (h.1.0 ∙ ap (λ f. put_all f (key_value_claims es [])) (cells-fresh old fresh)) whole.0, whole.1),
     )
 
 pub table-err : {A : Type 0} (old new : Branch) (es : List KeyValue) (seen : A → tree.Inner) (q : Result A Halt) (e : Halt) → IsFresh old → q ≡ Err e
     → Places old new (Err e) (key_value_claims es []) (counts old) → ScopeGives q seen (key_value_claims es [])
 table-err old new es seen q (Clash c) fresh same placed =
-    rw same (ap (λ f. first_clash f (key_value_claims es [])) (sym (cells-fresh old fresh)) ∙ placed (fresh-scope old fresh))
+    rw same (ap (λ f. clash_met f (key_value_claims es [])) (sym (cells-fresh old fresh)) ∙ placed (fresh-scope old fresh))
 table-err old new es seen q (Memory e) fresh same placed = rw same tt

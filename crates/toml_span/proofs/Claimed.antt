@@ -23,7 +23,7 @@ use Rattle.toml_span.specs.Claims.{Claims, no_claims, claimed, followed, table_c
 use Rattle.toml_span.specs.Clashes.{or_else}
 use Rattle.toml_span.specs.Flat.{by_header}
 use Rattle.toml_span.specs.code.Marks.{deciding, first, first_by_header, remember, same_sort, sort_number}
-use Rattle.toml_span.specs.code.Machine.{Gives, change, decide, met, put_all, first_clash, with_claim}
+use Rattle.toml_span.specs.code.Machine.{Gives, change, decide, met, put_all, clash_met, with_claim}
 use Rattle.toml_span.specs.code.Placing.{Reaches}
 use Rattle.toml_span.specs.code.Tree.{marks, entries, child, closed, closed_in, closed_cell, is_named, item, or_closed, or_nothing, or_zero, own_cell, cells, cell_at, counts, count_at, by_mark, is_array_sort, is_entry_sort, NoArray, NoEntry, IsNamed, IsEntry, IsTableOrArray, IsScope, AreNamed, AreEntries, HoldsOrderedValues, Sound, sound}
 use Rattle.toml_span.proofs.Grafts.{fun_ext}
@@ -301,7 +301,7 @@ scope-marked m old new other h before =
 
 pub reaches-claim : (A B : Branch → Type 0) (k : SimpleKey) (m : Mark) (old new : Branch) → met (marks old) m k.name ≡ None → Marked m old new → (A old → B new)
     → Reaches A B old new (Ok tt) (claimed (table_claim [] k m) no_claims) (counts old)
-unfolding first_clash put_all cell_at
+unfolding clash_met put_all cell_at
 reaches-claim A B k m old new free h after = λ before.
     (ap (λ o. or_else o None) free, (cells-marked k m old new h, counts-marked m old new h, after before))
 
@@ -315,9 +315,9 @@ reaches-claimed A B C k m old mid new r cs d free h after more =
 -- the claim clashes
 pub reaches-claim-err : (A C : Branch → Type 0) (k : SimpleKey) (m : Mark) (old new : Branch) (q : Result (Unit {0}) Halt) (e : Halt) (P : Unit {0} → Type 0) (cs : Claims) (d : Path → ℕ)
     → q ≡ Err e → Gives (Err e) (met (marks old) m k.name) P → Reaches A C old new q (claimed (table_claim [] k m) cs) d
-unfolding first_clash cell_at
+unfolding clash_met cell_at
 reaches-claim-err A C k m old new q e P cs d same h = subst (λ r. Reaches A C old new r (claimed (table_claim [] k m) cs) d) (sym same) (go e h)
   where
     go : (e : Halt) → Gives (Err e) (met (marks old) m k.name) P → Reaches A C old new (Err e) (claimed (table_claim [] k m) cs) d
-    go (Clash c) h = λ before. ap (λ o. or_else o (first_clash (change (cells old) [] (with_claim (table_claim [] k m))) cs)) h
+    go (Clash c) h = λ before. ap (λ o. or_else o (clash_met (change (cells old) [] (with_claim (table_claim [] k m))) cs)) h
     go (Memory e) h = λ before. tt

@@ -11,7 +11,7 @@ use Rattle.toml_span.specs.declared.branch.Branch.{Branch}
 use Rattle.toml_span.specs.declared.branch.Branch.TheViews.{out-Branch, roll-Branch}
 use Rattle.toml_span.specs.declared.branch.Branch.TheOpen.{Branch-F}
 use Rattle.toml_span.specs.Claims.{Claims}
-use Rattle.toml_span.specs.code.Machine.{graft, put_all, first_clash}
+use Rattle.toml_span.specs.code.Machine.{graft, put_all, clash_met}
 use Rattle.toml_span.specs.code.Marks.{remember}
 use Rattle.toml_span.specs.code.Placing.{Opening, Opens, Passes, Reaches}
 use Rattle.toml_span.specs.code.Relative.{one_more, under}
@@ -224,8 +224,8 @@ reaches-entry k m n new x w r cs c found puts lengths h =
     (λ before.
     let at = cells-entry n m x found in
     let added = sound-entries n before.0 m x found in
-    gives-map r (first_clash (cells x) (cs (counts x))) (first_clash (cells n) (under (position m) (cs (counts x)))) _ _
-    (told-under (position m) (cells n) (cs (counts x)) ∙ ap (λ f. first_clash f (cs (counts x))) at)
+    gives-map r (clash_met (cells x) (cs (counts x))) (clash_met (cells n) (under (position m) (cs (counts x)))) _ _
+    (told-under (position m) (cells n) (cs (counts x)) ∙ ap (λ f. clash_met f (cs (counts x))) at)
     (λ u g. (
       cells-put m w n new puts ∙ ap (graft (position m) (cells n)) (g.0 ∙ ap (λ f. put_all f (cs (counts x))) (sym at)) ∙ sym (put_all-under (position m) (cells n) (cs (counts x))),
       counts-put m w n new puts lengths ∙ ap (graft (position m) (counts n)) g.1,
@@ -251,7 +251,7 @@ reaches-added k n new x w cs entry fresh puts lengths h =
     let i = length (entries n) in
     let at = cells-next n x fresh in
     let g = h (opens-fresh x fresh) in (
-      told-under (position i) (cells n) cs ∙ ap (λ f. first_clash f cs) at ∙ g.0,
+      told-under (position i) (cells n) cs ∙ ap (λ f. clash_met f cs) at ∙ g.0,
       (
         cells-put i w n new puts ∙ ap (graft (position i) (cells n)) (g.1.0 ∙ ap (λ f. put_all f cs) (sym at)) ∙ sym (put_all-under (position i) (cells n) cs),
         counts-pushed w n new puts lengths (g.1.1 ∙ counts-fresh x fresh),
@@ -273,6 +273,6 @@ reaches-added-err k n new x w r q e cs c d fresh is same h =
     subst (λ i. Reaches IsOpen IsHeld n new q (under (position i) cs) d) (sym (counts-here n))
     (λ before.
     let i = length (entries n) in
-    gives-err q e (first_clash (cells x) cs) (first_clash (cells n) (under (position i) cs)) _ _ same
-    (λ t clash. told-under (position i) (cells n) cs ∙ ap (λ f. first_clash f cs) (cells-next n x fresh) ∙ clash)
+    gives-err q e (clash_met (cells x) cs) (clash_met (cells n) (under (position i) cs)) _ _ same
+    (λ t clash. told-under (position i) (cells n) cs ∙ ap (λ f. clash_met f cs) (cells-next n x fresh) ∙ clash)
     (rw is at (h (opens-fresh x fresh))))

@@ -6,7 +6,7 @@ use Rattle.toml_span_tree.specs.Path.{Path, Step, key, position}
 use Rattle.toml_span.specs.Paths.{same_step, same_path}
 use Rattle.toml_span.specs.Claims.{Claims, no_claims, claimed, scope, followed}
 use Rattle.toml_span.specs.Clashes.{or_else}
-use Rattle.toml_span.specs.code.Machine.{Cell, State, nothing, change, with_claim, with_inner, met, show_all, put_all, first_clash, graft}
+use Rattle.toml_span.specs.code.Machine.{Cell, State, nothing, change, with_claim, with_inner, met, show_all, put_all, clash_met, graft}
 use Rattle.toml_span.specs.code.Relative.{step_down, under}
 
 pub fun_ext : {A B : Type 0} {f g : A → B} → ((x : A) → f x ≡ g x) → f ≡ g
@@ -105,16 +105,16 @@ put_all-under s st (scope inner cs) =
     ∙ ap (λ f. graft s (graft s st sub) (put_all f cs)) (sub-graft s st sub)
     ∙ graft-graft s st sub (put_all sub cs)
 
-pub told-under : (s : Step) (st : State) (cs : Claims) → first_clash st (under s cs) ≡ first_clash (λ q. st (s ∷ q)) cs
-unfolding first_clash under
+pub told-under : (s : Step) (st : State) (cs : Claims) → clash_met st (under s cs) ≡ clash_met (λ q. st (s ∷ q)) cs
+unfolding clash_met under
 told-under s st no_claims = refl
 told-under s st (claimed c cs) =
     ap (or_else (met (st (s ∷ c.path)).marks c.mark c.name))
-    (told-under s (change st (s ∷ c.path) (with_claim c)) cs ∙ ap (λ f. first_clash f cs) (sub-change-under s st c.path (with_claim c)))
+    (told-under s (change st (s ∷ c.path) (with_claim c)) cs ∙ ap (λ f. clash_met f cs) (sub-change-under s st c.path (with_claim c)))
 told-under s st (scope inner cs) =
-    ap (λ o. or_else o (first_clash (show_all st (under s inner)) (under s cs))) (told-under s nothing inner)
-    ∙ ap (or_else (first_clash nothing inner))
-    (told-under s (show_all st (under s inner)) cs ∙ ap (λ f. first_clash f cs) (sub-show_all-under s st inner))
+    ap (λ o. or_else o (clash_met (show_all st (under s inner)) (under s cs))) (told-under s nothing inner)
+    ∙ ap (or_else (clash_met nothing inner))
+    (told-under s (show_all st (under s inner)) cs ∙ ap (λ f. clash_met f cs) (sub-show_all-under s st inner))
 
 pub under-followed : (s : Step) (xs ys : Claims) → under s (followed xs ys) ≡ followed (under s xs) (under s ys)
 unfolding under followed
@@ -156,14 +156,14 @@ pub or_else-none : {A : Type 0} (x : Option A) → or_else x None ≡ x
 or_else-none (Some x) = refl
 or_else-none None = refl
 
-pub told-followed : (st : State) (xs ys : Claims) → first_clash st (followed xs ys) ≡ or_else (first_clash st xs) (first_clash (put_all st xs) ys)
-unfolding first_clash put_all followed
+pub told-followed : (st : State) (xs ys : Claims) → clash_met st (followed xs ys) ≡ or_else (clash_met st xs) (clash_met (put_all st xs) ys)
+unfolding clash_met put_all followed
 told-followed st no_claims ys = refl
 told-followed st (claimed c cs) ys =
     let after = change st c.path (with_claim c) in
     ap (or_else (met (st c.path).marks c.mark c.name)) (told-followed after cs ys)
-    ∙ sym (or_else-assoc (met (st c.path).marks c.mark c.name) (first_clash after cs) (first_clash (put_all after cs) ys))
+    ∙ sym (or_else-assoc (met (st c.path).marks c.mark c.name) (clash_met after cs) (clash_met (put_all after cs) ys))
 told-followed st (scope inner cs) ys =
     let after = show_all st inner in
-    ap (or_else (first_clash nothing inner)) (told-followed after cs ys)
-    ∙ sym (or_else-assoc (first_clash nothing inner) (first_clash after cs) (first_clash (put_all after cs) ys))
+    ap (or_else (clash_met nothing inner)) (told-followed after cs ys)
+    ∙ sym (or_else-assoc (clash_met nothing inner) (clash_met after cs) (clash_met (put_all after cs) ys))

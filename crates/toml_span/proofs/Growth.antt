@@ -31,7 +31,7 @@ use Rattle.toml_span.specs.declared.claims.Halt.{Halt}
 use Rattle.toml_span.specs.declared.claims.Halt.TheVariants as halts
 use Rattle.toml_span.specs.declared.branch.Branch.{Branch}
 use Rattle.toml_span.specs.Claims.{claims}
-use Rattle.toml_span.specs.Clashes.{IsFirstClash}
+use Rattle.toml_span.specs.Clashes.{first_clash}
 use Rattle.toml_span.specs.code.Machine.{clash_told}
 use Rattle.toml_span.specs.code.Marks.{IsHaltInside}
 use Rattle.toml_span.specs.Ordered.{HoldsOrdered}
@@ -55,7 +55,7 @@ pub grows-clash : (bs : List Block) (b : Block) (root new : Branch) (o : Option 
     → Placed b root new (Err halt) → GrowsTo (bs ++ (b ∷ [])) new (Some c)
 grows-clash bs b root new (Some d) halt c none is headed grows placed = absurd (false≢true (sym none))
 grows-clash bs b root new None halt c none is headed grows placed = λ rest are.
-    subst (λ all. IsFirstClash [] (claims all) (clash_told c)) (sym (append_assoc bs (b ∷ []) rest))
+    subst (λ all. first_clash (claims all) ≡ Some (clash_told c)) (sym (append_assoc bs (b ∷ []) rest))
     (assembles-err (bs ++ (b ∷ rest)) (b ∷ rest) rest 0 b root new (Err (halts.Clash c)) (halts.Clash c) refl (grows (b ∷ rest) (headed.0, are)) refl (rw is at placed))
 
 pub right-more : (text : List ℕ) (ps : List SimpleKey) (root new : Branch) (o : Option Clash) → is_some o ≡ false → IfNone o (AreBorrowedRight text ps (standing root)) → (AreBorrowedRight text ps (standing root) → AreBorrowedRight text ps (standing new))
@@ -73,7 +73,7 @@ finish-tree bs length t root v grows finished shows =
     assembles-ok bs [] length t root v refl (subst (λ all. Remaining all [] root) (append-nil bs) (grows [] tt)) finished shows
 
 pub finish-clash : (bs : List Block) (length : ℕ) (root : Branch) (c : Clash) → GrowsTo bs root (Some c) → Assembles bs length (Err (halts.Clash c))
-finish-clash bs length root c grows = subst (λ all. IsFirstClash [] (claims all) (clash_told c)) (append-nil bs) (grows [] tt)
+finish-clash bs length root c grows = subst (λ all. first_clash (claims all) ≡ Some (clash_told c)) (append-nil bs) (grows [] tt)
 
 -- ---- while a text is read
 

@@ -20,9 +20,9 @@ use Rattle.toml_span.specs.declared.branch.Branch.TheViews.{out-Branch, roll-Bra
 use Rattle.toml_span.specs.declared.branch.Branch.TheOpen.{Branch-F}
 use Rattle.toml_span.specs.declared.claims.Head.{Head}
 use Rattle.toml_span.specs.Claims.{Claims, array_claims, claimed, header_mark, table_claim}
-use Rattle.toml_span.specs.Clashes.{NamedClash, blame, meeting, named, or_else, partner}
+use Rattle.toml_span.specs.Clashes.{NamedClash, blame, meeting, named, or_else}
 use Rattle.toml_span.specs.code.Machine.{Gives, met}
-use Rattle.toml_span.specs.code.Marks.{remember}
+use Rattle.toml_span.specs.code.Marks.{partner, remember}
 use Rattle.toml_span.specs.code.Placing.{Opening, Opens, Passes, Places, Reaches}
 use Rattle.toml_span.specs.code.Relative.{adding, ending, entered, grown, grown_below, grown_here, grown_through, one_more, opening, part_sort, passing, section_at, through, under}
 use Rattle.toml_span.specs.code.Tree.{IsChild, IsFresh, IsHeld, IsNamed, IsOpen, IsScope, IsTableOrArray, NoArray, Sound, child, closed, closed_marks, counts, entries, is_array_sort, is_entry_sort, item, marks}

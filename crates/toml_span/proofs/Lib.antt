@@ -3,7 +3,6 @@ pub mod Grafts
 pub mod Nodes
 pub mod Ordered
 pub mod Placed
-pub mod Examples
 pub mod Finishing
 pub mod KeyMaps
 pub mod Claimed

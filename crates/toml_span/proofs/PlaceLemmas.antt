@@ -13,8 +13,8 @@ use Rattle.toml_span.specs.declared.claims.Meeting.{Meeting}
 use Rattle.toml_span.specs.declared.claims.Clash.{Clash as ClashFound}
 use Rattle.toml_span.specs.declared.claims.Halt.{Halt}
 use Rattle.toml_span.specs.declared.claims.Halt.TheVariants.{Memory, Clash}
-use Rattle.toml_span.specs.Clashes.{blame, meeting, meets, or_else, partner}
-use Rattle.toml_span.specs.code.Marks.{Halts, IsMarkInside, IsHaltInside}
+use Rattle.toml_span.specs.Clashes.{blame, meeting, meets, or_else}
+use Rattle.toml_span.specs.code.Marks.{Halts, IsMarkInside, IsHaltInside, partner}
 use Rattle.toml_span.specs.Flat.{by_header}
 
 -- what is told at a line is told of a header

@@ -28,7 +28,7 @@ use Rattle.toml_span.specs.declared.branch.Branch.TheViews.{roll-Branch, out-Bra
 use Rattle.toml_span_read.proofs.EarlierTree.{key_cmp, same}
 use Rattle.toml_span.specs.Claims.{Claim, Claims, claimed, followed, pair_mark}
 use Rattle.toml_span.specs.Clashes.{NamedClash, blame, meeting, named, or_else}
-use Rattle.toml_span.specs.code.Machine.{Gives, change, with_claim, met, first_clash, clash_told, put_all, graft}
+use Rattle.toml_span.specs.code.Machine.{Gives, change, with_claim, met, clash_met, clash_told, put_all, graft}
 use Rattle.toml_span.specs.code.Placing.{Reaches, Places, Passes}
 use Rattle.toml_span.specs.code.Relative.{under}
 use Rattle.toml_span.specs.code.Tree.{is_named, marks, entries, child, closed, closed_in, closed_marks, closed_cell, or_closed, or_nothing, or_zero, item, cells, cell_at, counts, count_at, own_cell, is_entry_sort, IsFresh, IsNamed, IsTableOrArray, AreNamed, HoldsOrderedValues, NoArray, IsScope, IsChild, IsHeld, Sound, sound}
@@ -59,16 +59,16 @@ pub reaches-then : (A B C : Branch → Type 0) (old mid new : Branch) (r : Resul
     → Reaches A B old mid (Ok tt) xs c → Reaches B C mid new r ys d → Reaches A C old new r (followed xs ys) d
 reaches-then A B C old mid new r xs ys c d h g before =
     let first = h before in
-    gives-map r (first_clash (cells mid) ys) (first_clash (cells old) (followed xs ys)) _ _
-    (told-followed (cells old) xs ys ∙ ap (λ o. or_else o (first_clash (put_all (cells old) xs) ys)) first.0 ∙ ap (λ f. first_clash f ys) (sym first.1.0))
+    gives-map r (clash_met (cells mid) ys) (clash_met (cells old) (followed xs ys)) _ _
+    (told-followed (cells old) xs ys ∙ ap (λ o. or_else o (clash_met (put_all (cells old) xs) ys)) first.0 ∙ ap (λ f. clash_met f ys) (sym first.1.0))
     (λ u h. (h.0 ∙ ap (λ f. put_all f ys) first.1.0 ∙ sym (put_all-followed (cells old) xs ys), h.1, h.2))
     (g first.1.2)
 
 pub reaches-err : (A B C : Branch → Type 0) (old mid new : Branch) (q : Result (Unit {0}) Halt) (e : Halt) (xs ys : Claims) (c d : Path → ℕ)
     → q ≡ Err e → Reaches A B old mid (Err e) xs c → Reaches A C old new q (followed xs ys) d
 reaches-err A B C old mid new q e xs ys c d same h before =
-    gives-err q e (first_clash (cells old) xs) (first_clash (cells old) (followed xs ys)) _ _ same
-    (λ t clash. told-followed (cells old) xs ys ∙ ap (λ o. or_else o (first_clash (put_all (cells old) xs) ys)) clash)
+    gives-err q e (clash_met (cells old) xs) (clash_met (cells old) (followed xs ys)) _ _ same
+    (λ t clash. told-followed (cells old) xs ys ∙ ap (λ o. or_else o (clash_met (put_all (cells old) xs) ys)) clash)
     (h before)
 
 -- ---- another branch at a name
@@ -190,8 +190,8 @@ places-below : (n new x w : Branch) (k : List ℕ) (r : Result (Unit {0}) Halt) 
 places-below n new x w k r cs c at count free start sets h =
     subst (λ f. Places n new r (under (key k) (cs f)) (graft (key k) (counts n) (c f))) (sym count)
     (λ before.
-    gives-map r (first_clash (cells x) (cs (counts x))) (first_clash (cells n) (under (key k) (cs (counts x)))) _ _
-    (told-under (key k) (cells n) (cs (counts x)) ∙ ap (λ f. first_clash f (cs (counts x))) at)
+    gives-map r (clash_met (cells x) (cs (counts x))) (clash_met (cells n) (under (key k) (cs (counts x)))) _ _
+    (told-under (key k) (cells n) (cs (counts x)) ∙ ap (λ f. clash_met f (cs (counts x))) at)
     (λ u h. (
       cells-set n new w k sets ∙ ap (graft (key k) (cells n)) (h.0 ∙ ap (λ f. put_all f (cs (counts x))) (sym at)) ∙ sym (put_all-under (key k) (cells n) (cs (counts x))),
       counts-set n new w k sets ∙ ap (graft (key k) (counts n)) h.1,
@@ -227,9 +227,9 @@ pub places-new-err : (n new x w : Branch) (k : List ℕ) (r q : Result (Unit {0}
 places-new-err n new x w k r q e cs c d missing free fresh is same h before =
     let count = counts-missing n k missing ∙ sym (counts-fresh x fresh) in
     let start : IsChild x = (sound-fresh x fresh, inl fresh) in
-    gives-err q e (first_clash (cells x) (cs (counts x))) (first_clash (cells n) (under (key k) (cs (λ p. counts n (key k ∷ p))))) _ _ same
-    (λ t clash. told-under (key k) (cells n) (cs (λ p. counts n (key k ∷ p))) ∙ ap (λ f. first_clash f (cs (λ p. counts n (key k ∷ p)))) (cells-free n x k missing free fresh)
-    ∙ ap (λ f. first_clash (cells x) (cs f)) count ∙ clash)
+    gives-err q e (clash_met (cells x) (cs (counts x))) (clash_met (cells n) (under (key k) (cs (λ p. counts n (key k ∷ p))))) _ _ same
+    (λ t clash. told-under (key k) (cells n) (cs (λ p. counts n (key k ∷ p))) ∙ ap (λ f. clash_met f (cs (λ p. counts n (key k ∷ p)))) (cells-free n x k missing free fresh)
+    ∙ ap (λ f. clash_met (cells x) (cs f)) count ∙ clash)
     (rw is at (h start))
 
 -- ---- beside a value
@@ -238,12 +238,12 @@ places-new-err n new x w k r q e cs c d missing free fresh is same h before =
 pub places-beside : (n new : Branch) (k : List ℕ) (q : Result (Unit {0}) Halt) (e : Halt) (c : Claim) (cs : Claims) (P : Unit {0} → Type 0) (d : Path → ℕ)
     → child k n ≡ None → c.path ≡ [] → q ≡ Err e → Gives (Err e) (met (closed_marks (closed k n)) c.mark c.name) P
     → Places n new q (under (key k) (claimed c cs)) d
-unfolding first_clash
+unfolding clash_met
 places-beside n new k q e c cs P d missing here same h before =
-    gives-err q e (met (closed_marks (closed k n)) c.mark c.name) (first_clash (cells n) (under (key k) (claimed c cs))) _ _ same
+    gives-err q e (met (closed_marks (closed k n)) c.mark c.name) (clash_met (cells n) (under (key k) (claimed c cs))) _ _ same
     (λ t clash.
     told-under (key k) (cells n) (claimed c cs)
-    ∙ ap (λ o. or_else o (first_clash (change (λ q. cells n (key k ∷ q)) c.path (with_claim c)) cs)) (ap (λ p. met (cells n (key k ∷ p)).marks c.mark c.name) here ∙ ap (λ f. met (f []).marks c.mark c.name) (cells-closed n k missing) ∙ clash))
+    ∙ ap (λ o. or_else o (clash_met (change (λ q. cells n (key k ∷ q)) c.path (with_claim c)) cs)) (ap (λ p. met (cells n (key k ∷ p)).marks c.mark c.name) here ∙ ap (λ f. met (f []).marks c.mark c.name) (cells-closed n k missing) ∙ clash))
     h
 
 closed-clashes : (s : Sort) (f : Blame → Meeting) (g : Meeting → NamedClash) → option_map g (or_else (option_map f (blame Assigned s)) None) ≡ None → is_entry_sort s ≡ false → ⊥

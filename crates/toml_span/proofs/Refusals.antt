@@ -1,5 +1,5 @@
 -- What the reader and the assembly give is what `parse` gives.
-use Rattle.std.proofs.Common.{◌≡◌, ℕ, Bool, false, List, [], ◌∷◌, ◌++◌, length, inl, inr, refl, sym, subst, Result, Ok, Err}
+use Rattle.std.proofs.Common.{◌≡◌, Some, ℕ, Bool, false, List, [], ◌∷◌, ◌++◌, length, inl, inr, refl, sym, subst, Result, Ok, Err}
 use Rattle.std.specs.Result.{IfErr, IfOk}
 use Rattle.toml_span_lex.specs.declared.stop.Stop.{Stop}
 use Rattle.toml_span_lex.specs.declared.stop.Stop.TheVariants as stops
@@ -17,7 +17,7 @@ use Rattle.toml_span.specs.declared.claims.Clash.{Clash}
 use Rattle.toml_span.specs.declared.claims.Halt.{Halt}
 use Rattle.toml_span.specs.declared.claims.Halt.TheVariants as halts
 use Rattle.toml_span.specs.Claims.{claims}
-use Rattle.toml_span.specs.Clashes.{IsFirstClash}
+use Rattle.toml_span.specs.Clashes.{first_clash}
 use Rattle.toml_span.specs.code.Machine.{clash_told}
 use Rattle.toml_span.specs.code.Growing.{GrownGives, IsClashStop}
 use Rattle.toml_span.specs.Parsing.{IsTreeOf, IsTree, IsRefusal}
@@ -65,5 +65,5 @@ refusals-clash text limit bs (Ok v) spelled h = tt
 refusals-clash text limit bs (Err stop) spelled h = refusal-clash text limit bs stop spelled h
 
 -- where the assembly ends at a clash it is the first one
-pub first-of-halt : (bs : List Block) (n : ℕ) (halt : Halt) (c : Clash) → halt ≡ halts.Clash c → Assembles bs n (Err halt) → IsFirstClash [] (claims bs) (clash_told c)
+pub first-of-halt : (bs : List Block) (n : ℕ) (halt : Halt) (c : Clash) → halt ≡ halts.Clash c → Assembles bs n (Err halt) → first_clash (claims bs) ≡ Some (clash_told c)
 first-of-halt bs n halt c is h = rw is at h

@@ -28,7 +28,7 @@ use Rattle.toml_span.specs.declared.claims.Halt.TheVariants.{Memory, Clash}
 use Rattle.toml_span.specs.Paths.{same_step, same_path, with_key, with_position}
 use Rattle.toml_span.specs.Claims.{Claims, no_claims, claimed, scope, followed, key_claims, value_claims, inner_claims, item_claims, pair_claims, key_value_claims, element, value_shape}
 use Rattle.toml_span.specs.Clashes.{or_else, NamedClash}
-use Rattle.toml_span.specs.code.Machine.{State, nothing, no_cell, change, with_claim, with_inner, show_all, put_all, first_clash, clash_told, graft}
+use Rattle.toml_span.specs.code.Machine.{State, nothing, no_cell, change, with_claim, with_inner, show_all, put_all, clash_met, clash_told, graft}
 use Rattle.toml_span.specs.Ordered.{HoldsOrdered, AreOrdered}
 use Rattle.toml_span.specs.code.Placing.{IsFinished, ValueGives, ShowsPlain, ScopeGives}
 use Rattle.toml_span.specs.code.Tree.{value_shows, plain}
@@ -98,8 +98,8 @@ show_all-local f g (scope inner cs) p same =
 
 -- ---- a value is a scope of its own, or claims nothing
 
-told-value : (st : State) (v : Read) (p : Path) → first_clash st (value_claims v p) ≡ first_clash nothing (value_claims v p)
-unfolding first_clash value_claims inner_claims
+told-value : (st : State) (v : Read) (p : Path) → clash_met st (value_claims v p) ≡ clash_met nothing (value_claims v p)
+unfolding clash_met value_claims inner_claims
 told-value st (parsed (scalar s) span) p = refl
 told-value st (parsed (array vs) span) p = refl
 told-value st (parsed (inline ps) span) p = refl
@@ -110,8 +110,8 @@ put_all-value st (parsed (scalar s) span) p = refl
 put_all-value st (parsed (array vs) span) p = refl
 put_all-value st (parsed (inline ps) span) p = refl
 
-told-moved : (st : State) (v : Read) (s : Step) → first_clash st (value_claims v (s ∷ [])) ≡ first_clash nothing (value_claims v [])
-told-moved st v s = told-value st v (s ∷ []) ∙ ap (first_clash nothing) (value_claims-under v s []) ∙ told-under s nothing (value_claims v [])
+told-moved : (st : State) (v : Read) (s : Step) → clash_met st (value_claims v (s ∷ [])) ≡ clash_met nothing (value_claims v [])
+told-moved st v s = told-value st v (s ∷ []) ∙ ap (clash_met nothing) (value_claims-under v s []) ∙ told-under s nothing (value_claims v [])
 
 -- ---- elements, one after another
 
@@ -138,15 +138,15 @@ apart : (i l : ℕ) → i < l → same_step (position i) (position l) ≡ false
 apart i l h = ne_eqb i l (λ same. absurd (omega (arith, same)))
 
 told-item : (st : State) (i : ℕ) (v : Read) (vs : ParsedItems) → (st (step_to i)).marks ≡ []
-    → first_clash st (item_claims (item v vs) i []) ≡ or_else (first_clash nothing (value_claims v [])) (first_clash (behind st i v) (item_claims vs (suc i) []))
-unfolding first_clash item_claims
+    → clash_met st (item_claims (item v vs) i []) ≡ or_else (clash_met nothing (value_claims v [])) (clash_met (behind st i v) (item_claims vs (suc i) []))
+unfolding clash_met item_claims
 told-item st i v vs none =
     let next = change st (step_to i) (with_claim (element (step_to i) v)) in
     let rest = item_claims vs (suc i) [] in
     rw none
     (told-followed next (value_claims v (step_to i)) rest
-    ∙ ap (λ o. or_else o (first_clash (put_all next (value_claims v (step_to i))) rest)) (told-moved next v (position i))
-    ∙ ap (λ f. or_else (first_clash nothing (value_claims v [])) (first_clash f rest)) (put_all-value next v (step_to i)))
+    ∙ ap (λ o. or_else o (clash_met (put_all next (value_claims v (step_to i))) rest)) (told-moved next v (position i))
+    ∙ ap (λ f. or_else (clash_met nothing (value_claims v [])) (clash_met f rest)) (put_all-value next v (step_to i)))
 
 no_marks-behind : (st : State) (i : ℕ) (v : Read) → NoMarks i st → NoMarks (suc i) (behind st i v)
 unfolding change same_path
@@ -159,7 +159,7 @@ abbrev pub AreFinished : List Read → List Value → Type 0
 AreFinished [] [] = ⊤
 AreFinished [] (x ∷ xs) = ⊥
 AreFinished (v ∷ vs) [] = ⊥
-AreFinished (v ∷ vs) (x ∷ xs) = ((first_clash nothing (value_claims v []) ≡ None) × IsFinished v x) × AreFinished vs xs
+AreFinished (v ∷ vs) (x ∷ xs) = ((clash_met nothing (value_claims v []) ≡ None) × IsFinished v x) × AreFinished vs xs
 
 pub finished-more : (vs : List Read) (xs : List Value) (v : Read) (x : Value) → AreFinished vs xs → ValueGives (Ok x) v → AreFinished (vs ++ (v ∷ [])) (xs ++ (x ∷ []))
 finished-more [] [] v x h g = (g, tt)
@@ -167,27 +167,27 @@ finished-more [] (y ∷ xs) v x h g = absurd h
 finished-more (w ∷ vs) [] v x h g = absurd h
 finished-more (w ∷ vs) (y ∷ xs) v x h g = (h.0, finished-more vs xs v x h.1 g)
 
-told-finished : (vs : List Read) (xs : List Value) (i : ℕ) (st : State) → AreFinished vs xs → NoMarks i st → first_clash st (item_claims (onto vs no_items) i []) ≡ None
-unfolding first_clash item_claims
+told-finished : (vs : List Read) (xs : List Value) (i : ℕ) (st : State) → AreFinished vs xs → NoMarks i st → clash_met st (item_claims (onto vs no_items) i []) ≡ None
+unfolding clash_met item_claims
 told-finished [] [] i st h none = refl
 told-finished [] (x ∷ xs) i st h none = absurd h
 told-finished (v ∷ vs) [] i st h none = absurd h
 told-finished (v ∷ vs) (x ∷ xs) i st h none =
     told-item st i v (onto vs no_items) (none i (omega arith))
-    ∙ ap (λ o. or_else o (first_clash (behind st i v) (item_claims (onto vs no_items) (suc i) []))) h.0.0
+    ∙ ap (λ o. or_else o (clash_met (behind st i v) (item_claims (onto vs no_items) (suc i) []))) h.0.0
     ∙ told-finished vs xs (suc i) (behind st i v) h.1 (no_marks-behind st i v none)
 
 -- the first clash in an element behind them
 told-element : (vs : List Read) (xs : List Value) (v : Read) (more : List Read) (t : NamedClash) (i : ℕ) (st : State) → AreFinished vs xs → NoMarks i st
-    → first_clash nothing (value_claims v []) ≡ Some t → first_clash st (item_claims (onto (vs ++ (v ∷ more)) no_items) i []) ≡ Some t
+    → clash_met nothing (value_claims v []) ≡ Some t → clash_met st (item_claims (onto (vs ++ (v ∷ more)) no_items) i []) ≡ Some t
 told-element [] [] v more t i st h none is =
     told-item st i v (onto more no_items) (none i (omega arith))
-    ∙ ap (λ o. or_else o (first_clash (behind st i v) (item_claims (onto more no_items) (suc i) []))) is
+    ∙ ap (λ o. or_else o (clash_met (behind st i v) (item_claims (onto more no_items) (suc i) []))) is
 told-element [] (x ∷ xs) v more t i st h none is = absurd h
 told-element (w ∷ vs) [] v more t i st h none is = absurd h
 told-element (w ∷ vs) (x ∷ xs) v more t i st h none is =
     told-item st i w (onto (vs ++ (v ∷ more)) no_items) (none i (omega arith))
-    ∙ ap (λ o. or_else o (first_clash (behind st i w) (item_claims (onto (vs ++ (v ∷ more)) no_items) (suc i) []))) h.0.0
+    ∙ ap (λ o. or_else o (clash_met (behind st i w) (item_claims (onto (vs ++ (v ∷ more)) no_items) (suc i) []))) h.0.0
     ∙ told-element vs xs v more t (suc i) (behind st i w) h.1 (no_marks-behind st i w none) is
 
 -- ---- what elements show
@@ -303,7 +303,7 @@ pub elements-err : {A : Type 0} (old later all : List Val) (v : Val) (xs : List 
     → ValueGives (Err e) (view_read v) → ScopeGives q seen (item_claims (onto (map view_read all) no_items) 0 [])
 elements-err old later all v xs seen q (Clash c) is inv same gives =
     rw same
-    (ap (first_clash nothing) (elements-split all inv.0 later v (inv.1 ∙ ap (λ l. inv.0 ++ l) is))
+    (ap (clash_met nothing) (elements-split all inv.0 later v (inv.1 ∙ ap (λ l. inv.0 ++ l) is))
     ∙ told-element (map view_read inv.0) xs (view_read v) (map view_read later) (clash_told c) 0 nothing inv.2 no_marks gives)
 elements-err old later all v xs seen q (Memory e) is inv same gives = rw same tt
 
@@ -317,7 +317,7 @@ elements-none rest all xs none inv =
 -- ---- what was read of a kind
 
 value-gives : (v : Val) (k : ParsedInner) (i : tree.Inner) (x : Value) → kind_view v.kind ≡ k → view x ≡ tree.node i v.span → tree_shape i ≡ value_shape k
-    → first_clash nothing (inner_claims k []) ≡ None → ShowsPlain i (show_all nothing (inner_claims k [])) → HoldsOrdered i → ValueGives (Ok x) (view_read v)
+    → clash_met nothing (inner_claims k []) ≡ None → ShowsPlain i (show_all nothing (inner_claims k [])) → HoldsOrdered i → ValueGives (Ok x) (view_read v)
 unfolding value_claims
 value-gives v k i x kind seen shape clear shows ordered =
     let is : view_read v ≡ parsed k v.span = view_is v ∙ ap (λ k. parsed k v.span) kind in
@@ -329,7 +329,7 @@ scalar-shows x (position i) p = refl
 
 scalar-gives : (v : Val) (inner : ValueInner) (x : Value) (s : Scalar) → kind_view v.kind ≡ scalar s → inner_view inner ≡ tree.scalar s → view x ≡ tree.node (inner_view inner) v.span
     → ValueGives (Ok x) (view_read v)
-unfolding first_clash show_all inner_claims
+unfolding clash_met show_all inner_claims
 scalar-gives v inner x s kind is seen = value-gives v (scalar s) (tree.scalar s) x kind (seen ∙ ap (λ i. tree.node i v.span) is) refl refl (scalar-shows s) tt
 
 pub string-gives : (v : Val) (inner : ValueInner) (x : Value) (s : CowStr Global) → v.kind ≡ kinds.String s → inner ≡ inners.String s → view x ≡ tree.node (inner_view inner) v.span
@@ -368,18 +368,18 @@ datetime-gives v inner x d kind is seen =
     scalar-gives v inner x (datetime (date_bytes d)) (ap kind_view kind ∙ read) (ap inner_view is ∙ made) seen
 
 -- what is claimed in a scope that is all there is
-scope-told : (cs : Claims) → first_clash nothing (scope cs no_claims) ≡ first_clash nothing cs
-unfolding first_clash
-scope-told cs = or_else-none (first_clash nothing cs)
+scope-told : (cs : Claims) → clash_met nothing (scope cs no_claims) ≡ clash_met nothing cs
+unfolding clash_met
+scope-told cs = or_else-none (clash_met nothing cs)
 
 scope-shown : (cs : Claims) → show_all nothing (scope cs no_claims) ≡ show_all nothing cs
 unfolding show_all
 scope-shown cs = refl
 
 scope-gives : (v : Val) (k : ParsedInner) (cs : Claims) (i : tree.Inner) (x : Value) → kind_view v.kind ≡ k → inner_claims k [] ≡ scope cs no_claims → view x ≡ tree.node i v.span → tree_shape i ≡ value_shape k
-    → first_clash nothing cs ≡ None → ShowsPlain i (show_all nothing cs) × HoldsOrdered i → ValueGives (Ok x) (view_read v)
+    → clash_met nothing cs ≡ None → ShowsPlain i (show_all nothing cs) × HoldsOrdered i → ValueGives (Ok x) (view_read v)
 scope-gives v k cs i x kind claims seen shape clear whole =
-    value-gives v k i x kind seen shape (ap (first_clash nothing) claims ∙ scope-told cs ∙ clear)
+    value-gives v k i x kind seen shape (ap (clash_met nothing) claims ∙ scope-told cs ∙ clear)
     (λ s p. whole.0 s p ∙ ap (λ f. (f (s ∷ p)).shown) (sym (scope-shown cs) ∙ ap (show_all nothing) (sym claims))) whole.1
 
 scope-err : {A : Type 0} (v : Val) (k : ParsedInner) (cs : Claims) (seen : A → tree.Inner) (q : Result Value Halt) (e : Halt) → kind_view v.kind ≡ k → inner_claims k [] ≡ scope cs no_claims → q ≡ Err e
@@ -387,7 +387,7 @@ scope-err : {A : Type 0} (v : Val) (k : ParsedInner) (cs : Claims) (seen : A →
 unfolding value_claims
 scope-err v k cs seen q (Clash c) kind claims same gives =
     let is : view_read v ≡ parsed k v.span = view_is v ∙ ap (λ k. parsed k v.span) kind in
-    rw (same, is) (ap (first_clash nothing) claims ∙ scope-told cs ∙ gives)
+    rw (same, is) (ap (clash_met nothing) claims ∙ scope-told cs ∙ gives)
 scope-err v k cs seen q (Memory e) kind claims same gives = rw same tt
 
 -- ---- arrays and inline tables

@@ -1,5 +1,5 @@
 -- Which claims clash, and what is told of two that do.
-use Rattle.std.specs.Prelude.{◌≡◌, ⊤, ℕ, if◌then◌else◌, List, [], ◌∷◌, ◌++◌, Option, Some, None, option_map}
+use Rattle.std.specs.Prelude.{◌≡◌, ℕ, if◌then◌else◌, List, [], ◌∷◌, ◌++◌, Option, Some, None, option_map}
 use Rattle.toml_span_tree.specs.Error.{Kind, duplicate_table, duplicate_key, redefine_as_array, ErrorContent}
 use Rattle.toml_span.specs.declared.claims.Sort.{Sort}
 use Rattle.toml_span.specs.declared.claims.Sort.TheVariants.{Passed, StandardTable, ArrayOfTables, Dotted}
@@ -49,11 +49,6 @@ abbrev pub or_else : {A : Type 0} → Option A → Option A → Option A
 or_else (Some x) o = Some x
 or_else None o = o
 
--- the clash of a claim with the earliest of those that it clashes with
-abbrev pub partner : List Mark → Mark → Option Meeting
-partner [] later = None
-partner (earlier ∷ marks) later = or_else (meets earlier later) (partner marks later)
-
 -- a clash, and the name of the key that is claimed again
 pub record NamedClash : Type 0 where
   pub meeting : Meeting
@@ -67,31 +62,25 @@ unfoldable pub clash : Claim → Claim → Option NamedClash
 clash earlier later =
     if same_path earlier.path later.path then option_map (named later.name) (meets earlier.mark later.mark) else None
 
--- none of the earlier claims clashes with it
-abbrev pub IsFree : List Claim → Claim → Type 0
-IsFree [] later = ⊤
-IsFree (c ∷ earlier) later = (clash c later ≡ None) × IsFree earlier later
+-- the clash of a claim with the earliest of these that it clashes with
+unfoldable pub clash_among : List Claim → Claim → Option NamedClash
+clash_among [] later = None
+clash_among (c ∷ earlier) later = or_else (clash c later) (clash_among earlier later)
 
--- No claim clashes with an earlier one of its scope. In the outer scope these claims are earlier than all of them.
-abbrev pub Resolves : List Claim → Claims → Type 0
-Resolves earlier no_claims = ⊤
-Resolves earlier (claimed c cs) = IsFree earlier c × Resolves (earlier ++ (c ∷ [])) cs
-Resolves earlier (scope inner cs) = Resolves [] inner × Resolves earlier cs
+-- The first clash in the order of the text, behind these earlier claims of the scope: that of the first claim which
+-- clashes with an earlier one of its scope, and with the earliest of those.
+unfoldable pub clash_behind : List Claim → Claims → Option NamedClash
+clash_behind earlier no_claims = None
+clash_behind earlier (claimed c cs) = or_else (clash_among earlier c) (clash_behind (earlier ++ (c ∷ [])) cs)
+clash_behind earlier (scope inner cs) = or_else (clash_behind [] inner) (clash_behind earlier cs)
 
--- Behind these earlier claims of the scope this is the first clash in the order of the text: that of the first claim
--- which clashes with an earlier one of its scope, and with the earliest of those.
-pub data IsFirstClash : List Claim → Claims → NamedClash → Type 0 where
-  clash_here : (before after : List Claim) (earlier later : Claim) (cs : Claims) (t : NamedClash) → IsFree before later
-      → clash earlier later ≡ Some t
-      → IsFirstClash (before ++ (earlier ∷ after)) (claimed later cs) t
-  clash_behind : (earlier : List Claim) (c : Claim) (cs : Claims) (t : NamedClash) → IsFree earlier c
-      → IsFirstClash (earlier ++ (c ∷ [])) cs t
-      → IsFirstClash earlier (claimed c cs) t
-  clash_in_scope : (earlier : List Claim) (inner cs : Claims) (t : NamedClash) → IsFirstClash [] inner t
-      → IsFirstClash earlier (scope inner cs) t
-  clash_after : (earlier : List Claim) (inner cs : Claims) (t : NamedClash) → Resolves [] inner
-      → IsFirstClash earlier cs t
-      → IsFirstClash earlier (scope inner cs) t
+-- the first clash of a document's claims
+abbrev pub first_clash : Claims → Option NamedClash
+first_clash cs = clash_behind [] cs
+
+-- no claim clashes with an earlier one of its scope
+abbrev pub Resolves : Claims → Type 0
+Resolves cs = first_clash cs ≡ None
 
 -- the kind of the error that tells of a clash over a name
 abbrev pub kind_of_clash : Blame → List ℕ → Meeting → Kind

@@ -1,5 +1,5 @@
 -- What `parse` gives, and what it refuses.
-use Rattle.std.specs.Prelude.{◌≡◌, ⊤, ℕ, ◌≤◌, ◌⊎◌, List, [], map, length}
+use Rattle.std.specs.Prelude.{◌≡◌, ⊤, ℕ, ◌≤◌, ◌⊎◌, List, Some, map, length}
 use Rattle.toml_span_lex.specs.declared.stop.Stop.{Stop}
 use Rattle.toml_span_lex.specs.declared.stop.Stop.TheVariants as stops
 use Rattle.toml_span_tree.specs.declared.value.Value.{Value}
@@ -16,7 +16,7 @@ use Rattle.toml_span_read.specs.Places.{StartsInside, IsLineInfo}
 use Rattle.toml_span_read.specs.Faults.{Tells}
 use Rattle.toml_span_read.specs.Due.{IsDue}
 use Rattle.toml_span.specs.Claims.{claims}
-use Rattle.toml_span.specs.Clashes.{Resolves, NamedClash, IsFirstClash, content_of_clash}
+use Rattle.toml_span.specs.Clashes.{Resolves, NamedClash, first_clash, content_of_clash}
 use Rattle.toml_span.specs.Flat.{flat, Shows}
 use Rattle.toml_span.specs.Ordered.{IsOrdered}
 use Rattle.toml_span.specs.Borrowed.{AreBorrowedRight, keys_of, value_standing}
@@ -26,7 +26,7 @@ use Rattle.toml_span.specs.Borrowed.{AreBorrowedRight, keys_of, value_standing}
 -- No two claims of these sections clash, and the tree shows their flat document, which is so many bytes long. In each
 -- table the names ascend, so none stands there twice.
 pub record IsTreeOf (blocks : List Block) (size : ℕ) (root : Value) : Type 0 where
-  pub resolves : Resolves [] (claims blocks)
+  pub resolves : Resolves (claims blocks)
   pub shows : Shows (view root) (flat size (claims blocks))
   pub ordered : IsOrdered (view root)
 
@@ -59,7 +59,7 @@ pub record IsClashOf (blocks : List Block) (text : List ℕ) (error : Error) : T
   pub clash : NamedClash
   pub line : ℕ
   pub column : ℕ
-  pub first : IsFirstClash [] (claims blocks) clash
+  pub first : first_clash (claims blocks) ≡ Some clash
   pub tells : content_of error ≡ content_of_clash clash.meeting clash.name (line, column)
   pub within : clash.meeting.span.start ≤ length text
   pub forward : clash.meeting.span.start ≤ clash.meeting.span.end

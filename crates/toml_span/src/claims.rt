@@ -188,9 +188,9 @@ fn same_sort(a: Sort, b: Sort) -> bool
 
 /// Whether a claim of its sort is among these, unless it clashes with one of them: then its clash with the earliest.
 fn knows(marks: &[Mark], mark: Mark) -> Result<bool, Meeting>
-    ensures known { IfOk result (λ known. (clashes.partner marks.now mark ≡ None)
+    ensures known { IfOk result (λ known. (kept.partner marks.now mark ≡ None)
         × (known ≡ list_any (λ seen. kept.same_sort seen.sort mark.sort) marks.now)) }
-    ensures clash { IfErr result (λ meeting. clashes.partner marks.now mark ≡ Some meeting) }
+    ensures clash { IfErr result (λ meeting. kept.partner marks.now mark ≡ Some meeting) }
 {
     let mut known = false;
     for seen in marks {

@@ -17,6 +17,7 @@ use Rattle.toml_span.proofs.EachClaim.{same_path-eq}
 use Rattle.toml_span.proofs.Refusals.{spelled-headed}
 use Rattle.toml_span_laws.specs.Clashing.{IsIn, own}
 use Rattle.toml_span_laws.specs.Laws.{AssignsAgain, ValueReadsAgain}
+use Rattle.toml_span_laws.proofs.FirstClash.{AreFree, are-free}
 use Rattle.toml_span_laws.proofs.Apart.{in-left, in-right}
 use Rattle.toml_span_laws.proofs.ClaimedValues.{document-again}
 use Rattle.toml_span_laws.proofs.EntryDecides.{at-append}
@@ -159,7 +160,7 @@ pub record Alone (text : List ℕ) (limit : ℕ) (c : Claim) (cs : Claims) : Typ
   pub shape : c.place.shape ≡ value_shape (parsed_inner value)
   pub span : c.place.span ≡ parsed_span value
   pub brackets : (s : Scalar) → value_shape (parsed_inner value) ≡ shape_scalar s → ⊥
-  pub resolves : Resolves [] (value_claims value c.path)
+  pub resolves : AreFree [] (value_claims value c.path)
   pub below : (d : Claim) → IsIn d (all_claims (value_claims value c.path)) → IsUnder c.path d.path
   pub only : (r : Path) → claims_at (c.path ++ r) (all_claims cs) ≡ claims_at (c.path ++ r) (c ∷ all_claims (value_claims value c.path))
 
@@ -196,7 +197,7 @@ alone-here text limit base earlier x v rest h again shape span brackets =
       shape = shape;
       span = span;
       brackets = brackets;
-      resolves = subst (λ c. Resolves [] c) (sym is) (scene.resolves.0, tt);
+      resolves = subst (λ c. AreFree [] c) (sym is) (scene.resolves.0, tt);
       below = λ d here. scoped-under x.path [] None inner d scene.scoped.2 (subst (λ l. IsIn d l) (ap all_claims is ∙ append-nil (all_claims inner)) here);
       only = λ r.
           ap (λ l. claims_at (x.path ++ r) (x ∷ l)) (all_claims-followed (value_claims v x.path) rest)
@@ -234,10 +235,10 @@ alone text limit base earlier (Some a) (scope inner cs) c h again here value bra
 
 -- ---- documents
 
-pub document-alone : (text : List ℕ) (limit : ℕ) (bs : List Block) (c : Claim) → SpellsDocument bs text limit → Resolves [] (claims bs) → IsIn c (all_claims (claims bs)) → c.mark.sort ≡ Assigned
+pub document-alone : (text : List ℕ) (limit : ℕ) (bs : List Block) (c : Claim) → SpellsDocument bs text limit → Resolves (claims bs) → IsIn c (all_claims (claims bs)) → c.mark.sort ≡ Assigned
     → ((s : Scalar) → c.place.shape ≡ shape_scalar s → ⊥) → Alone text limit c (claims bs) × IsUnder [] c.path
 document-alone text limit bs c h ok here value brackets =
     let scoped = document-scoped bs (spelled-headed bs text limit h) in (
-      alone text limit [] [] None (claims bs) c (record { scoped = scoped; resolves = ok; fit = λ x no. absurd no; peaceful = tt; latest = tt }) (document-again bs text limit h) here value brackets,
+      alone text limit [] [] None (claims bs) c (record { scoped = scoped; resolves = are-free [] (claims bs) ok; fit = λ x no. absurd no; peaceful = tt; latest = tt }) (document-again bs text limit h) here value brackets,
       scoped-under [] [] None (claims bs) c scoped here,
     )

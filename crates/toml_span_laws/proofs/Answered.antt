@@ -1,5 +1,5 @@
 -- Each document has a tree or a first clash, and one only.
-use Rattle.std.proofs.Common.{◌≡◌, ℕ, ◌<◌, arith, eq-eqb, slice_index, List, [], Option, Some, None, Result, Ok, Err, refl, sym, ap, ◌∙◌, subst, ◌⊎◌, inl, inr, length}
+use Rattle.std.proofs.Common.{◌≡◌, ℕ, ◌<◌, arith, eq-eqb, slice_index, List, Some, None, Result, Ok, Err, sym, ap, ◌∙◌, subst, ◌⊎◌, inl, inr, length}
 use Rattle.std.proofs.lemmas.Bool.{cases_order, false≢true}
 use Rattle.std.proofs.lemmas.Option.{same_Some, none-some}
 use Rattle.toml_span_lex.specs.declared.stop.Stop.{Stop}
@@ -19,26 +19,12 @@ use Rattle.toml_span_read.specs.Due.{IsDue}
 use Rattle.toml_span_laws.proofs.DueLaws.{due_one, due_excluded}
 use Rattle.toml_span_laws.proofs.LineLaws.{document_unique}
 use Rattle.toml_span_laws.proofs.ValueLaws.{value_unique}
-use Rattle.toml_span.specs.Claims.{Claims, claims}
-use Rattle.toml_span.specs.Clashes.{content_of_clash, NamedClash, Resolves, IsFirstClash}
+use Rattle.toml_span.specs.Claims.{claims}
+use Rattle.toml_span.specs.Clashes.{content_of_clash, NamedClash, first_clash}
 use Rattle.toml_span.specs.Flat.{flat}
-use Rattle.toml_span.specs.code.Machine.{nothing, first_clash}
 use Rattle.toml_span.specs.Parsing.{IsTreeOf, IsTree, IsFault, IsClashOf, IsClash, IsRefusal}
 use Rattle.toml_span_laws.specs.Outcomes.{Outcome, resolved, clashed, refused_at, HasOutcome, IsAnswered, TellsClash, IsAnswerOf, IsAlike}
-use Rattle.toml_span.proofs.Judged.{told-none, told-some, resolves-told, first-told}
-
-judged : (cs : Claims) (o : Option NamedClash) → first_clash nothing cs ≡ o → Resolves [] cs ⊎ ((clash : NamedClash) × IsFirstClash [] cs clash)
-judged cs None is = inl (told-none cs is)
-judged cs (Some t) is = inr (t, told-some cs t is)
-
-pub resolves-or-told : (cs : Claims) → Resolves [] cs ⊎ ((clash : NamedClash) × IsFirstClash [] cs clash)
-resolves-or-told cs = judged cs (first_clash nothing cs) refl
-
-pub one-first : (cs : Claims) (t u : NamedClash) → IsFirstClash [] cs t → IsFirstClash [] cs u → t ≡ u
-one-first cs t u h g = same_Some t u (sym (first-told cs t h) ∙ first-told cs u g)
-
-pub none-first : (cs : Claims) (t : NamedClash) → Resolves [] cs → IsFirstClash [] cs t → ⊥
-none-first cs t h g = none-some t (sym (resolves-told cs h) ∙ first-told cs t g)
+use Rattle.toml_span_laws.proofs.FirstClash.{cases_option}
 
 -- ---- texts
 
@@ -51,7 +37,7 @@ never-due text limit bs fault h g = due_excluded text limit bs fault h g
 pub tree-or-refusal : (text : List ℕ) (limit : ℕ) (root : Value) (error : Error) → IsTree text limit root → IsRefusal text limit (stops.Fault error) → ⊥
 tree-or-refusal text limit root error (bs, spelled, tree) (inl (fault, due, placed, tells)) = never-due text limit bs fault spelled due
 tree-or-refusal text limit root error (bs, spelled, tree) (inr (cs, others, clash)) =
-    none-first (claims bs) clash.clash tree.resolves (subst (λ l. IsFirstClash [] (claims l) clash.clash) (one-document text limit cs bs others spelled) clash.first)
+    none-some clash.clash (sym tree.resolves ∙ sym (ap (λ l. first_clash (claims l)) (one-document text limit cs bs others spelled)) ∙ clash.first)
 
 pub one-tree : (text : List ℕ) (limit : ℕ) (root other : Value) (p : Path) → IsTree text limit root → IsTree text limit other → place_at p (view root) ≡ place_at p (view other)
 one-tree text limit root other p (bs, spelled, tree) (cs, others, same) =
@@ -80,7 +66,7 @@ line_info-one text i l c m d a b = (
 
 same-clash : (text : List ℕ) (bs : List Block) (e f : Error) → IsClashOf bs text e → IsClashOf bs text f → content_of e ≡ content_of f
 same-clash text bs e f a b =
-    let same = one-first (claims bs) a.clash b.clash a.first b.first in
+    let same = same_Some a.clash b.clash (sym a.first ∙ b.first) in
     let here = subst (λ t. IsLineInfo text t.meeting.span.start b.line b.column) (sym same) b.place in
     let info = line_info-one text a.clash.meeting.span.start a.line a.column b.line b.column a.place here in
     a.tells ∙ ap (λ t. content_of_clash t.meeting t.name (a.line, a.column)) same
@@ -126,12 +112,12 @@ alike text limit (Err (stops.Fault e)) (Err (stops.Fault f)) a b = one-refusal t
 -- ---- one outcome
 
 resolved-or-clashed : (text : List ℕ) (limit : ℕ) (bs cs : List Block) (t : NamedClash) → HasOutcome text limit (resolved bs) → HasOutcome text limit (clashed cs t) → ⊥
-resolved-or-clashed text limit bs cs t a b = none-first (claims bs) t a.1 (subst (λ l. IsFirstClash [] (claims l) t) (one-document text limit cs bs b.0 a.0) b.1)
+resolved-or-clashed text limit bs cs t a b = none-some t (sym a.1 ∙ sym (ap (λ l. first_clash (claims l)) (one-document text limit cs bs b.0 a.0)) ∙ b.1)
 
 same-clashed : (text : List ℕ) (limit : ℕ) (bs cs : List Block) (t u : NamedClash) → HasOutcome text limit (clashed bs t) → HasOutcome text limit (clashed cs u) → clashed bs t ≡ clashed cs u
 same-clashed text limit bs cs t u a b =
     let same : cs ≡ bs = one-document text limit cs bs b.0 a.0 in
-    let first : t ≡ u = one-first (claims bs) t u a.1 (subst (λ l. IsFirstClash [] (claims l) u) same b.1) in
+    let first : t ≡ u = same_Some t u (sym a.1 ∙ sym (ap (λ l. first_clash (claims l)) same) ∙ b.1) in
     ap (λ l. clashed l t) (sym same) ∙ ap (λ x. clashed cs x) first
 
 pub one-outcome : (text : List ℕ) (limit : ℕ) (x y : Outcome) → HasOutcome text limit x → HasOutcome text limit y → x ≡ y
@@ -147,8 +133,7 @@ one-outcome text limit (refused_at e) (refused_at f) a b = ap (λ x. refused_at 
 
 same-first : (text : List ℕ) (limit : ℕ) (bs : List Block) (t : NamedClash) (e : Error) → HasOutcome text limit (clashed bs t) → IsClash text limit e → TellsClash text t e
 same-first text limit bs t e h (cs, spelled, c) =
-    let first = subst (λ l. IsFirstClash [] (claims l) c.clash) (one-document text limit cs bs spelled h.0) c.first in
-    let same : c.clash ≡ t = one-first (claims bs) c.clash t first h.1 in
+    let same : c.clash ≡ t = same_Some c.clash t (sym c.first ∙ ap (λ l. first_clash (claims l)) (one-document text limit cs bs spelled h.0) ∙ h.1) in
     subst (λ x. TellsClash text x e) same (c.line, c.column, c.place, c.tells)
 
 pub decides : (text : List ℕ) (limit : ℕ) (x : Outcome) (r : Result Value (Stop Error)) → HasOutcome text limit x → IsAnswered text limit r → IsAnswerOf text x r
@@ -167,17 +152,12 @@ decides text limit (refused_at f) (Err (stops.Fault e)) h (inr (bs, spelled, c))
 
 -- ---- every text
 
-pub text-judged : (text : List ℕ) (limit : ℕ) → ((bs : List Block) × SpellsDocument bs text limit) ⊎ ((fault : Fault) × IsDue text limit fault)
-    → ((bs : List Block) × SpellsDocument bs text limit × (Resolves [] (claims bs) ⊎ ((clash : NamedClash) × IsFirstClash [] (claims bs) clash))) ⊎ ((fault : Fault) × IsDue text limit fault)
-text-judged text limit (inl (bs, spelled)) = inl (bs, spelled, resolves-or-told (claims bs))
-text-judged text limit (inr due) = inr due
-
-read-outcome : (text : List ℕ) (limit : ℕ) (bs : List Block) → SpellsDocument bs text limit → Resolves [] (claims bs) ⊎ ((clash : NamedClash) × IsFirstClash [] (claims bs) clash)
+read-outcome : (text : List ℕ) (limit : ℕ) (bs : List Block) → SpellsDocument bs text limit → (first_clash (claims bs) ≡ None) ⊎ ((clash : NamedClash) × (first_clash (claims bs) ≡ Some clash))
     → (x : Outcome) × HasOutcome text limit x
 read-outcome text limit bs spelled (inl resolves) = (resolved bs, (spelled, resolves))
 read-outcome text limit bs spelled (inr (clash, first)) = (clashed bs clash, (spelled, first))
 
 pub some-outcome : (text : List ℕ) (limit : ℕ) → ((bs : List Block) × SpellsDocument bs text limit) ⊎ ((fault : Fault) × IsDue text limit fault)
     → (x : Outcome) × HasOutcome text limit x
-some-outcome text limit (inl (bs, spelled)) = read-outcome text limit bs spelled (resolves-or-told (claims bs))
+some-outcome text limit (inl (bs, spelled)) = read-outcome text limit bs spelled (cases_option (first_clash (claims bs)))
 some-outcome text limit (inr (fault, due)) = (refused_at fault, due)

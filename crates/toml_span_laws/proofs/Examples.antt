@@ -1,28 +1,26 @@
--- Documents, worked by evaluation: whether what they claim resolves or which clash is told, and what stands at their paths. Those of
--- docs/THEOREM.md come first, with all that they claim and with their trees.
-use Rattle.std.specs.Prelude.{◌≡◌, refl, ⊤, ℕ, ◌+◌, Bool, true, false, List, [], ◌∷◌, ◌++◌, map, length, Option, Some, None, codes, pos}
+-- Documents, worked by evaluation: what they claim, whether it resolves or which clash is told, what stands at their paths, and
+-- their trees.
+use Rattle.std.specs.Prelude.{◌≡◌, refl, ⊤, ℕ, ◌+◌, Bool, true, false, List, [], ◌∷◌, map, length, Option, Some, None, codes, pos}
 use Rattle.toml_span_lex.specs.declared.span.Span.{Span}
 use Rattle.toml_span_tree.specs.Error.{duplicate_key}
 use Rattle.toml_span_tree.specs.Node as tree
 use Rattle.toml_span_tree.specs.Node.{text, integer}
 use Rattle.toml_span_tree.specs.Path.{Path, key, position, Shape, shape_scalar, shape_array, shape_table, Place, place_at}
-use Rattle.toml_span_read.specs.Data.{ParsedValue, parsed, scalar, array, inline, no_items, item, no_pairs, pair, KeyValue, Block}
+use Rattle.toml_span_read.specs.Data.{ParsedValue, parsed, scalar, inline, no_pairs, pair, KeyValue, Block}
 use Rattle.toml_span_read.specs.Keys.{SimpleKey}
-use Rattle.toml_span_read.specs.Grammar.{first_block, last_end}
+use Rattle.toml_span_read.specs.Grammar.{last_end}
 use Rattle.toml_span.specs.declared.claims.Sort.{Sort}
 use Rattle.toml_span.specs.declared.claims.Sort.TheVariants.{Passed, StandardTable, ArrayOfTables, TableElement, Dotted, Assigned}
 use Rattle.toml_span.specs.declared.claims.Blame.{Blame}
-use Rattle.toml_span.specs.declared.claims.Blame.TheVariants.{DuplicateTable, DuplicateKey, RedefineAsArray}
+use Rattle.toml_span.specs.declared.claims.Blame.TheVariants.{DuplicateKey}
 use Rattle.toml_span.specs.Paths.{same_path, enter, target, opened_by}
 use Rattle.toml_span.specs.Claims.{Claim, Claims, no_claims, claimed, scope, table_claim, followed, key_claims, value_claims, inner_claims, item_claims, pair_claims, key_value_claims, end_claims, header_claims, section_claims, claims_behind, claims}
-use Rattle.toml_span.specs.Clashes.{NamedClash, Resolves, IsFirstClash, content_of_clash}
+use Rattle.toml_span.specs.Clashes.{NamedClash, Resolves, clash, clash_among, clash_behind, first_clash, content_of_clash}
 use Rattle.toml_span.specs.Flat.{all_claims, claims_at, first_claim_by_header, flat}
-use Rattle.toml_span.specs.code.Machine.{change, show_all, first_clash}
-use Rattle.toml_span.proofs.Judged.{told-none, told-some}
 
 -- what the examples evaluate
 computed : ⊤
-unfolding same_path enter target opened_by followed key_claims value_claims inner_claims item_claims pair_claims key_value_claims end_claims header_claims section_claims claims_behind change show_all first_clash all_claims claims_at first_claim_by_header flat
+unfolding same_path enter target opened_by followed key_claims value_claims inner_claims item_claims pair_claims key_value_claims end_claims header_claims section_claims claims_behind clash clash_among clash_behind all_claims claims_at first_claim_by_header flat
 computed = tt
 
 -- ---- how sections are written
@@ -204,9 +202,9 @@ abc-claims : claims abc ≡ in_order abc_claims no_claims
 unfolding computed
 abc-claims = refl
 
-abc-resolves : Resolves [] (claims abc)
+abc-resolves : Resolves (claims abc)
 unfolding computed
-abc-resolves = told-none (claims abc) refl
+abc-resolves = refl
 
 abbrev abc_paths : List Path
 abc_paths = root ∷ /a ∷ /a/b ∷ /a/b/c ∷ /a/b/d ∷ /a/0 ∷ []
@@ -273,9 +271,9 @@ entries-claims : claims entries ≡ in_order entries_claims (scope (in_order ins
 unfolding computed
 entries-claims = refl
 
-entries-resolves : Resolves [] (claims entries)
+entries-resolves : Resolves (claims entries)
 unfolding computed
-entries-resolves = told-none (claims entries) refl
+entries-resolves = refl
 
 abbrev entries_paths : List Path
 entries_paths = root ∷ /a ∷ /a/0 ∷ /a/0/b ∷ /a/0/b/0 ∷ /a/0/t ∷ /a/0/t/x ∷ /a/1 ∷ /a/1/t ∷ /a/2 ∷ []
@@ -319,9 +317,9 @@ through = entry_and (headed 26 34 (part a 27 ∷ part t 29 ∷ part y 31 ∷ [])
 abbrev t_again : NamedClash
 t_again = tells DuplicateKey t (at 6 7) (at 29 30)
 
-through-told : IsFirstClash [] (claims through) t_again
+through-told : first_clash (claims through) ≡ Some t_again
 unfolding computed
-through-told = told-some (claims through) t_again refl
+through-told = refl
 
 through-fault : content_of_clash t_again.meeting t_again.name (3, 3) ≡ record { kind = duplicate_key t (at 6 7); span = at 29 30; line_info = Some (3, 3) }
 through-fault = refl
@@ -336,240 +334,6 @@ twice =
     ∷ headed 14 18 (part x 15 ∷ []) (key_value 18 23 (part a 18 ∷ []) (digit 1 22) ∷ key_value 24 29 (part a 24 ∷ []) (digit 2 28) ∷ [])
     ∷ []
 
-twice-told : IsFirstClash [] (claims twice) (tells DuplicateKey a (at 3 4) (at 18 19))
+twice-told : first_clash (claims twice) ≡ Some (tells DuplicateKey a (at 3 4) (at 18 19))
 unfolding computed
-twice-told = told-some (claims twice) (tells DuplicateKey a (at 3 4) (at 18 19)) refl
-
--- ---- further documents
-
--- `t = {a = 1,` LF ` b.c = 2, # x` LF `}`
-abbrev inline_table : List Block
-inline_table = first_block (key_value 0 27 (part t 0 ∷ []) (parsed (inline (pair (part a 5 ∷ []) (digit 1 9) (at 5 10) (pair (part b 13 ∷ part c 15 ∷ []) (digit 2 19) (at 13 20) no_pairs))) (at 4 27)) ∷ [])
-
-inline_table-resolves : Resolves [] (claims inline_table)
-unfolding computed
-inline_table-resolves = told-none (claims inline_table) refl
-
-inline_table-at-root : flat 27 (claims inline_table) [] ≡ unkeyed shape_table (at 0 27)
-unfolding computed
-inline_table-at-root = refl
-
-inline_table-at-t : flat 27 (claims inline_table) (key t ∷ []) ≡ keyed shape_table (at 0 1) (at 4 27)
-unfolding computed
-inline_table-at-t = refl
-
-inline_table-at-t-a : flat 27 (claims inline_table) (key t ∷ key a ∷ []) ≡ keyed (number 1) (at 5 6) (at 9 10)
-unfolding computed
-inline_table-at-t-a = refl
-
-inline_table-at-t-b : flat 27 (claims inline_table) (key t ∷ key b ∷ []) ≡ keyed shape_table (at 13 14) (at 19 20)
-unfolding computed
-inline_table-at-t-b = refl
-
-inline_table-at-t-b-c : flat 27 (claims inline_table) (key t ∷ key b ∷ key c ∷ []) ≡ keyed (number 2) (at 15 16) (at 19 20)
-unfolding computed
-inline_table-at-t-b-c = refl
-
-inline_table-at-t-c : flat 27 (claims inline_table) (key t ∷ key c ∷ []) ≡ None
-unfolding computed
-inline_table-at-t-c = refl
-
--- `[[a]]` LF `[a.b]` LF `x = 1` LF `[[a]]` LF `[a.b]` LF `x = 2` LF
-abbrev two_entries : List Block
-two_entries =
-    entry 0 6 (part a 2 ∷ []) []
-    ∷ headed 6 12 (part a 7 ∷ part b 9 ∷ []) (key_value 12 17 (part x 12 ∷ []) (digit 1 16) ∷ [])
-    ∷ entry 18 24 (part a 20 ∷ []) []
-    ∷ headed 24 30 (part a 25 ∷ part b 27 ∷ []) (key_value 30 35 (part x 30 ∷ []) (digit 2 34) ∷ [])
-    ∷ []
-
-two_entries-resolves : Resolves [] (claims two_entries)
-unfolding computed
-two_entries-resolves = told-none (claims two_entries) refl
-
-two_entries-at-a : flat 36 (claims two_entries) (key a ∷ []) ≡ keyed shape_array (at 2 3) (at 0 6)
-unfolding computed
-two_entries-at-a = refl
-
-two_entries-at-a-0 : flat 36 (claims two_entries) (key a ∷ position 0 ∷ []) ≡ unkeyed shape_table (at 0 6)
-unfolding computed
-two_entries-at-a-0 = refl
-
-two_entries-at-a-0-b : flat 36 (claims two_entries) (key a ∷ position 0 ∷ key b ∷ []) ≡ keyed shape_table (at 9 10) (at 6 17)
-unfolding computed
-two_entries-at-a-0-b = refl
-
-two_entries-at-a-0-b-x : flat 36 (claims two_entries) (key a ∷ position 0 ∷ key b ∷ key x ∷ []) ≡ keyed (number 1) (at 12 13) (at 16 17)
-unfolding computed
-two_entries-at-a-0-b-x = refl
-
-two_entries-at-a-1 : flat 36 (claims two_entries) (key a ∷ position 1 ∷ []) ≡ unkeyed shape_table (at 18 24)
-unfolding computed
-two_entries-at-a-1 = refl
-
-two_entries-at-a-1-b : flat 36 (claims two_entries) (key a ∷ position 1 ∷ key b ∷ []) ≡ keyed shape_table (at 27 28) (at 24 35)
-unfolding computed
-two_entries-at-a-1-b = refl
-
-two_entries-at-a-1-b-x : flat 36 (claims two_entries) (key a ∷ position 1 ∷ key b ∷ key x ∷ []) ≡ keyed (number 2) (at 30 31) (at 34 35)
-unfolding computed
-two_entries-at-a-1-b-x = refl
-
-two_entries-at-a-2 : flat 36 (claims two_entries) (key a ∷ position 2 ∷ []) ≡ None
-unfolding computed
-two_entries-at-a-2 = refl
-
-two_entries-at-a-b : flat 36 (claims two_entries) (key a ∷ key b ∷ []) ≡ None
-unfolding computed
-two_entries-at-a-b = refl
-
--- `a.b.x = 1` LF `[a.c]` LF `[a]` LF `b.y = 2` LF
-abbrev dotted_then_section : List Block
-dotted_then_section =
-    first_block (key_value 0 9 (part a 0 ∷ part b 2 ∷ part x 4 ∷ []) (digit 1 8) ∷ [])
-    ++ headed 10 16 (part a 11 ∷ part c 13 ∷ []) []
-    ∷ headed 16 20 (part a 17 ∷ []) (key_value 20 27 (part b 20 ∷ part y 22 ∷ []) (digit 2 26) ∷ [])
-    ∷ []
-
-dotted_then_section-told : IsFirstClash [] (claims dotted_then_section) (tells DuplicateKey a (at 0 1) (at 17 18))
-unfolding computed
-dotted_then_section-told = told-some (claims dotted_then_section) (tells DuplicateKey a (at 0 1) (at 17 18)) refl
-
--- `a.b = 1` LF `a = 2` LF
-abbrev dotted_then_assigned : List Block
-dotted_then_assigned = first_block (key_value 0 7 (part a 0 ∷ part b 2 ∷ []) (digit 1 6) ∷ key_value 8 13 (part a 8 ∷ []) (digit 2 12) ∷ [])
-
-dotted_then_assigned-told : IsFirstClash [] (claims dotted_then_assigned) (tells DuplicateKey a (at 0 1) (at 8 9))
-unfolding computed
-dotted_then_assigned-told = told-some (claims dotted_then_assigned) (tells DuplicateKey a (at 0 1) (at 8 9)) refl
-
--- `[a.b]` LF `[[a]]` LF
-abbrev passed_then_array : List Block
-passed_then_array = headed 0 6 (part a 1 ∷ part b 3 ∷ []) [] ∷ entry 6 12 (part a 8 ∷ []) [] ∷ []
-
-passed_then_array-told : IsFirstClash [] (claims passed_then_array) (tells RedefineAsArray a (at 0 6) (at 6 12))
-unfolding computed
-passed_then_array-told = told-some (claims passed_then_array) (tells RedefineAsArray a (at 0 6) (at 6 12)) refl
-
--- `[[a]]` LF `[[a]]` LF `[a]` LF
-abbrev array_then_section : List Block
-array_then_section = entry 0 6 (part a 2 ∷ []) [] ∷ entry 6 12 (part a 8 ∷ []) [] ∷ headed 12 16 (part a 13 ∷ []) [] ∷ []
-
-array_then_section-told : IsFirstClash [] (claims array_then_section) (tells DuplicateTable a (at 0 6) (at 12 16))
-unfolding computed
-array_then_section-told = told-some (claims array_then_section) (tells DuplicateTable a (at 0 6) (at 12 16)) refl
-
--- `a = 1` LF `[a.b]` LF
-abbrev assigned_then_passed : List Block
-assigned_then_passed = first_block (key_value 0 5 (part a 0 ∷ []) (digit 1 4) ∷ []) ++ headed 6 12 (part a 7 ∷ part b 9 ∷ []) [] ∷ []
-
-assigned_then_passed-told : IsFirstClash [] (claims assigned_then_passed) (tells DuplicateKey a (at 0 1) (at 7 8))
-unfolding computed
-assigned_then_passed-told = told-some (claims assigned_then_passed) (tells DuplicateKey a (at 0 1) (at 7 8)) refl
-
--- `[a.b]` LF `[a]` LF `b = 1` LF
-abbrev section_then_assigned : List Block
-section_then_assigned = headed 0 6 (part a 1 ∷ part b 3 ∷ []) [] ∷ headed 6 10 (part a 7 ∷ []) (key_value 10 15 (part b 10 ∷ []) (digit 1 14) ∷ []) ∷ []
-
-section_then_assigned-told : IsFirstClash [] (claims section_then_assigned) (tells DuplicateKey b (at 3 4) (at 10 11))
-unfolding computed
-section_then_assigned-told = told-some (claims section_then_assigned) (tells DuplicateKey b (at 3 4) (at 10 11)) refl
-
--- `[[x.a.c]]` LF `[x]` LF `a.b = 1` LF
-abbrev dotted_beside_array : List Block
-dotted_beside_array =
-    entry 0 10 (part x 2 ∷ part a 4 ∷ part c 6 ∷ []) []
-    ∷ headed 10 14 (part x 11 ∷ []) (key_value 14 21 (part a 14 ∷ part b 16 ∷ []) (digit 1 20) ∷ [])
-    ∷ []
-
-dotted_beside_array-resolves : Resolves [] (claims dotted_beside_array)
-unfolding computed
-dotted_beside_array-resolves = told-none (claims dotted_beside_array) refl
-
-dotted_beside_array-at-x : flat 22 (claims dotted_beside_array) (key x ∷ []) ≡ keyed shape_table (at 2 3) (at 0 10)
-unfolding computed
-dotted_beside_array-at-x = refl
-
-dotted_beside_array-at-x-a : flat 22 (claims dotted_beside_array) (key x ∷ key a ∷ []) ≡ keyed shape_table (at 4 5) (at 0 10)
-unfolding computed
-dotted_beside_array-at-x-a = refl
-
-dotted_beside_array-at-x-a-b : flat 22 (claims dotted_beside_array) (key x ∷ key a ∷ key b ∷ []) ≡ keyed (number 1) (at 16 17) (at 20 21)
-unfolding computed
-dotted_beside_array-at-x-a-b = refl
-
-dotted_beside_array-at-x-a-c : flat 22 (claims dotted_beside_array) (key x ∷ key a ∷ key c ∷ []) ≡ keyed shape_array (at 6 7) (at 0 10)
-unfolding computed
-dotted_beside_array-at-x-a-c = refl
-
-dotted_beside_array-at-x-a-c-0 : flat 22 (claims dotted_beside_array) (key x ∷ key a ∷ key c ∷ position 0 ∷ []) ≡ unkeyed shape_table (at 0 10)
-unfolding computed
-dotted_beside_array-at-x-a-c-0 = refl
-
--- `apple.color = "red"` LF, and then a header
-abbrev apple_and : Block → List Block
-apple_and next = first_block (key_value 0 19 (part apple 0 ∷ part color 6 ∷ []) (quoted red 15) ∷ []) ++ next ∷ []
-
--- `[apple]` LF
-abbrev apple_section : List Block
-apple_section = apple_and (headed 20 28 (part apple 21 ∷ []) [])
-
-apple_section-told : IsFirstClash [] (claims apple_section) (tells DuplicateKey apple (at 0 5) (at 21 26))
-unfolding computed
-apple_section-told = told-some (claims apple_section) (tells DuplicateKey apple (at 0 5) (at 21 26)) refl
-
--- `[apple.texture]` LF
-abbrev apple_passed : List Block
-apple_passed = apple_and (headed 20 36 (part apple 21 ∷ part texture 27 ∷ []) [])
-
-apple_passed-resolves : Resolves [] (claims apple_passed)
-unfolding computed
-apple_passed-resolves = told-none (claims apple_passed) refl
-
-apple_passed-at-apple : flat 36 (claims apple_passed) (key apple ∷ []) ≡ keyed shape_table (at 21 26) (at 20 36)
-unfolding computed
-apple_passed-at-apple = refl
-
-apple_passed-at-apple-color : flat 36 (claims apple_passed) (key apple ∷ key color ∷ []) ≡ keyed (shape_scalar (text red)) (at 6 11) (at 15 18)
-unfolding computed
-apple_passed-at-apple-color = refl
-
-apple_passed-at-apple-texture : flat 36 (claims apple_passed) (key apple ∷ key texture ∷ []) ≡ keyed shape_table (at 27 34) (at 20 36)
-unfolding computed
-apple_passed-at-apple-texture = refl
-
--- `a = {b = 1, b = 2}`
-abbrev twice_inline : List Block
-twice_inline = first_block (key_value 0 18 (part a 0 ∷ []) (parsed (inline (pair (part b 5 ∷ []) (digit 1 9) (at 5 10) (pair (part b 12 ∷ []) (digit 2 16) (at 12 17) no_pairs))) (at 4 18)) ∷ [])
-
-twice_inline-told : IsFirstClash [] (claims twice_inline) (tells DuplicateKey b (at 5 6) (at 12 13))
-unfolding computed
-twice_inline-told = told-some (claims twice_inline) (tells DuplicateKey b (at 5 6) (at 12 13)) refl
-
--- `[x]` LF `y = ['z', 'zz']`
-abbrev array_of_texts : List Block
-array_of_texts = headed 0 4 (part x 1 ∷ []) (key_value 4 19 (part y 4 ∷ []) (parsed (array (item (quoted z 10) (item (quoted zz 15) no_items))) (at 8 19)) ∷ []) ∷ []
-
-array_of_texts-resolves : Resolves [] (claims array_of_texts)
-unfolding computed
-array_of_texts-resolves = told-none (claims array_of_texts) refl
-
-array_of_texts-at-x : flat 19 (claims array_of_texts) (key x ∷ []) ≡ keyed shape_table (at 1 2) (at 0 19)
-unfolding computed
-array_of_texts-at-x = refl
-
-array_of_texts-at-x-y : flat 19 (claims array_of_texts) (key x ∷ key y ∷ []) ≡ keyed shape_array (at 4 5) (at 8 19)
-unfolding computed
-array_of_texts-at-x-y = refl
-
-array_of_texts-at-x-y-0 : flat 19 (claims array_of_texts) (key x ∷ key y ∷ position 0 ∷ []) ≡ unkeyed (shape_scalar (text z)) (at 10 11)
-unfolding computed
-array_of_texts-at-x-y-0 = refl
-
-array_of_texts-at-x-y-1 : flat 19 (claims array_of_texts) (key x ∷ key y ∷ position 1 ∷ []) ≡ unkeyed (shape_scalar (text zz)) (at 15 17)
-unfolding computed
-array_of_texts-at-x-y-1 = refl
-
-array_of_texts-at-x-y-2 : flat 19 (claims array_of_texts) (key x ∷ key y ∷ position 2 ∷ []) ≡ None
-unfolding computed
-array_of_texts-at-x-y-2 = refl
+twice-told = refl

@@ -9,13 +9,13 @@ use Rattle.toml_span.specs.declared.claims.Blame.{Blame}
 use Rattle.toml_span.specs.declared.claims.Sort.{Sort}
 use Rattle.toml_span.specs.declared.claims.Sort.TheVariants.{Passed, StandardTable, ArrayOfTables, TableElement, Dotted, Assigned}
 use Rattle.toml_span.specs.Claims.{Claim, Claims, no_claims, claimed, scope, claims}
-use Rattle.toml_span.specs.Clashes.{NamedClash, named, blame, meeting, meets, clash, IsFree, Resolves, IsFirstClash, clash_here, clash_behind, clash_in_scope, clash_after}
+use Rattle.toml_span.specs.Clashes.{NamedClash, named, blame, meeting, meets, clash, first_clash}
 use Rattle.toml_span.specs.Flat.{all_claims}
 use Rattle.toml_span.specs.Paths.{same_path}
 use Rattle.toml_span_laws.specs.Clashing.{IsIn, DoClash, IsPair, IsFirstPair}
 use Rattle.toml_span_laws.specs.Order.{claim_start}
-use Rattle.toml_span_laws.proofs.Answered.{resolves-or-told}
 use Rattle.toml_span_laws.proofs.Apart.{IsLater, in-left, in-right, onward-later, onward-rest}
+use Rattle.toml_span_laws.proofs.FirstClash.{IsFree, AreFree, IsFirst, at_claim, behind_claim, in_scope, behind_scope, cases_option, are-free, is-first}
 use Rattle.toml_span_laws.proofs.Order.{Rising, document-rises}
 
 -- ---- claims that clash are no entries
@@ -127,7 +127,7 @@ pub free-of : (earlier : List Claim) (d : Claim) → ((c : Claim) → IsIn c ear
 free-of [] d h = tt
 free-of (c ∷ earlier) d h = (none-of c d (clash c d) refl (h c (inl refl)), free-of earlier d (λ x here. h x (inr here)))
 
-pub no-pair : (earlier : List Claim) (cs : Claims) (c d : Claim) → Resolves earlier cs → IsPair earlier cs c d → ⊥
+pub no-pair : (earlier : List Claim) (cs : Claims) (c d : Claim) → AreFree earlier cs → IsPair earlier cs c d → ⊥
 no-pair earlier no_claims c d ok h = absurd h
 no-pair earlier (claimed x cs) c d ok (inl here) = free-clash earlier c x ok.0 here.1 (subst (λ y. DoClash c y) here.0 here.2)
 no-pair earlier (claimed x cs) c d ok (inr more) = no-pair (earlier ++ (x ∷ [])) cs c d ok.1 more
@@ -221,7 +221,7 @@ pair-inside earlier inner cs t r p =
     }
 
 -- one behind a scope in which nothing clashes
-pair-after : (earlier : List Claim) (inner cs : Claims) (t : NamedClash) → Resolves [] inner → Pair earlier cs t → Pair earlier (scope inner cs) t
+pair-after : (earlier : List Claim) (inner cs : Claims) (t : NamedClash) → AreFree [] inner → Pair earlier cs t → Pair earlier (scope inner cs) t
 pair-after earlier inner cs t ok p = record {
   c = p.c;
   d = p.d;
@@ -239,15 +239,15 @@ pair-after earlier inner cs t ok p = record {
   };
 }
 
-told-pair : (earlier : List Claim) (cs : Claims) (t : NamedClash) → IsFirstClash earlier cs t → Rises (earlier ++ all_claims cs) → Pair earlier cs t
+told-pair : (earlier : List Claim) (cs : Claims) (t : NamedClash) → IsFirst earlier cs t → Rises (earlier ++ all_claims cs) → Pair earlier cs t
 unfolding all_claims
-told-pair _ _ _ (clash_here before after c d cs t free is) r = pair-here before after c d cs t free is r
-told-pair _ _ _ (clash_behind earlier c cs t free rest) r =
+told-pair _ _ _ (at_claim before after c d cs t free is) r = pair-here before after c d cs t free is r
+told-pair _ _ _ (behind_claim earlier c cs t free rest) r =
     pair-behind earlier c cs t free (told-pair (earlier ++ (c ∷ [])) cs t rest (rw (append_assoc earlier (c ∷ []) (all_claims cs)) r))
-told-pair _ _ _ (clash_in_scope earlier inner cs t inside) r =
+told-pair _ _ _ (in_scope earlier inner cs t inside) r =
     let both = rises-right earlier (all_claims inner ++ all_claims cs) r in
     pair-inside earlier inner cs t both (told-pair [] inner t inside (rises-left (all_claims inner) (all_claims cs) both))
-told-pair _ _ _ (clash_after earlier inner cs t ok rest) r =
+told-pair _ _ _ (behind_scope earlier inner cs t ok rest) r =
     pair-after earlier inner cs t ok (told-pair earlier cs t rest (rises-without earlier (all_claims inner) (all_claims cs) r))
 
 -- ---- one first pair
@@ -272,22 +272,22 @@ one-pair earlier cs c d e f a b =
 
 -- ---- documents
 
-document-pair : (text : List ℕ) (limit : ℕ) (bs : List Block) (t : NamedClash) → SpellsDocument bs text limit → IsFirstClash [] (claims bs) t → Pair [] (claims bs) t
-document-pair text limit bs t h first = told-pair [] (claims bs) t first (rising-rises (all_claims (claims bs)) 0 (length text) (document-rises bs text limit h))
+document-pair : (text : List ℕ) (limit : ℕ) (bs : List Block) (t : NamedClash) → SpellsDocument bs text limit → first_clash (claims bs) ≡ Some t → Pair [] (claims bs) t
+document-pair text limit bs t h first = told-pair [] (claims bs) t (is-first [] (claims bs) t first) (rising-rises (all_claims (claims bs)) 0 (length text) (document-rises bs text limit h))
 
-pub first-pair : (text : List ℕ) (limit : ℕ) (bs : List Block) (t : NamedClash) → SpellsDocument bs text limit → IsFirstClash [] (claims bs) t
+pub first-pair : (text : List ℕ) (limit : ℕ) (bs : List Block) (t : NamedClash) → SpellsDocument bs text limit → first_clash (claims bs) ≡ Some t
     → (c d : Claim) × IsFirstPair [] (claims bs) c d × (clash c d ≡ Some t)
 first-pair text limit bs t h first = let p = document-pair text limit bs t h first in (p.c, p.d, p.is, p.told)
 
 pair-told : (text : List ℕ) (limit : ℕ) (bs : List Block) (t : NamedClash) (c d : Claim) → SpellsDocument bs text limit → IsFirstPair [] (claims bs) c d → clash c d ≡ Some t
-    → Resolves [] (claims bs) ⊎ ((u : NamedClash) × IsFirstClash [] (claims bs) u) → IsFirstClash [] (claims bs) t
-pair-told text limit bs t c d h is told (inl ok) = absurd (no-pair [] (claims bs) c d ok is.pair)
+    → (first_clash (claims bs) ≡ None) ⊎ ((u : NamedClash) × (first_clash (claims bs) ≡ Some u)) → first_clash (claims bs) ≡ Some t
+pair-told text limit bs t c d h is told (inl ok) = absurd (no-pair [] (claims bs) c d (are-free [] (claims bs) ok) is.pair)
 pair-told text limit bs t c d h is told (inr (u, first)) =
     let p = document-pair text limit bs u h first in
     let same = one-pair [] (claims bs) p.c p.d c d p.is is in
     let now : u ≡ t = same_Some u t (sym p.told ∙ ap (λ x. clash x p.d) same.0 ∙ ap (λ x. clash c x) same.1 ∙ told) in
-    subst (λ x. IsFirstClash [] (claims bs) x) now first
+    first ∙ ap Some now
 
 pub told-first : (text : List ℕ) (limit : ℕ) (bs : List Block) (t : NamedClash) → SpellsDocument bs text limit → (c d : Claim) × IsFirstPair [] (claims bs) c d × (clash c d ≡ Some t)
-    → IsFirstClash [] (claims bs) t
-told-first text limit bs t h (c, d, is, told) = pair-told text limit bs t c d h is told (resolves-or-told (claims bs))
+    → first_clash (claims bs) ≡ Some t
+told-first text limit bs t h (c, d, is, told) = pair-told text limit bs t c d h is told (cases_option (first_clash (claims bs)))

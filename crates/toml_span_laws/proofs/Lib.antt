@@ -29,6 +29,7 @@ pub mod TotalValues
 pub mod TotalLines
 pub mod DueLaws
 pub mod WordLaws
+pub mod FirstClash
 pub mod Answered
 pub mod PathDepth
 pub mod Order

@@ -8,13 +8,14 @@ use Rattle.toml_span_read.specs.Data.{ParsedValue, parsed, ParsedInner, scalar, 
 use Rattle.toml_span_read.specs.Keys.{SimpleKey}
 use Rattle.toml_span_laws.specs.Again.{moved, moved_inner, moved_items, moved_pairs, moved_parts, moved_span}
 use Rattle.toml_span.specs.Claims.{Claim, Claims, no_claims, claimed, scope, followed, key_claims, value_claims, inner_claims, item_claims, pair_claims, element, assigned, dotted}
-use Rattle.toml_span.specs.Clashes.{blame, Resolves, or_else}
+use Rattle.toml_span.specs.Clashes.{blame, or_else}
 use Rattle.toml_span.specs.Flat.{all_claims, claims_at, deciding_claim, first_claim, first_claim_by_header, by_header}
 use Rattle.toml_span.specs.Paths.{same_path, with_key, with_position}
 use Rattle.toml_span.proofs.Grafts.{same_step-self}
 use Rattle.toml_span.proofs.EachClaim.{same_path-eq}
 use Rattle.toml_span_laws.specs.Moved.{moved_place}
 use Rattle.toml_span_laws.specs.Clashing.{IsIn, DoClash}
+use Rattle.toml_span_laws.proofs.FirstClash.{AreFree}
 use Rattle.toml_span_laws.proofs.FirstPair.{clash-blames, free-clash, free-of}
 use Rattle.toml_span_laws.proofs.OneScope.{do-clash}
 
@@ -189,7 +190,7 @@ clash-moved from to p r c x d y m n (told, clashes) =
     let tails = append_cancel_left r t u (sym d_is ∙ same_path-eq d.path y.path same ∙ y_is) in
     do-clash c x b (c_is ∙ ap (λ l. p ++ l) tails ∙ sym x_is) (ap (λ s. blame s x.mark.sort) (sym m.sort) ∙ ap (blame d.mark.sort) (sym n.sort) ∙ blames)
 
-pub resolves-moved : (from to : ℕ) (p r : Path) (xs ys : Claims) (e f : List Claim) → AreMoved from to p r xs ys → AllMoved from to p r e f → Resolves e xs → Resolves f ys
+pub resolves-moved : (from to : ℕ) (p r : Path) (xs ys : Claims) (e f : List Claim) → AreMoved from to p r xs ys → AllMoved from to p r e f → AreFree e xs → AreFree f ys
 resolves-moved from to p r _ _ e f none_moved g ok = tt
 resolves-moved from to p r _ _ e f (claim_moved x y xs ys m h) g ok = (
   free-of f y (λ d here clashes.

@@ -10,12 +10,13 @@ use Rattle.toml_span.specs.declared.claims.Blame.TheVariants.{DuplicateKey}
 use Rattle.toml_span.specs.declared.claims.Sort.{Sort}
 use Rattle.toml_span.specs.declared.claims.Sort.TheVariants.{Passed, StandardTable, ArrayOfTables, TableElement, Dotted, Assigned}
 use Rattle.toml_span.specs.Claims.{Claim, Claims, no_claims, claimed, scope, claims}
-use Rattle.toml_span.specs.Clashes.{named, blame, meeting, clash, IsFree, Resolves}
+use Rattle.toml_span.specs.Clashes.{named, blame, meeting, clash, Resolves}
 use Rattle.toml_span.specs.Flat.{all_claims}
 use Rattle.toml_span.proofs.Refusals.{spelled-headed}
 use Rattle.toml_span_laws.specs.Clashing.{IsIn, DoClash, own, ShareScope}
 use Rattle.toml_span_laws.proofs.Apart.{in-left, in-right}
 use Rattle.toml_span_laws.proofs.EntryDecides.{path-self}
+use Rattle.toml_span_laws.proofs.FirstClash.{IsFree, AreFree, are-free}
 use Rattle.toml_span_laws.proofs.FirstPair.{in-cases, free-clash}
 use Rattle.toml_span_laws.proofs.Scoped.{Fits, IsChild, IsUnder, Scoped, document-scoped, fits-on, key-position}
 
@@ -59,7 +60,7 @@ peaceful-push (x ∷ l) c h free = (
   peaceful-push l c h.1 free.1,
 )
 
-pub peaceful-own : (earlier : List Claim) (cs : Claims) → Resolves earlier cs → Peaceful earlier → Peaceful (earlier ++ own cs)
+pub peaceful-own : (earlier : List Claim) (cs : Claims) → AreFree earlier cs → Peaceful earlier → Peaceful (earlier ++ own cs)
 peaceful-own earlier no_claims ok h = subst Peaceful (sym (append-nil earlier)) h
 peaceful-own earlier (claimed c cs) ok h =
     subst Peaceful (append_assoc earlier (c ∷ []) (own cs)) (peaceful-own (earlier ++ (c ∷ [])) cs ok.1 (peaceful-push earlier c h ok.0))
@@ -267,7 +268,7 @@ LastIn (Some a) l = IsIn a l
 -- what is known of the claims of a scope
 pub record Scene (base : Path) (earlier : List Claim) (last : Option Claim) (cs : Claims) : Type 0 where
   pub scoped : Scoped base earlier last cs
-  pub resolves : Resolves earlier cs
+  pub resolves : AreFree earlier cs
   pub fit : AllFit base earlier
   pub peaceful : Peaceful earlier
   pub latest : LastIn last earlier
@@ -356,7 +357,7 @@ together base earlier (Some x) (scope inner cs) c d h a b same =
       ]
     ]
 
-pub one-scope : (text : List ℕ) (limit : ℕ) (bs : List Block) (c d : Claim) → SpellsDocument bs text limit → Resolves [] (claims bs) → IsIn c (all_claims (claims bs)) → IsIn d (all_claims (claims bs)) → c.path ≡ d.path
+pub one-scope : (text : List ℕ) (limit : ℕ) (bs : List Block) (c d : Claim) → SpellsDocument bs text limit → Resolves (claims bs) → IsIn c (all_claims (claims bs)) → IsIn d (all_claims (claims bs)) → c.path ≡ d.path
     → ShareScope (claims bs) c d
 one-scope text limit bs c d h ok a b same =
-    together [] [] None (claims bs) c d (record { scoped = document-scoped bs (spelled-headed bs text limit h); resolves = ok; fit = λ x here. absurd here; peaceful = tt; latest = tt }) a b same
+    together [] [] None (claims bs) c d (record { scoped = document-scoped bs (spelled-headed bs text limit h); resolves = are-free [] (claims bs) ok; fit = λ x here. absurd here; peaceful = tt; latest = tt }) a b same

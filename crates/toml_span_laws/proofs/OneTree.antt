@@ -1,5 +1,5 @@
 -- Two trees in order that show the same are the same.
-use Rattle.std.proofs.Common.{◌≡◌, ◌<◌, ◌⊎◌, ℕ, suc, true, false, cond, List, [], ◌∷◌, Option, Some, None, option_map, refl, sym, ap, ◌∙◌, subst, inl, inr, arith}
+use Rattle.std.proofs.Common.{◌≡◌, ◌<◌, ◌⊎◌, ℕ, suc, List, [], ◌∷◌, Option, Some, None, option_map, refl, sym, ap, ◌∙◌, subst, inl, inr, arith}
 use Rattle.std.specs.Prelude.{option_and_then}
 use Rattle.std.specs.Str.{bytes_eq}
 use Rattle.std.proofs.lemmas.Bool.{cases_Bool, cases_order}
@@ -10,7 +10,6 @@ use Rattle.toml_span_tree.specs.Path.{Path, Step, key, position, Place, shape_of
 use Rattle.toml_span_tree.specs.Value.{view}
 use Rattle.toml_span_tree.specs.declared.value.Value.{Value}
 use Rattle.toml_span.specs.Ordered.{IsNameBefore, EachName, IsOrdered, HoldsOrdered, AreOrdered, MembersOrdered}
-use Rattle.toml_span.proofs.Grafts.{same_step-eq, same_step-self}
 use Rattle.toml_span.proofs.Ordered.{one-each, same-name, first-entry, later-entry}
 use Rattle.toml_span.specs.Parsing.{IsTree}
 use Rattle.toml_span_laws.specs.Document.{without_key, IsValueOf}

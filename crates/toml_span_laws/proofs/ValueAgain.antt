@@ -22,6 +22,7 @@ use Rattle.toml_span_laws.specs.Clashing.{IsIn}
 use Rattle.toml_span_laws.specs.Laws.{ValueReadsAgain}
 use Rattle.toml_span_laws.specs.Outcomes.{HasOutcome, resolved}
 use Rattle.toml_span_laws.specs.Document.{subtree, without_key}
+use Rattle.toml_span_laws.proofs.FirstClash.{AreFree, none-behind}
 use Rattle.toml_span_laws.proofs.Alone.{Alone, at-none, document-alone}
 use Rattle.toml_span_laws.proofs.Answered.{one-document}
 use Rattle.toml_span_laws.proofs.SpelledClaims.{followed-none}
@@ -80,7 +81,7 @@ bracket-reads text limit (parsed (scalar s) span) brackets h = absurd (brackets 
 bracket-reads text limit (parsed (array vs) span) brackets h = h
 bracket-reads text limit (parsed (inline ps) span) brackets h = h
 
-any-earlier : (v : ParsedValue) (p : Path) (e f : List Claim) → Resolves e (value_claims v p) → Resolves f (value_claims v p)
+any-earlier : (v : ParsedValue) (p : Path) (e f : List Claim) → AreFree e (value_claims v p) → AreFree f (value_claims v p)
 unfolding value_claims inner_claims
 any-earlier (parsed (scalar s) span) p e f h = tt
 any-earlier (parsed (array vs) span) p e f h = h
@@ -110,11 +111,11 @@ x_at : (v : ParsedValue) (q : Path) → claims_at q (all_claims (claims (again_b
 unfolding all_claims
 x_at v q = ap (λ cs. claims_at q (all_claims cs)) (again-claims v)
 
-x_resolves : (c : Claim) (v : ParsedValue) → Resolves [] (value_claims v c.path) → Resolves [] (claims (again_block v))
+x_resolves : (c : Claim) (v : ParsedValue) → AreFree [] (value_claims v c.path) → Resolves (claims (again_block v))
 unfolding x_inside
 x_resolves c v ok =
     let inside = resolves-moved (parsed_span v).start 4 c.path at_x (value_claims v c.path) (x_inside v) [] [] (x_moved c v) no_more ok in
-    subst (λ cs. Resolves [] cs) (sym (again-claims v)) (tt, any-earlier (moved (parsed_span v).start 4 v) at_x [] (x_claim v ∷ []) inside)
+    none-behind [] (claims (again_block v)) (subst (λ cs. AreFree [] cs) (sym (again-claims v)) (tt, any-earlier (moved (parsed_span v).start 4 v) at_x [] (x_claim v ∷ []) inside))
 
 -- the claim's own place stands at its path
 alone-place : (text : List ℕ) (limit : ℕ) (c : Claim) (cs : Claims) (s : Step) (p : Path) (n : ℕ) → Alone text limit c cs → c.mark.sort ≡ Assigned → c.path ≡ s ∷ p → flat n cs c.path ≡ Some c.place
@@ -154,7 +155,7 @@ record Again (text : List ℕ) (limit : ℕ) (bs : List Block) (c : Claim) (span
   outcome : HasOutcome (text_again text span) limit (resolved again)
   stands : (m n : ℕ) → StandsMoved span.start 4 (flat m (claims bs)) c.path (flat n (claims again)) at_x
 
-document-again : (text : List ℕ) (limit : ℕ) (bs : List Block) (c : Claim) → SpellsDocument bs text limit → Resolves [] (claims bs) → AssignsBrackets bs c → Again text limit bs c c.place.span
+document-again : (text : List ℕ) (limit : ℕ) (bs : List Block) (c : Claim) → SpellsDocument bs text limit → Resolves (claims bs) → AssignsBrackets bs c → Again text limit bs c c.place.span
 unfolding again_block
 document-again text limit bs c h ok (here, value, brackets) =
     let (a, (s, p, path)) = document-alone text limit bs c h ok here value brackets in
@@ -165,11 +166,11 @@ document-again text limit bs c h ok (here, value, brackets) =
       stands = λ m n. stands-moved text limit c (claims bs) s p m n a value path;
     })
 
-pub flat-place : (text : List ℕ) (limit n : ℕ) (bs : List Block) (c : Claim) → SpellsDocument bs text limit → Resolves [] (claims bs) → AssignsBrackets bs c → flat n (claims bs) c.path ≡ Some c.place
+pub flat-place : (text : List ℕ) (limit n : ℕ) (bs : List Block) (c : Claim) → SpellsDocument bs text limit → Resolves (claims bs) → AssignsBrackets bs c → flat n (claims bs) c.path ≡ Some c.place
 flat-place text limit n bs c h ok (here, value, brackets) =
     let (a, (s, p, path)) = document-alone text limit bs c h ok here value brackets in alone-place text limit c (claims bs) s p n a value path
 
-pub flat-again : (text : List ℕ) (limit : ℕ) (bs : List Block) (c : Claim) → SpellsDocument bs text limit → Resolves [] (claims bs) → AssignsBrackets bs c
+pub flat-again : (text : List ℕ) (limit : ℕ) (bs : List Block) (c : Claim) → SpellsDocument bs text limit → Resolves (claims bs) → AssignsBrackets bs c
     → (again : List Block) × HasOutcome (text_again text c.place.span) limit (resolved again)
     × StandsMoved c.place.span.start 4 (flat (length text) (claims bs)) c.path (flat (length (text_again text c.place.span)) (claims again)) at_x
 flat-again text limit bs c h ok is =
@@ -182,8 +183,8 @@ part-same f g path (s ∷ p) same = same (path ++ (s ∷ p))
 shows-flat : (text : List ℕ) (limit : ℕ) (root : Value) (bs : List Block) (p : Path) → IsTree text limit root → SpellsDocument bs text limit → place_at p (view root) ≡ flat (length text) (claims bs) p
 shows-flat text limit root bs p (cs, spelled, tree) h = tree.shows p ∙ ap (λ l. flat (length text) (claims l) p) (one-document text limit cs bs spelled h)
 
-tree-resolves : (text : List ℕ) (limit : ℕ) (root : Value) (bs : List Block) → IsTree text limit root → SpellsDocument bs text limit → Resolves [] (claims bs)
-tree-resolves text limit root bs (cs, spelled, tree) h = subst (λ l. Resolves [] (claims l)) (one-document text limit cs bs spelled h) tree.resolves
+tree-resolves : (text : List ℕ) (limit : ℕ) (root : Value) (bs : List Block) → IsTree text limit root → SpellsDocument bs text limit → Resolves (claims bs)
+tree-resolves text limit root bs (cs, spelled, tree) h = subst (λ l. Resolves (claims l)) (one-document text limit cs bs spelled h) tree.resolves
 
 pub tree-again : (text : List ℕ) (limit : ℕ) (root other : Value) (bs : List Block) (c : Claim) → SpellsDocument bs text limit → IsTree text limit root → AssignsBrackets bs c
     → IsTree (text_again text c.place.span) limit other → StandsMoved c.place.span.start 4 (λ p. place_at p (view root)) c.path (λ p. place_at p (view other)) at_x

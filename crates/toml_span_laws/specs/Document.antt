@@ -14,7 +14,7 @@ use Rattle.toml_span.specs.Ordered.{IsOrdered}
 -- The text spells sections of which no two claims clash, and P holds of their flat document.
 abbrev pub IsDocument : List ℕ → ((Path → Option Place) → Type 0) → Type 0
 IsDocument text P =
-    (blocks : List Block) × SpellsDocument blocks text depth_limit × Resolves [] (claims blocks)
+    (blocks : List Block) × SpellsDocument blocks text depth_limit × Resolves (claims blocks)
     × P (flat (length text) (claims blocks))
 
 -- At a path whose steps the pointer's segments name stands a place of which P holds.

@@ -1,5 +1,5 @@
 -- What becomes of a text within a limit.
-use Rattle.std.specs.Prelude.{◌≡◌, ⊤, ℕ, List, [], length, Result, Ok, Err}
+use Rattle.std.specs.Prelude.{◌≡◌, ⊤, ℕ, List, Some, None, length, Result, Ok, Err}
 use Rattle.toml_span_lex.specs.declared.stop.Stop.{Stop}
 use Rattle.toml_span_lex.specs.declared.stop.Stop.TheVariants as stops
 use Rattle.toml_span_tree.specs.declared.error.Error.{Error}
@@ -13,7 +13,7 @@ use Rattle.toml_span_read.specs.Grammar.{SpellsDocument}
 use Rattle.toml_span_read.specs.Due.{IsDue}
 use Rattle.toml_span_read.specs.Places.{IsLineInfo}
 use Rattle.toml_span_read.specs.Faults.{Tells}
-use Rattle.toml_span.specs.Clashes.{NamedClash, Resolves, IsFirstClash, content_of_clash}
+use Rattle.toml_span.specs.Clashes.{NamedClash, first_clash, content_of_clash}
 use Rattle.toml_span.specs.Claims.{claims}
 use Rattle.toml_span.specs.Parsing.{IsTree, IsRefusal, IsTreeOf}
 
@@ -26,8 +26,8 @@ pub data Outcome : Type 0 where
 -- The text spells these sections, and no two of their claims clash; or it spells them, and this clash is their first;
 -- or this fault is told where something is due.
 abbrev pub HasOutcome : List ℕ → ℕ → Outcome → Type 0
-HasOutcome text limit (resolved blocks) = SpellsDocument blocks text limit × Resolves [] (claims blocks)
-HasOutcome text limit (clashed blocks clash) = SpellsDocument blocks text limit × IsFirstClash [] (claims blocks) clash
+HasOutcome text limit (resolved blocks) = SpellsDocument blocks text limit × (first_clash (claims blocks) ≡ None)
+HasOutcome text limit (clashed blocks clash) = SpellsDocument blocks text limit × (first_clash (claims blocks) ≡ Some clash)
 HasOutcome text limit (refused_at fault) = IsDue text limit fault
 
 -- the text's tree, or its refusal

@@ -16,8 +16,6 @@ ghost use Rattle.std.specs.declared.alloc.AllocError.{AllocError};
 ghost use Rattle.toml_span_laws.specs.Again.{ScalarReadsAgain};
 ghost use Rattle.toml_span_read.specs.Data.{Block};
 ghost use Rattle.toml_span_read.specs.Grammar.{SpellsDocument};
-ghost use Rattle.toml_span_read.specs.Due.{IsDue};
-ghost use Rattle.toml_span_read.specs.declared.fault.Fault.{Fault};
 ghost use Rattle.toml_span_tree.specs.Error.{content_of};
 ghost use Rattle.toml_span_tree.specs.Node.{Node, Scalar, text as string};
 ghost use Rattle.toml_span_tree.specs.Path.{Path, Place, shape_scalar, shape_table, key, node_at, place_at};
@@ -25,8 +23,8 @@ ghost use Rattle.toml_span_tree.specs.Pointer.{pointed};
 ghost use Rattle.toml_span_tree.specs.Value.{is_taken, is_whole, view};
 ghost use Rattle.toml_span_tree.specs.declared.error.Error.{Error};
 ghost use Rattle.toml_span_tree.specs.declared.value.Value.{Value};
-ghost use Rattle.toml_span.specs.Claims.{Claim, Claims, claims};
-ghost use Rattle.toml_span.specs.Clashes.{NamedClash, Resolves, IsFirstClash};
+ghost use Rattle.toml_span.specs.Claims.{Claim, claims};
+ghost use Rattle.toml_span.specs.Clashes.{Resolves};
 ghost use Rattle.toml_span.specs.Flat.{Shows, all_claims, flat};
 ghost use Rattle.toml_span.specs.Ordered.{HasOneEach, IsOrdered};
 ghost use Rattle.toml_span_laws.specs.Moved.{AssignsBrackets, StandsMoved, at_x, text_again};
@@ -41,18 +39,6 @@ pub mod clashes;
 
 use crate::judged::document_or_due;
 use toml_span_typed::Deserialize;
-
-/// Either no two claims of one scope clash, or there is a first clash.
-pub fn resolves_or_told()
-    ensures { (cs : Claims) → Resolves [] cs ⊎ ((clash : NamedClash) × IsFirstClash [] cs clash) }
-{}
-
-/// There is one first clash at most, and none where no two claims clash.
-pub fn one_first_clash()
-    ensures one { (cs : Claims) (clash other : NamedClash) → IsFirstClash [] cs clash → IsFirstClash [] cs other
-        → clash ≡ other }
-    ensures none { (cs : Claims) (clash : NamedClash) → Resolves [] cs → IsFirstClash [] cs clash → ⊥ }
-{}
 
 /// A text that has a tree is not refused, and one with a clash has no fault of reading. All trees of a text
 /// show the same at each path, all errors that tell of its clash are alike, and so are all that tell of its
@@ -90,16 +76,6 @@ pub fn outcome_decides()
     ensures { (text : List ℕ) (limit : ℕ) (outcome : Outcome) (result : Result Value (Stop Error))
         → HasOutcome text limit outcome → IsAnswered text limit result → IsAnswerOf text outcome result }
 {}
-
-/// Each text spells a document of which no two claims clash, or one of which there is a first clash, or a
-/// fault is told where something is due in it.
-pub fn each_text_is_judged(text: &str)
-    ensures { (limit : ℕ) → 1 ≤ limit → ((blocks : List Block) × SpellsDocument blocks text.now limit
-        × (Resolves [] (claims blocks) ⊎ ((clash : NamedClash) × IsFirstClash [] (claims blocks) clash)))
-        ⊎ ((fault : Fault) × IsDue text.now limit fault) }
-{
-    document_or_due(text);
-}
 
 /// Nothing is taken in a tree that shows the flat document of some sections: no path leads to what is taken,
 /// and the tree is whole if no name stands twice in a table.
@@ -184,9 +160,9 @@ pub fn brackets_read_again()
 /// text is. So it is with the trees of the two texts.
 pub fn bracketed_values_stand_alone()
     ensures place { (text : List ℕ) (limit n : ℕ) (blocks : List Block) (c : Claim) → SpellsDocument blocks text limit
-        → Resolves [] (claims blocks) → AssignsBrackets blocks c → flat n (claims blocks) c.path ≡ Some c.place }
+        → Resolves (claims blocks) → AssignsBrackets blocks c → flat n (claims blocks) c.path ≡ Some c.place }
     ensures document { (text : List ℕ) (limit : ℕ) (blocks : List Block) (c : Claim) → SpellsDocument blocks text limit
-        → Resolves [] (claims blocks) → AssignsBrackets blocks c
+        → Resolves (claims blocks) → AssignsBrackets blocks c
         → (again : List Block) × HasOutcome (text_again text c.place.span) limit (resolved again)
         × StandsMoved c.place.span.start 4 (flat (length text) (claims blocks)) c.path
         (flat (length (text_again text c.place.span)) (claims again)) at_x }

@@ -74,7 +74,7 @@ ShowsPlaces places text = (es : List PlaceAt) × PathsAscend es × HasPlaces pla
 pub record ShowsDocument (bytes : List ℕ) (limit : ℕ) (text : List ℕ) : Type 0 where
   pub blocks : List Block
   pub spelled : SpellsDocument blocks bytes limit
-  pub resolves : Resolves [] (claims blocks)
+  pub resolves : Resolves (claims blocks)
   pub shown : ShowsPlaces (flat (length bytes) (claims blocks)) text
 
 -- A fault is told of the bytes or, where they spell sections within the limit, two claims clash. The text is the line

@@ -18,10 +18,10 @@ use Rattle.toml_span.specs.Claims.{key_value_claims, head_of, claims_behind, cla
 use Rattle.toml_span.specs.code.Placing.{Places, AreSections}
 use Rattle.toml_span.specs.code.Relative.{section_at, grown}
 use Rattle.toml_span.specs.code.Tree.{counts, cells, IsScope}
-use Rattle.toml_span.specs.code.Machine.{nothing, first_clash, put_all, clash_told}
+use Rattle.toml_span.specs.code.Machine.{nothing, clash_met, put_all, clash_told}
 use Rattle.toml_span.specs.Paths.{elements_added, opened_by}
 use Rattle.toml_span.specs.declared.claims.Clash.{Clash}
-use Rattle.toml_span.specs.Clashes.{IsFirstClash}
+use Rattle.toml_span.specs.Clashes.{first_clash}
 use Rattle.toml_span.specs.Borrowed.{AreBorrowedRight}
 use Rattle.toml_span.specs.code.Borrowed.{standing, AreFrom}
 use Rattle.toml_span.specs.declared.branch.Branch.TheViews.{out-Branch}
@@ -38,7 +38,7 @@ Placed b root new r =
 pub record Remaining (all rest : List Block) (root : Branch) : Type 0 where
   pub earlier : List Block
   pub headers : AreSections rest
-  pub telling : first_clash (cells root) (claims_behind earlier rest) ≡ first_clash nothing (claims all)
+  pub telling : clash_met (cells root) (claims_behind earlier rest) ≡ clash_met nothing (claims all)
   pub putting : put_all (cells root) (claims_behind earlier rest) ≡ put_all nothing (claims all)
   pub counting : counts root ≡ elements_added (opened_by earlier)
   pub scope : IsScope root
@@ -46,7 +46,7 @@ pub record Remaining (all rest : List Block) (root : Branch) : Type 0 where
 -- The tree has what these sections claim, and those that follow are left to place. Or this is their first clash.
 abbrev pub GrowsTo : List Block → Branch → Option Clash → Type 0
 GrowsTo bs root None = (rest : List Block) → AreSections rest → Remaining (bs ++ rest) rest root
-GrowsTo bs root (Some c) = (rest : List Block) → AreSections rest → IsFirstClash [] (claims (bs ++ rest)) (clash_told c)
+GrowsTo bs root (Some c) = (rest : List Block) → AreSections rest → first_clash (claims (bs ++ rest)) ≡ Some (clash_told c)
 
 abbrev pub Grows : List Block → Grown → Type 0
 Grows bs g = GrowsTo bs g.root g.clash

@@ -5,9 +5,9 @@ use Rattle.toml_span_tree.specs.Path.{Place, Path, Step}
 use Rattle.toml_span.specs.declared.claims.Mark.{Mark}
 use Rattle.toml_span.specs.Claims.{Claim, Claims, no_claims, claimed, scope}
 use Rattle.toml_span.specs.Flat.{by_header}
-use Rattle.toml_span.specs.code.Marks.{remember}
+use Rattle.toml_span.specs.code.Marks.{partner, remember}
 use Rattle.toml_span.specs.Paths.{same_path, same_step}
-use Rattle.toml_span.specs.Clashes.{partner, NamedClash, named, or_else}
+use Rattle.toml_span.specs.Clashes.{NamedClash, named, or_else}
 use Rattle.toml_span.specs.declared.claims.Clash as code
 use Rattle.toml_span.specs.declared.claims.Halt.{Halt}
 use Rattle.toml_span.specs.declared.claims.Halt.TheVariants.{Memory, Clash}
@@ -66,11 +66,11 @@ abbrev pub met : List Mark → Mark → List ℕ → Option NamedClash
 met marks mark name = option_map (named name) (partner marks mark)
 
 -- the first clash that is met, where a scope inside starts with nothing
-unfoldable pub first_clash : State → Claims → Option NamedClash
-first_clash st no_claims = None
-first_clash st (claimed c cs) =
-    or_else (met (st c.path).marks c.mark c.name) (first_clash (change st c.path (with_claim c)) cs)
-first_clash st (scope inner cs) = or_else (first_clash nothing inner) (first_clash (show_all st inner) cs)
+unfoldable pub clash_met : State → Claims → Option NamedClash
+clash_met st no_claims = None
+clash_met st (claimed c cs) =
+    or_else (met (st c.path).marks c.mark c.name) (clash_met (change st c.path (with_claim c)) cs)
+clash_met st (scope inner cs) = or_else (clash_met nothing inner) (clash_met (show_all st inner) cs)
 
 -- what a halt tells
 abbrev pub clash_told : code.Clash → NamedClash

@@ -12,7 +12,7 @@ use Rattle.toml_span.specs.declared.claims.Meeting.{Meeting}
 use Rattle.toml_span.specs.declared.claims.Halt.{Halt}
 use Rattle.toml_span.specs.declared.claims.Halt.TheVariants.{Memory, Clash}
 use Rattle.toml_span.specs.Flat.{by_header}
-use Rattle.toml_span.specs.Clashes.{or_else}
+use Rattle.toml_span.specs.Clashes.{meets, or_else}
 
 abbrev pub sort_number : Sort → ℕ
 sort_number Passed = 0
@@ -28,6 +28,11 @@ same_sort a b = nat_eq (sort_number a) (sort_number b)
 -- the first claim of each sort is kept, in the order of the text
 abbrev pub remember : List Mark → Mark → List Mark
 remember marks mark = if list_any (λ seen. same_sort seen.sort mark.sort) marks then marks else marks ++ mark ∷ []
+
+-- the clash of a claim with the earliest of these that it clashes with
+abbrev pub partner : List Mark → Mark → Option Meeting
+partner [] later = None
+partner (earlier ∷ marks) later = or_else (meets earlier later) (partner marks later)
 
 -- the halt at a clash over a name; or want of memory
 abbrev pub Halts : Halt → Meeting → List ℕ → Type 0

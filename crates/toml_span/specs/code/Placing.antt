@@ -20,7 +20,7 @@ use Rattle.toml_span_read.specs.Data.{ParsedValue as Read, parsed_span, Block}
 use Rattle.toml_span.specs.declared.claims.Halt.{Halt}
 use Rattle.toml_span.specs.declared.branch.Branch.{Branch}
 use Rattle.toml_span.specs.Claims.{Claims, value_claims, value_shape, parsed_inner, shape_claimed, claims}
-use Rattle.toml_span.specs.code.Machine.{Gives, first_clash, put_all, nothing, show_all, Cell, State, clash_told}
+use Rattle.toml_span.specs.code.Machine.{Gives, clash_met, put_all, nothing, show_all, Cell, State, clash_told}
 use Rattle.toml_span.specs.code.Tree.{entries, cells, counts, marks, IsScope, IsChild, IsHeld, Sound}
 use Rattle.toml_span.specs.code.Tree.{value_shows}
 use Rattle.toml_span.specs.declared.claims.Mark.{Mark}
@@ -30,7 +30,7 @@ use Rattle.toml_span.specs.declared.claims.Sort.TheVariants.{StandardTable, Tabl
 use Rattle.toml_span.specs.Ordered.{IsOrdered, HoldsOrdered}
 use Rattle.toml_span.specs.declared.branch.Branch.TheViews.{out-Branch}
 use Rattle.toml_span.specs.declared.claims.Halt.TheVariants.{Memory, Clash}
-use Rattle.toml_span.specs.Clashes.{Resolves, IsFirstClash}
+use Rattle.toml_span.specs.Clashes.{Resolves, first_clash}
 use Rattle.toml_span.specs.Flat.{Shows, flat}
 
 -- The claims are placed from a branch on, which then has so many entries, or else the first clash is told.
@@ -38,7 +38,7 @@ abbrev pub Reaches : (Branch → Type 0) → (Branch → Type 0) → Branch → 
     → (Path → ℕ) → Type 0
 Reaches Before After old new r cs entries =
     Before old
-    → Gives r (first_clash (cells old) cs)
+    → Gives r (clash_met (cells old) cs)
     (λ _. (cells new ≡ put_all (cells old) cs) × (counts new ≡ entries) × After new)
 
 -- below a table, whose own claims stay
@@ -70,7 +70,7 @@ IsFinished v x =
 
 -- the value, or the first clash in it
 abbrev pub ValueGives : Result Value Halt → Read → Type 0
-ValueGives r v = Gives r (first_clash nothing (value_claims v [])) (IsFinished v)
+ValueGives r v = Gives r (clash_met nothing (value_claims v [])) (IsFinished v)
 
 -- the place, whatever decides it
 abbrev pub place_shown : Cell → Option Place
@@ -91,7 +91,7 @@ ShowsPlain i st =
 -- what a scope of an inline table, or of an array, gives
 abbrev pub ScopeGives : {A : Type 0} → Result A Halt → (A → tree.Inner) → Claims → Type 0
 ScopeGives r seen cs =
-    Gives r (first_clash nothing cs) (λ x. ShowsPlain (seen x) (show_all nothing cs) × HoldsOrdered (seen x))
+    Gives r (clash_met nothing cs) (λ x. ShowsPlain (seen x) (show_all nothing cs) × HoldsOrdered (seen x))
 
 -- ---- finishing
 
@@ -143,6 +143,6 @@ AreSections (b ∷ bs) = (b.header ≡ [] → b.array ≡ false) × AreSections 
 -- told.
 abbrev pub Assembles : List Block → ℕ → Result Value Halt → Type 0
 Assembles bs length (Ok root) =
-    Resolves [] (claims bs) × Shows (view root) (flat length (claims bs)) × IsOrdered (view root)
-Assembles bs length (Err (Clash c)) = IsFirstClash [] (claims bs) (clash_told c)
+    Resolves (claims bs) × Shows (view root) (flat length (claims bs)) × IsOrdered (view root)
+Assembles bs length (Err (Clash c)) = first_clash (claims bs) ≡ Some (clash_told c)
 Assembles bs length (Err (Memory e)) = ⊤

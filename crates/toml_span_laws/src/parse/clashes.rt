@@ -4,7 +4,7 @@ ghost use Rattle.toml_span_tree.specs.Path.{Path, position};
 ghost use Rattle.toml_span.specs.declared.claims.Sort.TheVariants.{Assigned, Dotted, Passed};
 ghost use Rattle.toml_span.specs.Flat.{all_claims, claims_at, deciding_claim};
 ghost use Rattle.toml_span.specs.Claims.{Claim, claims};
-ghost use Rattle.toml_span.specs.Clashes.{NamedClash, Resolves, IsFirstClash, clash};
+ghost use Rattle.toml_span.specs.Clashes.{NamedClash, Resolves, first_clash, clash};
 ghost use Rattle.toml_span_read.specs.Data.{Block};
 ghost use Rattle.toml_span_read.specs.Grammar.{SpellsDocument};
 ghost use Rattle.toml_span_laws.specs.Clashing.{IsFirstPair, IsIn, ShareScope};
@@ -14,7 +14,7 @@ ghost use Rattle.toml_span_laws.specs.Clashing.{IsFirstPair, IsIn, ShareScope};
 /// other one that it clashes with.
 pub fn told_is_first_by_place()
     ensures { (text : List ℕ) (limit : ℕ) (blocks : List Block) (told : NamedClash) → SpellsDocument blocks text limit
-        → IsFirstClash [] (claims blocks) told ↔ ((c d : Claim) × IsFirstPair [] (claims blocks) c d
+        → (first_clash (claims blocks) ≡ Some told) ↔ ((c d : Claim) × IsFirstPair [] (claims blocks) c d
         × (clash c d ≡ Some told)) }
 {}
 
@@ -30,7 +30,7 @@ pub fn no_header_through_an_element_decides()
 /// Where no two claims of a document clash, those on one path are of one scope.
 pub fn claims_on_one_path_are_of_one_scope()
     ensures { (text : List ℕ) (limit : ℕ) (blocks : List Block) (c d : Claim) → SpellsDocument blocks text limit
-        → Resolves [] (claims blocks) → IsIn c (all_claims (claims blocks)) → IsIn d (all_claims (claims blocks))
+        → Resolves (claims blocks) → IsIn c (all_claims (claims blocks)) → IsIn d (all_claims (claims blocks))
         → c.path ≡ d.path → ShareScope (claims blocks) c d }
 {}
 

@@ -1,7 +1,6 @@
 use Rattle.std.proofs.Common.{◌≡◌, ◌||◌, drop}
 use Rattle.std.specs.List.{list_any}
-use Rattle.toml_span.specs.Clashes.{partner}
-use Rattle.toml_span.specs.code.Marks.{same_sort}
+use Rattle.toml_span.specs.code.Marks.{partner, same_sort}
 use Rattle.toml_span.proofs.claims.knows.Given as goal
 
 abbrev pub invariant-loop-seen : goal.invariant-loop-seen
