@@ -14,9 +14,11 @@ beside this file, or in the folder ``out/lib`` above it, or the system's.
 from __future__ import annotations
 
 import ctypes
+import gc
 import os
 import re
 import struct
+import sys
 from datetime import date, datetime, time, timedelta, timezone
 from typing import Any, BinaryIO, Callable, Dict, Iterator, List, Optional, Tuple, Union
 
@@ -30,7 +32,7 @@ _LONGEST = 16777216
 # a record: kind, truth, span, key span, key and text (source, place and length each), parent, position, children, next,
 # integer, number; and the part of it that `loads` wants
 _NODE = struct.Struct("=II14Qqd")
-_LOADED = struct.Struct("=IIQQ16x7Q24xqd")
+_LOADED = struct.Struct("=II32x7Q24xqd")
 _FAULT = struct.Struct("=II6Q")
 
 
@@ -115,7 +117,7 @@ def _records(text: str, name: str) -> Tuple[bytes, memoryview, bytes]:
     """The text's bytes, the records of its values, and its strings."""
     data = text.encode()
     size = len(data)
-    room, strings_room = size // 10 + 16, size // 16 + 64
+    room, strings_room = size // 12 + 16, size + 1
     counts, fault = (ctypes.c_size_t * 2)(), (ctypes.c_char * _FAULT.size)()
     while True:
         nodes = ctypes.create_string_buffer(room * _NODE.size)
@@ -135,6 +137,8 @@ def _records(text: str, name: str) -> Tuple[bytes, memoryview, bytes]:
 _CLOCK = r"(\d\d):(\d\d)(?::(\d\d)(?:\.(\d+))?)?"
 _DATE_TIME = re.compile(rf"(\d{{4}})-(\d\d)-(\d\d)(?:[Tt ]{_CLOCK}([Zz]|[+-]\d\d:\d\d)?)?")
 _TIME = re.compile(_CLOCK)
+# from Python 3.11 on it reads every text that TOML has for both
+_HAS_ISO = sys.version_info >= (3, 11)
 
 
 def _clock(hour: str, minute: str, second: Optional[str], fraction: Optional[str]) -> Tuple[int, int, int, int]:
@@ -152,6 +156,8 @@ def _zone(offset: Optional[str]) -> Optional[timezone]:
 
 def _moment(text: str) -> Union[datetime, date, time]:
     """The date, the time or both; a ValueError where Python has none such, as of the second 60."""
+    if _HAS_ISO and len(text) > 10:
+        return datetime.fromisoformat(text.replace("z", "Z"))
     whole = _DATE_TIME.fullmatch(text)
     if whole is None:
         clock = _TIME.fullmatch(text)
@@ -160,15 +166,13 @@ def _moment(text: str) -> Union[datetime, date, time]:
     year, month, day, hour, minute, second, fraction, offset = whole.groups()
     if hour is None:
         return date(int(year), int(month), int(day))
-    return datetime(
-        int(year), int(month), int(day), *_clock(hour, minute, second, fraction), tzinfo=_zone(offset)
-    )
+    return datetime(int(year), int(month), int(day), *_clock(hour, minute, second, fraction), tzinfo=_zone(offset))
 
 
 def _moment_at(text: str, data: bytes, start: int, end: int) -> Union[datetime, date, time]:
     try:
         return _moment(data[start:end].decode())
-    except ValueError as error:
+    except (ValueError, OverflowError) as error:
         raise TOMLDecodeError(
             f"No date or time of Python's: {error}", text, len(data[:start].decode()), None, (start, end)
         ) from None
@@ -188,42 +192,55 @@ def loads(s: str, /, *, parse_float: Callable[[str], Any] = float) -> Dict[str, 
     """
     if not isinstance(s, str):
         raise TypeError(f"Expected str object, not '{type(s).__qualname__}'")
+    # (the collector of cycles, of which a tree has none, would walk over it again and again as it grows)
+    collects = gc.isenabled()
+    gc.disable()
+    try:
+        return _tree(s, parse_float)
+    finally:
+        if collects:
+            gc.enable()
+
+
+def _tree(s: str, parse_float: Callable[[str], Any]) -> Dict[str, Any]:
+    """The document as a dict."""
     data, records, strings = _records(s, "<string>")
-    sources: Tuple[Any, Any] = (data, strings)
-    # of ASCII alone a place in the bytes is one in the text
-    plain = s.isascii() and strings.isascii()
-    if plain:
-        sources = (s, strings.decode())
-    values: List[Any] = []
-    add = values.append
-    for (
-        kind, truth, start, end, key_source, key_at, key_length, source, at, length, parent, integer, number
-    ) in _LOADED.iter_unpack(records):
+    # a character for each byte, so that places are places here; what is not ASCII is decoded where it is taken
+    sources = (data.decode("latin-1"), strings.decode("latin-1"))
+    plain = sources[0].isascii() and sources[1].isascii()
+    # the tables and arrays by the numbers of their records; the root is as if it stood in a table of its own
+    holders: Dict[int, Any] = {_NONE: {}}
+    last, add, entries = _NONE, None, holders[_NONE]
+    for number, (
+        kind, truth, key_source, key_at, key_length, source, at, length, parent, integer, real
+    ) in enumerate(_LOADED.iter_unpack(records)):
         if kind == _STRING:
             value: Any = sources[source][at : at + length]
-            if not plain:
-                value = value.decode()
+            if not plain and not value.isascii():
+                value = value.encode("latin-1").decode()
         elif kind == _INTEGER:
             value = integer
         elif kind == _TABLE:
-            value = {}
+            value = holders[number] = {}
         elif kind == _ARRAY:
-            value = []
+            value = holders[number] = []
         elif kind == _BOOLEAN:
             value = truth == 1
         elif kind == _FLOAT:
-            value = number if parse_float is float else _checked(parse_float, data[start:end].decode())
+            value = real if parse_float is float else _checked(parse_float, _literal(data, records, number))
         else:
-            value = _moment_at(s, data, start, end)
-        add(value)
-        if parent != _NONE:
-            holder = values[parent]
-            if type(holder) is dict:
-                key = sources[key_source][key_at : key_at + key_length]
-                holder[key if plain else key.decode()] = value
-            else:
-                holder.append(value)
-    return values[0]
+            value = _moment_at(s, data, at, at + length)
+        if parent != last:
+            last, entries = parent, holders[parent]
+            add = None if type(entries) is dict else entries.append
+        if add is None:
+            key = sources[key_source][key_at : key_at + key_length]
+            if not plain and not key.isascii():
+                key = key.encode("latin-1").decode()
+            entries[key] = value
+        else:
+            add(value)
+    return holders[0]
 
 
 def load(fp: BinaryIO, /, *, parse_float: Callable[[str], Any] = float) -> Dict[str, Any]:
@@ -234,6 +251,12 @@ def load(fp: BinaryIO, /, *, parse_float: Callable[[str], Any] = float) -> Dict[
     except AttributeError:
         raise TypeError("File must be opened in binary mode, e.g. use `open('foo.toml', 'rb')`") from None
     return loads(text, parse_float=parse_float)
+
+
+def _literal(data: bytes, records: memoryview, number: int) -> str:
+    """What the text has at a value's span."""
+    start, end = _NODE.unpack_from(records, number * _NODE.size)[2:4]
+    return data[start:end].decode()
 
 
 class _Document:

@@ -1,7 +1,7 @@
 //! Fills the caller's arrays, a value at a time.
 ghost use Rattle.std.specs.Prelude.{◌≡◌, ◌++◌, ◌∷◌, [], ℕ, suc, false, length, option_map};
 ghost use Rattle.toml_span_lex.specs.declared.span.Span.{Span};
-ghost use Rattle.toml_span_tree.specs.Value.{view, inner_view, items_view, members_view, is_taken};
+ghost use Rattle.toml_span_tree.specs.Value.{view, inner_of, items_view, members_view, is_taken};
 ghost use Rattle.toml_span_c.specs.Records as spec;
 ghost use Rattle.toml_span_c.specs.code.Filling.{laid, IsAt, Puts, PutsBytes};
 ghost use Rattle.toml_span_c.specs.code.Sites.{begun, entries_at};
@@ -11,7 +11,7 @@ use crate::records::{
     truth_of,
 };
 use toml_span_lex::span::Span;
-use toml_span_tree::{Table, Value, ValueInner};
+use toml_span_tree::{Table, Value};
 
 /// Where a value stands: its name and the span of its key, if it has one, and its place in what holds it.
 #[derive(Clone, Copy)]
@@ -154,31 +154,29 @@ fn put_value(
     let at = counts.nodes;
     let mut record = begin_record(document, value, site, strings, &mut counts.strings);
     counts.nodes = at.saturating_add(1);
-    put_held(document, value.as_ref(), at, nodes, strings, counts);
+    put_held(document, value, at, nodes, strings, counts);
     record.next = counts.nodes;
     put_record(nodes, at, record);
 }
 
-/// Puts the records of what is held.
+/// Puts the records of what a value holds.
 #[cycle(put_value)]
 fn put_held(
     document: &[u8],
-    inner: &ValueInner<'_>,
+    value: &Value<'_>,
     at: usize,
     nodes: &mut [Record],
     strings: &mut [u8],
     counts: &mut Counts,
 )
     ensures { (k m : ℕ) → at ≡ spec.number k → IsAt (suc k) m counts.old
-        → Puts document.now (suc k) m (spec.held_entries k (inner_view inner.now))
+        → Puts document.now (suc k) m (spec.held_entries k (inner_of (view value.now)))
         nodes.old nodes.new strings.old strings.new counts.new }
 {
-    match inner {
-        ValueInner::Array(elements) => {
-            put_elements(document, elements.as_slice(), at, nodes, strings, counts)
-        }
-        ValueInner::Table(table) => put_entries(document, table, at, nodes, strings, counts),
-        _ => {}
+    if let Some(elements) = value.as_array() {
+        put_elements(document, elements.as_slice(), at, nodes, strings, counts);
+    } else if let Some(table) = value.as_table() {
+        put_entries(document, table, at, nodes, strings, counts);
     }
 }
 

@@ -2,14 +2,15 @@
 use Rattle.std.proofs.Common.{◌≡◌, ◌+◌, ◌-◌, ◌∷◌, [], ℕ, suc, List, Some, None, sym, ap, ◌∙◌, arith, length, drop, option_map, zero-add, refl}
 use Rattle.std.proofs.lemmas.List.{drop_all}
 use Rattle.std.specs.Cow.{cow_str_bytes}
-use Rattle.toml_span_tree.specs.Value.{view, inner_view, items_view, members_view}
+use Rattle.toml_span_tree.specs.Value.{view, inner_of, span_of, items_in, members_in, items_view, members_view}
 use Rattle.toml_span_tree.proofs.Sizes.{items_size-next, members_size-next}
-use Rattle.toml_span_tree.proofs.Values.{inner_view-Array, inner_view-Table}
+use Rattle.toml_span_tree.proofs.Values.{view_is}
+use Rattle.toml_span_tree.specs.Node.{node}
 use Rattle.toml_span_c.specs.Records.{Entry, number, no_span, record_of, entry_strings, node_entries, held_entries, items_entries, members_entries}
 use Rattle.toml_span_c.specs.code.Filling.{IsAt, Puts}
 use Rattle.toml_span_c.specs.code.Sites.{begun}
 use Rattle.toml_span_c.specs.declared.records.Record.{Record}
-use Rattle.toml_span_c.proofs.Held.{nothing-held}
+use Rattle.toml_span_c.proofs.Held.{held-items, held-members, held-nothing, node-whole}
 use Rattle.toml_span_c.proofs.Puts.{puts-none, puts-own}
 use Rattle.toml_span_c.proofs.Walks.{Upto, items_left, members_left, upto-begin, upto-more, upto-all, items-split, members-split, entries-taken, entries-held, own_entry, puts-named, puts-same}
 use Rattle.toml_span_c.proofs.fill.+put_value.Goals as goal
@@ -75,22 +76,29 @@ put_entries-loop-key-init t c =
       so = λ k m at. upto-begin _ k m (members_left c.args.parent 0 c.args.table.now.entries) _ _ _ at;
     })
 
-pub put_held-returns-in-Array : goal.put_held-returns-in-Array
-put_held-returns-in-Array t c k m own at =
-    let is = ap (λ i. held_entries k (inner_view i)) c.in-Array.is ∙ ap (λ i. held_entries k i) (inner_view-Array c.in-Array.elements) in
+pub put_held-returns-in-Some : goal.put_held-returns-in-Some
+put_held-returns-in-Some t c k m own at =
+    let inner = inner_of (view c.args.value.now) in
+    let items = c.in-Some.elements.now.items in
+    let some : items_in inner ≡ Some (items_view items) = sym c.as_array.ensures ∙ ap (λ o. option_map (λ a. items_view a.now.items) o) c.in-Some.is in
     let named = ap (λ p. items_entries (suc k) p 0 (items_view c.as_slice.result.now)) own in
     let same = ap (λ l. items_entries (suc k) (number k) 0 (items_view l)) c.as_slice.ensures.value in
-    puts-same _ (suc k) m _ _ _ _ _ _ _ (named ∙ same ∙ sym is) (c.put_elements.ensures (suc k) m at)
+    puts-same _ (suc k) m _ _ _ _ _ _ _ (named ∙ same ∙ sym (held-items k inner (items_view items) some)) (c.put_elements.ensures (suc k) m at)
 
-pub put_held-returns-in-Table : goal.put_held-returns-in-Table
-put_held-returns-in-Table t c k m own at =
-    let is = ap (λ i. held_entries k (inner_view i)) c.in-Table.is ∙ ap (λ i. held_entries k i) (inner_view-Table c.in-Table.table) in
-    let named = ap (λ p. members_entries (suc k) p 0 (members_view c.in-Table.table.entries)) own in
-    puts-same _ (suc k) m _ _ _ _ _ _ _ (named ∙ sym is) (c.put_entries.ensures (suc k) m at)
+pub put_held-returns-in-Some-as_table : goal.put_held-returns-in-Some-as_table
+put_held-returns-in-Some-as_table t c k m own at =
+    let inner = inner_of (view c.args.value.now) in
+    let entries = c.in-Some-as_table.table.now.entries in
+    let some : members_in inner ≡ Some (members_view entries) = sym c.as_table.ensures ∙ ap (λ o. option_map (λ a. members_view a.now.entries) o) c.in-Some-as_table.is in
+    let named = ap (λ p. members_entries (suc k) p 0 (members_view entries)) own in
+    puts-same _ (suc k) m _ _ _ _ _ _ _ (named ∙ sym (held-members k inner (members_view entries) some)) (c.put_entries.ensures (suc k) m at)
 
-pub put_held-returns-in_default : goal.put_held-returns-in_default
-put_held-returns-in_default t c k m own at =
-    puts-same _ (suc k) m _ _ _ _ _ _ _ (sym (nothing-held k c.args.inner.now c.in_default.not-Array c.in_default.not-Table)) (puts-none _ (suc k) m _ _ _ at)
+pub put_held-returns-in_default-as_table : goal.put_held-returns-in_default-as_table
+put_held-returns-in_default-as_table t c k m own at =
+    let inner = inner_of (view c.args.value.now) in
+    let no_items : items_in inner ≡ None = sym c.as_array.ensures ∙ ap (λ o. option_map (λ a. items_view a.now.items) o) c.in_default.is in
+    let no_members : members_in inner ≡ None = sym c.as_table.ensures ∙ ap (λ o. option_map (λ a. members_view a.now.entries) o) c.in_default-as_table.is in
+    puts-same _ (suc k) m _ _ _ _ _ _ _ (sym (held-nothing k inner no_items no_members)) (puts-none _ (suc k) m _ _ _ at)
 
 pub put_value-returns-then-is_taken : goal.put_value-returns-then-is_taken
 put_value-returns-then-is_taken t c k m at =
@@ -101,10 +109,11 @@ pub put_value-returns : goal.put_value-returns
 put_value-returns t c k m at =
     let document = c.args.document.now in
     let value = c.args.value.now in
-    let inner = inner_view c.as_ref.result.now in
+    let inner = inner_of (view value) in
+    let span : span_of (view value) ≡ value.span = ap span_of (view_is value) in
     let site = c.args.site in
     let name = option_map (λ s. s.now) site.name in
-    let kept = entries-held k site.parent site.position name site.key_span (view value) inner value.span c.as_ref.ensures (sym c.is_taken.ensures ∙ c.if-is_taken.false) in
+    let kept = entries-held k site.parent site.position name site.key_span (view value) inner value.span (node-whole (view value) ∙ ap (λ s. node inner s) span) (sym c.is_taken.ensures ∙ c.if-is_taken.false) in
     let own = own_entry k site.parent site.position name site.key_span (view value) inner in
     let first = c.begin_record-record.ensures.put m at.strings in
     let behind = m + length (entry_strings document (begun site value)) in

@@ -1,6 +1,6 @@
 -- The measure is how many parts of the tree are left; what is left makes what is wanted.
 use Rattle.std.proofs.Common.{◌≡◌, ◌+◌, ◌-◌, ◌*◌, ◌≤◌, ℕ, suc, drop, length}
-use Rattle.toml_span_tree.specs.Value.{view, inner_view, items_view, members_view}
+use Rattle.toml_span_tree.specs.Value.{view, inner_of, items_view, members_view}
 use Rattle.toml_span_tree.proofs.Sizes.{node_size, inner_size, items_size, members_size}
 use Rattle.toml_span_c.specs.Records.{items_entries, members_entries}
 use Rattle.toml_span_c.specs.code.Filling.{IsAt}
@@ -11,7 +11,7 @@ abbrev pub decreases-put_value : goal.decreases-put_value
 decreases-put_value l = 2 * node_size (view l.value.now)
 
 abbrev pub decreases-put_held : goal.decreases-put_held
-decreases-put_held l = suc (2 * inner_size (inner_view l.inner.now))
+decreases-put_held l = suc (2 * inner_size (inner_of (view l.value.now)))
 
 abbrev pub decreases-put_elements : goal.decreases-put_elements
 decreases-put_elements l = suc (2 * items_size (items_view l.elements.now))
