@@ -33,12 +33,12 @@ IsDocument bytes = (root : Value) × IsTree bytes depth_limit root
 -- The bytes are a document. The arrays have the fronts of its records and of its strings, as far as there was room, and
 -- the counts are those of all of them.
 pub record IsRead (bytes : List ℕ) (nodes nodes' : List Record) (strings strings' : List ℕ) (counts : Counts) : Type 0
-    where
-  pub root : Value
-  pub tree : IsTree bytes depth_limit root
-  pub nodes_are : nodes' ≡ filled (tree_records bytes (view root)) nodes
-  pub strings_are : strings' ≡ filled (tree_strings bytes (view root)) strings
-  pub counts_are : counts ≡ tree_counts bytes (view root)
+  where
+    pub root : Value
+    pub tree : IsTree bytes depth_limit root
+    pub nodes_are : nodes' ≡ filled (tree_records bytes (view root)) nodes
+    pub strings_are : strings' ≡ filled (tree_strings bytes (view root)) strings
+    pub counts_are : counts ≡ tree_counts bytes (view root)
 
 -- the bytes are refused, and of what the error tells this holds
 abbrev pub IsRefused : List ℕ → (ErrorContent → Type 0) → Type 0

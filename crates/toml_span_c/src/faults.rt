@@ -1,7 +1,6 @@
 //! The records of faults.
-ghost use Rattle.std.specs.Prelude.{◌≡◌, ◌≢◌};
-ghost use Rattle.toml_span_tree.specs.Error.{Kind, content_of, kind_of};
-ghost use Rattle.toml_span_tree.specs.Message.{code_of};
+ghost use Rattle.std.specs.Prelude.{◌≡◌};
+ghost use Rattle.toml_span_tree.specs.Error.{content_of, kind_of};
 ghost use Rattle.toml_span_c.specs.Faults as spec;
 
 use crate::records::Range;
@@ -112,8 +111,3 @@ pub(crate) fn code_name(code: u32) -> &'static str
         _ => "",
     }
 }
-
-/// Each kind with a number has its own code as that number's name.
-pub fn codes_are_named()
-    ensures { (kind : Kind) → spec.code_number kind ≢ 0 → spec.code_name (spec.code_number kind) ≡ code_of kind }
-{}

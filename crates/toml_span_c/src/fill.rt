@@ -62,7 +62,8 @@ fn put_text(
     ensures place { (m : ℕ) → count.old ≡ spec.number m
         → result ≡ spec.place_of document.now m span (option_map (λ s. s.now) text.entry) }
     ensures put { (m : ℕ) → count.old ≡ spec.number m
-        → PutsBytes m (spec.aside document.now span (option_map (λ s. s.now) text.entry)) strings.old strings.new count.new }
+        → PutsBytes m (spec.aside document.now span (option_map (λ s. s.now) text.entry))
+        strings.old strings.new count.new }
 {
     let Some(text) = text else {
         return Text {
@@ -106,9 +107,11 @@ fn begin_record(
     count: &mut usize,
 ) -> Record
     requires { is_taken (view value.now) ≡ false }
-    ensures begins { (m : ℕ) → count.old ≡ spec.number m → result ≡ spec.record_of document.now m (begun site.entry value.now) }
+    ensures begins { (m : ℕ) → count.old ≡ spec.number m
+        → result ≡ spec.record_of document.now m (begun site.entry value.now) }
     ensures put { (m : ℕ) → count.old ≡ spec.number m
-        → PutsBytes m (spec.entry_strings document.now (begun site.entry value.now)) strings.old strings.new count.new }
+        → PutsBytes m (spec.entry_strings document.now (begun site.entry value.now))
+        strings.old strings.new count.new }
 {
     let inner = value.as_ref();
     let key = put_text(document, site.key_span, site.name, strings, count);

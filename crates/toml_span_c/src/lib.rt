@@ -7,6 +7,7 @@
 mod answer;
 pub mod faults;
 mod fill;
+pub mod laws;
 pub mod parse;
 pub mod records;
 pub mod texts;

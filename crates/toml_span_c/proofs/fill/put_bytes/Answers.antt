@@ -24,7 +24,7 @@ returns c m e =
             count = total;
           }
       | else-at-room w ↦ record {
-          bytes = w.strings-is ∙ sym (laid-past m c.args.bytes.now old (omega (arith, e, c.room_of-room.ensures, w.if-at-room.false)));
-          count = total;
-        }
+        bytes = w.strings-is ∙ sym (laid-past m c.args.bytes.now old (omega (arith, e, c.room_of-room.ensures, w.if-at-room.false)));
+        count = total;
+      }
     ]
