@@ -2,7 +2,7 @@
 use Rattle.std.proofs.Common.{◌≡◌, ℕ, suc, ◌+◌, List, [], ◌∷◌, ◌++◌, length, refl, sym, ap, ◌∙◌, arith, append_assoc, length-append}
 use Rattle.toml_span_c.specs.declared.records.Counts.{Counts}
 use Rattle.toml_span_c.specs.declared.records.Record.{Record}
-use Rattle.toml_span_c.specs.Records.{Entry, number, entry_strings, record_of, records_of, strings_of}
+use Rattle.toml_span_c.specs.Records.{Entry, capped, entry_strings, record_of, records_of, strings_of}
 use Rattle.toml_span_c.specs.code.Filling.{laid, IsAt, Puts, PutsBytes}
 use Rattle.toml_span_c.proofs.Arrays.{laid-none, laid-append, laid-before}
 
@@ -24,7 +24,7 @@ length-records document m [] = refl
 length-records document m (e ∷ es) = ap (λ n. suc n) (length-records document (m + length (entry_strings document e)) es)
 
 pub at-moved : (k l m n : ℕ) (counts : Counts) → k ≡ l → m ≡ n → IsAt k m counts → IsAt l n counts
-at-moved k l m n counts e f at = record { nodes = at.nodes ∙ ap number e; strings = at.strings ∙ ap number f }
+at-moved k l m n counts e f at = record { nodes = at.nodes ∙ ap capped e; strings = at.strings ∙ ap capped f }
 
 pub puts-none : (document : List ℕ) (k m : ℕ) (ns : List Record) (bytes : List ℕ) (counts : Counts) → IsAt k m counts → Puts document k m [] ns ns bytes bytes counts
 puts-none document k m ns bytes counts at = record {
@@ -73,5 +73,5 @@ bytes-append m xs ys a b c t u p q =
     let same : m + length xs + length ys ≡ m + length (xs ++ ys) = omega (arith, long) in
     record {
       bytes = q.bytes ∙ ap (λ l. laid (m + length xs) ys l) p.bytes ∙ laid-append m (m + length xs) xs ys a refl;
-      count = q.count ∙ ap number same;
+      count = q.count ∙ ap capped same;
     }

@@ -9,7 +9,7 @@ use Rattle.toml_span_tree.specs.Node.{Node, node, Inner, taken, scalar, array, t
 use Rattle.toml_span_tree.specs.Value.{view, items_view, members_view, is_taken, holds_nothing}
 use Rattle.toml_span_c.specs.declared.records.Counts.{Counts}
 use Rattle.toml_span_c.specs.declared.records.Record.{Record}
-use Rattle.toml_span_c.specs.Records.{Entry, number, no_span, node_entries, held_entries, items_entries, members_entries, strings_of}
+use Rattle.toml_span_c.specs.Records.{Entry, capped, no_span, node_entries, held_entries, items_entries, members_entries, strings_of}
 use Rattle.toml_span_c.specs.code.Filling.{IsAt, Puts}
 use Rattle.toml_span_c.proofs.Puts.{puts-none, puts-append}
 
@@ -20,7 +20,7 @@ own_entry at parent i name key n inner = record {
   position = i;
   name = name;
   key_span = key;
-  next = number (suc at + length (held_entries at inner));
+  next = capped (suc at + length (held_entries at inner));
   value = n;
 }
 

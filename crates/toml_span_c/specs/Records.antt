@@ -86,9 +86,9 @@ children_of _ = 0
 
 -- ---- the order of the values
 
--- A number of a record or of a byte. One that is too great for the type, of which no text has so many, is the greatest.
-abbrev pub number : ℕ → ℕ
-number n = min n NONE
+-- a number of a record or of a byte; of one that does not fit the greatest that does
+abbrev pub capped : ℕ → ℕ
+capped n = min n NONE
 
 -- A value with its name and the span of its key, if it has one. The numbers are those of the records: of what holds it,
 -- and of the first one behind all that it holds.
@@ -114,15 +114,15 @@ abbrev mutual
         position = i;
         name = name;
         key_span = key;
-        next = number (suc at + length (held_entries at inner));
+        next = capped (suc at + length (held_entries at inner));
         value = node inner span;
       } ∷ held_entries at inner
 
   pub held_entries : ℕ → Inner → List Entry
   held_entries at taken = []
   held_entries at (scalar s) = []
-  held_entries at (array ns) = items_entries (suc at) (number at) 0 ns
-  held_entries at (table ms) = members_entries (suc at) (number at) 0 ms
+  held_entries at (array ns) = items_entries (suc at) (capped at) 0 ns
+  held_entries at (table ms) = members_entries (suc at) (capped at) 0 ms
 
   pub items_entries : ℕ → ℕ → ℕ → Items → List Entry
   items_entries at parent i no_items = []
@@ -154,7 +154,7 @@ place_of document behind span None = record { source = 0; at = 0; length = 0 }
 place_of document behind span (Some s) =
     if stands document span s
     then record { source = 0; at = span.start; length = length s }
-    else record { source = 1; at = number behind; length = length s }
+    else record { source = 1; at = capped behind; length = length s }
 
 -- what of a text is in the strings
 abbrev pub aside : List ℕ → Span → Option (List ℕ) → List ℕ
@@ -207,8 +207,8 @@ tree_strings document n = strings_of document (tree_entries n)
 
 abbrev pub tree_counts : List ℕ → Node → Counts
 tree_counts document n = record {
-  nodes = number (length (tree_records document n));
-  strings = number (length (tree_strings document n));
+  nodes = capped (length (tree_records document n));
+  strings = capped (length (tree_strings document n));
 }
 
 -- ---- arrays

@@ -40,7 +40,7 @@ fn room_of<T>(array: &[T]) -> usize
 
 /// Puts bytes into the strings, as far as there is room, and counts them.
 fn put_bytes(strings: &mut [u8], count: &mut usize, bytes: &[u8])
-    ensures { (m : ℕ) → count.old ≡ spec.number m → PutsBytes m bytes.now strings.old strings.new count.new }
+    ensures { (m : ℕ) → count.old ≡ spec.capped m → PutsBytes m bytes.now strings.old strings.new count.new }
 {
     let at = *count;
     let room = room_of(strings);
@@ -59,9 +59,9 @@ fn put_text(
     strings: &mut [u8],
     count: &mut usize,
 ) -> Text
-    ensures place { (m : ℕ) → count.old ≡ spec.number m
+    ensures place { (m : ℕ) → count.old ≡ spec.capped m
         → result ≡ spec.place_of document.now m span (option_map (λ s. s.now) text.entry) }
-    ensures put { (m : ℕ) → count.old ≡ spec.number m
+    ensures put { (m : ℕ) → count.old ≡ spec.capped m
         → PutsBytes m (spec.aside document.now span (option_map (λ s. s.now) text.entry))
         strings.old strings.new count.new }
 {
@@ -90,7 +90,7 @@ fn put_text(
 
 /// Puts a record, if there is room for it.
 fn put_record(nodes: &mut [Record], at: usize, added: Record)
-    ensures { (k : ℕ) → at ≡ spec.number k → nodes.new ≡ laid k (added ∷ []) nodes.old }
+    ensures { (k : ℕ) → at ≡ spec.capped k → nodes.new ≡ laid k (added ∷ []) nodes.old }
 {
     let room = room_of(nodes);
     if at < room {
@@ -107,9 +107,9 @@ fn begin_record(
     count: &mut usize,
 ) -> Record
     requires { is_taken (view value.now) ≡ false }
-    ensures begins { (m : ℕ) → count.old ≡ spec.number m
+    ensures begins { (m : ℕ) → count.old ≡ spec.capped m
         → result ≡ spec.record_of document.now m (begun site.entry value.now) }
-    ensures put { (m : ℕ) → count.old ≡ spec.number m
+    ensures put { (m : ℕ) → count.old ≡ spec.capped m
         → PutsBytes m (spec.entry_strings document.now (begun site.entry value.now))
         strings.old strings.new count.new }
 {
@@ -172,7 +172,7 @@ fn put_held(
     strings: &mut [u8],
     counts: &mut Counts,
 )
-    ensures { (k m : ℕ) → at ≡ spec.number k → IsAt (suc k) m counts.old
+    ensures { (k m : ℕ) → at ≡ spec.capped k → IsAt (suc k) m counts.old
         → Puts document.now (suc k) m (spec.held_entries k (inner_of (view value.now)))
         nodes.old nodes.new strings.old strings.new counts.new }
 {

@@ -6,7 +6,7 @@ use Rattle.toml_span_tree.specs.Value.{view, inner_of, span_of, items_in, member
 use Rattle.toml_span_tree.proofs.Sizes.{items_size-next, members_size-next}
 use Rattle.toml_span_tree.proofs.Values.{view_is}
 use Rattle.toml_span_tree.specs.Node.{node}
-use Rattle.toml_span_c.specs.Records.{Entry, number, no_span, record_of, entry_strings, node_entries, held_entries, items_entries, members_entries}
+use Rattle.toml_span_c.specs.Records.{Entry, capped, no_span, record_of, entry_strings, node_entries, held_entries, items_entries, members_entries}
 use Rattle.toml_span_c.specs.code.Filling.{IsAt, Puts}
 use Rattle.toml_span_c.specs.code.Sites.{begun}
 use Rattle.toml_span_c.specs.declared.records.Record.{Record}
@@ -82,7 +82,7 @@ put_held-returns-in-Some t c k m own at =
     let items = c.in-Some.elements.now.items in
     let some : items_in inner ≡ Some (items_view items) = sym c.as_array.ensures ∙ ap (λ o. option_map (λ a. items_view a.now.items) o) c.in-Some.is in
     let named = ap (λ p. items_entries (suc k) p 0 (items_view c.as_slice.result.now)) own in
-    let same = ap (λ l. items_entries (suc k) (number k) 0 (items_view l)) c.as_slice.ensures.value in
+    let same = ap (λ l. items_entries (suc k) (capped k) 0 (items_view l)) c.as_slice.ensures.value in
     puts-same _ (suc k) m _ _ _ _ _ _ _ (named ∙ same ∙ sym (held-items k inner (items_view items) some)) (c.put_elements.ensures (suc k) m at)
 
 pub put_held-returns-in-Some-as_table : goal.put_held-returns-in-Some-as_table
@@ -117,7 +117,7 @@ put_value-returns t c k m at =
     let own = own_entry k site.parent site.position name site.key_span (view value) inner in
     let first = c.begin_record-record.ensures.put m at.strings in
     let behind = m + length (entry_strings document (begun site value)) in
-    let next : c.saturating_add-counts.result ≡ number (suc k) = omega (arith, at.nodes, c.saturating_add-counts.ensures) in
+    let next : c.saturating_add-counts.result ≡ capped (suc k) = omega (arith, at.nodes, c.saturating_add-counts.ensures) in
     let below = c.put_held.ensures k behind at.nodes (record { nodes = next; strings = first.count }) in
     let begins = c.begin_record-record.ensures.begins m at.strings in
     let made = ap (λ (r : Record). record r { next = c.put_held.new.counts.nodes }) begins

@@ -3,7 +3,7 @@ use Rattle.std.proofs.lemmas.Int.{to_z-of_z}
 use mir.Syntax.{w64}
 use mir.Val.{SFits}
 use Rattle.toml_span_tree.specs.Value.{view, inner_view, inner_of, span_of}
-use Rattle.toml_span_c.specs.Records.{number, aside, text_of}
+use Rattle.toml_span_c.specs.Records.{capped, aside, text_of}
 use Rattle.toml_span_c.specs.code.Filling.{PutsBytes}
 use Rattle.toml_span_c.proofs.Puts.{bytes-append}
 use Rattle.toml_span_c.proofs.fill.begin_record.Goals as goal
