@@ -7,9 +7,15 @@
 # NAME.status). So it sees a wrong answer, an index out of range, an overflow or a bad access on these inputs, and no
 # more: what holds on all inputs is for the whole test (scripts/test.sh). The runs of the checker, which have words and
 # files, are made with a native build (scripts/check_runs.sh). As many side by side as there are processors, or as
-# QUICK_JOBS says. The last line counts.
+# QUICK_JOBS says. The last line counts. Without the toolchain one line says so, and the status is 5.
 set -uo pipefail
-cd "$(dirname "$0")/.."
+unset CDPATH
+script=$(readlink -f -- "${BASH_SOURCE[0]}")
+cd -- "${script%/scripts/*}" || exit
+if ! command -v rt >/dev/null; then
+    echo "quick: the toolchain's command rt is not here: put it on PATH" >&2
+    exit 5
+fi
 
 # More of the interpreter's steps than small inputs take. What takes more is answered by the compiled run alone.
 steps=100000
@@ -23,10 +29,11 @@ store() {
 
 # program CRATE: runs a program on its stored inputs, and fails where it writes or ends otherwise
 program() {
-    local words=() input name wanted wrong=0
+    local words=() input name wanted native wrong=0
     cd "crates/$1" || return
     if compgen -G 'runs/*.args' >/dev/null; then
-        bash ../../scripts/check_runs.sh "$(bash ../../scripts/native.sh "$1")"
+        native=$(bash ../../scripts/native.sh "$1") || return
+        bash ../../scripts/check_runs.sh "$native"
         return
     fi
     mkdir "$work/cases"
@@ -46,7 +53,7 @@ program() {
 }
 
 if [ "${1-}" = --job ]; then
-    work=$(mktemp -d)
+    work=$(realpath "$(mktemp -d)") || exit
     trap 'rm -rf "$work"' EXIT
     if case $2 in
         tests) cd "crates/$3" && rt try --test ;;
@@ -73,10 +80,11 @@ if [ ${#jobs[@]} -eq 0 ]; then
     exit 1
 fi
 
-right=$(mktemp)
+right=$(mktemp) || exit
 trap 'rm -f "$right"' EXIT
+# shellcheck disable=SC2016 # (the words of `bash -c` are its own)
 printf '%s\n' "${jobs[@]}" | xargs -P "${QUICK_JOBS:-$(nproc)}" -L 1 bash -c \
-    'if bash "$0" --job "$2" "$3"; then echo right >>"$1"; fi' "$PWD/scripts/quick.sh" "$right"
+    'if bash "$0" --job "$2" "$3"; then echo right >>"$1"; fi' "$script" "$right"
 passed=$(wc -l <"$right")
 echo "quick: $SECONDS s"
 echo "$passed passed, $((${#jobs[@]} - passed)) failed"

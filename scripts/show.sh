@@ -3,11 +3,16 @@
 #
 # With no FILE, or `-`, it reads standard input; a FIFO and /dev/stdin are fine too. The status is the program's: 0 a
 # document, 1 none, 2 no UTF-8 or more than 16 MiB, 3 a failed read or write, 4 no memory. It is 2 too where FILE can't
-# be read and where more than one is named, and 5 where the program can't be built.
+# be read and where more than one is named, and 5 where the program can't be built, with a word on standard error that
+# says what to do.
 #
 # What runs is a native build that is kept (scripts/native.sh): the proved one where it is no older than the sources;
 # else one without the proofs, which is made once, with a word on standard error. Otherwise nothing is printed there.
-set -euo pipefail
+set -uo pipefail
+shopt -s execfail
+script=$(readlink -f -- "${BASH_SOURCE[0]}")
+# shellcheck source=scripts/plain.sh
+source "${script%/*}/plain.sh" || exit 5
 if [ $# -gt 1 ]; then
     echo "usage: bash scripts/show.sh [FILE]" >&2
     exit 2
@@ -16,18 +21,27 @@ file=${1--}
 
 # refuse WHY: ends where the file can't be read
 refuse() {
-    echo "show: $file: $1" >&2
+    printf 'show: %s: %s\n' "$(plain "$file")" "$1" >&2
     exit 2
 }
 
 if [ "$file" != - ] && [ "$file" != /dev/stdin ]; then
-    [ -e "$file" ] || refuse "there is no such file"
-    [ ! -d "$file" ] || refuse "this is a folder"
-    [ ! -S "$file" ] || refuse "this is a socket"
-    [ -r "$file" ] || refuse "this file may not be read"
+    if [ ! -e "$file" ]; then refuse "there is no such file"; fi
+    if [ -d "$file" ]; then refuse "this is a folder"; fi
+    if [ -S "$file" ]; then refuse "this is a socket"; fi
+    if [ ! -r "$file" ]; then refuse "this file may not be read"; fi
 fi
-program=$(bash "$(dirname "$0")/native.sh" toml_span_show </dev/null)
-if [ "$file" = - ] || [ "$file" = /dev/stdin ]; then
+program=$(bash "${script%/*}/native.sh" toml_span_show </dev/null)
+case $? in
+0)
+    if [ "$file" != - ] && [ "$file" != /dev/stdin ]; then
+        { exec <"$file"; } 2>/dev/null || refuse "this file can't be opened"
+    fi
     exec "$program"
-fi
-exec "$program" <"$file"
+    ;;
+130) exit 130 ;;
+143) exit 143 ;;
+5) exit 5 ;;
+esac
+echo "show: the program can't be run: see that ${script%/*} has the file native.sh, and run this again" >&2
+exit 5

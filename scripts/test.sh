@@ -70,6 +70,7 @@ run "no handles" grep -qx 'Handles allowed: none.' HANDLES
 start "stored runs of the program" bash scripts/runs.sh
 start "stored runs of the checker" bash scripts/check_runs.sh
 start "runs with each request for memory refused" bash scripts/refused_runs.sh
+start "scripts that people start" bash scripts/scripts_test.sh
 start "the repository stands alone" bash scripts/stands_alone.sh
 start "each edit names its clause" python3 scripts/edits.py --check
 start "pages quote the sources" python3 scripts/pages.py --check

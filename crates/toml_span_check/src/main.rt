@@ -15,7 +15,7 @@ use clap::error::ErrorKind;
 use std::env;
 use std::io::IsTerminal;
 use std::process::ExitCode;
-use toml_span_lines::watched::Watched;
+use toml_span_lines::told::Told;
 
 /// Runs the program, and answers its status.
 fn status_of(rt: HostRuntime) -> anyhow::Result<u8> {
@@ -32,8 +32,8 @@ fn status_of(rt: HostRuntime) -> anyhow::Result<u8> {
             return Ok(error.exit_code() as u8);
         }
     };
-    let mut out = Watched::new(out);
-    let mut errors = Watched::new(rt.stderr());
+    let mut out = Told::new(out);
+    let mut errors = Told::new(rt.stderr());
     let mut inputs = Host { rt };
     Ok(run(
         alloc,

@@ -6,7 +6,6 @@ use Rattle.toml_span_lex.specs.declared.stop.Stop.{Stop}
 use Rattle.toml_span_lex.specs.declared.stop.Stop.TheVariants as stops
 use Rattle.toml_span_tree.specs.Error as tree
 use Rattle.toml_span_tree.specs.Error.{content_of}
-use Rattle.toml_span_tree.specs.Path.{Path, place_at}
 use Rattle.toml_span_tree.specs.Value.{view}
 use Rattle.toml_span_tree.specs.declared.error.Error.{Error}
 use Rattle.toml_span_tree.specs.declared.value.Value.{Value}
@@ -25,6 +24,7 @@ use Rattle.toml_span.specs.Flat.{flat}
 use Rattle.toml_span.specs.Parsing.{IsTreeOf, IsTree, IsFault, IsClashOf, IsClash, IsRefusal}
 use Rattle.toml_span_laws.specs.Outcomes.{Outcome, resolved, clashed, refused_at, HasOutcome, IsAnswered, TellsClash, IsAnswerOf, IsAlike}
 use Rattle.toml_span_laws.proofs.FirstClash.{cases_option}
+use Rattle.toml_span_laws.proofs.OneTree.{node-one}
 
 -- ---- texts
 
@@ -39,9 +39,10 @@ tree-or-refusal text limit root error (bs, spelled, tree) (inl (fault, due, plac
 tree-or-refusal text limit root error (bs, spelled, tree) (inr (cs, others, clash)) =
     none-some clash.clash (sym tree.resolves ∙ sym (ap (λ l. first_clash (claims l)) (one-document text limit cs bs others spelled)) ∙ clash.first)
 
-pub one-tree : (text : List ℕ) (limit : ℕ) (root other : Value) (p : Path) → IsTree text limit root → IsTree text limit other → place_at p (view root) ≡ place_at p (view other)
-one-tree text limit root other p (bs, spelled, tree) (cs, others, same) =
-    tree.shows p ∙ ap (λ l. flat (length text) (claims l) p) (one-document text limit bs cs spelled others) ∙ sym (same.shows p)
+pub one-tree : (text : List ℕ) (limit : ℕ) (root other : Value) → IsTree text limit root → IsTree text limit other → view root ≡ view other
+one-tree text limit root other (bs, spelled, tree) (cs, others, same) =
+    node-one (view root) (view other) tree.ordered same.ordered
+    (λ p. tree.shows p ∙ ap (λ l. flat (length text) (claims l) p) (one-document text limit bs cs spelled others) ∙ sym (same.shows p))
 
 -- ---- one clash
 
@@ -99,7 +100,7 @@ one-refusal text limit e f (inr a) (inr b) = one-clash text limit e f a b
 -- ---- one answer
 
 pub alike : (text : List ℕ) (limit : ℕ) (r s : Result Value (Stop Error)) → IsAnswered text limit r → IsAnswered text limit s → IsAlike r s
-alike text limit (Ok root) (Ok other) a b = λ p. one-tree text limit root other p a b
+alike text limit (Ok root) (Ok other) a b = one-tree text limit root other a b
 alike text limit (Ok root) (Err (stops.Memory f)) a b = tt
 alike text limit (Ok root) (Err (stops.Fault f)) a b = tree-or-refusal text limit root f a b
 alike text limit (Err (stops.Memory e)) (Ok other) a b = tt

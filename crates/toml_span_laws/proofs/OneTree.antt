@@ -7,13 +7,9 @@ use Rattle.std.proofs.lemmas.Option.{none-some, same_Some}
 use Rattle.toml_span_lex.specs.declared.span.Span.{Span}
 use Rattle.toml_span_tree.specs.Node.{Node, node, Inner, taken, scalar, array, table, Items, no_items, item, Members, no_members, member, entry_at, element_at}
 use Rattle.toml_span_tree.specs.Path.{Path, Step, key, position, Place, shape_of, reached, at_step, place_of, place_at}
-use Rattle.toml_span_tree.specs.Value.{view}
-use Rattle.toml_span_tree.specs.declared.value.Value.{Value}
 use Rattle.toml_span.specs.Ordered.{IsNameBefore, EachName, IsOrdered, HoldsOrdered, AreOrdered, MembersOrdered}
 use Rattle.toml_span.proofs.Ordered.{one-each, same-name, first-entry, later-entry}
-use Rattle.toml_span.specs.Parsing.{IsTree}
 use Rattle.toml_span_laws.specs.Document.{without_key, IsValueOf}
-use Rattle.toml_span_laws.proofs.Answered.{one-tree}
 
 abbrev pub At : Type 0
 At = Option Span × Node
@@ -95,7 +91,7 @@ one-key s t n m same = same_Some s t (ap span-in (same_Some (place_of (Some s, n
 -- ---- trees
 
 mutual
-  node-one : (n m : Node) → IsOrdered n → IsOrdered m → ((p : Path) → place_at p n ≡ place_at p m) → n ≡ m
+  pub node-one : (n m : Node) → IsOrdered n → IsOrdered m → ((p : Path) → place_at p n ≡ place_at p m) → n ≡ m
   node-one (node i s) (node j t) h g same =
       let place = same_Some (place_of (None, node i s)) (place_of (None, node j t)) (same []) in
       let inner = inner-one i j h g (ap (λ x. x.shape) place) (λ q p. same (q ∷ p)) in
@@ -144,6 +140,3 @@ mutual
 
 pub one-value : (places : Path → Option Place) (n m : Node) → IsValueOf places n → IsValueOf places m → n ≡ m
 one-value places n m h g = node-one n m h.0 g.0 (λ p. h.1 p ∙ sym (g.1 p))
-
-pub one-view : (text : List ℕ) (limit : ℕ) (root other : Value) → IsTree text limit root → IsTree text limit other → view root ≡ view other
-one-view text limit root other tree same = node-one (view root) (view other) tree.2.ordered same.2.ordered (λ p. one-tree text limit root other p tree same)

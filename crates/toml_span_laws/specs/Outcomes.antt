@@ -5,7 +5,6 @@ use Rattle.toml_span_lex.specs.declared.stop.Stop.TheVariants as stops
 use Rattle.toml_span_tree.specs.declared.error.Error.{Error}
 use Rattle.toml_span_tree.specs.declared.value.Value.{Value}
 use Rattle.toml_span_tree.specs.Error.{content_of}
-use Rattle.toml_span_tree.specs.Path.{Path, place_at}
 use Rattle.toml_span_tree.specs.Value.{view}
 use Rattle.toml_span_read.specs.Data.{Block}
 use Rattle.toml_span_read.specs.declared.fault.Fault.{Fault}
@@ -53,10 +52,10 @@ IsAnswerOf text (refused_at fault) (Ok root) = ⊥
 IsAnswerOf text (refused_at fault) (Err (stops.Memory e)) = ⊤
 IsAnswerOf text (refused_at fault) (Err (stops.Fault error)) = Tells text fault (content_of error)
 
--- Both are trees, which show the same at each path, or both are errors, which tell the same. Want of memory is like
+-- Both are trees, equal as data, or both are errors, which tell the same. Want of memory is like
 -- each answer.
 abbrev pub IsAlike : Result Value (Stop Error) → Result Value (Stop Error) → Type 0
-IsAlike (Ok root) (Ok other) = (path : Path) → place_at path (view root) ≡ place_at path (view other)
+IsAlike (Ok root) (Ok other) = view root ≡ view other
 IsAlike (Ok root) (Err (stops.Memory f)) = ⊤
 IsAlike (Ok root) (Err (stops.Fault f)) = ⊥
 IsAlike (Err (stops.Memory e)) (Ok other) = ⊤

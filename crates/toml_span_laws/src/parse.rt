@@ -40,16 +40,16 @@ pub mod clashes;
 use crate::judged::document_or_due;
 use toml_span_typed::Deserialize;
 
-/// A text that has a tree is not refused, and one with a clash has no fault of reading. All trees of a text
-/// show the same at each path, all errors that tell of its clash are alike, and so are all that tell of its
-/// fault: whatever refuses it tells the same. So all answers to a text are alike, want of memory aside.
+/// A text that has a tree is not refused, and one with a clash has no fault of reading. All trees of a text are equal
+/// as data, all errors that tell of its clash are alike, and so are all that tell of its fault: whatever refuses it
+/// tells the same. So all answers to a text are alike, want of memory aside.
 pub fn one_answer()
     ensures refused { (text : List ℕ) (limit : ℕ) (root : Value) (error : Error) → IsTree text limit root
         → IsRefusal text limit (refused error) → ⊥ }
     ensures apart { (text : List ℕ) (limit : ℕ) (error other : Error) → IsFault text limit error
         → IsClash text limit other → ⊥ }
-    ensures tree { (text : List ℕ) (limit : ℕ) (root other : Value) (path : Path) → IsTree text limit root
-        → IsTree text limit other → place_at path (view root) ≡ place_at path (view other) }
+    ensures tree { (text : List ℕ) (limit : ℕ) (root other : Value) → IsTree text limit root → IsTree text limit other
+        → view root ≡ view other }
     ensures clash { (text : List ℕ) (limit : ℕ) (error other : Error) → IsClash text limit error
         → IsClash text limit other → content_of error ≡ content_of other }
     ensures fault { (text : List ℕ) (limit : ℕ) (error other : Error) → IsFault text limit error
@@ -173,13 +173,11 @@ pub fn bracketed_values_stand_alone()
         (λ path. place_at path (view other)) at_x }
 {}
 
-/// One value at most, whose tables are in order, shows given places: so all trees of a text are equal as
-/// data, and whatever is a function of a tree, as its JSON value or what a type reads, is one of the flat
+/// One value at most, whose tables are in order, shows given places: so the tree of a text is the value of its flat
+/// document, and whatever is a function of a tree, as its JSON value or what a type reads, is one of the flat
 /// document.
 pub fn one_tree()
     ensures value { (places : Path → Option Place) (n m : Node) → IsValueOf places n → IsValueOf places m → n ≡ m }
-    ensures tree { (text : List ℕ) (limit : ℕ) (root other : Value) → IsTree text limit root → IsTree text limit other
-        → view root ≡ view other }
     ensures document { (text : List ℕ) (limit : ℕ) (root : Value) (blocks : List Block) → IsTree text limit root
         → SpellsDocument blocks text limit → IsValueOf (flat (length text) (claims blocks)) (view root) }
 {}
