@@ -1,8 +1,9 @@
 -- A document has no more values than its text allows: each but the root stands at a path that is claimed.
-use Rattle.std.proofs.Common.{◌≡◌, ◌≤◌, ◌<◌, ◌+◌, ◌*◌, ◌⊎◌, ℕ, suc, Bool, true, false, List, [], ◌∷◌, ◌++◌, map, length, Option, Some, None, option_map, refl, sym, ap, subst, ◌∙◌, inl, inr, arith, length-append, length-map, nat_eq}
+use Rattle.std.proofs.Common.{◌≡◌, ◌≤◌, ◌<◌, ◌+◌, ◌*◌, ◌⊎◌, ℕ, suc, Bool, true, false, List, [], ◌∷◌, ◌++◌, map, length, Option, Some, None, option_map, refl, sym, ap, subst, ◌∙◌, inl, inr, arith, length-append, nat_eq}
 use Rattle.std.specs.Prelude.{option_and_then}
 use Rattle.std.specs.Str.{bytes_eq}
 use Rattle.std.proofs.lemmas.Bool.{cases_Bool}
+use Rattle.std.proofs.lemmas.List.{length-map}
 use Rattle.std.proofs.lemmas.Option.{none-some}
 use Rattle.toml_span_lex.specs.declared.span.Span.{Span}
 use Rattle.toml_span_tree.specs.Node.{Node, node, Inner, taken, scalar, array, table, Items, no_items, item, Members, no_members, member, entry_at, element_at}
@@ -73,6 +74,21 @@ found q o = option_map place_of (option_and_then (reached q) o)
 off-numbers : (i j : ℕ) → i < j → nat_eq i j ≡ false
 off-numbers i j h = search (arith, h)
 
+-- a name that is found behind the first is another one
+others : (name : List ℕ) (at : Span) (n : Node) (ms : Members) (ps : List Path) → entry_at name ms ≡ None
+    → ((other : List ℕ) (q : Path) (x : Place) → found q (entry_at other (member name at n ms)) ≡ Some x → IsMem (key other ∷ q) ps)
+    → (other : List ℕ) (q : Path) (x : Place) → found q (entry_at other ms) ≡ Some x → IsMem (key other ∷ q) (without (key name) ps)
+others name at n ms ps once f other q x h =
+    let alone = λ (e : name ≡ other). none-some x (sym (ap (λ o. found q o) (sym (ap (λ l. entry_at l ms) e) ∙ once)) ∙ h) in
+    elim (cases_Bool (bytes_eq name other)) [
+      | inl same ↦ absurd (alone (same-name name other same))
+      | inr off ↦
+          elim (cases_Bool (bytes_eq other name)) [
+            | inl same ↦ absurd (alone (sym (same-name other name same)))
+            | inr back ↦ without-mem (key name) (key other) q ps off (f other q x (ap (λ o. found q o) (later-entry other name at n ms back) ∙ h))
+          ]
+    ]
+
 mutual
   node-few : (at : Option Span) (n : Node) → IsOrdered n → (ps : List Path) → ((q : Path) (x : Place) → option_map place_of (reached q (at, n)) ≡ Some x → IsMem q ps) → nodes_of n ≤ length ps
   node-few at (node i span) o ps f =
@@ -105,21 +121,6 @@ mutual
       let here = node-few (Some at) n o.1 (after s ps) (λ q x h. after-mem s q ps (f name q x (ap (λ e. found q e) (first-entry name at n ms) ∙ h))) in
       let rest = members-few ms o.2 (without s ps) (λ other q x h. others name at n ms ps once f other q x h) in
       omega (arith, stepping-parts s ps, here, rest)
-
-  -- a name that is found behind the first is another one
-  others : (name : List ℕ) (at : Span) (n : Node) (ms : Members) (ps : List Path) → entry_at name ms ≡ None
-      → ((other : List ℕ) (q : Path) (x : Place) → found q (entry_at other (member name at n ms)) ≡ Some x → IsMem (key other ∷ q) ps)
-      → (other : List ℕ) (q : Path) (x : Place) → found q (entry_at other ms) ≡ Some x → IsMem (key other ∷ q) (without (key name) ps)
-  others name at n ms ps once f other q x h =
-      let alone = λ (e : name ≡ other). none-some x (sym (ap (λ o. found q o) (sym (ap (λ l. entry_at l ms) e) ∙ once)) ∙ h) in
-      elim (cases_Bool (bytes_eq name other)) [
-        | inl same ↦ absurd (alone (same-name name other same))
-        | inr off ↦
-            elim (cases_Bool (bytes_eq other name)) [
-              | inl same ↦ absurd (alone (sym (same-name other name same)))
-              | inr back ↦ without-mem (key name) (key other) q ps off (f other q x (ap (λ o. found q o) (later-entry other name at n ms back) ∙ h))
-            ]
-      ]
 
 -- ---- the paths that are claimed
 
@@ -172,7 +173,7 @@ few-records bytes limit root tree =
     let each = each-mem cs (paths all) (λ p h. h) in
     let mem = λ (q : Path) (x : Place) (h : place_at q n ≡ Some x). by_path cs (paths all) each n (length bytes) tree.2.shows q x h in
     let few = node-few None n tree.2.ordered ps mem in
-    let long = length-map (λ (c : Claim). c.path) all in
+    let long = length-map all (λ (c : Claim). c.path) in
     let claims_few = rising-few all 0 (length bytes) (document-rises tree.0 bytes limit tree.1) in
     omega (arith, length-records bytes 0 (tree_entries n), node-long 0 18446744073709551615 0 None no_span n, few, long, claims_few)
   where
