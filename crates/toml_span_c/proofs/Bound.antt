@@ -1,5 +1,5 @@
 -- A document has no more values than its text allows: each but the root stands at a path that is claimed.
-use Rattle.std.proofs.Common.{◌≡◌, ◌≤◌, ◌<◌, ◌+◌, ◌*◌, ◌⊎◌, ℕ, suc, Bool, true, false, List, [], ◌∷◌, ◌++◌, map, length, Option, Some, None, option_map, refl, sym, ap, subst, ◌∙◌, inl, inr, arith, length-append, nat_eq}
+use Rattle.std.proofs.Common.{◌≡◌, ◌≤◌, ◌<◌, ◌+◌, ◌*◌, ℕ, suc, false, List, [], ◌∷◌, ◌++◌, map, length, Option, Some, None, option_map, refl, sym, ap, subst, ◌∙◌, inl, inr, arith, length-append, nat_eq}
 use Rattle.std.specs.Prelude.{option_and_then}
 use Rattle.std.specs.Str.{bytes_eq}
 use Rattle.std.proofs.lemmas.Bool.{cases_Bool}
@@ -17,9 +17,9 @@ use Rattle.toml_span.specs.Parsing.{IsTree}
 use Rattle.toml_span.specs.declared.claims.Sort.TheVariants.{ArrayOfTables, TableElement}
 use Rattle.toml_span.proofs.EachClaim.{Each, flat-decides}
 use Rattle.toml_span.proofs.Ordered.{first-entry, later-entry, one-each, same-name}
-use Rattle.toml_span_laws.specs.Order.{claim_start, Follows}
+use Rattle.toml_span_laws.specs.Order.{claim_start}
 use Rattle.toml_span_laws.proofs.Order.{Onward, Rising, document-rises}
-use Rattle.toml_span_c.specs.Records.{capped, no_span, node_entries, held_entries, items_entries, members_entries, tree_entries, tree_records}
+use Rattle.toml_span_c.specs.Records.{capped, no_span, node_entries, items_entries, members_entries, tree_entries, tree_records}
 use Rattle.toml_span_c.proofs.Paths.{IsMem, after, without, stepping, stepping-parts, stepping-fewer, after-mem, without-mem}
 use Rattle.toml_span_c.proofs.Puts.{length-records}
 

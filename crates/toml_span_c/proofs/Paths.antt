@@ -1,9 +1,9 @@
 -- Lists of paths, taken apart by their first steps.
-use Rattle.std.proofs.Common.{◌≡◌, ◌≤◌, ◌+◌, ◌⊎◌, ℕ, suc, Bool, true, false, List, [], ◌∷◌, ◌++◌, map, length, refl, sym, ap, ◌∙◌, inl, inr, arith, if◌then◌else◌}
+use Rattle.std.proofs.Common.{◌≡◌, ◌≤◌, ◌+◌, ◌⊎◌, ℕ, suc, false, List, [], ◌∷◌, length, refl, sym, ap, ◌∙◌, inl, inr, arith, if◌then◌else◌}
 use Rattle.std.proofs.lemmas.Bool.{cases_Bool, false≢true}
 use Rattle.toml_span_tree.specs.Path.{Path, Step}
 use Rattle.toml_span.specs.Paths.{same_step}
-use Rattle.toml_span.proofs.Grafts.{same_step-eq, same_step-self}
+use Rattle.toml_span.proofs.Grafts.{same_step-self}
 
 abbrev pub IsMem : Path → List Path → Type 0
 IsMem p [] = ⊥

@@ -5,7 +5,7 @@ use Rattle.std.specs.Cow.{cow_str_bytes}
 use Rattle.toml_span_lex.specs.declared.key.Key.{Key}
 use Rattle.toml_span_lex.specs.declared.span.Span.{Span}
 use Rattle.toml_span_tree.specs.declared.value.Value.{Value}
-use Rattle.toml_span_tree.specs.Node.{Node, node, Inner, taken, scalar, array, table, Items, Members}
+use Rattle.toml_span_tree.specs.Node.{Node, node, Inner, taken, scalar, array, table}
 use Rattle.toml_span_tree.specs.Value.{view, items_view, members_view, is_taken, holds_nothing}
 use Rattle.toml_span_c.specs.declared.records.Counts.{Counts}
 use Rattle.toml_span_c.specs.declared.records.Record.{Record}

@@ -1,6 +1,6 @@
 -- The records of a tree: one for each value, before those of what it holds.
-use Rattle.std.specs.Prelude.{ℕ, suc, ◌+◌, ℤ, pos, Bool, true, false, ◌&&◌, nat_le, min, List, [], ◌∷◌, ◌++◌, length}
-use Rattle.std.specs.Prelude.{take, drop, slice_range, Option, Some, None, unwrap_or, option_map, if◌then◌else◌}
+use Rattle.std.specs.Prelude.{ℕ, suc, ◌+◌, ℤ, pos, Bool, true, ◌&&◌, nat_le, min, List, [], ◌∷◌, ◌++◌, length}
+use Rattle.std.specs.Prelude.{take, drop, slice_range, Option, Some, None, unwrap_or, if◌then◌else◌}
 use Rattle.std.specs.Float.{Float, binary64}
 use Rattle.std.specs.List.{flat_map}
 use Rattle.std.specs.Str.{bytes_eq}

@@ -1,18 +1,17 @@
 -- The walks down, one value at a time.
-use Rattle.std.proofs.Common.{◌≡◌, ◌+◌, ◌-◌, ◌∷◌, [], ℕ, suc, List, Some, None, sym, ap, ◌∙◌, arith, length, drop, option_map, zero-add, refl}
+use Rattle.std.proofs.Common.{◌≡◌, ◌+◌, ℕ, suc, Some, None, sym, ap, ◌∙◌, arith, length, drop, option_map, zero-add, refl}
 use Rattle.std.proofs.lemmas.List.{drop_all}
 use Rattle.std.specs.Cow.{cow_str_bytes}
 use Rattle.toml_span_tree.specs.Value.{view, inner_of, span_of, items_in, members_in, items_view, members_view}
 use Rattle.toml_span_tree.proofs.Sizes.{items_size-next, members_size-next}
 use Rattle.toml_span_tree.proofs.Values.{view_is}
 use Rattle.toml_span_tree.specs.Node.{node}
-use Rattle.toml_span_c.specs.Records.{Entry, capped, no_span, record_of, entry_strings, node_entries, held_entries, items_entries, members_entries}
-use Rattle.toml_span_c.specs.code.Filling.{IsAt, Puts}
+use Rattle.toml_span_c.specs.Records.{capped, no_span, record_of, entry_strings, node_entries, held_entries, items_entries, members_entries}
 use Rattle.toml_span_c.specs.code.Sites.{begun}
 use Rattle.toml_span_c.specs.declared.records.Record.{Record}
 use Rattle.toml_span_c.proofs.Held.{held-items, held-members, held-nothing, node-whole}
 use Rattle.toml_span_c.proofs.Puts.{puts-none, puts-own}
-use Rattle.toml_span_c.proofs.Walks.{Upto, items_left, members_left, upto-begin, upto-more, upto-all, items-split, members-split, entries-taken, entries-held, own_entry, puts-named, puts-same}
+use Rattle.toml_span_c.proofs.Walks.{items_left, members_left, upto-begin, upto-more, upto-all, items-split, members-split, entries-taken, entries-held, own_entry, puts-named, puts-same}
 use Rattle.toml_span_c.proofs.fill.+put_value.Goals as goal
 
 pub put_elements-loop-position-preserved : goal.put_elements-loop-position-preserved

@@ -1,10 +1,7 @@
-use Rattle.std.proofs.Common.{◌≡◌, ℕ, ◌+◌, length, option_map, sym, ◌∙◌, ap, refl, rules}
+use Rattle.std.proofs.Common.{sym, ◌∙◌, refl, rules}
 use Rattle.std.proofs.lemmas.Int.{to_z-of_z}
 use mir.Syntax.{w64}
 use mir.Val.{SFits}
-use Rattle.toml_span_tree.specs.Value.{view, inner_view, inner_of, span_of}
-use Rattle.toml_span_c.specs.Records.{capped, aside, text_of}
-use Rattle.toml_span_c.specs.code.Filling.{PutsBytes}
 use Rattle.toml_span_c.proofs.Puts.{bytes-append}
 use Rattle.toml_span_c.proofs.fill.begin_record.Goals as goal
 

@@ -1,6 +1,6 @@
-use Rattle.std.proofs.Common.{◌≡◌, ℕ, ◌+◌, ◌-◌, List, length, take, drop, ◌++◌, sym, ◌∙◌, ap, arith}
+use Rattle.std.proofs.Common.{◌≡◌, ◌+◌, ◌-◌, length, take, sym, ◌∙◌, ap, arith}
 use Rattle.toml_span_c.specs.Records.{capped}
-use Rattle.toml_span_c.specs.code.Filling.{laid, PutsBytes}
+use Rattle.toml_span_c.specs.code.Filling.{laid}
 use Rattle.toml_span_c.proofs.Arrays.{laid-mid, laid-past}
 use Rattle.toml_span_c.proofs.fill.put_bytes.Goals.{then-at-room, else-at-room}
 use Rattle.toml_span_c.proofs.fill.put_bytes.Goals as goal

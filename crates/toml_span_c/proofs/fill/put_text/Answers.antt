@@ -1,6 +1,5 @@
-use Rattle.std.proofs.Common.{◌≡◌, ℕ, ◌+◌, sym, ◌∙◌, ap, add-zero}
-use Rattle.toml_span_c.specs.Records.{capped, aside}
-use Rattle.toml_span_c.specs.code.Filling.{PutsBytes}
+use Rattle.std.proofs.Common.{sym, ◌∙◌, ap, add-zero}
+use Rattle.toml_span_c.specs.Records.{capped}
 use Rattle.toml_span_c.proofs.Arrays.{laid-none}
 use Rattle.toml_span_c.proofs.fill.put_text.Goals as goal
 

@@ -1,4 +1,4 @@
-use Rattle.std.proofs.Common.{◌≡◌, ℕ, List, ◌∙◌, ap, subst}
+use Rattle.std.proofs.Common.{ℕ, List, ◌∙◌, ap, subst}
 use Rattle.toml_span_report.specs.Report.{report_of_fault}
 use Rattle.toml_span_report.specs.declared.colours.Style.TheVariants.{Plain}
 use Rattle.toml_span_tree.specs.Error.{content_of}
