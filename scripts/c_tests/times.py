@@ -27,7 +27,7 @@ def main():
             sys.exit(f"times: {path} is read otherwise")
         ours, theirs = 1.0, 0.0
         # (on a busy machine the first try may be far off)
-        for _ in range(3):
+        for _ in range(5):
             rounds = 40 if len(text) < 100_000 else 3
             ours, theirs = least(toml_span.loads, text, 2 * rounds), least(tomllib.loads, text, rounds)
             if theirs >= 4 * ours:
