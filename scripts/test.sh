@@ -76,6 +76,7 @@ start "each edit names its clause" python3 scripts/edits.py --check
 start "pages quote the sources" python3 scripts/pages.py --check
 start "public items are those that are kept" python3 scripts/public_items.py --check
 ended
+run "the library for C, and the module for Python" bash scripts/c_test.sh
 
 times >"$log"
 read -r user system < <(tail -n 1 "$log")

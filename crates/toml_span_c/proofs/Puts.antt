@@ -1,0 +1,77 @@
+-- Entries that are put, one behind the other.
+use Rattle.std.proofs.Common.{◌≡◌, ℕ, suc, ◌+◌, List, [], ◌∷◌, ◌++◌, length, refl, sym, ap, ◌∙◌, arith, append_assoc, length-append}
+use Rattle.toml_span_c.specs.declared.records.Counts.{Counts}
+use Rattle.toml_span_c.specs.declared.records.Record.{Record}
+use Rattle.toml_span_c.specs.Records.{Entry, capped, entry_strings, record_of, records_of, strings_of}
+use Rattle.toml_span_c.specs.code.Filling.{laid, IsAt, Puts, PutsBytes}
+use Rattle.toml_span_c.proofs.Arrays.{laid-none, laid-append, laid-before}
+
+pub strings-append : (document : List ℕ) (es fs : List Entry) → strings_of document (es ++ fs) ≡ strings_of document es ++ strings_of document fs
+strings-append document [] fs = refl
+strings-append document (e ∷ es) fs =
+    ap (λ l. entry_strings document e ++ l) (strings-append document es fs) ∙ sym (append_assoc (entry_strings document e) (strings_of document es) (strings_of document fs))
+
+pub records-append : (document : List ℕ) (m n : ℕ) (es fs : List Entry) → n ≡ m + length (strings_of document es)
+    → records_of document m (es ++ fs) ≡ records_of document m es ++ records_of document n fs
+records-append document m n [] fs e =
+    let same : m ≡ n = omega arith in ap (λ i. records_of document i fs) same
+records-append document m n (f ∷ es) fs e =
+    let long = length-append (entry_strings document f) (strings_of document es) in
+    ap (λ l. record_of document m f ∷ l) (records-append document (m + length (entry_strings document f)) n es fs (omega (arith, e, long)))
+
+pub length-records : (document : List ℕ) (m : ℕ) (es : List Entry) → length (records_of document m es) ≡ length es
+length-records document m [] = refl
+length-records document m (e ∷ es) = ap (λ n. suc n) (length-records document (m + length (entry_strings document e)) es)
+
+pub at-moved : (k l m n : ℕ) (counts : Counts) → k ≡ l → m ≡ n → IsAt k m counts → IsAt l n counts
+at-moved k l m n counts e f at = record { nodes = at.nodes ∙ ap capped e; strings = at.strings ∙ ap capped f }
+
+pub puts-none : (document : List ℕ) (k m : ℕ) (ns : List Record) (bytes : List ℕ) (counts : Counts) → IsAt k m counts → Puts document k m [] ns ns bytes bytes counts
+puts-none document k m ns bytes counts at = record {
+  nodes = sym (laid-none k ns);
+  strings = sym (laid-none m bytes);
+  counts = at-moved k (k + 0) m (m + 0) counts (omega arith) (omega arith) at;
+}
+
+-- the entries of one value, and then those behind it
+pub puts-append : (document : List ℕ) (k m : ℕ) (es fs : List Entry) (a b c : List Record) (x y z : List ℕ) (t u : Counts) → Puts document k m es a b x y t
+    → Puts document (k + length es) (m + length (strings_of document es)) fs b c y z u → Puts document k m (es ++ fs) a c x z u
+puts-append document k m es fs a b c x y z t u p q =
+    let n = m + length (strings_of document es) in
+    let long = length-append es fs in
+    let wide = length-append (strings_of document es) (strings_of document fs) in
+    let all = ap length (strings-append document es fs) in
+    let after : k + length es ≡ k + length (records_of document m es) = ap (λ i. k + i) (sym (length-records document m es)) in
+    record {
+      nodes = q.nodes ∙ ap (λ l. laid (k + length es) (records_of document n fs) l) p.nodes
+          ∙ laid-append k (k + length es) (records_of document m es) (records_of document n fs) a after
+          ∙ ap (λ l. laid k l a) (sym (records-append document m n es fs refl));
+      strings = q.strings ∙ ap (λ l. laid n (strings_of document fs) l) p.strings
+          ∙ laid-append m n (strings_of document es) (strings_of document fs) x refl
+          ∙ ap (λ l. laid m l x) (sym (strings-append document es fs));
+      counts = at-moved (k + length es + length fs) (k + length (es ++ fs)) (n + length (strings_of document fs)) (m + length (strings_of document (es ++ fs))) u (omega (arith, long)) (omega (arith, wide, all)) q.counts;
+    }
+
+-- the entry of a value whose record is written last, and those of what it holds
+pub puts-own : (document : List ℕ) (k m n : ℕ) (e : Entry) (es : List Entry) (r : Record) (a b c : List Record) (x y z : List ℕ) (t : Counts)
+    → n ≡ m + length (entry_strings document e) → r ≡ record_of document m e → y ≡ laid m (entry_strings document e) x
+    → Puts document (suc k) n es a b y z t → c ≡ laid k (r ∷ []) b → Puts document k m (e ∷ es) a c x z t
+puts-own document k m n e es r a b c x y z t at own first p last =
+    let wide = length-append (entry_strings document e) (strings_of document es) in
+    record {
+      nodes = last ∙ ap (λ l. laid k (r ∷ []) l) p.nodes ∙ laid-before k r (records_of document n es) a
+          ∙ ap (λ s. laid k (s ∷ records_of document n es) a) own
+          ∙ ap (λ i. laid k (record_of document m e ∷ records_of document i es) a) at;
+      strings = p.strings ∙ ap (λ l. laid n (strings_of document es) l) first
+          ∙ laid-append m n (entry_strings document e) (strings_of document es) x at;
+      counts = at-moved (suc k + length es) (k + suc (length es)) (n + length (strings_of document es)) (m + length (entry_strings document e ++ strings_of document es)) t (omega arith) (omega (arith, at, wide)) p.counts;
+    }
+
+pub bytes-append : (m : ℕ) (xs ys a b c : List ℕ) (t u : ℕ) → PutsBytes m xs a b t → PutsBytes (m + length xs) ys b c u → PutsBytes m (xs ++ ys) a c u
+bytes-append m xs ys a b c t u p q =
+    let long = length-append xs ys in
+    let same : m + length xs + length ys ≡ m + length (xs ++ ys) = omega (arith, long) in
+    record {
+      bytes = q.bytes ∙ ap (λ l. laid (m + length xs) ys l) p.bytes ∙ laid-append m (m + length xs) xs ys a refl;
+      count = q.count ∙ ap capped same;
+    }

@@ -1,0 +1,4 @@
+pub mod Records
+pub mod Faults
+pub mod Calls
+pub mod code

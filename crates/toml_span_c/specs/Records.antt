@@ -1,0 +1,218 @@
+-- The records of a tree: one for each value, before those of what it holds.
+use Rattle.std.specs.Prelude.{ℕ, suc, ◌+◌, ℤ, pos, Bool, true, ◌&&◌, nat_le, min, List, [], ◌∷◌, ◌++◌, length}
+use Rattle.std.specs.Prelude.{take, drop, slice_range, Option, Some, None, unwrap_or, if◌then◌else◌}
+use Rattle.std.specs.Float.{Float, binary64}
+use Rattle.std.specs.List.{flat_map}
+use Rattle.std.specs.Str.{bytes_eq}
+use Rattle.fast_float.specs.Parse.{parse_float}
+use Rattle.toml_span_lex.specs.declared.span.Span.{Span}
+use Rattle.toml_span_tree.specs.Float.{float_text}
+use Rattle.toml_span_tree.specs.Node.{Scalar, text, integer, float, boolean, datetime, Node, node, Inner, taken, scalar}
+use Rattle.toml_span_tree.specs.Node.{array, table, Items, no_items, item, Members, no_members, member}
+use Rattle.toml_span_tree.specs.Value.{holds_nothing, inner_of, span_of}
+use Rattle.toml_span_c.specs.declared.records.TheConstants.{NONE, NO_NUMBER}
+use Rattle.toml_span_c.specs.declared.records.Counts.{Counts}
+use Rattle.toml_span_c.specs.declared.records.Range.{Range}
+use Rattle.toml_span_c.specs.declared.records.Record.{Record}
+use Rattle.toml_span_c.specs.declared.records.Text.{Text}
+
+-- ---- what a value is
+
+abbrev pub scalar_number : Scalar → ℕ
+scalar_number (text s) = 1
+scalar_number (integer z) = 2
+scalar_number (float x) = 3
+scalar_number (boolean b) = 4
+scalar_number (datetime d) = 5
+
+-- the number of a kind
+abbrev pub kind_number : Inner → ℕ
+kind_number taken = 0
+kind_number (scalar s) = scalar_number s
+kind_number (array ns) = 6
+kind_number (table ms) = 7
+
+abbrev pub scalar_truth : Scalar → ℕ
+scalar_truth (boolean true) = 1
+scalar_truth _ = 0
+
+-- 1 for `true`
+abbrev pub truth_of : Inner → ℕ
+truth_of (scalar s) = scalar_truth s
+truth_of _ = 0
+
+abbrev pub scalar_integer : Scalar → ℤ
+scalar_integer (integer z) = z
+scalar_integer _ = pos 0
+
+-- the integer
+abbrev pub integer_of : Inner → ℤ
+integer_of (scalar s) = scalar_integer s
+integer_of _ = pos 0
+
+abbrev pub scalar_float : Scalar → Float
+scalar_float (float x) = unwrap_or (parse_float binary64 (float_text x)) NO_NUMBER
+scalar_float _ = NO_NUMBER
+
+-- the float that is nearest to the text of a float
+abbrev pub number_of : Inner → Float
+number_of (scalar s) = scalar_float s
+number_of _ = NO_NUMBER
+
+abbrev pub scalar_text : Scalar → Option (List ℕ)
+scalar_text (text s) = Some s
+scalar_text (float x) = Some (float_text x)
+scalar_text (datetime d) = Some d
+scalar_text _ = None
+
+-- what a string, a float or a date says
+abbrev pub text_of : Inner → Option (List ℕ)
+text_of (scalar s) = scalar_text s
+text_of _ = None
+
+abbrev pub items_count : Items → ℕ
+items_count no_items = 0
+items_count (item n ns) = suc (items_count ns)
+
+abbrev pub members_count : Members → ℕ
+members_count no_members = 0
+members_count (member name key n ms) = suc (members_count ms)
+
+-- how many values are held
+abbrev pub children_of : Inner → ℕ
+children_of (array ns) = items_count ns
+children_of (table ms) = members_count ms
+children_of _ = 0
+
+-- ---- the order of the values
+
+-- a number of a record or of a byte; of one that does not fit the greatest that does
+abbrev pub capped : ℕ → ℕ
+capped n = min n NONE
+
+-- A value with its name and the span of its key, if it has one. The numbers are those of the records: of what holds it,
+-- and of the first one behind all that it holds.
+pub record Entry : Type 0 where
+  pub parent : ℕ
+  pub position : ℕ
+  pub name : Option (List ℕ)
+  pub key_span : Span
+  pub next : ℕ
+  pub value : Node
+
+abbrev pub no_span : Span
+no_span = record { start = 0; end = 0 }
+
+-- The entries of a value: its own, which has the number `at`, and then those of what it holds, an array's elements in
+-- order and a table's entries in the order of their names. What is taken has none.
+abbrev mutual
+  pub node_entries : ℕ → ℕ → ℕ → Option (List ℕ) → Span → Node → List Entry
+  node_entries at parent i name key (node inner span) =
+      if holds_nothing inner then []
+      else record {
+        parent = parent;
+        position = i;
+        name = name;
+        key_span = key;
+        next = capped (suc at + length (held_entries at inner));
+        value = node inner span;
+      } ∷ held_entries at inner
+
+  pub held_entries : ℕ → Inner → List Entry
+  held_entries at taken = []
+  held_entries at (scalar s) = []
+  held_entries at (array ns) = items_entries (suc at) (capped at) 0 ns
+  held_entries at (table ms) = members_entries (suc at) (capped at) 0 ms
+
+  pub items_entries : ℕ → ℕ → ℕ → Items → List Entry
+  items_entries at parent i no_items = []
+  items_entries at parent i (item n ns) =
+      let first = node_entries at parent i None no_span n in
+      first ++ items_entries (at + length first) parent (suc i) ns
+
+  pub members_entries : ℕ → ℕ → ℕ → Members → List Entry
+  members_entries at parent i no_members = []
+  members_entries at parent i (member name key n ms) =
+      let first = node_entries at parent i (Some name) key n in
+      first ++ members_entries (at + length first) parent (suc i) ms
+
+-- the entries of a document
+abbrev pub tree_entries : Node → List Entry
+tree_entries n = node_entries 0 NONE 0 None no_span n
+
+-- ---- texts
+
+-- the document has this text at the span
+abbrev pub stands : List ℕ → Span → List ℕ → Bool
+stands document span s =
+    nat_le span.start span.end && nat_le span.end (length document)
+    && bytes_eq (slice_range document span.start span.end) s
+
+-- A text that the document has at the span is there. Another one is in the strings, behind so many bytes.
+abbrev pub place_of : List ℕ → ℕ → Span → Option (List ℕ) → Text
+place_of document behind span None = record { source = 0; at = 0; length = 0 }
+place_of document behind span (Some s) =
+    if stands document span s
+    then record { source = 0; at = span.start; length = length s }
+    else record { source = 1; at = capped behind; length = length s }
+
+-- what of a text is in the strings
+abbrev pub aside : List ℕ → Span → Option (List ℕ) → List ℕ
+aside document span None = []
+aside document span (Some s) = if stands document span s then [] else s
+
+abbrev pub key_aside : List ℕ → Entry → List ℕ
+key_aside document e = aside document e.key_span e.name
+
+-- the name and then the text
+abbrev pub entry_strings : List ℕ → Entry → List ℕ
+entry_strings document e = key_aside document e ++ aside document (span_of e.value) (text_of (inner_of e.value))
+
+-- ---- records
+
+abbrev pub range_of : Span → Range
+range_of span = record { start = span.start; end = span.end }
+
+-- the record of an entry, where so many bytes are in the strings already
+abbrev pub record_of : List ℕ → ℕ → Entry → Record
+record_of document behind e = record {
+  kind = kind_number (inner_of e.value);
+  truth = truth_of (inner_of e.value);
+  span = range_of (span_of e.value);
+  key_span = range_of e.key_span;
+  key = place_of document behind e.key_span e.name;
+  text = place_of document (behind + length (key_aside document e)) (span_of e.value) (text_of (inner_of e.value));
+  parent = e.parent;
+  position = e.position;
+  children = children_of (inner_of e.value);
+  next = e.next;
+  integer = integer_of (inner_of e.value);
+  number = number_of (inner_of e.value);
+}
+
+abbrev pub records_of : List ℕ → ℕ → List Entry → List Record
+records_of document behind [] = []
+records_of document behind (e ∷ es) =
+    record_of document behind e ∷ records_of document (behind + length (entry_strings document e)) es
+
+abbrev pub strings_of : List ℕ → List Entry → List ℕ
+strings_of document es = flat_map (entry_strings document) es
+
+-- the records of a tree, its strings, and how many there are of each
+abbrev pub tree_records : List ℕ → Node → List Record
+tree_records document n = records_of document 0 (tree_entries n)
+
+abbrev pub tree_strings : List ℕ → Node → List ℕ
+tree_strings document n = strings_of document (tree_entries n)
+
+abbrev pub tree_counts : List ℕ → Node → Counts
+tree_counts document n = record {
+  nodes = capped (length (tree_records document n));
+  strings = capped (length (tree_strings document n));
+}
+
+-- ---- arrays
+
+-- an array with the front of a list in it, as far as there is room; behind it stands what stood there
+abbrev pub filled : {A : Type 0} → List A → List A → List A
+filled xs room = take (length room) xs ++ drop (length xs) room

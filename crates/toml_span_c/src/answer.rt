@@ -1,0 +1,37 @@
+//! What the bytes of a document are answered.
+ghost use Rattle.toml_span_c.specs.code.Answers.{IsAnswer};
+
+use std::alloc::Global;
+use toml_span::de::parse;
+use toml_span::value::Value;
+use toml_span::{Error, Stop};
+
+/// The most bytes that a document may have.
+pub const BOUND: usize = 16_777_216;
+
+/// The answer to the bytes of a document.
+#[derive(Drop)]
+pub(crate) enum Answer<'de> {
+    Tree(Value<'de>),
+    Fault(&'de str, Error<'de>),
+    /// No UTF-8, or more than the bound.
+    Unread,
+    Memory,
+}
+
+/// Reads the bytes of a document.
+pub(crate) fn answer_to<'de>(alloc: Global, bytes: &'de [u8]) -> Answer<'de>
+    ensures { IsAnswer bytes.now result }
+{
+    if bytes.len() > BOUND {
+        return Answer::Unread;
+    }
+    let Ok(text) = str::from_utf8(bytes) else {
+        return Answer::Unread;
+    };
+    match parse(alloc, text) {
+        Ok(root) => Answer::Tree(root),
+        Err(Stop::Fault(error)) => Answer::Fault(text, error),
+        Err(Stop::Memory(_)) => Answer::Memory,
+    }
+}

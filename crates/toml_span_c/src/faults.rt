@@ -1,0 +1,113 @@
+//! The records of faults.
+ghost use Rattle.std.specs.Prelude.{◌≡◌};
+ghost use Rattle.toml_span_tree.specs.Error.{content_of, kind_of};
+ghost use Rattle.toml_span_c.specs.Faults as spec;
+
+use crate::records::Range;
+use toml_span_lex::span::Span;
+use toml_span_tree::{Error, ErrorKind};
+
+/// Why a document is refused, and where.
+#[repr(C)]
+#[derive(Clone, Copy)]
+pub struct FaultRecord {
+    /// The number of the kind of error.
+    pub code: u32,
+    /// 1 where there is a second place.
+    pub has_first: u32,
+    /// The bytes that the error is about.
+    pub span: Range,
+    /// The second place: the bytes of the earlier table, key or value; else 0..0.
+    pub first: Range,
+    /// The line at which the span starts, counted from 0.
+    pub line: usize,
+    /// The bytes before it in that line.
+    pub column: usize,
+}
+
+/// The number of a kind of error.
+fn code_number(kind: &ErrorKind<'_>) -> u32
+    ensures { result ≡ spec.code_number (kind_of kind.now) }
+{
+    match kind {
+        ErrorKind::UnexpectedEof => 1,
+        ErrorKind::ExceededDepthLimit => 2,
+        ErrorKind::InvalidCharInString(_) => 3,
+        ErrorKind::InvalidEscape(_) => 4,
+        ErrorKind::InvalidHexEscape(_) => 5,
+        ErrorKind::InvalidEscapeValue(_) => 6,
+        ErrorKind::Unexpected(_) => 7,
+        ErrorKind::UnterminatedString => 8,
+        ErrorKind::InvalidNumber => 9,
+        ErrorKind::InvalidDatetime => 10,
+        ErrorKind::Wanted { .. } => 11,
+        ErrorKind::DuplicateTable { .. } => 12,
+        ErrorKind::DuplicateKey { .. } => 13,
+        ErrorKind::RedefineAsArray => 14,
+        ErrorKind::MultilineStringKey => 15,
+        ErrorKind::DottedKeyInvalidType { .. } => 16,
+        ErrorKind::UnquotedString => 17,
+        _ => 0,
+    }
+}
+
+/// The second place of an error.
+fn first_of(kind: &ErrorKind<'_>) -> Option<Span>
+    ensures { result ≡ spec.first_of (kind_of kind.now) }
+{
+    match kind {
+        ErrorKind::DuplicateTable { first, .. } => Some(*first),
+        ErrorKind::DuplicateKey { first, .. } => Some(*first),
+        ErrorKind::DottedKeyInvalidType { first } => Some(*first),
+        _ => None,
+    }
+}
+
+/// The record of an error.
+pub(crate) fn fault_of(error: &Error<'_>) -> FaultRecord
+    ensures { result ≡ spec.fault_of (content_of error.now) }
+{
+    let first = first_of(&error.kind);
+    let at = first.unwrap_or(Span { start: 0, end: 0 });
+    let (line, column) = error.line_info.unwrap_or((0, 0));
+    FaultRecord {
+        code: code_number(&error.kind),
+        has_first: u32::from(first.is_some()),
+        span: Range {
+            start: error.span.start,
+            end: error.span.end,
+        },
+        first: Range {
+            start: at.start,
+            end: at.end,
+        },
+        line,
+        column,
+    }
+}
+
+/// The name of a code; empty where there is no such code.
+pub(crate) fn code_name(code: u32) -> &'static str
+    ensures { result.now ≡ spec.code_name code }
+{
+    match code {
+        1 => "unexpected-eof",
+        2 => "exceeded-depth-limit",
+        3 => "invalid-char-in-string",
+        4 => "invalid-escape",
+        5 => "invalid-hex-escape",
+        6 => "invalid-escape-value",
+        7 => "unexpected",
+        8 => "unterminated-string",
+        9 => "invalid-number",
+        10 => "invalid-datetime",
+        11 => "wanted",
+        12 => "duplicate-table",
+        13 => "duplicate-key",
+        14 => "redefine-as-array",
+        15 => "multiline-string-key",
+        16 => "dotted-key-invalid-type",
+        17 => "unquoted-string",
+        _ => "",
+    }
+}

@@ -1,0 +1,263 @@
+//! Fills the caller's arrays, a value at a time.
+ghost use Rattle.std.specs.Prelude.{◌≡◌, ◌++◌, ◌∷◌, [], ℕ, suc, false, length, option_map};
+ghost use Rattle.toml_span_lex.specs.declared.span.Span.{Span};
+ghost use Rattle.toml_span_tree.specs.Value.{view, inner_of, items_view, members_view, is_taken};
+ghost use Rattle.toml_span_c.specs.Records as spec;
+ghost use Rattle.toml_span_c.specs.code.Filling.{laid, IsAt, Puts, PutsBytes};
+ghost use Rattle.toml_span_c.specs.code.Sites.{begun, entries_at};
+
+use crate::records::{
+    Counts, NONE, Range, Record, Text, children_of, integer_of, kind_of, number_of, text_of,
+    truth_of,
+};
+use toml_span_lex::span::Span;
+use toml_span_tree::{Table, Value};
+
+/// Where a value stands: its name and the span of its key, if it has one, and its place in what holds it.
+#[derive(Clone, Copy)]
+pub(crate) struct Site<'a> {
+    name: Option<&'a str>,
+    key_span: Span,
+    parent: usize,
+    position: usize,
+}
+
+/// Whether the document has this text at the span.
+fn stands(document: &[u8], span: Span, text: &str) -> bool
+    ensures { result ≡ spec.stands document.now span text.now }
+{
+    span.start <= span.end
+        && span.end <= document.len()
+        && &document[span.start..span.end] == text.as_bytes()
+}
+
+/// How many elements an array has room for.
+fn room_of<T>(array: &[T]) -> usize
+    ensures { result ≡ length array.now }
+{
+    array.len()
+}
+
+/// Puts bytes into the strings, as far as there is room, and counts them.
+fn put_bytes(strings: &mut [u8], count: &mut usize, bytes: &[u8])
+    ensures { (m : ℕ) → count.old ≡ spec.capped m → PutsBytes m bytes.now strings.old strings.new count.new }
+{
+    let at = *count;
+    let room = room_of(strings);
+    if at < room {
+        let more = bytes.len().min(room - at);
+        strings[at..at + more].copy_from_slice(&bytes[..more]);
+    }
+    *count = at.saturating_add(bytes.len());
+}
+
+/// Where a text is. One that the document doesn't have at the span is put into the strings.
+fn put_text(
+    document: &[u8],
+    span: Span,
+    text: Option<&str>,
+    strings: &mut [u8],
+    count: &mut usize,
+) -> Text
+    ensures place { (m : ℕ) → count.old ≡ spec.capped m
+        → result ≡ spec.place_of document.now m span (option_map (λ s. s.now) text.entry) }
+    ensures put { (m : ℕ) → count.old ≡ spec.capped m
+        → PutsBytes m (spec.aside document.now span (option_map (λ s. s.now) text.entry))
+        strings.old strings.new count.new }
+{
+    let Some(text) = text else {
+        return Text {
+            source: 0,
+            at: 0,
+            length: 0,
+        };
+    };
+    if stands(document, span, text) {
+        return Text {
+            source: 0,
+            at: span.start,
+            length: text.len(),
+        };
+    }
+    let at = *count;
+    put_bytes(strings, count, text.as_bytes());
+    Text {
+        source: 1,
+        at,
+        length: text.len(),
+    }
+}
+
+/// Puts a record, if there is room for it.
+fn put_record(nodes: &mut [Record], at: usize, added: Record)
+    ensures { (k : ℕ) → at ≡ spec.capped k → nodes.new ≡ laid k (added ∷ []) nodes.old }
+{
+    let room = room_of(nodes);
+    if at < room {
+        nodes[at] = added;
+    }
+}
+
+/// The record of a value, before anything behind it is known. Its texts are put into the strings.
+fn begin_record(
+    document: &[u8],
+    value: &Value<'_>,
+    site: Site<'_>,
+    strings: &mut [u8],
+    count: &mut usize,
+) -> Record
+    requires { is_taken (view value.now) ≡ false }
+    ensures begins { (m : ℕ) → count.old ≡ spec.capped m
+        → result ≡ spec.record_of document.now m (begun site.entry value.now) }
+    ensures put { (m : ℕ) → count.old ≡ spec.capped m
+        → PutsBytes m (spec.entry_strings document.now (begun site.entry value.now))
+        strings.old strings.new count.new }
+{
+    let inner = value.as_ref();
+    let key = put_text(document, site.key_span, site.name, strings, count);
+    let text = put_text(document, value.span, text_of(inner), strings, count);
+    Record {
+        kind: kind_of(inner),
+        truth: truth_of(inner),
+        span: Range {
+            start: value.span.start,
+            end: value.span.end,
+        },
+        key_span: Range {
+            start: site.key_span.start,
+            end: site.key_span.end,
+        },
+        key,
+        text,
+        parent: site.parent,
+        position: site.position,
+        children: children_of(inner),
+        next: 0,
+        integer: integer_of(inner),
+        number: number_of(inner),
+    }
+}
+
+/// Puts the records of a value, its own before those of what it holds.
+#[cycle(put_value)]
+fn put_value(
+    document: &[u8],
+    value: &Value<'_>,
+    site: Site<'_>,
+    nodes: &mut [Record],
+    strings: &mut [u8],
+    counts: &mut Counts,
+)
+    ensures { (k m : ℕ) → IsAt k m counts.old → Puts document.now k m (entries_at k site.entry value.now)
+        nodes.old nodes.new strings.old strings.new counts.new }
+{
+    if value.is_taken() {
+        return;
+    }
+    let at = counts.nodes;
+    let mut record = begin_record(document, value, site, strings, &mut counts.strings);
+    counts.nodes = at.saturating_add(1);
+    put_held(document, value, at, nodes, strings, counts);
+    record.next = counts.nodes;
+    put_record(nodes, at, record);
+}
+
+/// Puts the records of what a value holds.
+#[cycle(put_value)]
+fn put_held(
+    document: &[u8],
+    value: &Value<'_>,
+    at: usize,
+    nodes: &mut [Record],
+    strings: &mut [u8],
+    counts: &mut Counts,
+)
+    ensures { (k m : ℕ) → at ≡ spec.capped k → IsAt (suc k) m counts.old
+        → Puts document.now (suc k) m (spec.held_entries k (inner_of (view value.now)))
+        nodes.old nodes.new strings.old strings.new counts.new }
+{
+    if let Some(elements) = value.as_array() {
+        put_elements(document, elements.as_slice(), at, nodes, strings, counts);
+    } else if let Some(table) = value.as_table() {
+        put_entries(document, table, at, nodes, strings, counts);
+    }
+}
+
+/// Puts the records of an array's elements.
+#[cycle(put_value)]
+fn put_elements(
+    document: &[u8],
+    elements: &[Value<'_>],
+    parent: usize,
+    nodes: &mut [Record],
+    strings: &mut [u8],
+    counts: &mut Counts,
+)
+    ensures { (k m : ℕ) → IsAt k m counts.old
+        → Puts document.now k m (spec.items_entries k parent 0 (items_view elements.now))
+        nodes.old nodes.new strings.old strings.new counts.new }
+{
+    let mut position = 0;
+    while position < elements.len() {
+        let site = Site {
+            name: None,
+            key_span: Span { start: 0, end: 0 },
+            parent,
+            position,
+        };
+        put_value(document, &elements[position], site, nodes, strings, counts);
+        position += 1;
+    }
+}
+
+/// Puts the records of a table's entries, in the order of their names.
+#[cycle(put_value)]
+fn put_entries(
+    document: &[u8],
+    table: &Table<'_>,
+    parent: usize,
+    nodes: &mut [Record],
+    strings: &mut [u8],
+    counts: &mut Counts,
+)
+    ensures { (k m : ℕ) → IsAt k m counts.old
+        → Puts document.now k m (spec.members_entries k parent 0 (members_view table.now.entries))
+        nodes.old nodes.new strings.old strings.new counts.new }
+{
+    let mut position = 0usize;
+    for (key, value) in table.iter() {
+        let site = Site {
+            name: Some(key.name.as_ref()),
+            key_span: key.span,
+            parent,
+            position,
+        };
+        put_value(document, value, site, nodes, strings, counts);
+        position += 1;
+    }
+}
+
+/// Puts the records of a document, and says how many there are.
+pub(crate) fn put_tree(
+    document: &[u8],
+    root: &Value<'_>,
+    nodes: &mut [Record],
+    strings: &mut [u8],
+) -> Counts
+    ensures nodes { nodes.new ≡ spec.filled (spec.tree_records document.now (view root.now)) nodes.old }
+    ensures strings { strings.new ≡ spec.filled (spec.tree_strings document.now (view root.now)) strings.old }
+    ensures counts { result ≡ spec.tree_counts document.now (view root.now) }
+{
+    let mut counts = Counts {
+        nodes: 0,
+        strings: 0,
+    };
+    let site = Site {
+        name: None,
+        key_span: Span { start: 0, end: 0 },
+        parent: NONE,
+        position: 0,
+    };
+    put_value(document, root, site, nodes, strings, &mut counts);
+    counts
+}

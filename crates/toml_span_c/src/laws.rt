@@ -1,0 +1,20 @@
+//! Laws of the records.
+ghost use Rattle.std.specs.Prelude.{◌≡◌, ◌≢◌, ◌≤◌, ◌+◌, ◌*◌, ℕ, List, length};
+ghost use Rattle.toml_span.specs.Parsing.{IsTree};
+ghost use Rattle.toml_span_c.specs.Faults.{code_name, code_number};
+ghost use Rattle.toml_span_c.specs.Records.{tree_records};
+ghost use Rattle.toml_span_tree.specs.Error.{Kind};
+ghost use Rattle.toml_span_tree.specs.Message.{code_of};
+ghost use Rattle.toml_span_tree.specs.Value.{view};
+ghost use Rattle.toml_span_tree.specs.declared.value.Value.{Value};
+
+/// The number of a kind has the code of that kind as its name.
+pub fn numbers_are_named()
+    ensures { (kind : Kind) → code_number kind ≢ 0 → code_name (code_number kind) ≡ code_of kind }
+{}
+
+/// A document has no more records than twice its bytes and one.
+pub fn records_are_few()
+    ensures { (bytes : List ℕ) (limit : ℕ) (root : Value) → IsTree bytes limit root
+        → length (tree_records bytes (view root)) ≤ 2 * length bytes + 1 }
+{}

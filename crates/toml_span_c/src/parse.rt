@@ -1,0 +1,57 @@
+//! The calls that read a document.
+ghost use Rattle.std.specs.Prelude.{◌≡◌, ◌≢◌, ⊤};
+ghost use Rattle.toml_span_c.specs.Calls.{IsDocument, IsFaultOf, IsRead, IsRefused, IsStatus};
+
+use crate::answer::{Answer, answer_to};
+use crate::faults::{FaultRecord, fault_of};
+use crate::fill::put_tree;
+use crate::records::{Counts, Record};
+use std::alloc::Global;
+
+/// Reads a document, and fills the arrays with its records and its strings, as far as there is room.
+///
+/// 0: `counts` says how many there are. 1: the document is refused, and `fault` says why. 2: it has more than 16 MiB or
+/// is no UTF-8. 4: memory was refused. Nothing else is written.
+#[unsafe(no_mangle)]
+pub extern "C" fn toml_span_parse(
+    alloc: Global,
+    text: &[u8],
+    nodes: &mut [Record],
+    strings: &mut [u8],
+    counts: &mut Counts,
+    fault: &mut FaultRecord,
+) -> u32
+    ensures status { IsStatus text.now result }
+    ensures read { result ≡ 0 → IsRead text.now nodes.old nodes.new strings.old strings.new counts.new }
+    ensures refused { result ≡ 1 → IsRefused text.now (IsFaultOf fault.new) }
+    ensures kept { result ≢ 0 → (nodes.new ≡ nodes.old) × (strings.new ≡ strings.old) × (counts.new ≡ counts.old) }
+    ensures fault_kept { result ≢ 1 → fault.new ≡ fault.old }
+{
+    match answer_to(alloc, text) {
+        Answer::Tree(root) => {
+            *counts = put_tree(text, &root, nodes, strings);
+            0
+        }
+        Answer::Fault(_text, error) => {
+            *fault = fault_of(&error);
+            1
+        }
+        Answer::Unread => 2,
+        Answer::Memory => 4,
+    }
+}
+
+/// Reads a document, and says only whether it is one: the status of `toml_span_parse`.
+#[unsafe(no_mangle)]
+pub extern "C" fn toml_span_check(alloc: Global, text: &[u8]) -> u32
+    ensures status { IsStatus text.now result }
+    ensures read { result ≡ 0 → IsDocument text.now }
+    ensures refused { result ≡ 1 → IsRefused text.now (λ error. ⊤) }
+{
+    match answer_to(alloc, text) {
+        Answer::Tree(_) => 0,
+        Answer::Fault(_, _) => 1,
+        Answer::Unread => 2,
+        Answer::Memory => 4,
+    }
+}

@@ -1,0 +1,140 @@
+//! The records of a document's values.
+ghost use Rattle.std.specs.Prelude.{◌≡◌, option_map};
+ghost use Rattle.toml_span_tree.specs.Value.{inner_view};
+ghost use Rattle.toml_span_c.specs.Records as spec;
+
+use toml_span_tree::ValueInner;
+
+/// The number of no record: the parent of the root.
+pub const NONE: usize = usize::MAX;
+
+/// What `Record::number` is where there is no float.
+pub const NO_NUMBER: f64 = 0.0;
+
+/// Bytes of the document.
+#[repr(C)]
+#[derive(Clone, Copy)]
+pub struct Range {
+    pub start: usize,
+    pub end: usize,
+}
+
+/// Where the bytes of a text are.
+#[repr(C)]
+#[derive(Clone, Copy)]
+pub struct Text {
+    /// 0: in the document, 1: in the strings.
+    pub source: usize,
+    /// From which byte on.
+    pub at: usize,
+    pub length: usize,
+}
+
+/// A value of a document.
+#[repr(C)]
+#[derive(Clone, Copy)]
+pub struct Record {
+    /// 1 string, 2 integer, 3 float, 4 boolean, 5 date or time, 6 array, 7 table.
+    pub kind: u32,
+    /// 1 for `true`.
+    pub truth: u32,
+    /// The bytes at which the value stands.
+    pub span: Range,
+    /// Those at which its key stands; 0..0 where it has none.
+    pub key_span: Range,
+    /// The name in a table; of length 0 where it has none.
+    pub key: Text,
+    /// What a string, a float or a date says.
+    pub text: Text,
+    /// The number of the record of what holds it; `NONE` at the root.
+    pub parent: usize,
+    /// Its place among the values of its parent, counted from 0.
+    pub position: usize,
+    /// How many values an array or a table holds.
+    pub children: usize,
+    /// The number of the first record behind those of all that it holds.
+    pub next: usize,
+    /// The integer.
+    pub integer: i64,
+    /// The float that is nearest to its text.
+    pub number: f64,
+}
+
+/// How many records there are, and how many bytes in the strings.
+#[repr(C)]
+#[derive(Clone, Copy)]
+pub struct Counts {
+    pub nodes: usize,
+    pub strings: usize,
+}
+
+/// The number of a kind.
+pub(crate) fn kind_of(inner: &ValueInner<'_>) -> u32
+    ensures { result ≡ spec.kind_number (inner_view inner.now) }
+{
+    match inner {
+        ValueInner::String(_) => 1,
+        ValueInner::Integer(_) => 2,
+        ValueInner::Float(_) => 3,
+        ValueInner::Boolean(_) => 4,
+        ValueInner::Datetime(_) => 5,
+        ValueInner::Array(_) => 6,
+        ValueInner::Table(_) => 7,
+    }
+}
+
+/// 1 for `true`, else 0.
+pub(crate) fn truth_of(inner: &ValueInner<'_>) -> u32
+    ensures { result ≡ spec.truth_of (inner_view inner.now) }
+{
+    match inner {
+        ValueInner::Boolean(true) => 1,
+        _ => 0,
+    }
+}
+
+/// The integer, else 0.
+pub(crate) fn integer_of(inner: &ValueInner<'_>) -> i64
+    ensures { result ≡ spec.integer_of (inner_view inner.now) }
+{
+    match inner {
+        ValueInner::Integer(number) => *number,
+        _ => 0,
+    }
+}
+
+/// The float that is nearest to the text of a float.
+pub(crate) fn number_of(inner: &ValueInner<'_>) -> f64
+    ensures { result ≡ spec.number_of (inner_view inner.now) }
+{
+    match inner {
+        ValueInner::Float(float) => match fast_float::parse::<f64, _>(float.text()) {
+            Ok(number) => number,
+            Err(_) => NO_NUMBER,
+        },
+        _ => NO_NUMBER,
+    }
+}
+
+/// How many values an array or a table holds.
+pub(crate) fn children_of(inner: &ValueInner<'_>) -> usize
+    ensures { result ≡ spec.children_of (inner_view inner.now) }
+{
+    match inner {
+        ValueInner::Array(elements) => elements.as_slice().len(),
+        ValueInner::Table(table) => table.len(),
+        _ => 0,
+    }
+}
+
+/// What a string, a float or a date says.
+pub(crate) fn text_of<'a>(inner: &'a ValueInner<'_>) -> Option<&'a str>
+    ensures { option_map (λ text. text.now) result ≡ spec.text_of (inner_view inner.now) }
+{
+    match inner {
+        ValueInner::String(text) => Some(text.as_ref()),
+        ValueInner::Float(float) => Some(float.text()),
+        ValueInner::Datetime(date) => Some(date.text()),
+        _ => None,
+    }
+}

@@ -1,0 +1,92 @@
+//! The calls that tell what is wrong with a document.
+ghost use Rattle.std.specs.Prelude.{◌≡◌, ◌≢◌, IsUtf8};
+ghost use Rattle.toml_span_tree.specs.Message.{display_text};
+ghost use Rattle.toml_span_report.specs.Report.{report_of_fault};
+ghost use Rattle.toml_span_report.specs.declared.colours.Style.TheVariants.{Plain};
+ghost use Rattle.toml_span_c.specs.Calls.{Fills, IsDocument, IsRefused, IsStatus};
+ghost use Rattle.toml_span_c.specs.Faults as spec;
+
+use crate::answer::{Answer, answer_to};
+use crate::faults::code_name;
+use std::alloc::Global;
+use toml_span_report::{Style, render_error};
+
+/// Fills an array with a text, as far as there is room, and says how long it is.
+fn put_front(out: &mut [u8], length: &mut usize, text: &str)
+    ensures { Fills out.old out.new length.new text.now }
+{
+    let bytes = text.as_bytes();
+    let room = out.len().min(bytes.len());
+    out[..room].copy_from_slice(&bytes[..room]);
+    *length = bytes.len();
+}
+
+/// The name of a code, as `duplicate-key`; of length 0 where there is no such code.
+#[unsafe(no_mangle)]
+pub extern "C" fn toml_span_code(code: u32, out: &mut [u8], length: &mut usize)
+    ensures { Fills out.old out.new length.new (spec.code_name code) }
+{
+    put_front(out, length, code_name(code));
+}
+
+/// The message of the error of a document. The status is that of `toml_span_parse`; but for 1 nothing is written.
+#[unsafe(no_mangle)]
+pub extern "C" fn toml_span_message(
+    alloc: Global,
+    text: &[u8],
+    out: &mut [u8],
+    length: &mut usize,
+) -> u32
+    ensures status { IsStatus text.now result }
+    ensures read { result ≡ 0 → IsDocument text.now }
+    ensures refused { result ≡ 1
+        → IsRefused text.now (λ error. Fills out.old out.new length.new (display_text error.kind)) }
+    ensures kept { result ≢ 1 → (out.new ≡ out.old) × (length.new ≡ length.old) }
+{
+    match answer_to(alloc, text) {
+        Answer::Tree(_) => 0,
+        Answer::Fault(_text, error) => match error.to_string(alloc) {
+            Ok(message) => {
+                put_front(out, length, message.as_str());
+                1
+            }
+            Err(_) => 4,
+        },
+        Answer::Unread => 2,
+        Answer::Memory => 4,
+    }
+}
+
+/// The report of the error of a document, with the lines at which it stands and marks under them. The status is that
+/// of `toml_span_parse`, and 2 too where the name is no UTF-8; but for 1 nothing is written.
+#[unsafe(no_mangle)]
+pub extern "C" fn toml_span_report(
+    alloc: Global,
+    text: &[u8],
+    name: &[u8],
+    out: &mut [u8],
+    length: &mut usize,
+) -> u32
+    ensures status { IsUtf8 name.now → IsStatus text.now result }
+    ensures name { ¬ IsUtf8 name.now → result ≡ 2 }
+    ensures read { result ≡ 0 → IsDocument text.now }
+    ensures refused { result ≡ 1 → IsRefused text.now
+        (λ error. Fills out.old out.new length.new (report_of_fault Plain name.now text.now error)) }
+    ensures kept { result ≢ 1 → (out.new ≡ out.old) × (length.new ≡ length.old) }
+{
+    let Ok(name) = str::from_utf8(name) else {
+        return 2;
+    };
+    match answer_to(alloc, text) {
+        Answer::Tree(_) => 0,
+        Answer::Fault(text, error) => match render_error(alloc, Style::Plain, &error, name, text) {
+            Ok(report) => {
+                put_front(out, length, report.as_str());
+                1
+            }
+            Err(_) => 4,
+        },
+        Answer::Unread => 2,
+        Answer::Memory => 4,
+    }
+}

@@ -1,0 +1,105 @@
+/* threads FILE..: eight threads that parse at once have what one has, and how much stack the deepest documents take. */
+#define _GNU_SOURCE
+#include "toml_span.h"
+
+#include <pthread.h>
+#include <stdio.h>
+#include <stdlib.h>
+#include <string.h>
+
+enum { THREADS = 8, ROUNDS = 50, ROOM = 4096, STACK = 1 << 20 };
+
+typedef struct {
+    const char *text;
+    size_t length;
+    toml_span_node nodes[ROOM];
+    char strings[ROOM];
+    toml_span_counts counts;
+    toml_span_fault fault;
+    uint32_t status;
+} job;
+
+static void *work(void *given) {
+    job *mine = given;
+    for (int round = 0; round < ROUNDS; round++) {
+        mine->status = toml_span_parse(mine->text, mine->length, mine->nodes, ROOM, mine->strings, ROOM, &mine->counts,
+                                       &mine->fault);
+    }
+    return NULL;
+}
+
+static int same_everywhere(const char *text, size_t length) {
+    static job jobs[THREADS + 1];
+    pthread_t threads[THREADS];
+    for (int at = 0; at <= THREADS; at++) {
+        memset(&jobs[at], 0, sizeof jobs[at]);
+        jobs[at].text = text;
+        jobs[at].length = length;
+    }
+    work(&jobs[THREADS]);
+    for (int at = 0; at < THREADS; at++) pthread_create(&threads[at], NULL, work, &jobs[at]);
+    int same = 1;
+    for (int at = 0; at < THREADS; at++) {
+        pthread_join(threads[at], NULL);
+        same &= !memcmp(&jobs[at], &jobs[THREADS], sizeof jobs[at]);
+    }
+    return same;
+}
+
+static void *deep(void *given) {
+    job *mine = given;
+    mine->status = toml_span_parse(mine->text, mine->length, mine->nodes, ROOM, mine->strings, ROOM, &mine->counts,
+                                   &mine->fault);
+    return NULL;
+}
+
+/* How much of a thread's stack is written over. */
+static size_t stack_of(const char *text) {
+    static job one;
+    static unsigned char *stack;
+    if (!stack && posix_memalign((void **)&stack, 4096, STACK)) exit(2);
+    memset(stack, 0xA5, STACK);
+    one.text = text;
+    one.length = strlen(text);
+    pthread_attr_t how;
+    pthread_t thread;
+    pthread_attr_init(&how);
+    pthread_attr_setstack(&how, stack, STACK);
+    pthread_create(&thread, &how, deep, &one);
+    pthread_join(thread, NULL);
+    if (one.status != TOML_SPAN_READ) printf("threads: a deep document has status %u\n", one.status);
+    size_t low = 0;
+    while (low < STACK && stack[low] == 0xA5) low++;
+    return one.status == TOML_SPAN_READ ? STACK - low : STACK;
+}
+
+int main(int argc, char **argv) {
+    static char text[1 << 16];
+    int right = 0;
+    for (int at = 1; at < argc; at++) {
+        FILE *file = fopen(argv[at], "rb");
+        if (!file) return 2;
+        size_t length = fread(text, 1, sizeof text, file);
+        fclose(file);
+        right += same_everywhere(text, length);
+    }
+    /* as deep as a value may be: arrays in arrays, and inline tables below a header and a dotted key */
+    char *end = text;
+    end += sprintf(end, "a=");
+    for (int level = 0; level < 126; level++) *end++ = '[';
+    for (int level = 0; level < 126; level++) *end++ = ']';
+    *end = 0;
+    size_t arrays = stack_of(text);
+    end = text;
+    *end++ = '[';
+    for (int level = 0; level < 127; level++) end += sprintf(end, "a.");
+    end += sprintf(end, "a]\nb=");
+    for (int level = 0; level < 63; level++) end += sprintf(end, "{a=");
+    end += sprintf(end, "1");
+    for (int level = 0; level < 63; level++) *end++ = '}';
+    *end = 0;
+    size_t tables = stack_of(text);
+    printf("threads: %d of %d documents the same in %d threads; the deepest take %zu and %zu bytes of stack\n", right,
+           argc - 1, THREADS, arrays, tables);
+    return right != argc - 1 || arrays > STACK / 4 * 3 || tables > STACK / 4 * 3;
+}
