@@ -1,4 +1,7 @@
 pub mod Answer
+pub mod Dates
 pub mod Faults
+pub mod Options
 pub mod Run
 pub mod Shown
+pub mod Start
