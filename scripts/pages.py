@@ -1,5 +1,5 @@
 #!/usr/bin/env python3
-"""Checks that the pages (README.md, docs/*.md) say what the sources say: pages.py [--check] [PAGE..]
+"""Checks that the pages (README.md, docs/*.md) say what the sources say: pages.py [--check] [--needed] [PAGE..]
 
 What is looked at is marked:
 
@@ -7,7 +7,7 @@ What is looked at is marked:
                        `// ..` stands for lines that are left out.
     ```text clause     each paragraph stands in one file of crates/*/src or crates/*/specs, or in proofs/Examples.antt
                        of a crate, white space aside; in the file that is named, if one is, as in
-                       `text clause toml_span_claims/specs/Flat.antt`
+                       `text clause toml_span/specs/Flat.antt`
     ```text rows       stands line by line in the answers of toml_span_rows (its file stdout)
     ```toml row        is the text of a row of toml_span_rows
     ```toml run NAME   is the input crates/toml_span_show/runs/NAME (or `stdin`, beside it)
@@ -16,6 +16,10 @@ What is looked at is marked:
     ```console run NAME    is `$ toml_span_check` with the words of crates/toml_span_check/runs/NAME.args, and then what
                        the checker writes and complains of (NAME.stdout, NAME.stderr)
     ```sh              names files of scripts/, docs/ and crates/ that are there
+    ```text in FILE    stands line by line in this file
+    ```text            quotes contracts in short: each name of a line stands in the contract of the function, or among
+                       the members of the `impl` or the trait, that the last line with no `ensures` names
+    (indented by four) stands line by line in stored outputs (stdout), is a line of crates.txt, or is as `sh`
     <!-- rows: CALL -->    before a table: the first cell of each line has the text of a row of this call, as
                        `parse 128`, and all that stands in code behind it stands in that row's answer: as words
                        of one of its lines or, in a column with the name of a field (first, expected, found, key,
@@ -30,16 +34,19 @@ What is looked at is marked:
                        named). A row: each text is a line of the stdin of toml_span_rows, or of the crate in code
                        behind it, with an answer; a path is there. Edit: each turns a function of the code cell, but
                        for those behind `nearest:`
+    <!-- calls -->    before a table: each name under `Clauses` stands in a contract of a function that the first cell
+                       names, in an `impl` or a type of that name, or is a definition that such a contract cites
     <!-- cases: FILE FUNCTION -->    before a table: the cell in the line of `A` and the column of `B` has in code what
                        `FUNCTION A B` gives, as `duplicate-key` of a line `FUNCTION A B = Some DuplicateKey`, and no
                        code where no such line is there
     <!-- reading order: FILE FUNCTION..; .. -->    before a table: its lines name the files of specs/ in which
-                       something stands that the clauses of these functions need, each behind those that it uses. The
-                       second cell says which of their definitions are needed: `A`, `B`, or all, or all but `A`, `B`
+                       something stands that the clauses of these functions need, each behind those that it uses;
+                       --needed prints which of their definitions are needed
 
-Besides, each path that stands in code and begins with `crates/`, `docs/` or `scripts/`, and each link to a file, leads
-somewhere, and each fault that a row of `parse` tells has an example in docs/LANGUAGE.md. Other blocks (`text`,
-`text shortened`) are not looked at; the last line counts them.
+Besides, each path that stands in code and begins with `crates/`, `docs/` or `scripts/`, or is one of a crate, and each
+link leads somewhere; each name in code that is written as a definition, a function, a clause or a type stands in the
+sources, or among FOREIGN; clause `A` of `f`, or `f`, clause `A`, is a word of that contract; and each fault that a row
+of `parse` tells has an example in docs/LANGUAGE.md.
 """
 
 import glob
@@ -53,6 +60,10 @@ SHOW = "crates/toml_span_show"
 CHECK = "crates/toml_span_check"
 RUN = (".args", ".stdout", ".stderr")
 FIELDS = ("first", "expected", "found", "key", "name")
+# names of the toolchain, of the C library and of other crates
+FOREIGN = """AsRef BuiltModule Comparable From Given Goals IsSortedBy IsStableBy Lts MALLOC_MMAP_THRESHOLD_
+MALLOC_TRIM_THRESHOLD_ ParsesChar Serialize Tie as_ codespan_reporting deny_unknown_fields from_iter table_from_str
+the_lemmas write_all""".split()
 
 
 def text_of(path):
@@ -112,6 +123,12 @@ def answers():
             row = None
     asked = {line for line in text_of(f"{ROWS}/stdin").split("\n") if line and not line.startswith("#")}
     return {row: lines for row, lines in found.items() if row in asked}
+
+
+def anchors(path):
+    """The names by which links lead to the headings of a page."""
+    heads = re.findall(r"(?m)^#+ (.*)$", text_of(path))
+    return {re.sub(r"[^\w -]", "", head).lower().replace(" ", "-") for head in heads}
 
 
 def in_rows(text):
@@ -220,7 +237,7 @@ class Needed:
         return {it for it, _ in module.names.values()} | {*module.modules.values()}
 
     def said(self, path):
-        """What the page has to say of a module: which definitions are needed."""
+        """Which definitions of a module are needed."""
         bodies = self.module(path).bodies
         has = [name for name in bodies if name in self.found[path]]
         left = [name for name in bodies if name not in self.found[path]]
@@ -234,7 +251,7 @@ class Page:
     def __init__(self, path, sources):
         self.path, self.sources = path, sources
         self.lines = text_of(path).split("\n")
-        self.faults, self.counts, self.unmarked = [], {}, []
+        self.faults, self.counts, self.needed = [], {}, []
         self.shown = set()
 
     def fault(self, at, what):
@@ -255,7 +272,7 @@ class Page:
                     return self.fault(at, "this block does not end: write ``` behind it")
                 self.block(at + 1, fence[1].split(), self.lines[at + 1 : end])
                 at = end
-            elif comment := re.match(r"<!-- (rows: [^>]*|rules|cases: [^>]*|reading order: [^>]*) -->$", line):
+            elif comment := re.match(r"<!-- (rows: [^>]*|rules|calls|cases: [^>]*|reading order: [^>]*) -->$", line):
                 mark = comment[1]
                 if not any(it.startswith("|") for it in self.lines[at + 1 : at + 3]):
                     self.fault(at, "no table stands behind this mark: write it right behind, or take the mark away")
@@ -266,6 +283,11 @@ class Page:
                     self.table(at, mark, end)
                 self.paths(at, "\n".join(self.lines[at:end]))
                 mark, at = None, end - 1
+            elif line.startswith("    ") and not self.lines[at - 1].strip():
+                behind = (k for k in range(at, len(self.lines)) if re.match(r"(?!    )\S| {1,3}\S", self.lines[k]))
+                end = next(behind, len(self.lines))
+                self.indented(at, [it[4:] for it in self.lines[at:end]])
+                at = end - 1
             else:
                 self.paths(at, line)
             at += 1
@@ -275,9 +297,26 @@ class Page:
         for code in re.findall(r"`((?:crates|docs|scripts)/[^` ]*)`", text):
             if not re.search(r"\b(NAME|CRATE|FILE|out)\b", code) and not glob.glob(f"{TOP}/{code}"):
                 self.fault(at, f"there is no {code}: name what is there now")
-        for link in re.findall(r"\]\(([^)#: ]+)\)", text):
-            if not os.path.exists(f"{TOP}/{os.path.dirname(self.path)}/{link}"):
+        for code in re.findall(r"`((?:toml_span\w*|src|specs|proofs|must-fail)/[^` ]*)`", text):
+            known = glob.glob(f"{TOP}/crates/{code}") + glob.glob(f"{TOP}/crates/*/{code}")
+            if not known and not re.search(r"/(m|CRATE|X)\b", code):
+                self.fault(at, f"there is no {code}: name what is there now")
+        for link, anchor in re.findall(r"\]\(([^)#: ]*)#?([^): ]*)\)", text):
+            path = f"{os.path.dirname(self.path)}/{link}" if link else self.path
+            if not os.path.exists(f"{TOP}/{path}"):
                 self.fault(at, f"this link leads nowhere: {link}")
+            elif anchor and anchor not in anchors(path):
+                self.fault(at, f"no heading of {path} is called {anchor}")
+
+        told = re.findall(r"[Cc]lause `(\w+)` of (?:the law )?`([\w:]+)`", text)
+        told += [(clause, of) for of, clause in re.findall(r"`([\w:]+)`, clause `(\w+)`", text)]
+        for clause, function in told:
+            if clause not in self.sources.contracts_of([function]):
+                self.fault(at, f"{function} has no clause {clause}: say what is there now")
+        for code in re.findall(r"`([A-Za-z][\w:]*)[!.]*(?:\([^`]*\))?`", text):
+            for name in code.split("::"):
+                if re.search(r"_|[a-z][A-Z]|^[A-Z][a-z]", name) and name not in self.sources.names:
+                    self.fault(at, f"nothing is called {name}: say what is there now")
 
     # ---- blocks
 
@@ -298,8 +337,12 @@ class Page:
             self.run(at, words[0] == "toml", words[2], lines)
         elif words[:1] in (["sh"], ["bash"], ["console"]):
             self.commands(at, lines)
-        elif words in ([], ["text"], ["text", "shortened"]):
-            self.unmarked.append(f"{self.path}:{at}")
+        elif words[:2] == ["text", "in"] and len(words) == 3:
+            self.count("outputs")
+            if not os.path.isfile(f"{TOP}/{words[2]}") or position_of(text_of(words[2]).split("\n"), lines) is None:
+                self.fault(at, f"these lines do not stand so in {words[2]}: quote them as they are there now")
+        elif words == ["text"]:
+            self.contracts(at, lines)
         else:
             self.fault(at - 1, f"`{' '.join(words)}` is no mark: scripts/pages.py lists them")
 
@@ -390,6 +433,36 @@ class Page:
         if "\n".join(it for it in texts if it) != "\n".join(lines).rstrip("\n"):
             self.fault(at, f"this is not {', '.join(wanted)}: quote it as it is now")
 
+    def contracts(self, at, lines):
+        """The names of each line stand in the contract of the function, or of the `impl`, above it."""
+        contract, above = None, ""
+        for k, line in enumerate(lines):
+            heads = re.findall(r"\bfn ([\w:]+)|^(?:impl|trait) (?:.* for )?(\w+)", line)
+            heads = [fn or of for fn, of in heads]
+            above = line if heads else above
+            contract = self.sources.contracts_of(heads) if heads else contract
+            self.count("lines of contracts")
+            if not contract:
+                self.fault(at + k, f"no contract of `{line.strip()}` is among the sources: name what is there now")
+                continue
+            for name in re.findall(r"(?<![\w'.<])[A-Za-z]\w{2,}", line):
+                if name not in contract and name not in above:
+                    self.fault(at + k, f"`{name}` does not stand in this contract: quote what is there now")
+
+    def indented(self, at, lines):
+        """Lines of a stored output, a line of crates.txt, or commands."""
+        while not lines[-1].strip():
+            lines.pop()
+        if re.match(r"(bash|python3|rt|\(cd) ", lines[0]):
+            return self.commands(at, lines)
+        if named := re.match(r"\w+: (.*)$", lines[0]):
+            for name in named[1].split():
+                if not re.search(rf"(?m)(^| ){name}(:| |$)", text_of("crates.txt")):
+                    self.fault(at, f"crates.txt names no {name}: name what is there now")
+        elif not any(position_of(text, lines) is not None for text in self.sources.outputs):
+            self.fault(at, "these lines stand in no stored output: quote them as they are there now")
+        self.count("indented blocks")
+
     def commands(self, at, lines):
         for k, line in enumerate(lines):
             for path in re.findall(r"\b(?:scripts|docs|crates)/[\w./*-]+", line.split("#")[0]):
@@ -406,7 +479,9 @@ class Page:
             return self.reading_order(at, Needed(mark[len("reading order: ") :]), end)
         for k in range(at + 2, end):
             cells = self.cells(self.lines[k])
-            if mark == "rules":
+            if mark == "calls":
+                self.calls(k, dict(zip(heads, cells)), cells[0])
+            elif mark == "rules":
                 self.rule(k, dict(zip(heads, cells)))
             else:
                 self.example(k, mark[len("rows: ") :], heads, cells)
@@ -468,7 +543,7 @@ class Page:
             self.fault(at, f"no cell has `{function} {one} {two}` of {path}: add it")
 
     def reading_order(self, at, needed, end):
-        """Each file with something needed stands behind those that it uses, and the line says what is needed of it."""
+        """Each file with something needed stands behind those that it uses."""
         self.count("reading orders")
         read = set()
         for k in range(at + 2, end):
@@ -480,10 +555,19 @@ class Page:
             read.add(path)
             for other in sorted(needed.below(path) & needed.found.keys() - read):
                 self.fault(k, f"{cells[0]} uses {other}: write it behind the line of that file")
-            if cells[1] != needed.said(path):
-                self.fault(k, f"of {cells[0]} is needed: {needed.said(path)}")
+            self.needed.append(f"{cells[0].strip('`')}: {needed.said(path)}")
         for path in sorted(needed.found.keys() - read):
-            self.fault(at, f"no line says that of {path} is needed: {needed.said(path)}")
+            self.fault(at, f"no line names {path}, of which is needed: {needed.said(path)}")
+
+    def calls(self, at, cells, first):
+        """What is named as clauses belongs to the calls of the first cell."""
+        self.count("calls")
+        names = [name for code in re.findall(r"`([^`]+)`", first) for name in re.findall(r"[A-Za-z_]\w*", code)]
+        contract = self.sources.contracts_of(names)
+        for code in re.findall(r"`([^`]+)`", cells.get("Clauses", "")):
+            for name in re.findall(r"[A-Za-z_]\w*", code):
+                if name not in contract:
+                    self.fault(at, f"`{name}` stands in no contract of {', '.join(names)}: name what is there now")
 
     # ---- rules
 
@@ -601,7 +685,37 @@ class Sources:
         self.quotable = quotable()
         self.answers = answers()
         self.row_lines = text_of(f"{ROWS}/stdout").split("\n")
-        self.known = {}
+        self.known, self.heads, self.outputs = {}, {}, []
+        self.names = {*FOREIGN, *(it.split(".")[0] for it in os.listdir(f"{TOP}/scripts"))}
+        for folder, inner, files in os.walk(f"{TOP}/crates"):
+            inner[:] = [it for it in inner if it != "out"]
+            self.names |= {it.split(".")[0] for it in [*inner, *files]}
+            stored = [os.path.relpath(f"{folder}/{it}", TOP) for it in files if it.endswith("stdout")]
+            self.outputs += [text_of(path).split("\n") for path in stored]
+        for path in glob.glob("crates/*/src/**/*.rt", root_dir=TOP, recursive=True):
+            self.code(text_of(path))
+        for path in glob.glob("crates/*/[sp][pr]*/**/*.antt", root_dir=TOP, recursive=True):
+            text = bare(text_of(path))
+            self.names |= {*re.findall(r"\bpub (?:data |record )?([^\s:(]+)", text)}
+            self.names |= {*re.findall(r"(?m)^ *([^\s:(]+)", text), *imports(text_of(path))[0]}
+
+    def code(self, text):
+        """The names that a file of src/ has or uses, and the contracts by functions, types and traits."""
+        text = re.sub(r"(?m)^\s*//.*\n", "", text)
+        self.names |= {*re.findall(r"\w+", text)}
+        for item in re.split(r"(?m)^(?=pub|fn|impl|trait|#)", text):
+            of = re.findall(r"\w+", re.sub(r"<[^{]*?>", "", item.split("\n")[0]))
+            ghosts = " ".join(re.findall(r"(?ms)^    ghost (?!use)(.*?);\n", item))
+            for head in re.findall(r"(?ms)^ *(?:pub(?:\(crate\))? )?(?:const )?fn .*?(?:^ *\{$|\{\n|;$|\Z)", item):
+                name = re.search(r"fn (\w+)", head)[1]
+                self.heads.setdefault(name, set()).update(re.findall(r"\w+", f"{head} {ghosts}"))
+                ghosts += head if of[:1] in (["impl"], ["trait"]) else ""
+            for name in of if of[:1] in (["impl"], ["trait"]) else []:
+                self.heads.setdefault(name, set()).update(re.findall(r"\w+", ghosts))
+
+    def contracts_of(self, names):
+        """The words of the contracts of these functions, types and traits."""
+        return {word for name in names for part in name.split("::") for word in self.heads.get(part, ())}
 
     def rows(self, crate):
         """The rows of a crate's stdin that its stdout answers."""
@@ -666,20 +780,19 @@ def untold(page, sources):
 def main(words):
     named = [word for word in words if not word.startswith("-")]
     paths = named or ["README.md", *sorted(glob.glob("docs/*.md", root_dir=TOP))]
-    sources, counts, faults, unmarked = Sources(), {}, [], []
+    sources, counts, faults = Sources(), {}, []
     for path in paths:
         page = Page(path, sources)
         page.look()
         if path == "docs/LANGUAGE.md":
             untold(page, sources)
         faults += page.faults
-        unmarked += page.unmarked
+        if "--needed" in words:
+            print("\n".join(page.needed), end="\n" if page.needed else "")
         for what, count in page.counts.items():
             counts[what] = counts.get(what, 0) + count
     for fault in faults:
         print(fault)
-    if unmarked:
-        print(f"not looked at: {', '.join(unmarked)}")
     said = ", ".join(f"{count} {what}" for what, count in counts.items())
     print(f"{len(paths)} pages: {said}; {len(faults)} wrong")
     return 1 if faults else 0

@@ -73,6 +73,7 @@ start "runs with each request for memory refused" bash scripts/refused_runs.sh
 start "the repository stands alone" bash scripts/stands_alone.sh
 start "each edit names its clause" python3 scripts/edits.py --check
 start "pages quote the sources" python3 scripts/pages.py --check
+start "public items are those that are kept" python3 scripts/public_items.py --check
 ended
 
 times >"$log"

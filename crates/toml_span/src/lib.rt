@@ -1,20 +1,21 @@
 //! Parses TOML into a tree that knows, for each key and each value, the bytes at which it stands.
 #![tactic(auto)]
 
-pub mod laws;
+mod branch;
+mod claims;
+pub mod de;
+mod read;
+mod rest;
+mod scopes;
+mod sections;
 
-pub use toml_span_assembly::de::parse;
-pub use toml_span_assembly::read::{from_str, line_and_byte};
+pub use de::parse;
+pub use read::{from_str, line_and_byte};
 pub use toml_span_lex::span::Span;
 pub use toml_span_lex::spanned::Spanned;
 pub use toml_span_lex::stop::Stop;
 pub use toml_span_tree::{Diagnostic, Error, ErrorKind, Label, Value};
 pub use toml_span_typed::{DeserError, Deserialize, ErrorIter, Parsed, Unmerged, read_table};
-
-/// Reads a document into a tree.
-pub mod de {
-    pub use toml_span_assembly::de::{parse, parse_with_limit};
-}
 
 /// Typed reads of a table's fields.
 pub mod de_helpers {

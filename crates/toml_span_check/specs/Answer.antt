@@ -9,7 +9,7 @@ use Rattle.toml_span_tree.specs.Message.{code_of, display_text}
 use Rattle.toml_span_tree.specs.Node.{Node}
 use Rattle.toml_span_tree.specs.Pointer.{pointed}
 use Rattle.toml_span_tree.specs.Value.{view}
-use Rattle.toml_span_assembly.specs.Parsing.{IsTree, IsFault, IsClash}
+use Rattle.toml_span.specs.Parsing.{IsTree, IsFault, IsClash}
 use Rattle.toml_span_check.specs.Faults.{fault_text}
 use Rattle.toml_span_check.specs.Shown.{shown}
 use Rattle.toml_span_check.specs.declared.faults.Format.{Format}

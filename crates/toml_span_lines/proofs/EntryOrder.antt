@@ -4,7 +4,7 @@ use Rattle.std.specs.List.{AllByRecursion}
 use Rattle.toml_span_lex.specs.declared.span.Span.{Span}
 use Rattle.toml_span_tree.specs.Node.{Node, node, Inner, taken, scalar, array, table, Items, no_items, item, Members, no_members, member}
 use Rattle.toml_span_tree.specs.Path.{Path, Step, key, position}
-use Rattle.toml_span_claims.specs.Ordered.{EachName, IsOrdered, HoldsOrdered, AreOrdered, MembersOrdered}
+use Rattle.toml_span.specs.Ordered.{EachName, IsOrdered, HoldsOrdered, AreOrdered, MembersOrdered}
 use Rattle.toml_span_lines.specs.Shown.{PlaceAt, PathsAscend, IsPathBefore, IsStepBefore}
 use Rattle.toml_span_lines.proofs.Entries.{under, node_entries, inner_entries, items_entries, members_entries}
 

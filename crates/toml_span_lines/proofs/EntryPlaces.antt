@@ -9,8 +9,8 @@ use Rattle.toml_span_lex.specs.declared.span.Span.{Span}
 use Rattle.toml_span_tree.specs.Node.{Node, node, Inner, taken, scalar, array, table, Items, no_items, item, Members, no_members, member, entry_at, element_at}
 use Rattle.toml_span_tree.specs.Path.{Path, Step, key, position, Place, at_step, place_at, place_of, reached}
 use Rattle.toml_span_tree.proofs.Paths.{bytes_same}
-use Rattle.toml_span_claims.specs.Ordered.{IsNameBefore, EachName, IsOrdered, HoldsOrdered, AreOrdered, MembersOrdered}
-use Rattle.toml_span_claims.proofs.Ordered.{not-before}
+use Rattle.toml_span.specs.Ordered.{IsNameBefore, EachName, IsOrdered, HoldsOrdered, AreOrdered, MembersOrdered}
+use Rattle.toml_span.proofs.Ordered.{not-before}
 use Rattle.toml_span_lines.specs.Shown.{PlaceAt, HasPlaces, IsIn}
 use Rattle.toml_span_lines.proofs.Entries.{under, node_entries, inner_entries, items_entries, members_entries}
 

@@ -7,11 +7,11 @@ use Rattle.std.specs.Io.KnownBytes.{Appends, Consumes, IsAtEnd}
 use Rattle.std.specs.Str.{IsUtf8, is_utf8}
 use Rattle.toml_span_tree.specs.Error.{content_of}
 use Rattle.toml_span_tree.specs.declared.error.Error.{Error}
-use Rattle.toml_span_claims.specs.Claims.{claims}
-use Rattle.toml_span_claims.specs.Clashes.{IsFirstClash}
-use Rattle.toml_span_claims.specs.Flat.{flat}
-use Rattle.toml_span_assembly.specs.Parsing.{IsClash}
-use Rattle.toml_span.proofs.Answered.{never-due, none-first, one-clash, one-document, one-refusal, fault-or-clash}
+use Rattle.toml_span.specs.Claims.{claims}
+use Rattle.toml_span.specs.Clashes.{first_clash}
+use Rattle.toml_span.specs.Flat.{flat}
+use Rattle.toml_span.specs.Parsing.{IsClash}
+use Rattle.toml_span_laws.proofs.Answered.{never-due, one-clash, one-document, one-refusal, fault-or-clash}
 use Rattle.toml_span_lines.specs.Lines.{error_line}
 use Rattle.toml_span_lines.specs.Run.{bound, IsShown, IsAnswer, Runs}
 use Rattle.toml_span_lines.specs.Shown.{ShowsDocument, ShowsRefusal, ShowsPlaces}
@@ -25,8 +25,7 @@ one-shown bytes limit text other d e =
 pub not-refused : (bytes : List ℕ) (limit : ℕ) (text other : List ℕ) → ShowsDocument bytes limit text → ShowsRefusal bytes limit other → ⊥
 not-refused bytes limit text other d (error, inl (fault, due, placed, tells), is) = never-due bytes limit d.blocks fault d.spelled due
 not-refused bytes limit text other d (error, inr (cs, spelled, clash), is) =
-    none-first (claims d.blocks) clash.clash d.resolves
-    (subst (λ l. IsFirstClash [] (claims l) clash.clash) (one-document bytes limit cs d.blocks spelled d.spelled) clash.first)
+    none-some clash.clash (sym d.resolves ∙ sym (ap (λ l. first_clash (claims l)) (one-document bytes limit cs d.blocks spelled d.spelled)) ∙ clash.first)
 
 pub one-told : (bytes : List ℕ) (limit : ℕ) (error : Error) (text : List ℕ) → IsClash bytes limit error → ShowsRefusal bytes limit text → text ≡ error_line (content_of error)
 one-told bytes limit error text c (other, inl fault, is) = absurd (fault-or-clash bytes limit other error fault c)

@@ -2,7 +2,7 @@
 use Rattle.std.proofs.Common.{◌≡◌, ◌<◌, ℕ, List, [], ◌∷◌, Option, flat_map, refl, sym, ap, subst, ◌∙◌, inl, inr, arith}
 use Rattle.std.specs.List.{AllByRecursion}
 use Rattle.toml_span_tree.specs.Path.{Path, key, position, Place}
-use Rattle.toml_span_claims.specs.Ordered.{IsBefore}
+use Rattle.toml_span.specs.Ordered.{IsBefore}
 use Rattle.toml_span_lines.specs.Shown.{PlaceAt, entry_line, PathsAscend, HasPlaces, IsIn, IsPathBefore, IsStepBefore, ShowsPlaces}
 
 -- ---- two that are before each other

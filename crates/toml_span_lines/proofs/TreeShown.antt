@@ -4,10 +4,10 @@ use Rattle.toml_span_tree.specs.declared.value.Value.{Value}
 use Rattle.toml_span_tree.specs.Value.{view, is_whole}
 use Rattle.toml_span_tree.specs.Node.{Node}
 use Rattle.toml_span_read.specs.Data.{Block}
-use Rattle.toml_span_claims.specs.Claims.{claims}
-use Rattle.toml_span_claims.specs.Flat.{flat, Shows}
-use Rattle.toml_span_claims.specs.Ordered.{IsOrdered}
-use Rattle.toml_span_assembly.specs.Parsing.{IsTree}
+use Rattle.toml_span.specs.Claims.{claims}
+use Rattle.toml_span.specs.Flat.{flat, Shows}
+use Rattle.toml_span.specs.Ordered.{IsOrdered}
+use Rattle.toml_span.specs.Parsing.{IsTree}
 use Rattle.toml_span_lines.specs.Lines.{tree_lines}
 use Rattle.toml_span_lines.specs.Shown.{ShowsDocument, ShowsPlaces}
 use Rattle.toml_span_lines.proofs.Entries.{node_entries}
@@ -26,10 +26,10 @@ tree-shown n length blocks ordered whole shows =
     )
 
 -- the lines of a text's tree are those of its document
-pub tree-document : (bytes : List ℕ) (limit : ℕ) (root : Value) (text : List ℕ) → IsTree bytes limit root → IsOrdered (view root) → is_whole (view root) ≡ true → text ≡ tree_lines (view root) → ShowsDocument bytes limit text
-tree-document bytes limit root text tree ordered whole lines =
+pub tree-document : (bytes : List ℕ) (limit : ℕ) (root : Value) (text : List ℕ) → IsTree bytes limit root → is_whole (view root) ≡ true → text ≡ tree_lines (view root) → ShowsDocument bytes limit text
+tree-document bytes limit root text tree whole lines =
     let blocks = tree.0 in
-    let shown = tree-shown (view root) (length bytes) blocks ordered whole tree.2.shows in
+    let shown = tree-shown (view root) (length bytes) blocks tree.2.ordered whole tree.2.shows in
     record {
       blocks = blocks;
       spelled = tree.1;

@@ -9,11 +9,11 @@ use Rattle.toml_span_tree.specs.Path.{shape_table, Place}
 use Rattle.toml_span_tree.specs.Value.{scalar_kind}
 use Rattle.toml_span_read.specs.Data.{Block}
 use Rattle.toml_span_read.specs.Grammar.{SpellsDocument}
-use Rattle.toml_span_claims.specs.Claims.{claims}
-use Rattle.toml_span_claims.specs.Clashes.{Resolves}
-use Rattle.toml_span_claims.specs.Flat.{flat}
-use Rattle.toml_span_claims.specs.Ordered.{IsBefore, IsNameBefore}
-use Rattle.toml_span_assembly.specs.Parsing.{IsFault, IsClash}
+use Rattle.toml_span.specs.Claims.{claims}
+use Rattle.toml_span.specs.Clashes.{Resolves}
+use Rattle.toml_span.specs.Flat.{flat}
+use Rattle.toml_span.specs.Ordered.{IsBefore, IsNameBefore}
+use Rattle.toml_span.specs.Parsing.{IsFault, IsClash}
 use Rattle.toml_span_lines.specs.Lines.{key_segment, position_segment, line, error_line}
 
 -- ---- the order of paths
@@ -74,7 +74,7 @@ ShowsPlaces places text = (es : List PlaceAt) × PathsAscend es × HasPlaces pla
 pub record ShowsDocument (bytes : List ℕ) (limit : ℕ) (text : List ℕ) : Type 0 where
   pub blocks : List Block
   pub spelled : SpellsDocument blocks bytes limit
-  pub resolves : Resolves [] (claims blocks)
+  pub resolves : Resolves (claims blocks)
   pub shown : ShowsPlaces (flat (length bytes) (claims blocks)) text
 
 -- A fault is told of the bytes or, where they spell sections within the limit, two claims clash. The text is the line

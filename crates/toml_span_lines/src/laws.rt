@@ -3,7 +3,7 @@ ghost use Rattle.std.specs.Prelude.{◌≡◌, ℕ, Bool, true, nat_lt, List, Op
 ghost use Rattle.toml_span_tree.specs.Error.{content_of};
 ghost use Rattle.toml_span_tree.specs.Path.{Path, Place};
 ghost use Rattle.toml_span_tree.specs.declared.error.Error.{Error};
-ghost use Rattle.toml_span_assembly.specs.Parsing.{IsClash};
+ghost use Rattle.toml_span.specs.Parsing.{IsClash};
 ghost use Rattle.toml_span_lines.specs.Lines.{error_line};
 ghost use Rattle.toml_span_lines.specs.Run.{IsAnswer, Runs};
 ghost use Rattle.toml_span_lines.specs.Shown.{ShowsDocument, ShowsRefusal, ShowsPlaces};

@@ -3,8 +3,8 @@ ghost use Rattle.std.specs.Prelude.{◌≡◌, ◌↔◌, ⊤, ◌∷◌, [], �
 ghost use Rattle.toml_span_lex.specs.declared.span.Span.{Span as Bytes};
 ghost use Rattle.toml_span_tree.specs.Node.{integer};
 ghost use Rattle.toml_span_tree.specs.Path.{Place, key, shape_scalar};
-ghost use Rattle.toml_span_assembly.specs.Parsing.{IsRefusal};
-ghost use Rattle.toml_span.specs.Document.{IsDocument, StandsAt};
+ghost use Rattle.toml_span.specs.Parsing.{IsRefusal};
+ghost use Rattle.toml_span_laws.specs.Document.{IsDocument, StandsAt};
 ghost use Rattle.toml_span_rows.specs.uses.Fields.{IsRefusedAt, NoPort};
 ghost use Rattle.toml_span_read.specs.Limits.{depth_limit};
 

@@ -7,8 +7,8 @@ use Rattle.toml_span_lex.specs.declared.span.Span.{Span}
 use Rattle.toml_span_tree.specs.Node.{Node, node, Inner, taken, scalar, array, table, Items, no_items, item, Members, no_members, member, entry_at, element_at}
 use Rattle.toml_span_tree.specs.Value.{inner_of}
 use Rattle.toml_span_tree.specs.Path.{Step, key, position, Path, at_step, reached, place_of}
-use Rattle.toml_span_claims.specs.Ordered.{HasOneEach, InnerHasOneEach, ItemsHaveOneEach, MembersHaveOneEach}
-use Rattle.toml_span.proofs.OneTree.{same-name, first-entry, later-entry}
+use Rattle.toml_span.specs.Ordered.{HasOneEach, InnerHasOneEach, ItemsHaveOneEach, MembersHaveOneEach}
+use Rattle.toml_span.proofs.Ordered.{same-name, first-entry, later-entry}
 use Rattle.toml_span_serde.specs.Misfits.{Names}
 use Rattle.toml_span_serde.specs.Pieces.{Piece, piece, pieces, held_pieces, items_pieces, members_pieces, array_ends, table_ends}
 use Rattle.toml_span_serde.specs.Tasks.{piece_content, piece_of}

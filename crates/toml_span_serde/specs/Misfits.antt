@@ -11,7 +11,7 @@ use Rattle.toml_span_tree.specs.Value.{view}
 use Rattle.toml_span_tree.specs.declared.value.Value.{Value}
 use Rattle.toml_span_read.specs.Places.{IsLineInfo}
 use Rattle.toml_span_read.specs.Limits.{depth_limit}
-use Rattle.toml_span_assembly.specs.Parsing.{IsRefusal, IsTree}
+use Rattle.toml_span.specs.Parsing.{IsRefusal, IsTree}
 use Rattle.toml_span_serde.specs.declared.misfit.Expected.{Expected}
 use Rattle.toml_span_serde.specs.declared.misfit.Expected.TheVariants as expected
 use Rattle.toml_span_serde.specs.declared.misfit.Found.{Found}

@@ -1,6 +1,6 @@
 //! Reads of texts and of values.
 ghost use Rattle.std.specs.Prelude.{◌≡◌, ⊤, IfErr, OnOk};
-ghost use Rattle.toml_span_claims.specs.Ordered.{HasOneEach};
+ghost use Rattle.toml_span.specs.Ordered.{HasOneEach};
 ghost use Rattle.toml_span_tree.specs.Value.{view};
 ghost use Rattle.toml_span_serde.specs.Misfits.{HasLine, HasTree, IsAt, IsRefused};
 

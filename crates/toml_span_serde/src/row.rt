@@ -1,6 +1,6 @@
 //! A tree that is to be read.
 ghost use Rattle.std.specs.Prelude.{◌≡◌, ◌<◌, IfOk, length};
-ghost use Rattle.toml_span_claims.specs.Ordered.{HasOneEach};
+ghost use Rattle.toml_span.specs.Ordered.{HasOneEach};
 ghost use Rattle.toml_span_tree.specs.Node.{Node};
 ghost use Rattle.toml_span_tree.specs.Value.{view};
 ghost use Rattle.toml_span_serde.specs.Ahead.{ahead, pieces_in};

@@ -15,11 +15,11 @@ use Rattle.toml_span_tree.proofs.Values.{view_is}
 use Rattle.toml_span_typed.specs.Reads.{read_integer, or_out_of, unsigned}
 use Rattle.toml_span_read.specs.Places.{IsLineInfo}
 use Rattle.toml_span_read.specs.Data.{Block}
-use Rattle.toml_span_claims.specs.Claims.{claims}
-use Rattle.toml_span_claims.specs.Flat.{flat, Shows}
-use Rattle.toml_span_assembly.specs.Parsing.{IsTree, IsRefusal}
-use Rattle.toml_span.specs.Document.{IsDocument, StandsAt}
-use Rattle.toml_span_assembly.proofs.ShownWhole.{shown-filled}
+use Rattle.toml_span.specs.Claims.{claims}
+use Rattle.toml_span.specs.Flat.{flat, Shows}
+use Rattle.toml_span.specs.Parsing.{IsTree, IsRefusal}
+use Rattle.toml_span_laws.specs.Document.{IsDocument, StandsAt}
+use Rattle.toml_span.proofs.ShownWhole.{shown-filled}
 
 -- ---- what a pointer names in a tree, and what stands there
 

@@ -13,11 +13,10 @@ use Rattle.toml_span_typed.specs.Errors.{Errors, all}
 use Rattle.toml_span_typed.specs.Reads.{Gives, read_boolean, result_map, read_string}
 use Rattle.toml_span_typed.specs.TableHelper.{State, OpensTable, Refuses, Requires, Tries}
 use Rattle.toml_span_typed.specs.declared.de_helpers.table_helper.Unfinished.TheVariants as unfinished
-use Rattle.toml_span_claims.specs.Ordered.{IsOrdered}
-use Rattle.toml_span_assembly.specs.Parsing.{IsTree, IsRoot}
-use Rattle.toml_span.specs.Document.{IsDocument, IsValueOf}
-use Rattle.toml_span.specs.Helpers.{HasNoKeyBut, except, left_over}
-use Rattle.toml_span.proofs.Fields.{ends-ok, ends-faults}
+use Rattle.toml_span.specs.Parsing.{IsTree, IsRoot}
+use Rattle.toml_span_laws.specs.Document.{IsDocument, IsValueOf}
+use Rattle.toml_span_laws.specs.Helpers.{HasNoKeyBut, except, left_over}
+use Rattle.toml_span_laws.proofs.Fields.{ends-ok, ends-faults}
 use Rattle.toml_span_rows.specs.uses.Fields.{IsField, IsStopped, errors_in, number, optional_field, required_field, whole}
 use Rattle.toml_span_rows.specs.uses.Settings.{NoSettings, names, errors_of}
 use Rattle.toml_span_rows.proofs.uses.Reading.{Over, boolean-face, given-as, integer-face, kept, on-document, optional-step, over-root, required-step, string-face}
@@ -34,7 +33,6 @@ pub record Session {C : Type 0} (bytes : C → List ℕ) (s : List ℕ) (places 
 -- the calls of the helper
 pub record Calls {C : Type 0} (bytes : C → List ℕ) (s : List ℕ) (root : Value) (host : Option C) (port : Option ℕ) (secure : Option Bool) (s0 s1 s2 s3 : State) (r1 : Result C (Stop Error)) (r2 : Result ℕ (Stop Error)) : Type 0 where
   pub tree : IsTree s 128 root
-  pub ordered : IsOrdered (view root)
   pub is_root : IsRoot (length s) root
   pub opens : OpensTable (view root) (Ok s0)
   pub first : Requires (λ v r w. Gives read_string v (result_map bytes r) w) (codes "host") s0 r1 s1
@@ -79,7 +77,7 @@ ended bytes s places host port secure state done h refuses =
 pub fields-there : {C : Type 0} (bytes : C → List ℕ) (s : List ℕ) (root : Value) (host : Option C) (port : Option ℕ) (secure : Option Bool) (s0 s1 s2 s3 : State) (r1 : Result C (Stop Error)) (r2 : Result ℕ (Stop Error))
     (done : Unit {0}) → Calls bytes s root host port secure s0 s1 s2 s3 r1 r2 → Refuses s3 (Ok done) → ((x : C) × (host ≡ Some x)) × ((x : ℕ) × (port ≡ Some x))
 fields-there bytes s root host port secure s0 s1 s2 s3 r1 r2 done calls refuses =
-    (on-document s root (λ _. ((x : _) × (host ≡ Some x)) × ((x : ℕ) × (port ≡ Some x))) calls.tree calls.ordered (λ places value.
+    (on-document s root (λ _. ((x : _) × (host ≡ Some x)) × ((x : ℕ) × (port ≡ Some x))) calls.tree (λ places value.
     let (h, p, o, keys) = ended bytes s places host port secure s3 done (session bytes s root host port secure s0 s1 s2 s3 r1 r2 places calls value) refuses in
     ((h.0, h.1), (p.0, p.1)))).3
 
@@ -89,7 +87,7 @@ pub configured : {C : Type 0} (bytes : C → List ℕ) (s : List ℕ) (root : Va
     × (optional_field read_boolean (codes "secure") places ≡ Ok secure) × HasNoKeyBut names places)
 configured bytes s root host port secure s0 s1 s2 s3 r1 r2 done x y calls refuses is that =
     on-document s root (λ places. (required_field read_string (codes "host") (whole s) places ≡ Ok (bytes x)) × (required_field number (codes "port") (whole s) places ≡ Ok y)
-    × (optional_field read_boolean (codes "secure") places ≡ Ok secure) × HasNoKeyBut names places) calls.tree calls.ordered (λ places value.
+    × (optional_field read_boolean (codes "secure") places ≡ Ok secure) × HasNoKeyBut names places) calls.tree (λ places value.
     let (h, p, o, keys) = ended bytes s places host port secure s3 done (session bytes s root host port secure s0 s1 s2 s3 r1 r2 places calls value) refuses in (
       h.2 ∙ ap (λ z. Ok (bytes z)) (same_Some h.0 x (sym h.1 ∙ is)),
       p.2 ∙ ap (λ z. Ok z) (same_Some p.0 y (sym p.1 ∙ that)),
@@ -101,7 +99,7 @@ not-configured : {C : Type 0} (bytes : C → List ℕ) (s : List ℕ) (root : Va
     (faults : Errors) → Calls bytes s root host port secure s0 s1 s2 s3 r1 r2 → Refuses s3 (Err (unfinished.Faults faults))
     → IsDocument s (λ places. (rest : Members) × IsValueOf (except names places) (node (table rest) (whole s)) × (all faults ≡ errors_of (whole s) places rest))
 not-configured bytes s root host port secure s0 s1 s2 s3 r1 r2 faults calls refuses =
-    on-document s root (λ places. (rest : Members) × IsValueOf (except names places) (node (table rest) (whole s)) × (all faults ≡ errors_of (whole s) places rest)) calls.tree calls.ordered (λ places value.
+    on-document s root (λ places. (rest : Members) × IsValueOf (except names places) (node (table rest) (whole s)) × (all faults ≡ errors_of (whole s) places rest)) calls.tree (λ places value.
     let h = (session bytes s root host port secure s0 s1 s2 s3 r1 r2 places calls value).over in
     let (rest, left, told) = ends-faults places s3 faults h.over refuses in
     let eh = errors_in (required_field read_string (codes "host") (whole s) places) in

@@ -14,21 +14,20 @@ use Rattle.toml_span_tree.specs.Value.{view}
 use Rattle.toml_span_typed.specs.Errors.{Errors, all, one}
 use Rattle.toml_span_typed.specs.Reads.{Gives, read_boolean, read_integer, result_map, read_string, unsigned}
 use Rattle.toml_span_typed.specs.TableHelper.{State, OpensTable, Requires, Tries, fresh, keeping, missing, noted}
-use Rattle.toml_span_claims.specs.Claims.{claims}
-use Rattle.toml_span_claims.specs.Flat.{flat}
-use Rattle.toml_span_claims.specs.Ordered.{IsOrdered}
-use Rattle.toml_span_assembly.specs.Parsing.{IsTree, IsRoot}
-use Rattle.toml_span.specs.Document.{IsDocument, IsValueOf, subtree, without_key}
-use Rattle.toml_span.specs.Helpers.{IsOver, ReadsPart, except}
-use Rattle.toml_span.proofs.Fields.{opens-over, required-at, required-over, tried-at, tried-over}
+use Rattle.toml_span.specs.Claims.{claims}
+use Rattle.toml_span.specs.Flat.{flat}
+use Rattle.toml_span.specs.Parsing.{IsTree, IsRoot}
+use Rattle.toml_span_laws.specs.Document.{IsDocument, IsValueOf, subtree, without_key}
+use Rattle.toml_span_laws.specs.Helpers.{IsOver, ReadsPart, except}
+use Rattle.toml_span_laws.proofs.Fields.{opens-over, required-at, required-over, tried-at, tried-over}
 use Rattle.toml_span_rows.proofs.uses.Conclusions.{number-shape}
 use Rattle.toml_span_rows.specs.uses.Fields.{IsField, NoPort, errors_in, face, inner_with, number, optional_field, read_or, required_field, whole}
 
 -- ---- the document of a tree
 
-pub on-document : (s : List ℕ) (root : Value) (P : (Path → Option Place) → Type 0) → IsTree s 128 root → IsOrdered (view root) → ((places : Path → Option Place) → IsValueOf places (view root) → P places)
+pub on-document : (s : List ℕ) (root : Value) (P : (Path → Option Place) → Type 0) → IsTree s 128 root → ((places : Path → Option Place) → IsValueOf places (view root) → P places)
     → IsDocument s P
-on-document s root P (bs, spelled, tree) ordered holds = (bs, spelled, tree.resolves, holds (flat (length s) (claims bs)) (ordered, tree.shows))
+on-document s root P (bs, spelled, tree) holds = (bs, spelled, tree.resolves, holds (flat (length s) (claims bs)) (tree.ordered, tree.shows))
 
 -- ---- what a value gives is what its place gives
 
@@ -268,17 +267,17 @@ port-step : (s : List ℕ) (root : Value) (places : Path → Option Place) (befo
 port-step s root places before after answer is value opens read =
     required-step (Gives number) (λ x. x) number places (whole s) [] [] (codes "port") before after answer (given-as number) (integer-face (codes "u16") (2 ^ 16)) refl (over-root s root places before is value opens) read
 
-pub port-read : (s : List ℕ) (root : Value) (before after : State) (answer : Result ℕ (Stop Error)) → IsTree s 128 root → IsOrdered (view root) → IsRoot (length s) root → OpensTable (view root) (Ok before)
+pub port-read : (s : List ℕ) (root : Value) (before after : State) (answer : Result ℕ (Stop Error)) → IsTree s 128 root → IsRoot (length s) root → OpensTable (view root) (Ok before)
     → Requires (Gives number) (codes "port") before answer after
     → IfOk answer (λ port. IsDocument s (λ places. (place : Place) × (places (key (codes "port") ∷ []) ≡ Some place) × (place.shape ≡ shape_scalar (integer (pos port)))))
-port-read s root before after (Ok port) tree ordered is opens read =
-    on-document s root _ tree ordered (λ places value. number-at _ (places (key (codes "port") ∷ [])) port (port-step s root places before after (Ok port) is value opens read).0)
-port-read s root before after (Err stop) tree ordered is opens read = tt
+port-read s root before after (Ok port) tree is opens read =
+    on-document s root _ tree (λ places value. number-at _ (places (key (codes "port") ∷ [])) port (port-step s root places before after (Ok port) is value opens read).0)
+port-read s root before after (Err stop) tree is opens read = tt
 
-pub port-refused : (s : List ℕ) (root : Value) (before after : State) (answer : Result ℕ (Stop Error)) → IsTree s 128 root → IsOrdered (view root) → IsRoot (length s) root → OpensTable (view root) (Ok before)
+pub port-refused : (s : List ℕ) (root : Value) (before after : State) (answer : Result ℕ (Stop Error)) → IsTree s 128 root → IsRoot (length s) root → OpensTable (view root) (Ok before)
     → Requires (Gives number) (codes "port") before answer after → IfErr answer (NoPort s)
-port-refused s root before after (Ok port) tree ordered is opens read = tt
-port-refused s root before after (Err (stops.Memory error)) tree ordered is opens read = tt
-port-refused s root before after (Err (stops.Fault error)) tree ordered is opens read = inr (on-document s root (λ places. (faults : Errors) × (required_field number (codes "port") (whole s) places ≡ Err faults) × (content_of error ≡ faults.last)) tree ordered (λ places value.
+port-refused s root before after (Ok port) tree is opens read = tt
+port-refused s root before after (Err (stops.Memory error)) tree is opens read = tt
+port-refused s root before after (Err (stops.Fault error)) tree is opens read = inr (on-document s root (λ places. (faults : Errors) × (required_field number (codes "port") (whole s) places ≡ Err faults) × (content_of error ≡ faults.last)) tree (λ places value.
     let (faults, field, told, over) = port-step s root places before after (Err (stops.Fault error)) is value opens read in
     (faults, field, told)))

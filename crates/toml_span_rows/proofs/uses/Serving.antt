@@ -16,11 +16,10 @@ use Rattle.toml_span_typed.specs.Reads.{Answers, Gives, result_map}
 use Rattle.toml_span_typed.specs.TableHelper.{State, OpensTable, Refuses, Requires, fresh, keeping, missing, noted, without}
 use Rattle.toml_span_typed.specs.declared.de_helpers.table_helper.Unfinished.{Unfinished}
 use Rattle.toml_span_typed.specs.declared.de_helpers.table_helper.Unfinished.TheVariants as unfinished
-use Rattle.toml_span_claims.specs.Ordered.{IsOrdered}
-use Rattle.toml_span_assembly.specs.Parsing.{IsTree, IsRoot}
-use Rattle.toml_span.specs.Document.{IsDocument, IsValueOf, subtree, without_key}
-use Rattle.toml_span.specs.Helpers.{IsOver, ReadsPart, HasNoKeyBut, except, left_over}
-use Rattle.toml_span.proofs.Fields.{ends-ok, ends-faults, required-at, required-over}
+use Rattle.toml_span.specs.Parsing.{IsTree, IsRoot}
+use Rattle.toml_span_laws.specs.Document.{IsDocument, IsValueOf, subtree, without_key}
+use Rattle.toml_span_laws.specs.Helpers.{IsOver, ReadsPart, HasNoKeyBut, except, left_over}
+use Rattle.toml_span_laws.proofs.Fields.{ends-ok, ends-faults, required-at, required-over}
 use Rattle.toml_span_rows.specs.uses.Fields.{IsField, IsStopped, errors_in, lacks, number, whole}
 use Rattle.toml_span_rows.specs.uses.Servers.{AreServers, ListErrors, NoServers, ReadsList, ServerReads, list_reads, number_or, port_in}
 use Rattle.toml_span_rows.specs.declared.uses.servers.Server.{Server}
@@ -191,7 +190,6 @@ module _ {V : Type 0} (items : V → List Server) (s : List ℕ) (places : Path 
 -- the calls over the root
 pub record Calls {V : Type 0} (items : V → List Server) (s : List ℕ) (root : Value) (list : Option V) (before after : State) (r : Result V (Stop Error)) : Type 0 where
   pub tree : IsTree s 128 root
-  pub ordered : IsOrdered (view root)
   pub is_root : IsRoot (length s) root
   pub opens : OpensTable (view root) (Ok before)
   pub field : IsField r (Ok list)
@@ -211,13 +209,13 @@ ended items s places list state done h refuses =
 pub list-there : {V : Type 0} (items : V → List Server) (s : List ℕ) (root : Value) (list : Option V) (before after : State) (r : Result V (Stop Error)) (done : Unit {0}) → Calls items s root list before after r → Refuses after (Ok done)
     → (x : V) × (list ≡ Some x)
 list-there items s root list before after r done h refuses =
-    (on-document s root (λ _. (x : _) × (list ≡ Some x)) h.tree h.ordered (λ places value.
+    (on-document s root (λ _. (x : _) × (list ≡ Some x)) h.tree (λ places value.
     let (read, keys) = ended items s places list after done (session items s root list before after r places h value) refuses in (read.0, read.1))).3
 
 pub list-read : {V : Type 0} (items : V → List Server) (s : List ℕ) (root : Value) (list : Option V) (before after : State) (r : Result V (Stop Error)) (done : Unit {0}) (x : V) → Calls items s root list before after r → Refuses after (Ok done)
     → list ≡ Some x → IsDocument s (λ places. AreServers places (items x))
 list-read items s root list before after r done x h refuses is =
-    on-document s root (λ places. AreServers places (items x)) h.tree h.ordered (λ places value.
+    on-document s root (λ places. AreServers places (items x)) h.tree (λ places value.
     let (read, keys) = ended items s places list after done (session items s root list before after r places h value) refuses in
     (subst (λ z. ReadsList places (Ok (items z))) (same_Some read.0 x (sym read.1 ∙ is)) read.2, keys))
 
@@ -225,7 +223,7 @@ not-read : {V : Type 0} (items : V → List Server) (s : List ℕ) (root : Value
     → NoServers s (stops.Fault faults)
 not-read items s root list before after r faults h refuses =
     inr (on-document s root (λ places. (errors : List ErrorContent) × (rest : Members) × ListErrors (whole s) places errors × IsValueOf (except (codes "servers" ∷ []) places) (node (table rest) (whole s))
-    × (all faults ≡ errors ++ left_over (codes "servers" ∷ []) (whole s) rest)) h.tree h.ordered (λ places value.
+    × (all faults ≡ errors ++ left_over (codes "servers" ∷ []) (whole s) rest)) h.tree (λ places value.
     let l = session items s root list before after r places h value in
     let (rest, left, told) = ends-faults places after faults l.over.over refuses in
     let named = subst (λ names. IsValueOf (except names places) (node (table rest) after.span)) l.over.asked_is left in (

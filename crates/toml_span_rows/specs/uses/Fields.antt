@@ -14,8 +14,8 @@ use Rattle.toml_span_read.specs.Places.{IsLineInfo}
 use Rattle.toml_span_read.specs.Limits.{depth_limit}
 use Rattle.toml_span_typed.specs.declared.de_helpers.table_helper.Unfinished.{Unfinished}
 use Rattle.toml_span_typed.specs.declared.de_helpers.table_helper.Unfinished.TheVariants as unfinished
-use Rattle.toml_span_assembly.specs.Parsing.{IsRefusal}
-use Rattle.toml_span.specs.Document.{IsDocument}
+use Rattle.toml_span.specs.Parsing.{IsRefusal}
+use Rattle.toml_span_laws.specs.Document.{IsDocument}
 
 abbrev pub inner_with : Shape → Inner
 inner_with shape_taken = taken

@@ -11,9 +11,9 @@ use Rattle.toml_span_tree.specs.Path.{Path, Place, key}
 use Rattle.toml_span_typed.specs.Errors.{Errors, all, one}
 use Rattle.toml_span_typed.specs.Reads.{array_reads, refused}
 use Rattle.toml_span_typed.specs.TableHelper.{without}
-use Rattle.toml_span_assembly.specs.Parsing.{IsRefusal}
-use Rattle.toml_span.specs.Document.{IsDocument, IsValueOf, subtree}
-use Rattle.toml_span.specs.Helpers.{HasNoKeyBut, ReadsPart, except, left_over}
+use Rattle.toml_span.specs.Parsing.{IsRefusal}
+use Rattle.toml_span_laws.specs.Document.{IsDocument, IsValueOf, subtree}
+use Rattle.toml_span_laws.specs.Helpers.{HasNoKeyBut, ReadsPart, except, left_over}
 use Rattle.toml_span_rows.specs.uses.Fields.{errors_in, lacks, number, whole}
 use Rattle.toml_span_rows.specs.declared.uses.servers.Server.{Server}
 use Rattle.toml_span_read.specs.Limits.{depth_limit}

@@ -10,9 +10,9 @@ use Rattle.toml_span_tree.specs.Node.{Members, node, table}
 use Rattle.toml_span_tree.specs.Path.{Path, Place}
 use Rattle.toml_span_typed.specs.Errors.{Errors, all, one}
 use Rattle.toml_span_typed.specs.Reads.{read_boolean, read_string}
-use Rattle.toml_span_assembly.specs.Parsing.{IsRefusal}
-use Rattle.toml_span.specs.Document.{IsDocument, IsValueOf}
-use Rattle.toml_span.specs.Helpers.{HasNoKeyBut, except, left_over}
+use Rattle.toml_span.specs.Parsing.{IsRefusal}
+use Rattle.toml_span_laws.specs.Document.{IsDocument, IsValueOf}
+use Rattle.toml_span_laws.specs.Helpers.{HasNoKeyBut, except, left_over}
 use Rattle.toml_span_rows.specs.uses.Fields.{errors_in, number, optional_field, required_field, whole}
 use Rattle.toml_span_rows.specs.declared.uses.settings.Settings.{Settings}
 use Rattle.toml_span_read.specs.Limits.{depth_limit}

@@ -5,7 +5,7 @@ use Rattle.toml_span_tree.specs.Path.{Path, Place}
 use Rattle.toml_span_tree.specs.Pointer.{pointed, put_pointed}
 use Rattle.toml_span_tree.specs.Value.{view}
 use Rattle.toml_span_tree.specs.declared.value.Value.{Value}
-use Rattle.toml_span.specs.Document.{IsValueOf}
+use Rattle.toml_span_laws.specs.Document.{IsValueOf}
 
 -- the value that shows these places, with another one where the pointer leads; or the pointer leads nowhere
 abbrev pub IsChanged : List ℕ → Node → Option Value → (Path → Option Place) → Type 0

@@ -2,7 +2,7 @@
 #![tactic(auto, using(toml_span_typed::proofs::Whole::found_whole))]
 
 ghost use Rattle.std.specs.Prelude.{IfOk, IfErr};
-ghost use Rattle.toml_span.specs.Document.{IsDocument};
+ghost use Rattle.toml_span_laws.specs.Document.{IsDocument};
 ghost use Rattle.toml_span_rows.specs.uses.Fields.{IsField, IsStopped, whole};
 ghost use Rattle.toml_span_rows.specs.uses.Settings.{AreSettings, NoSettings};
 

@@ -2,8 +2,8 @@
 ghost use Rattle.std.specs.Prelude.{◌≡◌, Some, false, codes, IfOk, IfErr};
 ghost use Rattle.toml_span_tree.specs.Value.{view, is_taken};
 ghost use Rattle.toml_span_tree.specs.Pointer.{pointed};
-ghost use Rattle.toml_span_assembly.specs.Parsing.{IsRefusal};
-ghost use Rattle.toml_span.specs.Document.{IsDocument};
+ghost use Rattle.toml_span.specs.Parsing.{IsRefusal};
+ghost use Rattle.toml_span_laws.specs.Document.{IsDocument};
 ghost use Rattle.toml_span_rows.specs.uses.Writes.{IsChanged};
 ghost use Rattle.toml_span_read.specs.Limits.{depth_limit};
 

@@ -1,5 +1,5 @@
 use Rattle.std.proofs.Common.{refl, subst}
-use Rattle.toml_span_assembly.specs.Parsing.{IsRefusal}
+use Rattle.toml_span.specs.Parsing.{IsRefusal}
 use Rattle.toml_span_rows.proofs.uses.Conclusions.{refusal-told}
 use Rattle.toml_span_rows.proofs.uses.refused_at.Goals as goal
 

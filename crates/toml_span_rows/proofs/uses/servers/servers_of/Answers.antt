@@ -9,7 +9,6 @@ pub unwrap-requires : goal.unwrap-requires
 unwrap-requires c =
     let calls : Calls (λ (v : Vec Server Global). v.items) c.args.text.now c.in-Ok.root c.in_ok-servers.servers (state_of c.in-Ok-new.helper) _ c.required.result = record {
       tree = c.in-Ok.ensures.tree;
-      ordered = c.in-Ok.ensures.ordered;
       is_root = c.in-Ok.ensures.root;
       opens = c.in-Ok-new.ensures.answer;
       field = c.in_ok-servers.ensures;
@@ -21,7 +20,6 @@ pub returns-in-Ok-finalize-clause-servers : goal.returns-in-Ok-finalize-clause-s
 returns-in-Ok-finalize-clause-servers c =
     let calls : Calls (λ (v : Vec Server Global). v.items) c.args.text.now c.in-Ok.root c.in_ok-servers.servers (state_of c.in-Ok-new.helper) _ c.required.result = record {
       tree = c.in-Ok.ensures.tree;
-      ordered = c.in-Ok.ensures.ordered;
       is_root = c.in-Ok.ensures.root;
       opens = c.in-Ok-new.ensures.answer;
       field = c.in_ok-servers.ensures;
@@ -33,7 +31,6 @@ pub returns-in-Err-clause-refused : goal.returns-in-Err-clause-refused
 returns-in-Err-clause-refused c =
     let calls : Calls (λ (v : Vec Server Global). v.items) c.args.text.now c.in-Ok.root c.in_ok-servers.servers (state_of c.in-Ok-new.helper) _ c.required.result = record {
       tree = c.in-Ok.ensures.tree;
-      ordered = c.in-Ok.ensures.ordered;
       is_root = c.in-Ok.ensures.root;
       opens = c.in-Ok-new.ensures.answer;
       field = c.in_ok-servers.ensures;

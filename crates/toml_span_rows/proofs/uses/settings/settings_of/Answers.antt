@@ -8,7 +8,6 @@ pub unwrap-requires : goal.unwrap-requires
 unwrap-requires c =
     let calls : Calls cow_str_bytes c.args.text.now c.in-Ok.root c.in_ok-host.host c.in_ok-port.port c.in-Ok-optional.secure (state_of c.in-Ok-new.helper) _ _ _ c.required.result c.required-2.result = record {
       tree = c.in-Ok.ensures.tree;
-      ordered = c.in-Ok.ensures.ordered;
       is_root = c.in-Ok.ensures.root;
       opens = c.in-Ok-new.ensures.answer;
       first = c.required.ensures.answer;
@@ -24,7 +23,6 @@ pub unwrap-requires-in-Ok-finalize : goal.unwrap-requires-in-Ok-finalize
 unwrap-requires-in-Ok-finalize c =
     let calls : Calls cow_str_bytes c.args.text.now c.in-Ok.root c.in_ok-host.host c.in_ok-port.port c.in-Ok-optional.secure (state_of c.in-Ok-new.helper) _ _ _ c.required.result c.required-2.result = record {
       tree = c.in-Ok.ensures.tree;
-      ordered = c.in-Ok.ensures.ordered;
       is_root = c.in-Ok.ensures.root;
       opens = c.in-Ok-new.ensures.answer;
       first = c.required.ensures.answer;
@@ -40,7 +38,6 @@ pub returns-in-Ok-finalize-clause-settings : goal.returns-in-Ok-finalize-clause-
 returns-in-Ok-finalize-clause-settings c =
     let calls : Calls cow_str_bytes c.args.text.now c.in-Ok.root c.in_ok-host.host c.in_ok-port.port c.in-Ok-optional.secure (state_of c.in-Ok-new.helper) _ _ _ c.required.result c.required-2.result = record {
       tree = c.in-Ok.ensures.tree;
-      ordered = c.in-Ok.ensures.ordered;
       is_root = c.in-Ok.ensures.root;
       opens = c.in-Ok-new.ensures.answer;
       first = c.required.ensures.answer;
@@ -55,7 +52,6 @@ pub returns-clause-refused : goal.returns-clause-refused
 returns-clause-refused c =
     let calls : Calls cow_str_bytes c.args.text.now c.in-Ok.root c.in_ok-host.host c.in_ok-port.port c.in-Ok-optional.secure (state_of c.in-Ok-new.helper) _ _ _ c.required.result c.required-2.result = record {
       tree = c.in-Ok.ensures.tree;
-      ordered = c.in-Ok.ensures.ordered;
       is_root = c.in-Ok.ensures.root;
       opens = c.in-Ok-new.ensures.answer;
       first = c.required.ensures.answer;

@@ -1,0 +1,391 @@
+-- What the branches have become.
+use Rattle.std.proofs.Common.{◌≡◌, ℕ, zero, suc, List, [], ◌∷◌, ◌++◌, Option, Some, None, option_map, option_and_then, true, false, cond, Ok, Less, is_eq, nat_cmp, inl, inr, refl, sym, ap, subst, ◌∙◌, ◌==◌, append_assoc, arith, length, vec_len}
+use Rattle.std.specs.Prelude.{IfSome}
+use Rattle.std.specs.BTreeMap.{BTreeMap, insert_entry}
+use Rattle.std.specs.Box.{box_value}
+use Rattle.std.specs.Cow.{cow_str_bytes}
+use Rattle.std.specs.Cmp.Lexicographic.{slice_cmp}
+use Rattle.std.specs.Global.{Box}
+use Rattle.std.specs.List.{AllZip, AllByRecursion}
+use Rattle.std.specs.List.Sorted.{IsStrictlySortedBy}
+use Rattle.std.specs.Map.{keys_of, lookup, lookup_entry}
+use Rattle.std.proofs.lemmas.Bool.{cases_Bool, eqb-false, eqb-true, false≢true}
+use Rattle.std.proofs.lemmas.List.{nil_from_length}
+use Rattle.std.proofs.lemmas.Map.Keys.{sorted_head, sorted_tail}
+use Rattle.std.proofs.lemmas.Option.{none-some, same_Some}
+use Rattle.toml_span_lex.specs.declared.key.Key.{Key}
+use Rattle.toml_span_lex.specs.declared.span.Span.{Span}
+use Rattle.toml_span_tree.specs.Node as tree
+use Rattle.toml_span_tree.specs.Path.{key, position, Path, shape_table, shape_of as tree_shape, reached, place_of as tree_place}
+use Rattle.toml_span_tree.specs.Value.{view, inner_view, items_view}
+use Rattle.toml_span_tree.specs.declared.value.Value.{Value}
+use Rattle.toml_span_tree.specs.declared.value.ValueInner.{ValueInner}
+use Rattle.toml_span_tree.specs.declared.value.ValueInner.TheVariants.{Table as table_inner, Array as array_inner}
+use Rattle.toml_span_tree.proofs.Values.{inner_view-Table, inner_view-Array, entry_at-lookup}
+use Rattle.toml_span_read.proofs.EarlierTree.{key_cmp, same_name}
+use Rattle.toml_span.specs.declared.claims.Mark.{Mark}
+use Rattle.toml_span.specs.declared.claims.Sort.{Sort}
+use Rattle.toml_span.specs.declared.claims.Sort.TheVariants.{Passed, StandardTable, ArrayOfTables, TableElement, Dotted, Assigned}
+use Rattle.toml_span.specs.declared.branch.Branch.{Branch}
+use Rattle.toml_span.specs.declared.branch.Branch.TheViews.{out-Branch}
+use Rattle.toml_span.specs.Claims.{shape_claimed, key_span_of}
+use Rattle.toml_span.specs.Clashes.{or_else}
+use Rattle.toml_span.specs.Flat.{by_header}
+use Rattle.toml_span.specs.code.Marks.{first_by_header, deciding}
+use Rattle.toml_span.specs.code.Placing.{Becomes, BecomesEntry, EachBecomes, Finishes, NamesAscend, ShowsBelow, Table, Array, place_shown}
+use Rattle.toml_span.specs.Ordered.{IsOrdered, HoldsOrdered, AreOrdered}
+use Rattle.toml_span.specs.code.Tree.{is_named, marks, entries, child, item, closed, cells, cell_at, closed_cell, or_closed, or_nothing, plain, is_array_sort, is_entry_sort, NoArray, NoEntry, IsNamed, IsEntry, IsArray, IsTableOrArray, Sound}
+use Rattle.toml_span.proofs.Claimed.{sound-shape, sound-named, sound-entries, sound-ordered, sound-below, sound-inside}
+use Rattle.toml_span.proofs.KeyMaps.{cases_ordering}
+use Rattle.toml_span.proofs.Ordered.{members-ordered}
+
+-- ---- values and branches by name
+
+-- what stands at a name: the original value, or what the branch of the name has become
+abbrev pub Stands : Option (Box Branch) → Option (Key × Value) → Option (Key × Value) → Type 0
+Stands None old new = new ≡ old
+Stands (Some b) old new = old ≡ None → (e : Key × Value) × (new ≡ Some e) × Becomes (box_value b) (Ok (e.0.span, e.1))
+
+-- the same, where the branch of the name may be left to be finished
+abbrev pub StandsSoFar : Option (Box Branch) → Option (Box Branch) → Option (Key × Value) → Option (Key × Value) → Type 0
+StandsSoFar node None old new = Stands node old new
+StandsSoFar node (Some b) old new = (node ≡ Some b) × (new ≡ old)
+
+-- the values, where all branches but those that are left are finished
+pub record Filled (tables left : List (Key × Box Branch)) (old new : List (Key × Value)) : Type 0 where
+  pub sorted : IsStrictlySortedBy key_cmp (keys_of left)
+  pub stands : (name : List ℕ) → StandsSoFar (lookup (is_named name) tables) (lookup (is_named name) left) (lookup_entry (is_named name) old) (lookup_entry (is_named name) new)
+
+-- the elements, where all entries but those that are left are finished
+pub record EntriesFilled (all left : List Branch) (made : List Value) : Type 0 where
+  pub done : List Branch
+  pub split : all ≡ done ++ left
+  pub become : AllZip BecomesEntry done made
+
+-- ---- one more is finished
+
+-- a value put under a name that is missing stands there
+entry-put : (name : List ℕ) (k : Key) (v : Value) (es : List (Key × Value)) → is_named name k ≡ true → lookup_entry (is_named name) es ≡ None
+    → lookup_entry (is_named name) (insert_entry key_cmp es k v) ≡ Some (k, v)
+entry-put name k v [] here none = rw here
+entry-put name k v (e ∷ es) here none =
+    elim (cases_Bool (is_named name e.0)) [
+      | inl there ↦ absurd (none-some e (sym none ∙ rw there))
+      | inr apart ↦ elim (cases_ordering (key_cmp k e.0)) [
+        | inl less ↦ rw (less, here)
+        | inr other ↦ elim other [
+          | inl tie ↦
+              let same : cow_str_bytes k.name ≡ cow_str_bytes e.0.name = same_name (cow_str_bytes k.name) (cow_str_bytes e.0.name) (ap is_eq tie) in
+              absurd (false≢true (sym apart ∙ ap (λ l. is_eq (slice_cmp nat_cmp name l)) (sym same) ∙ here))
+          | inr more ↦ rw (more, apart) (entry-put name k v es here (rw apart at none))
+        ]
+      ]
+    ]
+
+-- the other names keep what they have
+entry-others : (name : List ℕ) (k : Key) (v : Value) (es : List (Key × Value)) → is_named name k ≡ false
+    → lookup_entry (is_named name) (insert_entry key_cmp es k v) ≡ lookup_entry (is_named name) es
+entry-others name k v [] off = rw off
+entry-others name k v (e ∷ es) off =
+    elim (cases_ordering (key_cmp k e.0)) [
+      | inl less ↦ rw (less, off)
+      | inr other ↦ elim other [
+        | inl tie ↦
+            let same : cow_str_bytes k.name ≡ cow_str_bytes e.0.name = same_name (cow_str_bytes k.name) (cow_str_bytes e.0.name) (ap is_eq tie) in
+            let apart : is_named name e.0 ≡ false = ap (λ l. is_eq (slice_cmp nat_cmp name l)) (sym same) ∙ off in
+            rw (tie, apart)
+        | inr more ↦ rw more (ap (cond (is_named name e.0) (Some e)) (entry-others name k v es off))
+      ]
+    ]
+
+-- behind a key all are greater
+none-behind : {X : Type 0} (k : Key) (es : List (Key × X)) → AllByRecursion (λ q. key_cmp k q ≡ Less) (keys_of es) → lookup (is_named (cow_str_bytes k.name)) es ≡ None
+none-behind k [] h = refl
+none-behind k (e ∷ es) h = rw (h.0) (none-behind k es h.1)
+
+-- at a name, once the next branch is finished
+finished-one : (name : List ℕ) (tables : Option (Box Branch)) (k made : Key) (b : Box Branch) (left : List (Key × Box Branch)) (old : Option (Key × Value)) (new : List (Key × Value)) (v : Value)
+    → cow_str_bytes made.name ≡ cow_str_bytes k.name → Becomes (box_value b) (Ok (made.span, v)) → AllByRecursion (λ q. key_cmp k q ≡ Less) (keys_of left)
+    → StandsSoFar tables (lookup (is_named name) ((k, b) ∷ left)) old (lookup_entry (is_named name) new)
+    → StandsSoFar tables (lookup (is_named name) left) old (lookup_entry (is_named name) (insert_entry key_cmp new made v))
+finished-one name tables k made b left old new v named become behind h =
+    let same : is_named name made ≡ is_named name k = ap (λ l. is_eq (slice_cmp nat_cmp name l)) named in
+    elim (cases_Bool (is_named name k)) [
+      | inl here ↦
+          let at : StandsSoFar tables (Some b) old (lookup_entry (is_named name) new) = rw here at h in
+          let none : lookup (is_named name) left ≡ None = ap (λ l. lookup (is_named l) left) (same_name name (cow_str_bytes k.name) here) ∙ none-behind k left behind in
+          rw (none, at.0) (λ missing. ((made, v), entry-put name made v new (same ∙ here) (at.1 ∙ missing), become))
+      | inr off ↦ rw (entry-others name made v new (same ∙ off)) (rw off at h)
+    ]
+
+-- one branch more is finished
+pub filled-more : (tables : List (Key × Box Branch)) (k made : Key) (b : Box Branch) (left : List (Key × Box Branch)) (old new : List (Key × Value)) (v : Value)
+    → made.name ≡ k.name → Becomes (box_value b) (Ok (made.span, v)) → Filled tables ((k, b) ∷ left) old new → Filled tables left old (insert_entry key_cmp new made v)
+filled-more tables k made b left old new v named become h = record {
+  sorted = sorted_tail key_cmp k (keys_of left) h.sorted;
+  stands = λ name.
+      finished-one name (lookup (is_named name) tables) k made b left (lookup_entry (is_named name) old) new v
+      (ap (λ n. cow_str_bytes n) named) become (sorted_head key_cmp k (keys_of left) h.sorted) (h.stands name);
+}
+
+-- one entry more is finished
+pub entries-more : (all left : List Branch) (made : List Value) (n : Branch) (v : Value) → EntriesFilled all (n ∷ left) made → BecomesEntry n v → EntriesFilled all left (made ++ (v ∷ []))
+entries-more all left made n v h become = record {
+  done = h.done ++ (n ∷ []);
+  split = h.split ∙ sym (append_assoc h.done (n ∷ []) left);
+  become = push h.done made h.become;
+}
+  where
+    push : (ns : List Branch) (vs : List Value) → AllZip BecomesEntry ns vs → AllZip BecomesEntry (ns ++ (n ∷ [])) (vs ++ (v ∷ []))
+    push [] [] h = (become, tt)
+    push [] (w ∷ vs) h = absurd h
+    push (m ∷ ns) [] h = absurd h
+    push (m ∷ ns) (w ∷ vs) h = (h.0, push ns vs h.1)
+
+-- ---- the deciding mark
+
+-- what holds of all marks holds of the first of a header
+header-all : (P : Mark → Type 0) (ms : List Mark) (m : Mark) → AllByRecursion P ms → first_by_header ms ≡ Some m → P m
+header-all P [] m all is = absurd (none-some m is)
+header-all P (x ∷ ms) m all is =
+    elim (cases_Bool (by_header x.sort)) [
+      | inl here ↦
+          let same : x ≡ m = let e : Some x ≡ Some m = rw here at is in cc in
+          subst P same all.0
+      | inr off ↦ header-all P ms m all.1 (rw off at is)
+    ]
+
+-- and of the one that decides
+deciding-all : (P : Mark → Type 0) (ms : List Mark) (m : Mark) → AllByRecursion P ms → deciding ms ≡ Some m → P m
+deciding-all P [] m all is = absurd (none-some m is)
+deciding-all P (x ∷ ms) m all is = from (first_by_header (x ∷ ms)) refl is
+  where
+    from : (o : Option Mark) → first_by_header (x ∷ ms) ≡ o → or_else o (Some x) ≡ Some m → P m
+    from None none e =
+        let same : x ≡ m = cc in
+        subst P same all.0
+    from (Some y) some e = header-all P (x ∷ ms) m all (some ∙ e)
+
+-- where there is a mark, one decides
+deciding-some : (x : Mark) (ms : List Mark) → (m : Mark) × (deciding (x ∷ ms) ≡ Some m)
+deciding-some x ms = from (first_by_header (x ∷ ms)) refl
+  where
+    from : (o : Option Mark) → first_by_header (x ∷ ms) ≡ o → (m : Mark) × (or_else (first_by_header (x ∷ ms)) (Some x) ≡ Some m)
+    from None none = (x, rw none)
+    from (Some y) some = (y, rw some)
+
+-- the same facts, mark by mark
+no_array-all : (ms : List Mark) → NoArray ms → AllByRecursion (λ m. is_array_sort m.sort ≡ false) ms
+no_array-all [] h = tt
+no_array-all (m ∷ ms) h = (h.0, no_array-all ms h.1)
+
+no_entry-all : (ms : List Mark) → NoEntry ms → AllByRecursion (λ m. is_entry_sort m.sort ≡ false) ms
+no_entry-all [] h = tt
+no_entry-all (m ∷ ms) h = (h.0, no_entry-all ms h.1)
+
+-- a branch at a name stands at its key
+named_key : (sort : Sort) (at : Span) → is_entry_sort sort ≡ false → key_span_of sort at ≡ Some at
+named_key Passed at h = refl
+named_key StandardTable at h = refl
+named_key ArrayOfTables at h = refl
+named_key TableElement at h = absurd (false≢true (sym h))
+named_key Dotted at h = refl
+named_key Assigned at h = refl
+
+-- what is no array is a table
+table_shape : (sort : Sort) → is_array_sort sort ≡ false → shape_claimed sort ≡ shape_table
+table_shape Passed h = refl
+table_shape StandardTable h = refl
+table_shape ArrayOfTables h = absurd (false≢true (sym h))
+table_shape TableElement h = refl
+table_shape Dotted h = refl
+table_shape Assigned h = refl
+
+-- the mark that decides on a branch at a name, and on an entry
+named-decides : (ms : List Mark) → IsNamed ms → (m : Mark) × (deciding ms ≡ Some m) × (key_span_of m.sort m.key ≡ Some m.key)
+named-decides [] h = absurd h
+named-decides (x ∷ ms) h =
+    let d = deciding-some x ms in
+    (d.0, d.1, named_key d.0.sort d.0.key (deciding-all (λ m. is_entry_sort m.sort ≡ false) (x ∷ ms) d.0 (no_entry-all (x ∷ ms) h) d.1))
+
+entry-decides : (ms : List Mark) → IsEntry ms → (m : Mark) × (deciding ms ≡ Some m) × (key_span_of m.sort m.key ≡ None)
+entry-decides [] h = absurd h
+entry-decides (x ∷ ms) h = (x, rw h, rw h)
+
+-- that of an array of tables is alone
+array-decides : (x m : Mark) → x.sort ≡ ArrayOfTables → deciding (x ∷ []) ≡ Some m → x ≡ m
+array-decides x m array is =
+    let first : deciding (x ∷ []) ≡ Some x = rw array in
+    let same : Some x ≡ Some m = sym first ∙ is in
+    cc
+
+-- ---- what is shown
+
+-- what a branch has become shows what the branch keeps, at the key's span that the deciding mark gives
+became-shows : (c : Branch) (at : Span) (v : Value) (o : Option Span) → Becomes c (Ok (at, v)) → Sound c
+    → (m : Mark) × (deciding (marks c) ≡ Some m) × (key_span_of m.sort m.key ≡ o) → (p : Path)
+    → option_map tree_place (reached p (o, view v)) ≡ place_shown (cell_at p c)
+unfolding cell_at
+became-shows c at v o become good d [] =
+    let e = ((become good).0 d.0 o d.1).1 in
+    rw (e, d.1, d.2)
+became-shows c at v o become good d (s ∷ p) = (become good).1 s p
+
+-- a branch at a name
+named-shows : (c : Branch) (at : Span) (v : Value) → Becomes c (Ok (at, v)) → Sound c → IsNamed (marks c) → (p : Path)
+    → option_map tree_place (reached p (Some at, view v)) ≡ place_shown (cell_at p c)
+named-shows c at v become good named p =
+    let d = named-decides (marks c) named in
+    let key : at ≡ d.0.key = ((become good).0 d.0 None d.1).0 in
+    became-shows c at v (Some at) become good (d.0, d.1, d.2 ∙ ap (λ k. Some k) (sym key)) p
+
+-- whether a header decided is no part of the place
+plain_place : (o : Option (Option Span × tree.Node)) → option_map tree_place o ≡ option_map (λ d. d.place) (option_map (λ m. plain (tree_place m)) o)
+plain_place None = refl
+plain_place (Some m) = refl
+
+-- a value at a name
+closed-shows : (o : Option (Key × Value)) (p : Path) → option_map tree_place (option_and_then (reached p) (option_map (λ e. (Some e.0.span, view e.1)) o)) ≡ place_shown (closed_cell o p)
+closed-shows None p = refl
+closed-shows (Some e) [] = refl
+closed-shows (Some e) (s ∷ p) = plain_place (reached (s ∷ p) (Some e.0.span, view e.1))
+
+-- what stands at a name
+name-shows : (b : Option (Box Branch)) (old new : Option (Key × Value)) (p : Path) → Stands b old new
+    → ((c : Branch) → option_map box_value b ≡ Some c → (old ≡ None) × IsNamed (marks c) × Sound c)
+    → option_map tree_place (option_and_then (reached p) (option_map (λ e. (Some e.0.span, view e.1)) new))
+    ≡ place_shown (or_closed (option_map (cell_at p) (option_map box_value b)) (closed_cell old p))
+name-shows None old new p h apart = rw h (closed-shows old p)
+name-shows (Some b) old new p h apart =
+    let a = apart (box_value b) refl in
+    let made = h a.0 in
+    rw (made.1) (named-shows (box_value b) made.0.0.span made.0.1 made.2 a.2 a.1 p)
+
+-- where none is left
+finished : (tables left : List (Key × Box Branch)) (old new : List (Key × Value)) (name : List ℕ) → left ≡ [] → Filled tables left old new
+    → Stands (lookup (is_named name) tables) (lookup_entry (is_named name) old) (lookup_entry (is_named name) new)
+finished tables left old new name none h = rw none at (h.stands name)
+
+-- a branch at a name, and its name among the values
+node-named : (n : Branch) → Sound n → (name : List ℕ) (c : Branch) → child name n ≡ Some c → (closed name n ≡ None) × IsNamed (marks c) × Sound c
+node-named n good name c is = let named = sound-named n good name c is in (named.0, named.1, sound-below n good name c is)
+
+-- a finished table shows below it what the branch's cells show
+finished-shows : (t : Table) (left : List (Key × Box Branch)) (n : Branch) → left ≡ [] → Filled (out-Branch n).tables.entries left (out-Branch n).values.entries t.entries → Sound n → entries n ≡ []
+    → ShowsBelow (inner_view (table_inner t)) (cells n)
+unfolding cell_at
+finished-shows t left n none h good table (key name) p =
+    let shown = name-shows _ _ _ p (finished _ _ _ _ name none h) (node-named n good name) in
+    rw (inner_view-Table t, ← entry_at-lookup name t.entries) shown
+finished-shows t left n none h good table (position i) p = rw (inner_view-Table t, table)
+
+-- what stands at a name is ordered
+name-ordered : (b : Option (Box Branch)) (old new : Option (Key × Value)) (e : Key × Value) → Stands b old new
+    → ((c : Branch) → option_map box_value b ≡ Some c → (old ≡ None) × IsNamed (marks c) × Sound c) → ((f : Key × Value) → old ≡ Some f → IsOrdered (view f.1))
+    → new ≡ Some e → IsOrdered (view e.1)
+name-ordered None old new e h apart kept is = kept e (sym h ∙ is)
+name-ordered (Some b) old new e h apart kept is =
+    let a = apart (box_value b) refl in
+    let made = h a.0 in
+    subst (λ (f : Key × Value). IsOrdered (view f.1)) (same_Some made.0 e (sym made.1 ∙ is)) ((made.2 a.2).2)
+
+-- a finished table is in order
+finished-ordered : (t : Table) (left : List (Key × Box Branch)) (n : Branch) → left ≡ [] → Filled (out-Branch n).tables.entries left (out-Branch n).values.entries t.entries → NamesAscend t → Sound n
+    → HoldsOrdered (inner_view (table_inner t))
+finished-ordered t left n none h ascend good =
+    rw (inner_view-Table t) (members-ordered t.entries ascend
+    (λ name e is. name-ordered _ _ _ e (finished _ _ _ _ name none h) (node-named n good name) (sound-ordered n good name) is))
+
+-- where there are none
+pub filled-none : (tables : List (Key × Box Branch)) (values : List (Key × Value)) → tables ≡ [] → Filled tables [] values values
+unfolding IsStrictlySortedBy
+filled-none tables values none = record { sorted = tt; stands = λ name. rw none refl }
+
+-- where all branches are finished
+pub filled-finishes : (tables : BTreeMap Key (Box Branch)) (values t : Table) (left : List (Key × Box Branch)) → left ≡ [] → Filled tables.entries left values.entries t.entries → NamesAscend t
+    → Finishes tables values (Ok t)
+filled-finishes tables values t left none h ascend n sameTables sameValues scope =
+    let here : Filled (out-Branch n).tables.entries left (out-Branch n).values.entries t.entries = rw (sameTables, sameValues) h in
+    (finished-shows t left n none here scope.0 scope.1, finished-ordered t left n none here ascend scope.0)
+
+-- ---- tables and arrays of tables
+
+-- what has become of a branch, whose shape and whose places below it are told apart
+pub became : (n : Branch) (i : ValueInner) (spans : Span × Span) (v : Value) → IfSome (deciding (marks n)) (λ m. spans ≡ (m.key, m.extent)) → view v ≡ tree.node (inner_view i) spans.1
+    → (Sound n → ((m : Mark) → deciding (marks n) ≡ Some m → tree_shape (inner_view i) ≡ shape_claimed m.sort) × ShowsBelow (inner_view i) (cells n) × HoldsOrdered (inner_view i))
+    → Becomes n (Ok (spans.0, v))
+became n i spans v placed seen h good = (place, rw seen ((h good).1), rw seen ((h good).2))
+  where
+    place : (m : Mark) (at : Option Span) → deciding (marks n) ≡ Some m
+        → (spans.0 ≡ m.key) × (tree_place (at, view v) ≡ record { shape = shape_claimed m.sort; key_span = at; span = m.extent })
+    place m at is =
+        let stands : spans ≡ (m.key, m.extent) = rw is at placed in
+        (ap (λ w. w.0) stands, rw (seen, (h good).0 m is, stands))
+
+-- a branch without entries becomes a table
+pub became-table : (n : Branch) (t : Table) (spans : Span × Span) (v : Value) → IfSome (deciding (marks n)) (λ m. spans ≡ (m.key, m.extent)) → view v ≡ tree.node (inner_view (table_inner t)) spans.1
+    → entries n ≡ [] → Finishes (out-Branch n).tables (out-Branch n).values (Ok t) → Becomes n (Ok (spans.0, v))
+became-table n t spans v placed seen none made = became n (table_inner t) spans v placed seen (λ good. let whole = made n refl refl (good, none) in (shape good, whole.0, whole.1))
+  where
+    shape : Sound n → (m : Mark) → deciding (marks n) ≡ Some m → tree_shape (inner_view (table_inner t)) ≡ shape_claimed m.sort
+    shape good m is =
+        let plain : NoArray (marks n) = rw none at (sound-shape n good) in
+        rw (inner_view-Table t) (sym (table_shape m.sort (deciding-all (λ m. is_array_sort m.sort ≡ false) (marks n) m (no_array-all (marks n) plain) is)))
+
+-- the entries at their positions
+elements-show : (ns : List Branch) (vs : List Value) → AllZip BecomesEntry ns vs → ((i : ℕ) (c : Branch) → item i ns ≡ Some c → IsEntry (marks c) × Sound c) → (i : ℕ) (p : Path)
+    → option_map tree_place (option_and_then (reached p) (tree.element_at i (items_view vs))) ≡ place_shown (or_nothing (option_map (cell_at p) (item i ns)))
+elements-show [] [] made good i p = refl
+elements-show [] (v ∷ vs) made good i p = absurd made
+elements-show (n ∷ ns) [] made good i p = absurd made
+elements-show (n ∷ ns) (v ∷ vs) made good zero p =
+    let g = good 0 n refl in
+    became-shows n made.0.0 v None made.0.1 g.1 (entry-decides (marks n) g.0) p
+elements-show (n ∷ ns) (v ∷ vs) made good (suc i) p = elements-show ns vs made.1 (λ j c is. good (suc j) c is) i p
+
+-- the elements are in order
+elements-ordered : (ns : List Branch) (vs : List Value) → AllZip BecomesEntry ns vs → ((i : ℕ) (c : Branch) → item i ns ≡ Some c → Sound c) → AreOrdered (items_view vs)
+elements-ordered [] [] made good = tt
+elements-ordered [] (v ∷ vs) made good = absurd made
+elements-ordered (n ∷ ns) [] made good = absurd made
+elements-ordered (n ∷ ns) (v ∷ vs) made good = ((made.0.1 (good 0 n refl)).2, elements-ordered ns vs made.1 (λ i c is. good (suc i) c is))
+
+-- whether there are entries
+pub no_entries : (n : Branch) → true ≡ (vec_len (out-Branch n).entries == 0) → entries n ≡ []
+no_entries n h = let v = (out-Branch n).entries in nil_from_length v.items (omega (arith, v.ok.0, eqb-true (vec_len v) 0 (sym h)))
+
+pub some_entries : (n : Branch) → false ≡ (vec_len (out-Branch n).entries == 0) → entries n ≡ [] → ⊥
+some_entries n h none = let v = (out-Branch n).entries in eqb-false (vec_len v) 0 (sym h) (omega (arith, v.ok.0, ap length none))
+
+-- a sound branch with entries is an array of tables
+array-of : (n : Branch) (ns : List Branch) → entries n ≡ ns → (ns ≡ [] → ⊥) → IsTableOrArray n ns → IsArray n
+array-of n [] is some h = absurd (some refl)
+array-of n (x ∷ xs) is some h = h
+
+-- an array of tables shows below it its entries
+array-shows : (n : Branch) (a : Array) → EachBecomes (entries n) (Ok a) → Sound n → IsArray n → ShowsBelow (inner_view (array_inner a)) (cells n)
+unfolding cell_at
+array-shows n a made good arr (key name) p = rw (inner_view-Array a, arr.no_tables, arr.no_values)
+array-shows n a made good arr (position i) p =
+    let shown = elements-show (entries n) a.items made (λ j c is. ((sound-entries n good j c is).1, sound-inside n good j c is)) i p in
+    rw (inner_view-Array a) shown
+
+-- and so is the array
+array-ordered : (n : Branch) (a : Array) → EachBecomes (entries n) (Ok a) → Sound n → HoldsOrdered (inner_view (array_inner a))
+array-ordered n a made good = rw (inner_view-Array a) (elements-ordered (entries n) a.items made (sound-inside n good))
+
+-- a branch with entries becomes an array
+pub became-array : (n : Branch) (a : Array) (spans : Span × Span) (v : Value) → IfSome (deciding (marks n)) (λ m. spans ≡ (m.key, m.extent)) → view v ≡ tree.node (inner_view (array_inner a)) spans.1
+    → (entries n ≡ [] → ⊥) → EachBecomes (entries n) (Ok a) → Becomes n (Ok (spans.0, v))
+became-array n a spans v placed seen some made =
+    became n (array_inner a) spans v placed seen
+    (λ good. let arr = array-of n (entries n) refl some (sound-shape n good) in (shape arr, array-shows n a made good arr, array-ordered n a made good))
+  where
+    shape : IsArray n → (m : Mark) → deciding (marks n) ≡ Some m → tree_shape (inner_view (array_inner a)) ≡ shape_claimed m.sort
+    shape arr m is =
+        let claim : arr.claim ≡ m = array-decides arr.claim m arr.array (rw arr.only at is) in
+        rw (inner_view-Array a, ← claim, arr.array)
+
+-- a list from which something is taken is not empty
+pub never-empty : {A : Type 0} (x : A) (xs ys : List A) → ys ≡ x ∷ xs → ys ≡ [] → ⊥
+never-empty x xs ys some none = let same : [] ≡ x ∷ xs = sym none ∙ some in cc

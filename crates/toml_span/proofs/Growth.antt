@@ -1,0 +1,169 @@
+-- What sections make, one after another.
+use Rattle.std.proofs.Common.{◌≡◌, ℕ, List, [], ◌∷◌, ◌++◌, map, length, false, Option, Some, None, Ok, Err, refl, sym, ap, subst, append_assoc, append-nil}
+use Rattle.std.specs.Prelude.{IfSome, IfNone, is_some}
+use Rattle.std.specs.BTreeMap.{BTreeMap}
+use Rattle.std.proofs.lemmas.Bool.{false≢true}
+use Rattle.toml_span_lex.specs.declared.key.Key.{Key}
+use Rattle.toml_span_tree.specs.Node.{node}
+use Rattle.toml_span_tree.specs.Value.{view, inner_view}
+use Rattle.toml_span_tree.specs.declared.value.Value.{Value}
+use Rattle.toml_span_tree.specs.declared.value.ValueInner.TheVariants.{Table as table_inner}
+use Rattle.toml_span_lex.specs.Tokenizer.{FirstPlace}
+use Rattle.toml_span_lex.specs.declared.stop.Stop.{Stop}
+use Rattle.toml_span_lex.specs.declared.stop.Stop.TheVariants as stops
+use Rattle.toml_span_read.specs.Borrowed.{IsWrittenRight as IsRightRead, AreWrittenRight as AreRightRead, section_written, sections_written}
+use Rattle.toml_span_read.specs.Data.{Block, block}
+use Rattle.toml_span_read.specs.Places.{IsInside, SectionInside}
+use Rattle.toml_span_read.specs.Keys.{SimpleKey}
+use Rattle.toml_span_read.specs.Grammar.{first_block}
+use Rattle.toml_span_read.specs.code.Sections.{first_blocks, FirstGives, IsReadFirst, IsReadSection, SectionGives}
+use Rattle.toml_span_read.specs.Reading.{HoldsForm}
+use Rattle.toml_span_read.specs.declared.fault.Fault.{Fault}
+use Rattle.toml_span_read.specs.declared.section.Section.{Section}
+use Rattle.toml_span_read.proofs.BorrowLemmas.{all_append, all_behind, all_front, sections_more as sections_right}
+use Rattle.toml_span_read.proofs.MemoryLemmas.{Begun, begun_by_lines}
+use Rattle.toml_span_read.proofs.StepLemmas.{first_keeps}
+use Rattle.toml_span_read.proofs.LineLemmas.{StuckFrom, WholeSections, sections_begin, sections_end, sections_more}
+use Rattle.toml_span.specs.code.Borrowed.{AreFrom, IsFrom, standing}
+use Rattle.toml_span.specs.Borrowed.{AreBorrowedRight}
+use Rattle.toml_span.specs.declared.claims.Clash.{Clash}
+use Rattle.toml_span.specs.declared.claims.Halt.{Halt}
+use Rattle.toml_span.specs.declared.claims.Halt.TheVariants as halts
+use Rattle.toml_span.specs.declared.branch.Branch.{Branch}
+use Rattle.toml_span.specs.Claims.{claims}
+use Rattle.toml_span.specs.Clashes.{first_clash}
+use Rattle.toml_span.specs.code.Machine.{clash_told}
+use Rattle.toml_span.specs.code.Marks.{IsHaltInside}
+use Rattle.toml_span.specs.Ordered.{HoldsOrdered}
+use Rattle.toml_span.specs.code.Placing.{AreSections, Assembles, ShowsBelow}
+use Rattle.toml_span.specs.code.Tree.{cells, IsFresh, IsScope}
+use Rattle.toml_span.specs.declared.sections.Grown.{Grown}
+use Rattle.toml_span.specs.code.Growing.{GrownGives, GrownRight, Grows, IsBare, IsGrown, GrowsTo, IsGrownInside, Placed, Remaining}
+use Rattle.toml_span.proofs.Refusals.{first-headed, some_part}
+use Rattle.toml_span.proofs.Assembly.{remaining-first, remaining-next, assembles-err, assembles-ok}
+
+pub grows-none : (root : Branch) → IsFresh root → GrowsTo [] root None
+grows-none root fresh rest headed = remaining-first rest rest root refl headed fresh
+
+pub grows-more : (bs : List Block) (b : Block) (root new : Branch) (o : Option Clash) → is_some o ≡ false → AreSections (b ∷ []) → GrowsTo bs root o → Placed b root new (Ok tt) → GrowsTo (bs ++ (b ∷ [])) new o
+grows-more bs b root new (Some c) none headed grows placed = absurd (false≢true (sym none))
+grows-more bs b root new None none headed grows placed = λ rest are.
+    subst (λ all. Remaining all rest new) (sym (append_assoc bs (b ∷ []) rest))
+    (remaining-next (bs ++ (b ∷ rest)) (b ∷ rest) rest b root new refl (grows (b ∷ rest) (headed.0, are)) placed)
+
+pub grows-clash : (bs : List Block) (b : Block) (root new : Branch) (o : Option Clash) (halt : Halt) (c : Clash) → is_some o ≡ false → halt ≡ halts.Clash c → AreSections (b ∷ []) → GrowsTo bs root o
+    → Placed b root new (Err halt) → GrowsTo (bs ++ (b ∷ [])) new (Some c)
+grows-clash bs b root new (Some d) halt c none is headed grows placed = absurd (false≢true (sym none))
+grows-clash bs b root new None halt c none is headed grows placed = λ rest are.
+    subst (λ all. first_clash (claims all) ≡ Some (clash_told c)) (sym (append_assoc bs (b ∷ []) rest))
+    (assembles-err (bs ++ (b ∷ rest)) (b ∷ rest) rest 0 b root new (Err (halts.Clash c)) (halts.Clash c) refl (grows (b ∷ rest) (headed.0, are)) refl (rw is at placed))
+
+pub right-more : (text : List ℕ) (ps : List SimpleKey) (root new : Branch) (o : Option Clash) → is_some o ≡ false → IfNone o (AreBorrowedRight text ps (standing root)) → (AreBorrowedRight text ps (standing root) → AreBorrowedRight text ps (standing new))
+    → IfNone o (AreBorrowedRight text ps (standing new))
+right-more text ps root new None none right keeps = keeps right
+right-more text ps root new (Some c) none right keeps = tt
+
+pub halt-inside : (n : ℕ) (halt : Halt) (c : Clash) → halt ≡ halts.Clash c → IsHaltInside n halt → IsInside n c.meeting.span
+halt-inside n halt c is inside = rw is at inside
+
+pub finish-tree : (bs : List Block) (length : ℕ) (t : BTreeMap Key Value) (root : Branch) (v : Value) → GrowsTo bs root None
+    → (IsScope root → ShowsBelow (inner_view (table_inner t)) (cells root) × HoldsOrdered (inner_view (table_inner t))) → view v ≡ node (inner_view (table_inner t)) (record { start = 0; end = length })
+    → Assembles bs length (Ok v)
+finish-tree bs length t root v grows finished shows =
+    assembles-ok bs [] length t root v refl (subst (λ all. Remaining all [] root) (append-nil bs) (grows [] tt)) finished shows
+
+pub finish-clash : (bs : List Block) (length : ℕ) (root : Branch) (c : Clash) → GrowsTo bs root (Some c) → Assembles bs length (Err (halts.Clash c))
+finish-clash bs length root c grows = subst (λ all. first_clash (claims all) ≡ Some (clash_told c)) (append-nil bs) (grows [] tt)
+
+-- ---- while a text is read
+
+-- sections that are read up to a place, and what they make
+pub record Growing (text : List ℕ) (limit at : ℕ) (g : Grown) : Type 0 where
+  pub sections : List Section
+  pub whole : WholeSections sections text limit at
+  pub grows : Grows (map block sections) g
+  pub inside : IsGrownInside (length text) g
+  pub bare : sections ≡ [] → IsBare g
+  pub read : AreRightRead text (sections_written sections)
+  pub borrows : (ps : List SimpleKey) → AreFrom text ps (sections_written sections) → GrownRight text ps g
+
+pub growing-first : (text : List ℕ) (limit at : ℕ) (o : Option Section) (g : Grown) → IsReadFirst text limit o → FirstGives text limit (Ok (o, at))
+    → (AreSections (first_blocks o) → Grows (first_blocks o) g) → ((n : ℕ) → IfSome o (SectionInside n) → IsGrownInside n g)
+    → ((t : List ℕ) (ps : List SimpleKey) → IfSome o (λ s. AreFrom t ps (section_written s)) → GrownRight t ps g) → (o ≡ None → IsBare g)
+    → Growing text limit at g × StuckFrom text limit at
+growing-first text limit at None g read (start, evs, begins, lines, same) grows inside borrows bare =
+    let b = sections_begin [] evs text limit start at same begins lines in
+    (record { sections = []; whole = b.0; grows = grows tt; inside = inside (length text) tt; bare = λ none. bare refl; read = tt; borrows = λ ps h. borrows text ps tt }, b.1)
+growing-first text limit at (Some s) g read (start, evs, begins, lines, same) grows inside borrows bare =
+    let b = sections_begin (s ∷ []) evs text limit start at same begins lines in (
+      record {
+        sections = s ∷ [];
+        whole = b.0;
+        grows = grows (subst AreSections (sym same) (subst AreSections (append-nil (first_block evs)) (first-headed evs [] tt)));
+        inside = inside (length text) read.inside;
+        bare = λ none. cc;
+        read = all_append (IsRightRead text) (section_written s) [] read.borrows tt;
+        borrows = λ ps h. borrows text ps (all_front (IsFrom text ps) (section_written s) [] h);
+      },
+      b.1,
+    )
+
+blocks-end : (ss : List Section) (s : Section) → map block (ss ++ (s ∷ [])) ≡ map block ss ++ (block s ∷ [])
+blocks-end [] s = refl
+blocks-end (x ∷ xs) s = ap (λ bs. block x ∷ bs) (blocks-end xs s)
+
+from-end : (text : List ℕ) (ps : List SimpleKey) (ss : List Section) (s : Section) → AreFrom text ps (sections_written (ss ++ (s ∷ [])))
+    → AreFrom text ps (sections_written ss) × AreFrom text ps (section_written s)
+from-end text ps [] s h = (tt, all_front (IsFrom text ps) (section_written s) [] h)
+from-end text ps (x ∷ xs) s h =
+    let rest = from-end text ps xs s (all_behind (IsFrom text ps) (section_written x) (sections_written (xs ++ (s ∷ []))) h) in (
+      all_append (IsFrom text ps) (section_written x) (sections_written xs) (all_front (IsFrom text ps) (section_written x) (sections_written (xs ++ (s ∷ []))) h) rest.0,
+      rest.1,
+    )
+
+never-empty : (ss : List Section) (s : Section) → ss ++ (s ∷ []) ≡ [] → ⊥
+never-empty [] s none = cc
+never-empty (x ∷ xs) s none = cc
+
+pub growing-more : (text : List ℕ) (limit at next : ℕ) (s : Section) (g new : Grown) → IsReadSection text limit s → SectionGives text limit at (Ok (s, next)) → Growing text limit at g
+    → ((bs : List Block) → AreSections (block s ∷ []) → Grows bs g → Grows (bs ++ (block s ∷ [])) new) → ((n : ℕ) → SectionInside n s → IsGrownInside n g → IsGrownInside n new)
+    → ((t : List ℕ) (ps : List SimpleKey) → AreFrom t ps (section_written s) → GrownRight t ps g → GrownRight t ps new)
+    → Growing text limit next new
+growing-more text limit at next s g new read spelled old grows inside borrows = record {
+  sections = old.sections ++ (s ∷ []);
+  whole = sections_more old.sections (old.sections ++ (s ∷ [])) s text limit at next refl old.whole spelled;
+  grows = subst (λ bs. Grows bs new) (sym (blocks-end old.sections s)) (grows (map block old.sections) (some_part (block s).array text _ _ (block s).header spelled.header.front.key, tt) old.grows);
+  inside = inside (length text) read.inside old.inside;
+  bare = λ none. absurd (never-empty old.sections s none);
+  read = sections_right text old.sections (old.sections ++ (s ∷ [])) s refl old.read read.borrows;
+  borrows = λ ps h. let from = from-end text ps old.sections s h in borrows text ps from.1 (old.borrows ps from.0);
+}
+
+pub first-refused : (stop : Stop Fault) (text : List ℕ) (limit : ℕ) → FirstGives text limit (Err stop) → GrownGives text limit (Err stop)
+first-refused (stops.Memory e) text limit h = tt
+first-refused (stops.Fault e) text limit h = h
+
+pub section-refused : (stop : Stop Fault) (text : List ℕ) (limit at : ℕ) → StuckFrom text limit at → SectionGives text limit at (Err stop) → GrownGives text limit (Err stop)
+section-refused (stops.Memory e) text limit at stuck h = tt
+section-refused (stops.Fault e) text limit at stuck h = stuck e h
+
+pub grown-whole : (text : List ℕ) (limit at : ℕ) (g : Grown) → Growing text limit at g → at ≡ length text → IsGrown text limit g
+grown-whole text limit at g h end = record {
+  sections = h.sections;
+  spelled = sections_end h.sections text limit at h.whole end;
+  grows = h.grows;
+  inside = h.inside;
+  bare = h.bare;
+  read = h.read;
+  borrows = h.borrows;
+}
+
+-- ---- want of memory
+
+pub first-begun : (text : List ℕ) (limit at : ℕ) (o : Option Section) → FirstGives text limit (Ok (o, at)) → Begun text at
+first-begun text limit at o (start, evs, begins, lines, same) = begun_by_lines evs text limit start at begins lines
+
+-- a section that is placed is something to keep
+pub begin-keeps : (text : List ℕ) (limit at : ℕ) (o : Option Section) → FirstGives text limit (Ok (o, at)) → (o ≡ None → ⊥) → (i : ℕ) × FirstPlace text i × HoldsForm text i
+begin-keeps text limit at None given some = absurd (some refl)
+begin-keeps text limit at (Some s) given some = first_keeps text limit at (Some s) s refl given

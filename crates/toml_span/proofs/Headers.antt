@@ -1,0 +1,362 @@
+-- A section is placed: its header part by part, and its assignments at the end.
+use Rattle.std.proofs.Common.{◌≡◌, ◌<◌, ◌≤◌, ◌-◌, Global, Vec, drop, get_or, map, take, take_all, ℕ, zero, suc, Bool, false, true, if◌then◌else◌, List, [], ◌∷◌, length, Option, Some, None, option_map, Result, Ok, Err, refl, sym, ap, ◌∙◌, subst, inl, inr, arith}
+use Rattle.std.specs.Prelude.{vec_len, ◌==◌}
+use Rattle.std.specs.Vec.{with_item}
+use Rattle.std.proofs.Math.ListN.{length-set}
+use Rattle.std.proofs.lemmas.Bool.{eqb-false, eqb-true, true≢false}
+use Rattle.std.proofs.lemmas.Option.{none-some}
+use Rattle.toml_span_tree.specs.Path.{Path, key}
+use Rattle.toml_span_lex.specs.declared.key.Key.{Key}
+use Rattle.toml_span_read.specs.Keys.{SimpleKey, simple_key}
+use Rattle.toml_span.specs.declared.claims.Blame.{Blame}
+use Rattle.toml_span.specs.declared.claims.Blame.TheVariants as blames
+use Rattle.toml_span.specs.declared.claims.Halt.{Halt}
+use Rattle.toml_span.specs.declared.claims.Meeting.{Meeting}
+use Rattle.toml_span.specs.declared.claims.Mark.{Mark}
+use Rattle.toml_span.specs.declared.claims.Sort.{Sort}
+use Rattle.toml_span.specs.declared.claims.Sort.TheVariants.{ArrayOfTables, Assigned, Dotted, TableElement, Passed, StandardTable}
+use Rattle.toml_span.specs.declared.branch.Branch.{Branch}
+use Rattle.toml_span.specs.declared.branch.Branch.TheViews.{out-Branch, roll-Branch}
+use Rattle.toml_span.specs.declared.branch.Branch.TheOpen.{Branch-F}
+use Rattle.toml_span.specs.declared.claims.Head.{Head}
+use Rattle.toml_span.specs.Claims.{Claims, array_claims, claimed, header_mark, table_claim}
+use Rattle.toml_span.specs.Clashes.{NamedClash, blame, meeting, named, or_else}
+use Rattle.toml_span.specs.code.Machine.{Gives, met}
+use Rattle.toml_span.specs.code.Marks.{partner, remember}
+use Rattle.toml_span.specs.code.Placing.{Opening, Opens, Passes, Places, Reaches}
+use Rattle.toml_span.specs.code.Relative.{adding, ending, entered, grown, grown_below, grown_here, grown_through, one_more, opening, part_sort, passing, section_at, through, under}
+use Rattle.toml_span.specs.code.Tree.{IsChild, IsFresh, IsHeld, IsNamed, IsOpen, IsScope, IsTableOrArray, NoArray, Sound, child, closed, closed_marks, counts, entries, is_array_sort, is_entry_sort, item, marks}
+use Rattle.toml_span.proofs.Absolute.{grown-through, section_at-through}
+use Rattle.toml_span.proofs.Claimed.{Marked, counts-marked, named-fresh, named-remember, reaches-claim-err, reaches-claimed, scope-marked, sound-shape}
+use Rattle.toml_span.proofs.Entries.{PutsEntry, item-at, open-array, puts-set, reaches-entry}
+use Rattle.toml_span.proofs.Grafts.{fun_ext}
+use Rattle.toml_span.proofs.Nodes.{counts-here, counts-missing}
+use Rattle.toml_span.proofs.Placed.{SetsChild, gives-map, out-roll, places-beside, places-found, places-new, places-new-err, roll-out, unclosed}
+
+length-none : {A : Type 0} (xs : List A) → length xs ≡ 0 → xs ≡ []
+length-none [] h = refl
+length-none (x ∷ xs) h = absurd (omega (arith, h))
+
+-- ---- what clashes
+
+free-first : (o : Option Blame) (f : Blame → Meeting) (g : Meeting → NamedClash) (p : Option Meeting) → option_map g (or_else (option_map f o) p) ≡ None → o ≡ None
+free-first None f g p h = refl
+free-first (Some b) f g p h = absurd (none-some (g (f b)) (sym h))
+
+-- what clashes with none does not clash with the first one
+met-first : (x m : Mark) (ms : List Mark) (name : List ℕ) → met (x ∷ ms) m name ≡ None → blame x.sort m.sort ≡ None
+met-first x m ms name h = free-first (blame x.sort m.sort) (meeting x m) (named name) (partner ms m) h
+
+-- a section claims no array
+section-table : (n : Branch) (m : Mark) (name : List ℕ) → m.sort ≡ StandardTable → Sound n → met (marks n) m name ≡ None → entries n ≡ []
+section-table n m name is h free = go (entries n) (sound-shape n h)
+  where
+    go : (xs : List Branch) → IsTableOrArray n xs → xs ≡ []
+    go [] shape = refl
+    go (x ∷ xs) array =
+        let known : met (array.claim ∷ []) m name ≡ None = ap (λ l. met l m name) (sym array.only) ∙ free in
+        let clash : blame ArrayOfTables StandardTable ≡ None = ap (λ s. blame s StandardTable) (sym array.array) ∙ ap (blame array.claim.sort) (sym is) ∙ met-first array.claim m [] name known in
+        absurd (none-some blames.DuplicateTable (sym clash))
+
+-- every claim on a table at a name clashes with that of an array
+table-clashes : (s : Sort) → is_array_sort s ≡ false → is_entry_sort s ≡ false → blame s ArrayOfTables ≡ None → ⊥
+table-clashes Passed array entry h = none-some blames.RedefineAsArray (sym h)
+table-clashes StandardTable array entry h = none-some blames.DuplicateTable (sym h)
+table-clashes ArrayOfTables array entry h = true≢false array
+table-clashes TableElement array entry h = true≢false entry
+table-clashes Dotted array entry h = none-some blames.DuplicateKey (sym h)
+table-clashes Assigned array entry h = none-some blames.DuplicateKey (sym h)
+
+-- so what is claimed as an array is fresh
+array-fresh : (n : Branch) (m : Mark) (name : List ℕ) → m.sort ≡ ArrayOfTables → entries n ≡ [] → IsChild n → met (marks n) m name ≡ None → IsFresh n
+array-fresh n m name is none h free =
+    elim h.1 [
+      | inl fresh ↦ fresh
+      | inr claims ↦ absurd (go (marks n) claims (subst (IsTableOrArray n) none (sound-shape n h.0)) free)
+    ]
+  where
+    go : (ms : List Mark) → IsNamed ms → NoArray ms → met ms m name ≡ None → ⊥
+    go [] claims tables free = claims
+    go (x ∷ ms) claims tables free = table-clashes x.sort tables.0 claims.0 (ap (blame x.sort) (sym is) ∙ met-first x m ms name free)
+
+-- ---- a table is claimed, and assignments are placed below it
+
+-- what is placed behind the claim on a table
+opened : (A : Branch → Type 0) (k : SimpleKey) (m : Mark) (old mid new : Branch) (r : Result (Unit {0}) Halt) (cs : (Path → ℕ) → Claims) (d : (Path → ℕ) → Path → ℕ)
+    → met (marks old) m k.name ≡ None → Marked m old mid → (A old → IsScope mid) → Places mid new r (cs (counts mid)) (d (counts mid))
+    → Opening A m old new r (claimed (table_claim [] k m) (cs (counts old))) (d (counts old))
+opened A k m old mid new r cs d free h scope placed =
+    reaches-claimed A (λ n. IsScope n × (marks n ≡ remember (marks old) m)) (λ n. IsScope n × (marks n ≡ remember (marks old) m)) k m old mid new r (cs (counts old)) (d (counts old)) free h
+    (λ before. (scope before, h.claims))
+    (subst (λ f. Reaches (λ n. IsScope n × (marks n ≡ remember (marks old) m)) (λ n. IsScope n × (marks n ≡ remember (marks old) m)) mid new r (cs f) (d f)) (counts-marked m old mid h)
+    (λ before. gives-map r _ _ _ _ refl (λ u g. (g.0, g.1, (g.2.0, g.2.1 ∙ h.claims))) (placed before.0)))
+
+opens-scope : (sort : Sort) (n : Branch) (m : Mark) (name : List ℕ) → m.sort ≡ sort → Opens sort n → met (marks n) m name ≡ None → IsScope n
+opens-scope sort n m name is h free =
+    elim h.1 [
+      | inl section ↦ (h.0, section-table n m name (is ∙ section) h.0 free)
+      | inr entry ↦ (h.0, entry.1)
+    ]
+
+opens-table : (sort : Sort) (n : Branch) → Opens sort n → is_array_sort sort ≡ false
+opens-table sort n h = elim h.1 [ inl section ↦ ap is_array_sort section | inr entry ↦ ap is_array_sort entry.0 ]
+
+-- a node that is claimed at a name
+held-claimed : (m : Mark) (n new : Branch) → is_entry_sort m.sort ≡ false → IsChild n → marks new ≡ remember (marks n) m → IsNamed (marks new)
+held-claimed m n new other h claims =
+    subst IsNamed (sym claims) (elim h.1 [ inl fresh ↦ named-fresh (marks n) m other fresh.no_marks | inr before ↦ named-remember (marks n) m other before ])
+
+module _ (h : Head) (k : SimpleKey) where
+  pub opened-table : (sort : Sort) (tail : Claims) (old mid new : Branch) (r : Result (Unit {0}) Halt) → met (marks old) (header_mark h sort k.span) k.name ≡ None → Marked (header_mark h sort k.span) old mid
+      → Places mid new r tail (counts mid) → Opening (Opens sort) (header_mark h sort k.span) old new r (opening h sort k tail) (counts old)
+  opened-table sort tail old mid new r free claims placed before =
+      let scope = scope-marked (header_mark h sort k.span) old mid (opens-table sort old before) claims (opens-scope sort old (header_mark h sort k.span) k.name refl before free) in
+      opened (Opens sort) k (header_mark h sort k.span) old mid new r (λ f. tail) (λ f. f) free claims (λ start. scope) placed before
+
+  pub opened-table-err : (sort : Sort) (tail : Claims) (old new : Branch) (q : Result (Unit {0}) Halt) (e : Halt) (P : Unit {0} → Type 0) (d : Path → ℕ) → q ≡ Err e
+      → Gives (Err e) (met (marks old) (header_mark h sort k.span) k.name) P → Opening (Opens sort) (header_mark h sort k.span) old new q (opening h sort k tail) d
+  opened-table-err sort tail old new q e P d same clash =
+      reaches-claim-err (Opens sort) (λ n. IsScope n × (marks n ≡ remember (marks old) (header_mark h sort k.span))) k (header_mark h sort k.span) old new q e P tail d same clash
+
+  -- ---- the end of a header
+
+  first-open : (old mid : Branch) → entries old ≡ [] → met (marks old) (header_mark h ArrayOfTables k.span) k.name ≡ None → Marked (header_mark h ArrayOfTables k.span) old mid → IsChild old → IsOpen mid
+  first-open old mid none free claims before = record {
+    array = record {
+      claim = header_mark h ArrayOfTables k.span;
+      only = claims.claims ∙ ap (λ l. remember l (header_mark h ArrayOfTables k.span)) fresh.no_marks;
+      array = refl;
+      no_values = ap (λ v. v.entries) claims.values ∙ fresh.no_values;
+      no_tables = ap (λ t. t.entries) claims.tables ∙ fresh.no_tables;
+    };
+    added = λ i c found. absurd (no_entry i c found);
+    below = λ i c found. absurd (no_entry i c found);
+  }
+    where
+      fresh : IsFresh old
+      fresh = array-fresh old (header_mark h ArrayOfTables k.span) k.name refl none before free
+
+      no_entry : (i : ℕ) (c : Branch) → item i (entries mid) ≡ Some c → ⊥
+      no_entry i c found = none-some c (sym (ap (item i) (claims.added ∙ none)) ∙ found)
+
+  module _ (tail : Claims) where
+    pub end-table : (old new : Branch) (r : Result (Unit {0}) Halt) → h.array ≡ false → Opening (Opens StandardTable) (header_mark h StandardTable k.span) old new r (opening h StandardTable k tail) (counts old)
+        → Passes old new r (ending h k tail (counts old [])) (grown_here (counts old) h)
+    end-table old new r is placed =
+        let claims : ending h k tail (counts old []) ≡ opening h StandardTable k tail = rw is refl in
+        let count : grown_here (counts old) h ≡ counts old = fun_ext (λ p. rw is refl) in
+        subst (λ l. Passes old new r l (grown_here (counts old) h)) (sym claims)
+        (subst (λ c. Passes old new r (opening h StandardTable k tail) c) (sym count)
+        (λ before. gives-map r _ _ _ _ refl (λ u g. (g.0, g.1, (g.2.0.0, held-claimed (header_mark h StandardTable k.span) old new refl before g.2.1))) (placed (before.0, inl refl))))
+
+    array-ending : (old : Branch) → h.array ≡ true → ending h k tail (counts old []) ≡ array_claims h [] k (counts old []) (adding h k tail (counts old []))
+    array-ending old is = rw is refl
+
+    array-grown : (old : Branch) → h.array ≡ true → grown_here (counts old) h ≡ one_more (counts old)
+    array-grown old is = fun_ext (λ p. rw is refl)
+
+    array-first : (old : Branch) → h.array ≡ true → entries old ≡ [] → ending h k tail (counts old []) ≡ claimed (table_claim [] k (header_mark h ArrayOfTables k.span)) (adding h k tail (counts old []))
+    array-first old is none =
+        let zeros : counts old [] ≡ 0 = counts-here old ∙ ap length none in
+        array-ending old is ∙ rw zeros refl
+
+    -- with the first entry of an array
+    pub end-first : (old mid new : Branch) (r : Result (Unit {0}) Halt) → h.array ≡ true → entries old ≡ [] → met (marks old) (header_mark h ArrayOfTables k.span) k.name ≡ None
+        → Marked (header_mark h ArrayOfTables k.span) old mid → Reaches IsOpen IsHeld mid new r (adding h k tail (counts mid [])) (one_more (counts mid))
+        → Passes old new r (ending h k tail (counts old [])) (grown_here (counts old) h)
+    end-first old mid new r is none free claims placed =
+        let m = header_mark h ArrayOfTables k.span in
+        subst (λ l. Passes old new r l (grown_here (counts old) h)) (sym (array-first old is none))
+        (subst (λ c. Passes old new r (claimed (table_claim [] k m) (adding h k tail (counts old []))) c) (sym (array-grown old is))
+        (reaches-claimed IsChild IsOpen IsHeld k m old mid new r (adding h k tail (counts old [])) (one_more (counts old)) free claims (first-open old mid none free claims)
+        (subst (λ f. Reaches IsOpen IsHeld mid new r (adding h k tail (f [])) (one_more f)) (counts-marked m old mid claims) placed)))
+
+    pub end-first-err : (old new : Branch) (q : Result (Unit {0}) Halt) (e : Halt) (P : Unit {0} → Type 0) (d : Path → ℕ) → h.array ≡ true → entries old ≡ [] → q ≡ Err e
+        → Gives (Err e) (met (marks old) (header_mark h ArrayOfTables k.span) k.name) P → Passes old new q (ending h k tail (counts old [])) d
+    end-first-err old new q e P d is none same clash =
+        subst (λ l. Passes old new q l d) (sym (array-first old is none))
+        (reaches-claim-err IsChild IsHeld k (header_mark h ArrayOfTables k.span) old new q e P (adding h k tail (counts old [])) d same clash)
+
+    -- with a further one
+    pub end-further : (old new : Branch) (r : Result (Unit {0}) Halt) → h.array ≡ true → (entries old ≡ [] → ⊥) → Reaches IsOpen IsHeld old new r (adding h k tail (counts old [])) (one_more (counts old))
+        → Passes old new r (ending h k tail (counts old [])) (grown_here (counts old) h)
+    end-further old new r is some placed =
+        subst (λ l. Passes old new r l (grown_here (counts old) h)) (sym (array-ending old is ∙ further (counts old []) (counts-some old some)))
+        (subst (λ c. Passes old new r (adding h k tail (counts old [])) c) (sym (array-grown old is))
+        (λ before. placed (opens (entries old) refl before.0)))
+      where
+        further : (n : ℕ) → (n ≡ 0 → ⊥) → array_claims h [] k n (adding h k tail (counts old [])) ≡ adding h k tail (counts old [])
+        further zero some = absurd (some refl)
+        further (suc n) some = refl
+
+        opens : (xs : List Branch) → entries old ≡ xs → Sound old → IsOpen old
+        opens [] is sure = absurd (some is)
+        opens (x ∷ xs) is sure = open-array old 0 x (ap (item 0) is) sure
+
+        counts-some : (n : Branch) → (entries n ≡ [] → ⊥) → counts n [] ≡ 0 → ⊥
+        counts-some n some zeros = some (length-none (entries n) (sym (counts-here n) ∙ zeros))
+
+    -- ---- the inner parts of a header
+
+    module _ (rest : List SimpleKey) where
+      pub descended : (old mid new : Branch) (r : Result (Unit {0}) Halt) → met (marks old) (header_mark h Passed k.span) k.name ≡ None → Marked (header_mark h Passed k.span) old mid
+          → Places mid new r (section_at (counts mid) h rest tail) (grown (counts mid) h rest)
+          → Opening IsScope (header_mark h Passed k.span) old new r (passing h k rest tail (counts old)) (grown (counts old) h rest)
+      descended old mid new r free claims placed =
+          opened IsScope k (header_mark h Passed k.span) old mid new r (λ f. section_at f h rest tail) (λ f. grown f h rest) free claims
+          (scope-marked (header_mark h Passed k.span) old mid refl claims) placed
+
+      pub descended-err : (old new : Branch) (q : Result (Unit {0}) Halt) (e : Halt) (P : Unit {0} → Type 0) (c d : Path → ℕ) → q ≡ Err e
+          → Gives (Err e) (met (marks old) (header_mark h Passed k.span) k.name) P → Opening IsScope (header_mark h Passed k.span) old new q (passing h k rest tail c) d
+      descended-err old new q e P c d same clash =
+          reaches-claim-err IsScope (λ n. IsScope n × (marks n ≡ remember (marks old) (header_mark h Passed k.span))) k (header_mark h Passed k.span) old new q e P (section_at c h rest tail) d same clash
+
+    -- into the latest entry
+    pub pass-latest : (rest : List SimpleKey) (m : ℕ) (n new x w : Branch) (r : Result (Unit {0}) Halt) → (rest ≡ [] → ⊥) → length (entries n) ≡ suc m
+        → item m (entries n) ≡ Some x → PutsEntry m w n new → length (entries new) ≡ length (entries n)
+        → Opening IsScope (header_mark h Passed k.span) x w r (passing h k rest tail (counts x)) (grown (counts x) h rest)
+        → Passes n new r (through (counts n) h k rest tail) (grown_through (counts n) h rest)
+    pass-latest [] m n new x w r some many found puts lengths placed = absurd (some refl)
+    pass-latest (l ∷ more) m n new x w r some many found puts lengths placed =
+        let count : counts n [] ≡ suc m = counts-here n ∙ many in
+        subst (λ j. Passes n new r (entered j (counts n) (passing h k (l ∷ more) tail)) (grown_below j (counts n) (λ f. grown f h (l ∷ more)))) (sym count)
+        (reaches-entry (header_mark h Passed k.span) m n new x w r (passing h k (l ∷ more) tail) (λ f. grown f h (l ∷ more)) found puts lengths placed)
+
+    -- or on from the node itself
+    pub pass-here : (rest : List SimpleKey) (n new : Branch) (r : Result (Unit {0}) Halt) → (rest ≡ [] → ⊥) → entries n ≡ []
+        → Opening IsScope (header_mark h Passed k.span) n new r (passing h k rest tail (counts n)) (grown (counts n) h rest)
+        → Passes n new r (through (counts n) h k rest tail) (grown_through (counts n) h rest)
+    pass-here [] n new r some none placed = absurd (some refl)
+    pass-here (l ∷ more) n new r some none placed =
+        let count : counts n [] ≡ 0 = counts-here n ∙ ap length none in
+        subst (λ j. Passes n new r (entered j (counts n) (passing h k (l ∷ more) tail)) (grown_below j (counts n) (λ f. grown f h (l ∷ more)))) (sym count)
+        (λ before. gives-map r _ _ _ _ refl (λ u g. (g.0, g.1, (g.2.0.0, held-claimed (header_mark h Passed k.span) n new refl before g.2.1))) (placed (before.0, none)))
+
+    -- what stands behind the first claim, where nothing stands yet
+    behind_first : (Path → ℕ) → List SimpleKey → Claims
+    behind_first e [] = if h.array then adding h k tail 0 else tail
+    behind_first e (l ∷ more) = section_at e h (l ∷ more) tail
+
+    through-first : (rest : List SimpleKey) (e : Path → ℕ) → e [] ≡ 0 → through e h k rest tail ≡ claimed (table_claim [] k (header_mark h (part_sort h rest) k.span)) (behind_first e rest)
+    unfolding behind_first
+    through-first [] e none = rw none (go h.array)
+      where
+        go : (b : Bool) → (if b then claimed (table_claim [] k (header_mark h ArrayOfTables k.span)) (adding h k tail 0) else opening h StandardTable k tail)
+            ≡ claimed (table_claim [] k (header_mark h (if b then ArrayOfTables else StandardTable) k.span)) (if b then adding h k tail 0 else tail)
+        go true = refl
+        go false = refl
+    through-first (l ∷ more) e none = rw none refl
+
+    -- what clashes with a value of the name
+    pub section-beside : (rest : List SimpleKey) (n new : Branch) (q : Result (Unit {0}) Halt) (e : Halt) (P : Unit {0} → Type 0) (d : Path → ℕ)
+        → child k.name n ≡ None → q ≡ Err e → Gives (Err e) (met (closed_marks (closed k.name n)) (header_mark h (part_sort h rest) k.span) k.name) P
+        → Places n new q (section_at (counts n) h (k ∷ rest) tail) d
+    section-beside rest n new q e P d missing same clash =
+        subst (λ l. Places n new q l d) (sym (section_at-through (counts n) h k rest tail ∙ ap (under (key k.name)) (through-first rest (λ p. counts n (key k.name ∷ p)) (ap (λ f. f []) (counts-missing n k.name missing)))))
+        (places-beside n new k.name q e (table_claim [] k (header_mark h (part_sort h rest) k.span)) (behind_first (λ p. counts n (key k.name ∷ p)) rest) P d missing refl same clash)
+
+    -- where nothing clashes no value stands there
+    pub section-free : (rest : List SimpleKey) (n : Branch) → met (closed_marks (closed k.name n)) (header_mark h (part_sort h rest) k.span) k.name ≡ None → closed k.name n ≡ None
+    section-free rest n free = unclosed (closed k.name n) (header_mark h (part_sort h rest) k.span) k.name free (named rest, tt)
+      where
+        ends : (b : Bool) → is_entry_sort (if b then ArrayOfTables else StandardTable) ≡ false
+        ends true = refl
+        ends false = refl
+
+        named : (rest : List SimpleKey) → is_entry_sort (part_sort h rest) ≡ false
+        named [] = ends h.array
+        named (l ∷ more) = refl
+
+    pub section-found : (rest : List SimpleKey) (n new x w : Branch) (r : Result (Unit {0}) Halt) → child k.name n ≡ Some x → SetsChild k.name w n new
+        → Passes x w r (through (counts x) h k rest tail) (grown_through (counts x) h rest)
+        → Places n new r (section_at (counts n) h (k ∷ rest) tail) (grown (counts n) h (k ∷ rest))
+    section-found rest n new x w r found sets placed =
+        rw (section_at-through, grown-through) (places-found n new x w k.name r (λ f. through f h k rest tail) (λ f. grown_through f h rest) found sets placed)
+
+    pub section-new : (rest : List SimpleKey) (n new x w : Branch) → child k.name n ≡ None → closed k.name n ≡ None → IsFresh x → SetsChild k.name w n new
+        → Passes x w (Ok tt) (through (counts x) h k rest tail) (grown_through (counts x) h rest)
+        → Places n new (Ok tt) (section_at (counts n) h (k ∷ rest) tail) (grown (counts n) h (k ∷ rest))
+    section-new rest n new x w missing free fresh sets placed =
+        rw (section_at-through, grown-through)
+        (places-new n new x w k.name (λ f. through f h k rest tail) (λ f. grown_through f h rest) missing free fresh sets placed)
+
+    pub section-new-err : (rest : List SimpleKey) (n new x w : Branch) (r q : Result (Unit {0}) Halt) (e : Halt) (d : Path → ℕ) → child k.name n ≡ None → closed k.name n ≡ None → IsFresh x
+        → r ≡ Err e → q ≡ Err e → Passes x w r (through (counts x) h k rest tail) (grown_through (counts x) h rest)
+        → Places n new q (section_at (counts n) h (k ∷ rest) tail) d
+    section-new-err rest n new x w r q e d missing free fresh is same placed =
+        rw section_at-through (places-new-err n new x w k.name r q e (λ f. through f h k rest tail) (grown_through (counts x) h rest) d missing free fresh is same placed)
+
+-- ---- lists of the code
+
+pub no-entries : (n : Branch) → (vec_len (out-Branch n).entries == 0) ≡ true → entries n ≡ []
+no-entries n h = length-none (entries n) (omega (arith, eqb-true (vec_len (out-Branch n).entries) 0 h, (out-Branch n).entries.ok.0))
+
+pub some-entries : (n : Branch) → (vec_len (out-Branch n).entries == 0) ≡ false → entries n ≡ [] → ⊥
+some-entries n h none = eqb-false (vec_len (out-Branch n).entries) 0 h (omega (arith, ap length none, (out-Branch n).entries.ok.0))
+
+pub no-latest : (n : Branch) → (0 < vec_len (out-Branch n).entries → ⊥) → entries n ≡ []
+no-latest n none = length-none (entries n) (grind (arith, (out-Branch n).entries.ok.0, none))
+
+pub parts-none : (xs : List Key) → (length xs == 0) ≡ true → map simple_key xs ≡ []
+parts-none [] h = refl
+parts-none (x ∷ xs) h = absurd (omega (arith, eqb-true (length (x ∷ xs)) 0 h))
+
+pub parts-some : (xs : List Key) → (length xs == 0) ≡ false → map simple_key xs ≡ [] → ⊥
+parts-some [] h none = true≢false h
+parts-some (x ∷ xs) h none = none-some (simple_key x) (sym (ap head none))
+  where
+    head : List SimpleKey → Option SimpleKey
+    head [] = None
+    head (k ∷ ks) = Some k
+
+pub parts-front : (xs : List Key) (first d : Key) → 1 ≤ length xs → first ≡ get_or xs 0 d → map simple_key xs ≡ simple_key first ∷ map simple_key (take (length xs - 1) (drop 1 xs))
+parts-front [] first d some same = absurd (omega arith)
+parts-front (x ∷ xs) first d some same =
+    let all : take (suc (length xs) - 1) xs ≡ xs = take_all _ xs (omega arith) in
+    rw (same, all) refl
+
+pub parts-below : (xs : List Key) → length xs < 1 → map simple_key xs ≡ []
+parts-below [] h = refl
+parts-below (x ∷ xs) h = absurd (omega arith)
+
+-- ---- the code's nodes
+
+-- at the end of the header
+pub section-end : (h : Head) (tail : Claims) (parts : List SimpleKey) (n new : Branch) (r : Result (Unit {0}) Halt) → parts ≡ [] → Places n new r tail (counts n)
+    → Places n new r (section_at (counts n) h parts tail) (grown (counts n) h parts)
+unfolding section_at grown
+section-end h tail parts n new r none placed = subst (λ ps. Places n new r (section_at (counts n) h ps tail) (grown (counts n) h ps)) (sym none) placed
+
+pub pass-end : (h : Head) (k : SimpleKey) (tail : Claims) (rest : List SimpleKey) (n new : Branch) (r : Result (Unit {0}) Halt) → rest ≡ []
+    → Passes n new r (ending h k tail (counts n [])) (grown_here (counts n) h) → Passes n new r (through (counts n) h k rest tail) (grown_through (counts n) h rest)
+pass-end h k tail rest n new r none placed = subst (λ ps. Passes n new r (through (counts n) h k ps tail) (grown_through (counts n) h ps)) (sym none) placed
+
+-- a node with another list of entries
+abbrev pub with_entries : Branch → Vec Branch Global → Branch
+with_entries n xs = roll-Branch (record { marks = (out-Branch n).marks; values = (out-Branch n).values; tables = (out-Branch n).tables; entries = xs })
+
+pub pass-vec : (h : Head) (k : SimpleKey) (tail : Claims) (rest : List SimpleKey) (n x w : Branch) (r : Result (Unit {0}) Halt) → (rest ≡ [] → ⊥)
+    → 0 < vec_len (out-Branch n).entries → x ≡ get_or (entries n) (vec_len (out-Branch n).entries - 1) x
+    → Opening IsScope (header_mark h Passed k.span) x w r (passing h k rest tail (counts x)) (grown (counts x) h rest)
+    → Passes n (with_entries n (with_item (out-Branch n).entries (vec_len (out-Branch n).entries - 1) w)) r (through (counts n) h k rest tail) (grown_through (counts n) h rest)
+pass-vec h k tail rest n x w r some many is placed =
+    let m = vec_len (out-Branch n).entries - 1 in
+    let within : m < length (entries n) = omega (arith, (out-Branch n).entries.ok.0) in
+    pass-latest h k tail rest m n _ x w r some (omega (arith, (out-Branch n).entries.ok.0))
+    (item-at (entries n) m x within ∙ ap Some (sym is))
+    (puts-set m w n _ refl refl refl within refl)
+    (ap (λ (b : Branch-F Branch). length b.entries.items) (out-roll _) ∙ length-set (entries n) m w)
+    placed
+
+pub pass-again : (h : Head) (k : SimpleKey) (tail : Claims) (rest : List SimpleKey) (n new : Branch) (r : Result (Unit {0}) Halt) → (rest ≡ [] → ⊥) → entries n ≡ []
+    → Opening IsScope (header_mark h Passed k.span) (with_entries n (out-Branch n).entries) new r
+    (passing h k rest tail (counts (with_entries n (out-Branch n).entries))) (grown (counts (with_entries n (out-Branch n).entries)) h rest)
+    → Passes n new r (through (counts n) h k rest tail) (grown_through (counts n) h rest)
+pass-again h k tail rest n new r some none placed =
+    pass-here h k tail rest n new r some none
+    (subst (λ a. Opening IsScope (header_mark h Passed k.span) a new r (passing h k rest tail (counts a)) (grown (counts a) h rest)) (roll-out n) placed)
+
+-- the node behind a loan
+pub pass-lent : (h : Head) (k : SimpleKey) (tail : Claims) (rest : List SimpleKey) (lent n new : Branch) (r : Result (Unit {0}) Halt) → lent ≡ n
+    → Passes lent new r (through (counts lent) h k rest tail) (grown_through (counts lent) h rest) → Passes n new r (through (counts n) h k rest tail) (grown_through (counts n) h rest)
+pass-lent h k tail rest lent n new r same placed = subst (λ a. Passes a new r (through (counts a) h k rest tail) (grown_through (counts a) h rest)) same placed

@@ -1,0 +1,59 @@
+-- Memory is wanted only where there is something to place.
+use Rattle.std.proofs.Common.{◌≡◌, ℕ, ◌<◌, ◌≤◌, Bool, true, false, List, [], ◌∷◌, ◌++◌, map, length, arith, Result, Ok, Err, refl, ◌∙◌}
+use Rattle.std.specs.Prelude.{IsOk}
+use Rattle.std.proofs.lemmas.Bool.{false≢true}
+use Rattle.toml_span_lex.specs.declared.stop.Stop.{Stop}
+use Rattle.toml_span_lex.specs.declared.stop.Stop.TheVariants as stops
+use Rattle.toml_span_lex.specs.Tokenizer.{FirstPlace}
+use Rattle.std.specs.declared.alloc.AllocError.{AllocError}
+use Rattle.toml_span.specs.declared.sections.Grown.{Grown}
+use Rattle.toml_span_read.specs.declared.fault.Fault.{Fault}
+use Rattle.toml_span_tree.specs.declared.error.Error.{Error}
+use Rattle.toml_span_tree.specs.declared.value.Value.{Value}
+use Rattle.toml_span_read.specs.declared.section.Section.{Section}
+use Rattle.toml_span_read.specs.Data.{KeyValue, Block, block}
+use Rattle.toml_span_read.specs.Gaps.{MaximalGap}
+use Rattle.toml_span_read.specs.Keys.{SimpleKey, SpellsKey}
+use Rattle.toml_span_read.specs.Grammar.{first_block, OpensHeader, SpellsDocument, SpellsKeyValues, SpellsSection, SpellsSections}
+use Rattle.toml_span_read.specs.Reading.{HoldsForm, OnlyFormsTakeMemory}
+use Rattle.toml_span_read.proofs.InsideLemmas.{ascend_forward}
+use Rattle.toml_span_read.proofs.KeyOrder.{dotted_ascend}
+
+-- a key stands before the end of the text
+key-before : (ps : List SimpleKey) (text : List ℕ) (i j : ℕ) → SpellsKey ps text i j → i < length text
+key-before [] text i j h = absurd h
+key-before (p ∷ ps) text i j h =
+    let a = dotted_ascend (p ∷ ps) text i j h in omega (arith, a.0.0, a.0.1, ascend_forward ps p.span.end j a.0.2, a.1)
+
+opens-forward : (array : Bool) (text : List ℕ) (i j : ℕ) → OpensHeader array text i j → i ≤ j
+opens-forward false text i j h = omega (arith, h.2)
+opens-forward true text i j h = omega (arith, h.2)
+
+section-before : (b : Block) (text : List ℕ) (limit i j : ℕ) → SpellsSection b text limit i j → i < length text
+section-before b text limit i j h =
+    let front = h.header.front in
+    omega (arith, opens-forward b.array text i front.inside front.opens, front.before.forward, key-before b.header text front.start front.end front.key)
+
+-- where a section is spelled, more than blank lines stand
+sections-hold : (es : List KeyValue) (bs : List Block) (text : List ℕ) (limit start k j : ℕ) → MaximalGap text start k → SpellsKeyValues es [] text limit k j → SpellsSections bs text limit j
+    → (first_block es ++ bs ≡ [] → ⊥) → HoldsForm text start
+sections-hold [] [] text limit start k j gap h rest some = absurd (some refl)
+sections-hold [] (b ∷ bs) text limit start k j gap h (e, here, rest) some = (k, gap, omega (arith, section-before b text limit j e here, h))
+sections-hold (ev ∷ es) bs text limit start k j gap (m, n, q, h, t, c, g, r) rest some = (k, gap, key-before ev.parts text k h.key_end h.key)
+
+no-blocks : (ss : List Section) → map block ss ≡ [] → ss ≡ []
+no-blocks [] none = refl
+no-blocks (s ∷ ss) none = cc
+
+-- a tree that needs no memory where there are no sections
+pub keeps-placed : (ss : List Section) (text : List ℕ) (limit : ℕ) (r : Result Value (Stop Error)) → SpellsDocument (map block ss) text limit → (ss ≡ [] → IsOk r)
+    → (start : ℕ) × FirstPlace text start × OnlyFormsTakeMemory text start r
+keeps-placed ss text limit (Ok root) h bare = (h.start, h.begins, tt)
+keeps-placed ss text limit (Err (stops.Fault error)) h bare = (h.start, h.begins, tt)
+keeps-placed ss text limit (Err (stops.Memory e)) h bare =
+    (h.start, h.begins, sections-hold h.first h.rest text limit h.start h.lines.0 h.end h.lines.1 h.lines.2 h.sections (λ none. false≢true (bare (no-blocks ss (h.all ∙ none)))))
+
+-- want of memory is handed on
+pub keeps-on : (text : List ℕ) (stop : Stop Fault) (e : AllocError) → stop ≡ stops.Memory e → ((start : ℕ) × FirstPlace text start × OnlyFormsTakeMemory {A = Grown} text start (Err stop))
+    → (start : ℕ) × FirstPlace text start × OnlyFormsTakeMemory {A = Value} {E = Error} text start (Err (stops.Memory e))
+keeps-on text stop e is h = rw is at h

@@ -1,0 +1,127 @@
+-- Values whose tables have their entries in the order of the names.
+use Rattle.std.proofs.Common.{◌≡◌, ◌<◌, ℕ, List, [], ◌∷◌, Bool, true, false, cond, Option, Some, None, Ordering, Less, Equal, Greater, nat_cmp, is_lt, refl, sym, ap, subst, ◌∙◌, inl, inr, arith}
+use Rattle.std.specs.Cmp.Lexicographic.{slice_cmp}
+use Rattle.std.specs.Cow.{cow_str_bytes}
+use Rattle.std.specs.List.{AllByRecursion}
+use Rattle.std.specs.List.Sorted.{IsStrictlySortedBy}
+use Rattle.std.specs.Map.{keys_of, lookup_entry}
+use Rattle.std.specs.Ordering.{MatchOrdering, ordering_then}
+use Rattle.std.specs.Str.{bytes_eq}
+use Rattle.std.proofs.lemmas.Bool.{cases_Bool, false≢true}
+use Rattle.std.proofs.lemmas.Cmp.{ranked}
+use Rattle.std.proofs.lemmas.Map.Keys.{sorted_head, sorted_tail}
+use Rattle.std.proofs.lemmas.Map.Text.{is_eq-slice_cmp}
+use Rattle.std.proofs.lemmas.Option.{none-some}
+use Rattle.toml_span_lex.specs.declared.key.Key.{Key}
+use Rattle.toml_span_lex.specs.declared.span.Span.{Span}
+use Rattle.toml_span_tree.specs.Node.{Node, node, Inner, taken, scalar, array, table, Items, no_items, item, Members, no_members, member, entry_at}
+use Rattle.toml_span_tree.specs.Path.{Step, key, position}
+use Rattle.toml_span_tree.specs.Value.{view, members_view}
+use Rattle.toml_span_tree.specs.declared.value.Value.{Value}
+use Rattle.toml_span_read.proofs.EarlierTree.{key_cmp, same_name}
+use Rattle.toml_span.specs.Ordered.{HasOneEach, InnerHasOneEach, ItemsHaveOneEach, MembersHaveOneEach, IsNameBefore, EachName, IsOrdered, HoldsOrdered, AreOrdered, MembersOrdered}
+use Rattle.toml_span.specs.code.Tree.{is_named}
+use Rattle.toml_span.proofs.Grafts.{same_step-eq, same_step-self}
+
+-- ---- names and entries
+
+pub same-name : (a b : List ℕ) → bytes_eq a b ≡ true → a ≡ b
+same-name a b h = ap name (same_step-eq (key a) (key b) h)
+  where
+    name : Step → List ℕ
+    name (key k) = k
+    name (position i) = []
+
+pub first-entry : (a : List ℕ) (at : Span) (n : Node) (ms : Members) → entry_at a (member a at n ms) ≡ Some (Some at, n)
+first-entry a at n ms = ap (λ b. cond b (Some (Some at, n)) (entry_at a ms)) (same_step-self (key a))
+
+pub later-entry : (k a : List ℕ) (at : Span) (n : Node) (ms : Members) → bytes_eq k a ≡ false → entry_at k (member a at n ms) ≡ entry_at k ms
+later-entry k a at n ms off = ap (λ b. cond b (Some (Some at, n)) (entry_at k ms)) off
+
+-- ---- the order of a map's keys
+
+-- the first two bytes that differ decide
+before-then : (x y : ℕ) (xs ys : List ℕ) (o rest : Ordering) → MatchOrdering o (x < y) (x ≡ y) (y < x) → (rest ≡ Less → IsNameBefore xs ys) → ordering_then o rest ≡ Less
+    → IsNameBefore (x ∷ xs) (y ∷ ys)
+before-then x y xs ys Less rest m f h = inl m
+before-then x y xs ys Equal rest m f h = inr (m, f h)
+before-then x y xs ys Greater rest m f h = absurd (false≢true (ap is_lt h))
+
+name-before : (xs ys : List ℕ) → slice_cmp nat_cmp xs ys ≡ Less → IsNameBefore xs ys
+name-before [] [] h = absurd (false≢true (ap is_lt h))
+name-before [] (y ∷ ys) h = tt
+name-before (x ∷ xs) [] h = absurd (false≢true (ap is_lt h))
+name-before (x ∷ xs) (y ∷ ys) h = before-then x y xs ys (nat_cmp x y) (slice_cmp nat_cmp xs ys) (ranked x y (nat_cmp x y) refl) (name-before xs ys) h
+
+-- a key is before all later ones
+names-behind : (k : Key) (es : List (Key × Value)) → AllByRecursion (λ l. key_cmp k l ≡ Less) (keys_of es) → EachName (IsNameBefore (cow_str_bytes k.name)) (members_view es)
+names-behind k [] h = tt
+names-behind k (e ∷ es) h = (name-before (cow_str_bytes k.name) (cow_str_bytes e.0.name) h.0, names-behind k es h.1)
+
+-- a key is of its own name
+named-itself : (k : Key) → is_named (cow_str_bytes k.name) k ≡ true
+named-itself k = is_eq-slice_cmp (cow_str_bytes k.name) (cow_str_bytes k.name) ∙ same_step-self (key (cow_str_bytes k.name))
+
+-- behind a key no value has its name
+none-again : (k : Key) (es : List (Key × Value)) → AllByRecursion (λ l. key_cmp k l ≡ Less) (keys_of es) → lookup_entry (is_named (cow_str_bytes k.name)) es ≡ None
+none-again k [] h = refl
+none-again k (e ∷ es) h = rw (h.0) (none-again k es h.1)
+
+-- the table of a map is in order, if each value is that has a name
+pub members-ordered : (es : List (Key × Value)) → IsStrictlySortedBy key_cmp (keys_of es) → ((name : List ℕ) (e : Key × Value) → lookup_entry (is_named name) es ≡ Some e → IsOrdered (view e.1))
+    → MembersOrdered (members_view es)
+members-ordered [] sorted each = tt
+members-ordered (e ∷ es) sorted each =
+    (names-behind e.0 es behind, each (cow_str_bytes e.0.name) e (rw (named-itself e.0)), members-ordered es (sorted_tail key_cmp e.0 (keys_of es) sorted) later)
+  where
+    behind : AllByRecursion (λ l. key_cmp e.0 l ≡ Less) (keys_of es)
+    behind = sorted_head key_cmp e.0 (keys_of es) sorted
+
+    later : (name : List ℕ) (f : Key × Value) → lookup_entry (is_named name) es ≡ Some f → IsOrdered (view f.1)
+    later name f found = elim (cases_Bool (is_named name e.0)) [
+      | inl here ↦
+          let same : name ≡ cow_str_bytes e.0.name = same_name name (cow_str_bytes e.0.name) here in
+          absurd (none-some f (sym (none-again e.0 es behind) ∙ ap (λ l. lookup_entry (is_named l) es) (sym same) ∙ found))
+      | inr off ↦ each name f (rw off found)
+    ]
+
+-- ---- no name stands twice
+
+-- no name is before itself
+pub not-before : (name : List ℕ) → IsNameBefore name name → ⊥
+not-before [] h = h
+not-before (x ∷ xs) (inl less) = omega (arith, less)
+not-before (x ∷ xs) (inr (same, h)) = not-before xs h
+
+name-apart : (name other : List ℕ) → IsNameBefore name other → bytes_eq name other ≡ false
+name-apart name other h = elim (cases_Bool (bytes_eq name other)) [
+  | inl same ↦ absurd (not-before name (subst (IsNameBefore name) (sym (same_key same)) h))
+  | inr apart ↦ apart
+]
+  where
+    same_key : bytes_eq name other ≡ true → name ≡ other
+    same_key same = same_name name other (is_eq-slice_cmp name other ∙ same)
+
+-- a name that is before all others is none of them
+not-again : (name : List ℕ) (ms : Members) → EachName (IsNameBefore name) ms → entry_at name ms ≡ None
+not-again name no_members h = refl
+not-again name (member other at n ms) h =
+    ap (λ (b : Bool). cond {A = Option (Option Span × Node)} b (Some (Some at, n)) (entry_at name ms)) (name-apart name other h.0) ∙ not-again name ms h.1
+
+mutual
+  pub one-each : (n : Node) → IsOrdered n → HasOneEach n
+  one-each (node i span) h = inner-one-each i h
+
+  inner-one-each : (i : Inner) → HoldsOrdered i → InnerHasOneEach i
+  inner-one-each taken h = tt
+  inner-one-each (scalar s) h = tt
+  inner-one-each (array ns) h = items-one-each ns h
+  inner-one-each (table ms) h = members-one-each ms h
+
+  items-one-each : (ns : Items) → AreOrdered ns → ItemsHaveOneEach ns
+  items-one-each no_items h = tt
+  items-one-each (item n ns) h = (one-each n h.0, items-one-each ns h.1)
+
+  members-one-each : (ms : Members) → MembersOrdered ms → MembersHaveOneEach ms
+  members-one-each no_members h = tt
+  members-one-each (member name at n ms) h = (not-again name ms h.0, one-each n h.1, members-one-each ms h.2)

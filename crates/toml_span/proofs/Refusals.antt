@@ -1,0 +1,69 @@
+-- What the reader and the assembly give is what `parse` gives.
+use Rattle.std.proofs.Common.{◌≡◌, Some, ℕ, Bool, false, List, [], ◌∷◌, ◌++◌, length, inl, inr, refl, sym, subst, Result, Ok, Err}
+use Rattle.std.specs.Result.{IfErr, IfOk}
+use Rattle.toml_span_lex.specs.declared.stop.Stop.{Stop}
+use Rattle.toml_span_lex.specs.declared.stop.Stop.TheVariants as stops
+use Rattle.toml_span_tree.specs.declared.error.Error.{Error}
+use Rattle.toml_span_tree.specs.declared.value.Value.{Value}
+use Rattle.toml_span_read.specs.declared.fault.Fault.{Fault}
+use Rattle.toml_span_tree.specs.Error.{content_of}
+use Rattle.toml_span_read.specs.Data.{KeyValue, Block}
+use Rattle.toml_span_read.specs.code.Faults.{IsPlacedStop}
+use Rattle.toml_span_read.specs.Faults.{Tells}
+use Rattle.toml_span_read.specs.Keys.{SimpleKey, SpellsKey}
+use Rattle.toml_span_read.specs.Grammar.{SpellsDocument, SpellsSections, first_block}
+use Rattle.toml_span_read.proofs.DueLemmas.{document_due}
+use Rattle.toml_span.specs.declared.claims.Clash.{Clash}
+use Rattle.toml_span.specs.declared.claims.Halt.{Halt}
+use Rattle.toml_span.specs.declared.claims.Halt.TheVariants as halts
+use Rattle.toml_span.specs.Claims.{claims}
+use Rattle.toml_span.specs.Clashes.{first_clash}
+use Rattle.toml_span.specs.code.Machine.{clash_told}
+use Rattle.toml_span.specs.code.Growing.{GrownGives, IsClashStop}
+use Rattle.toml_span.specs.Parsing.{IsTreeOf, IsTree, IsRefusal}
+use Rattle.toml_span.specs.code.Placing.{AreSections, Assembles}
+
+-- a fault of reading is told as an error
+pub refusal-fault : (text : List ℕ) (limit : ℕ) (stop : Stop Fault) (fault : Fault) (error : Error) → stop ≡ stops.Fault fault → GrownGives text limit (Err stop) → IsPlacedStop text stop
+    → Tells text fault (content_of error) → IsRefusal text limit (stops.Fault error)
+refusal-fault text limit stop fault error is stuck placed tells = inl (fault, document_due text limit fault (rw is at stuck), (rw is at placed), tells)
+
+-- ---- the sections that a text spells
+
+-- a dotted key has a part
+pub some_part : (array : Bool) (text : List ℕ) (i j : ℕ) (ps : List SimpleKey) → SpellsKey ps text i j → ps ≡ [] → array ≡ false
+some_part array text i j ps key none = absurd (rw none at key)
+
+sections-headed : (bs : List Block) (text : List ℕ) (limit i : ℕ) → SpellsSections bs text limit i → AreSections bs
+sections-headed [] text limit i h = tt
+sections-headed (b ∷ bs) text limit i (j, here, rest) =
+    (some_part b.array text _ _ b.header here.header.front.key, sections-headed bs text limit j rest)
+
+pub first-headed : (evs : List KeyValue) (bs : List Block) → AreSections bs → AreSections (first_block evs ++ bs)
+first-headed [] bs h = h
+first-headed (ev ∷ evs) bs h = (λ none. refl, h)
+
+-- only a section without a header has no parts, and that is no array of tables
+pub spelled-headed : (bs : List Block) (text : List ℕ) (limit : ℕ) → SpellsDocument bs text limit → AreSections bs
+spelled-headed bs text limit h =
+    subst AreSections (sym h.all) (first-headed h.first h.rest (sections-headed h.rest text limit h.end h.sections))
+
+-- ---- their tree, or their first clash
+
+pub tree-spelled : (text : List ℕ) (limit : ℕ) (bs : List Block) (r : Result Value (Stop Error)) → SpellsDocument bs text limit
+    → IfOk r (IsTreeOf bs (length text)) → IfOk r (IsTree text limit)
+tree-spelled text limit bs (Ok v) spelled h = (bs, spelled, h)
+tree-spelled text limit bs (Err stop) spelled h = tt
+
+refusal-clash : (text : List ℕ) (limit : ℕ) (bs : List Block) (stop : Stop Error) → SpellsDocument bs text limit → IsClashStop bs text stop → IsRefusal text limit stop
+refusal-clash text limit bs (stops.Memory e) spelled h = tt
+refusal-clash text limit bs (stops.Fault error) spelled h = inr (bs, spelled, h)
+
+pub refusals-clash : (text : List ℕ) (limit : ℕ) (bs : List Block) (r : Result Value (Stop Error)) → SpellsDocument bs text limit
+    → IfErr r (IsClashStop bs text) → IfErr r (IsRefusal text limit)
+refusals-clash text limit bs (Ok v) spelled h = tt
+refusals-clash text limit bs (Err stop) spelled h = refusal-clash text limit bs stop spelled h
+
+-- where the assembly ends at a clash it is the first one
+pub first-of-halt : (bs : List Block) (n : ℕ) (halt : Halt) (c : Clash) → halt ≡ halts.Clash c → Assembles bs n (Err halt) → first_clash (claims bs) ≡ Some (clash_told c)
+first-of-halt bs n halt c is h = rw is at h

@@ -1,0 +1,96 @@
+-- A tree that shows a flat document is whole.
+use Rattle.std.proofs.Common.{◌≡◌, ℕ, suc, true, false, cond, List, [], ◌∷◌, Option, Some, None, option_map, refl, sym, ap, ◌∙◌, subst, inl, inr}
+use Rattle.std.specs.Prelude.{option_and_then}
+use Rattle.std.specs.Str.{bytes_eq}
+use Rattle.std.proofs.lemmas.Bool.{cases_Bool, and_from}
+use Rattle.std.proofs.lemmas.Option.{none-some, same_Some}
+use Rattle.toml_span_lex.specs.declared.span.Span.{Span}
+use Rattle.toml_span_tree.specs.Node.{Node, node, Inner, taken, scalar, array, table, Items, no_items, item, Members, no_members, member, entry_at, element_at}
+use Rattle.toml_span_tree.specs.Path.{Path, Step, key, position, Place, shape_of, reached, place_of, node_at}
+use Rattle.toml_span_tree.specs.Value.{inner_of, holds_nothing, is_taken, is_whole, all_whole, all_members_whole}
+use Rattle.toml_span_read.specs.Data.{Block}
+use Rattle.toml_span.specs.Claims.{claims}
+use Rattle.toml_span.specs.Flat.{flat, Shows}
+use Rattle.toml_span.specs.Ordered.{HasOneEach, ItemsHaveOneEach, MembersHaveOneEach}
+use Rattle.toml_span.proofs.EachClaim.{flat-decides}
+use Rattle.toml_span.proofs.Grafts.{same_step-eq, same_step-self}
+use Rattle.toml_span.proofs.WholeTree.{is_held, IsHeldAt, claims-held}
+
+-- ---- what no path finds taken is whole
+
+abbrev At : Type 0
+At = Option Span × Node
+
+-- what a path finds behind a step is not taken
+abbrev IsFilledBelow : Option At → Type 0
+IsFilledBelow o = (p : Path) (m : Node) → option_map (λ r. r.1) (option_and_then (reached p) o) ≡ Some m → is_taken m ≡ false
+
+-- a key's span changes nothing
+reached-key : (p : Path) (at : Option Span) (n : Node) → option_map {T = At} (λ r. r.1) (reached p (at, n)) ≡ option_map (λ r. r.1) (reached p (None, n))
+reached-key [] at n = refl
+reached-key (s ∷ p) at n = refl
+
+abbrev IsFilled : Node → Type 0
+IsFilled n = (p : Path) (m : Node) → node_at p n ≡ Some m → is_taken m ≡ false
+
+same-key : (a b : List ℕ) → bytes_eq a b ≡ true → a ≡ b
+same-key a b h = ap name (same_step-eq (key a) (key b) h)
+  where
+    name : Step → List ℕ
+    name (key k) = k
+    name (position i) = []
+
+-- the other entries
+rest-filled : (name : List ℕ) (at : Span) (n : Node) (ms : Members) → entry_at name ms ≡ None → ((k : List ℕ) → IsFilledBelow (entry_at k (member name at n ms)))
+    → (k : List ℕ) → IsFilledBelow (entry_at k ms)
+rest-filled name at n ms once h k p m is = elim (cases_Bool (bytes_eq k name)) [
+  | inl same ↦ absurd (none-some m (sym (ap (λ j. option_map (λ r. r.1) (option_and_then (reached p) (entry_at j ms))) (same-key k name same) ∙ ap (λ o. option_map (λ r. r.1) (option_and_then (reached p) o)) once) ∙ is))
+  | inr off ↦ h k p m (ap (λ b. option_map (λ r. r.1) (option_and_then (reached p) (cond b (Some (Some at, n)) (entry_at k ms)))) off ∙ is)
+]
+
+mutual
+  filled-whole : (n : Node) → HasOneEach n → IsFilled n → is_whole n ≡ true
+  filled-whole (node taken span) once h = sym (h [] (node taken span) refl)
+  filled-whole (node (scalar s) span) once h = refl
+  filled-whole (node (array ns) span) once h = items-whole ns once (λ i p m is. h (position i ∷ p) m is)
+  filled-whole (node (table ms) span) once h = members-whole ms once (λ k p m is. h (key k ∷ p) m is)
+
+  items-whole : (ns : Items) → ItemsHaveOneEach ns → ((i : ℕ) → IsFilledBelow (element_at i ns)) → all_whole ns ≡ true
+  items-whole no_items once h = refl
+  items-whole (item n ns) once h =
+      and_from (is_whole n) (all_whole ns) (filled-whole n once.0 (λ p m is. h 0 p m is)) (items-whole ns once.1 (λ i p m is. h (suc i) p m is))
+
+  members-whole : (ms : Members) → MembersHaveOneEach ms → ((k : List ℕ) → IsFilledBelow (entry_at k ms)) → all_members_whole ms ≡ true
+  members-whole no_members once h = refl
+  members-whole (member name at n ms) once h =
+      and_from (is_whole n) (all_members_whole ms)
+      (filled-whole n once.1 (λ p m is. h name p m
+      (ap (λ b. option_map (λ r. r.1) (option_and_then (reached p) (cond b (Some (Some at, n)) (entry_at name ms)))) (same_step-self (key name)) ∙ reached-key p (Some at) n ∙ is)))
+      (members-whole ms once.2 (rest-filled name at n ms once.0 h))
+
+-- ---- what stands in the flat document is not taken
+
+held-filled : (i : Inner) → is_held (shape_of i) ≡ true → holds_nothing i ≡ false
+held-filled taken h = sym h
+held-filled (scalar s) h = refl
+held-filled (array ns) h = refl
+held-filled (table ms) h = refl
+
+flat-held : (length : ℕ) (bs : List Block) (p : Path) (x : Place) → flat length (claims bs) p ≡ Some x → is_held x.shape ≡ true
+unfolding flat
+flat-held length bs [] x is = ap (λ y. is_held y.shape) (sym (same_Some _ x is))
+flat-held length bs (s ∷ p) x is =
+    let decides = flat-decides IsHeldAt length (claims bs) s p x (claims-held bs) is in
+    subst (λ y. is_held y.shape ≡ true) decides.place decides.holds
+
+found-filled : (o : Option At) (m : Node) → option_map (λ r. r.1) o ≡ Some m → ((x : Place) → option_map place_of o ≡ Some x → is_held x.shape ≡ true) → is_taken m ≡ false
+found-filled None m is h = absurd (none-some m is)
+found-filled (Some r) m is h =
+    subst (λ n. is_taken n ≡ false) (same_Some r.1 m is) (held-filled (inner_of r.1) (h (place_of r) refl))
+
+pub shown-filled : (n : Node) (length : ℕ) (bs : List Block) → Shows n (flat length (claims bs)) → (p : Path) (m : Node) → node_at p n ≡ Some m → is_taken m ≡ false
+shown-filled n length bs shows p m is =
+    found-filled (reached p (None, n)) m is (λ x found. flat-held length bs p x (sym (shows p) ∙ found))
+
+pub shown-whole : (n : Node) (length : ℕ) (bs : List Block) → HasOneEach n → Shows n (flat length (claims bs)) → is_whole n ≡ true
+shown-whole n length bs once shows = filled-whole n once (shown-filled n length bs shows)

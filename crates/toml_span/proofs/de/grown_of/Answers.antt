@@ -1,0 +1,58 @@
+use Rattle.std.proofs.Common.{arith, length, ◌≡◌, ◌<◌}
+use Rattle.toml_span_read.proofs.KeyLemmas.{handed_on}
+use Rattle.toml_span_read.proofs.LineLemmas.{on_section}
+use Rattle.toml_span_read.proofs.MemoryLemmas.{begun_on, keeps}
+use Rattle.toml_span_read.specs.declared.fault.Fault.{Fault}
+use Rattle.toml_span_lex.specs.declared.stop.Stop.TheVariants as stops
+use Rattle.toml_span.specs.declared.sections.Grown.{Grown}
+use Rattle.toml_span.proofs.Growth.{begin-keeps, first-begun, first-refused, growing-first, growing-more, grown-whole, section-refused}
+use Rattle.toml_span.proofs.de.grown_of.Goals as goal
+
+pub sections-init : goal.sections-init
+sections-init c =
+    let first = c.in_ok-first.ensures in
+    let begun = c.in-Ok.ensures in
+    let h = growing-first c.args.text.now c.args.limit _ c.in_ok-first.first c.in-Ok.grown first.reads.0 first.gives begun.grows begun.inside begun.borrows begun.bare in
+    record { boundary = first.reads.1.0; begun = first-begun c.args.text.now c.args.limit _ c.in_ok-first.first first.gives; header = first.reads.1.1; growing = h.0; stuck = h.1 }
+
+pub sections-preserved : goal.sections-preserved
+sections-preserved c =
+    let read = c.in_ok-section.ensures in
+    let more = c.in_default.ensures in
+    let i = c.sections.invariant in
+    record {
+      boundary = read.reads.2.0;
+      begun = begun_on c.args.text.now c.sections.at _ i.begun (omega (arith, read.reads.1.on));
+      header = read.reads.2.1;
+      growing = growing-more c.args.text.now c.args.limit c.sections.at _ c.in_ok-section.section c.sections.grown c.grow.new.grown read.reads.0 read.gives i.growing more.grows more.inside more.borrows;
+      stuck = λ e x. i.stuck e (on_section c.args.text.now c.args.limit c.sections.at _ _ e read.gives x);
+    }
+
+pub returns-in_err-first-clause-gives : goal.returns-in_err-first-clause-gives
+returns-in_err-first-clause-gives c =
+    rw (handed_on c.from_residual.result c.in_err-first.field-0.0 c.from_residual.ensures.1)
+    (first-refused c.in_err-first.field-0.0 c.args.text.now c.args.limit c.in_err-first.ensures.gives)
+
+pub returns-in_err-section-clause-gives : goal.returns-in_err-section-clause-gives
+returns-in_err-section-clause-gives c =
+    rw (handed_on c.from_residual-in_err-section.result c.in_err-section.field-0.0 c.from_residual-in_err-section.ensures.1)
+    (section-refused c.in_err-section.field-0.0 c.args.text.now c.args.limit c.sections.at c.sections.invariant.stuck c.in_err-section.ensures.gives)
+
+pub returns-clause-gives : goal.returns-clause-gives
+returns-clause-gives c =
+    let end : c.sections.at ≡ length c.args.text.now = omega (arith, c.sections.invariant.boundary.0) in
+    grown-whole c.args.text.now c.args.limit c.sections.at c.sections.grown c.sections.invariant.growing end
+
+pub returns-in-Err-clause-memory : goal.returns-in-Err-clause-memory
+returns-in-Err-clause-memory c = begin-keeps c.args.text.now c.args.limit _ c.in_ok-first.first c.in_ok-first.ensures.gives c.in-Err.ensures.bare
+
+pub returns-in_err-section-clause-memory : goal.returns-in_err-section-clause-memory
+returns-in_err-section-clause-memory c =
+    let under : c.sections.at < length c.args.text.now = omega arith in
+    rw (handed_on c.from_residual-in_err-section.result c.in_err-section.field-0.0 c.from_residual-in_err-section.ensures.1)
+    (keeps Grown Fault c.in_err-section.field-0.0 c.args.text.now c.sections.at c.sections.invariant.begun under)
+
+pub returns-in-Err-grow-clause-memory : goal.returns-in-Err-grow-clause-memory
+returns-in-Err-grow-clause-memory c =
+    let under : c.sections.at < length c.args.text.now = omega arith in
+    keeps Grown Fault (stops.Memory c.in-Err-grow.error) c.args.text.now c.sections.at c.sections.invariant.begun under

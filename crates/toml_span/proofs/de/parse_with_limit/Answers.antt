@@ -1,0 +1,47 @@
+use Rattle.std.proofs.Common.{map}
+use Rattle.toml_span_read.specs.Borrowed.{sections_written}
+use Rattle.toml_span_read.specs.Data.{block}
+use Rattle.toml_span.specs.Borrowed.{keys_of}
+use Rattle.toml_span.proofs.Borrowing.{all_from, tree_borrows}
+use Rattle.toml_span.proofs.Memory.{keeps-on, keeps-placed}
+use Rattle.toml_span.proofs.Refusals.{refusal-fault, refusals-clash, tree-spelled}
+use Rattle.toml_span.proofs.de.parse_with_limit.Goals as goal
+
+pub tree_of-requires : goal.tree_of-requires
+tree_of-requires c = record { inside = c.in-Ok.ensures.gives.inside }
+
+pub returns-in-Ok-clause-tree : goal.returns-in-Ok-clause-tree
+returns-in-Ok-clause-tree c =
+    let g = c.in-Ok.ensures.gives in
+    let bs = map block g.sections in
+    tree-spelled c.args.s.now c.args.limit bs c.tree_of.result g.spelled (c.tree_of.ensures.tree bs g.grows)
+
+pub returns-in-Ok-clause-whole : goal.returns-in-Ok-clause-whole
+returns-in-Ok-clause-whole c = let g = c.in-Ok.ensures.gives in c.tree_of.ensures.whole (map block g.sections) g.grows
+
+pub returns-in-Ok-clause-borrows : goal.returns-in-Ok-clause-borrows
+returns-in-Ok-clause-borrows c =
+    let g = c.in-Ok.ensures.gives in
+    let keys = keys_of (sections_written g.sections) in
+    tree_borrows g.sections c.args.s.now c.args.limit c.tree_of.result g.spelled
+    (c.tree_of.ensures.borrows keys (g.borrows keys (all_from c.args.s.now (sections_written g.sections) g.read)))
+
+pub returns-in-Ok-clause-refused : goal.returns-in-Ok-clause-refused
+returns-in-Ok-clause-refused c =
+    let g = c.in-Ok.ensures.gives in
+    let bs = map block g.sections in
+    refusals-clash c.args.s.now c.args.limit bs c.tree_of.result g.spelled (c.tree_of.ensures.refused bs g.grows)
+
+pub returns-in-Err-Fault-clause-refused : goal.returns-in-Err-Fault-clause-refused
+returns-in-Err-Fault-clause-refused c = refusal-fault c.args.s.now c.args.limit _ c.in-Err-Fault.fault _ c.in-Err-Fault.field-0-is c.in-Err-Fault.ensures.gives c.in-Err-Fault.ensures.placed c.error_of.ensures
+
+pub returns-in-Ok-clause-memory : goal.returns-in-Ok-clause-memory
+returns-in-Ok-clause-memory c =
+    let g = c.in-Ok.ensures.gives in
+    keeps-placed g.sections c.args.s.now c.args.limit c.tree_of.result g.spelled (λ none. c.tree_of.ensures.bare (g.bare none))
+
+pub returns-in-Err-Memory-clause-memory : goal.returns-in-Err-Memory-clause-memory
+returns-in-Err-Memory-clause-memory c = keeps-on c.args.s.now _ c.in-Err-Memory.error c.in-Err-Memory.field-0-is c.in-Err-Memory.ensures.memory
+
+pub returns-in-Err-Fault-clause-memory : goal.returns-in-Err-Fault-clause-memory
+returns-in-Err-Fault-clause-memory c = let m = c.in-Err-Fault.ensures.memory in (m.0, m.1, tt)

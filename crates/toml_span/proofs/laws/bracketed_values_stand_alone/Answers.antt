@@ -1,5 +1,0 @@
-use Rattle.toml_span.proofs.ValueAgain.{flat-again, flat-place, tree-again}
-use Rattle.toml_span.proofs.laws.bracketed_values_stand_alone.Goals as goal
-
-pub returns : goal.returns
-returns c = record { place = flat-place; document = flat-again; tree = tree-again }

@@ -1,5 +1,0 @@
-use Rattle.toml_span.proofs.OneScope.{one-scope}
-use Rattle.toml_span.proofs.laws.clashes.claims_on_one_path_are_of_one_scope.Goals as goal
-
-pub returns : goal.returns
-returns c = one-scope

@@ -1,5 +1,0 @@
-use Rattle.toml_span.proofs.EntryDecides.{no-passage}
-use Rattle.toml_span.proofs.laws.clashes.no_header_through_an_element_decides.Goals as goal
-
-pub returns : goal.returns
-returns c = no-passage

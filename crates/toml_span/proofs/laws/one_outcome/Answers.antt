@@ -1,5 +1,0 @@
-use Rattle.toml_span.proofs.Answered.{one-outcome, some-outcome}
-use Rattle.toml_span.proofs.laws.one_outcome.Goals as goal
-
-pub returns : goal.returns
-returns c = record { some = λ limit at_least. some-outcome c.args.text.now limit (c.document_or_due.ensures limit at_least); one = λ limit x y a b. one-outcome c.args.text.now limit x y a b }

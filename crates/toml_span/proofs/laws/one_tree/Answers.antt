@@ -1,6 +1,0 @@
-use Rattle.toml_span.proofs.OneTree.{one-value, one-view}
-use Rattle.toml_span.proofs.Pointed.{tree-value}
-use Rattle.toml_span.proofs.laws.one_tree.Goals as goal
-
-pub returns : goal.returns
-returns c = record { value = one-value; tree = one-view; document = tree-value }

@@ -1,5 +1,0 @@
-use Rattle.toml_span.proofs.PathDepth.{flat-keys, flat-steps, tree-depth}
-use Rattle.toml_span.proofs.laws.paths_within.Goals as goal
-
-pub returns : goal.returns
-returns c = record { keys = flat-keys; steps = flat-steps; tree = tree-depth }

@@ -1,5 +1,0 @@
-use Rattle.toml_span_assembly.proofs.ShownWhole.{shown-filled, shown-whole}
-use Rattle.toml_span.proofs.laws.shown_is_whole.Goals as goal
-
-pub returns : goal.returns
-returns c = record { filled = shown-filled; whole = shown-whole }

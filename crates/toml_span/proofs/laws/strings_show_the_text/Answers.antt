@@ -1,5 +1,0 @@
-use Rattle.toml_span.proofs.ReadStrings.{flat-string, tree-string, tree-itself}
-use Rattle.toml_span.proofs.laws.strings_show_the_text.Goals as goal
-
-pub returns : goal.returns
-returns c = record { flat = flat-string; tree = tree-string; unchanged = tree-itself }

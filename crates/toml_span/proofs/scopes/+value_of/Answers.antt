@@ -1,0 +1,198 @@
+use Rattle.std.proofs.Common.{◌≡◌, rules, ap, ◌∙◌}
+use Rattle.std.proofs.lemmas.Int.{to_z-of_z}
+use mir.Syntax.{w64}
+use mir.Val.{SFits, of_z, to_z}
+use Rattle.toml_span_tree.specs.Value.{inner_view}
+use Rattle.toml_span_tree.specs.declared.value.ValueInner.TheVariants.{Array, Table}
+use Rattle.toml_span_tree.specs.declared.value.ValueInner.TheVariants as inners
+use Rattle.toml_span_read.specs.Data.{view}
+use Rattle.toml_span_read.specs.declared.value.ValKind.{the_lemmas}
+use Rattle.toml_span_read.specs.Borrowed.{assignment_written, written}
+use Rattle.toml_span.proofs.BorrowLemmas.{element_push, of_node}
+use Rattle.toml_span.proofs.Placed.{err-of}
+use Rattle.toml_span.proofs.Borrowing as borrowing
+use Rattle.toml_span.proofs.Borrowing.{again_from, assignment_from, first_from}
+use Rattle.toml_span.proofs.Assignments.{none-left, places-one, val_span, remains-first, placing-more, placing-err, placing-none, table-gives, table-err}
+use Rattle.toml_span.proofs.Values.{elements-first, elements-more, elements-err, elements-none, string-gives, integer-gives, float-gives, boolean-gives, datetime-gives, array-gives, array-err, inline-gives, inline-err}
+use Rattle.toml_span.proofs.InsideLemmas.{assignment_inside, key_values_rest, key_values_again, items_rest, items_again, inline_inside}
+use Rattle.toml_span.proofs.scopes.+value_of.Goals as goal
+use Rattle.toml_span.proofs.scopes.+value_of.Goals.{value_of-in-String, value_of-in-Integer, value_of-in-Float, value_of-in-Boolean, value_of-in-Datetime, value_of-in-Array+in_ok-array_of-in-Array, value_of-in-Inline+in_ok-table_of-in-Inline}
+
+-- ---- arrays
+
+pub array_of-loop-element-init : goal.array_of-loop-element-init
+array_of-loop-element-init t c = record {
+  can = tt;
+  ends = tt;
+  inside = λ n h. items_again n _ _ c.into_iter-element-iterator.ensures.into_iter_gives.0 h;
+  borrows = λ text ps h. (again_from text ps written _ _ c.into_iter-element-iterator.ensures.into_iter_gives.0 h, rw c.in_ok-array.ensures.items tt);
+  finished = elements-first _ _ _ c.into_iter-element-iterator.ensures.into_iter_gives.0 c.in_ok-array.ensures.items;
+}
+
+pub array_of-loop-element-preserved : goal.array_of-loop-element-preserved
+array_of-loop-element-preserved t c = record {
+  can = tt;
+  ends = tt;
+  inside = λ n h. (items_rest n _ _ c.in-Some.element c.in-Some.ensures.steps.0 (c.loop-element.invariant.inside n h)).1;
+  borrows = λ text ps h.
+      let before = c.loop-element.invariant.borrows text ps h in
+      let first = first_from text ps written _ _ c.in-Some.element c.in-Some.ensures.steps.0 before.0 in
+      (first.1, rw c.in_ok-push.ensures.items (element_push text ps c.in_ok-value_of.field-0 c.loop-element.array.items before.1 (c.in_ok-value_of.ensures.borrows text ps first.0)));
+  finished = elements-more _ _ _ c.in-Some.element c.loop-element.array.items c.push.new.self.items c.in_ok-value_of.field-0 c.in-Some.ensures.steps.0 c.loop-element.invariant.finished c.in_ok-value_of.ensures.gives c.in_ok-push.ensures.items;
+}
+
+pub array_of-returns-in_err-value_of-clause-gives : goal.array_of-returns-in_err-value_of-clause-gives
+array_of-returns-in_err-value_of-clause-gives t c =
+    let q = c.from_residual-in_err-value_of.result in
+    let e = c.in_err-value_of.field-0.0 in
+    elements-err _ _ _ c.in-Some.element c.loop-element.array.items (λ xs. inner_view (Array xs)) q e c.in-Some.ensures.steps.0 c.loop-element.invariant.finished
+    (err-of q e _ c.from_residual-in_err-value_of.ensures.1 (λ y p. p)) c.in_err-value_of.ensures.gives
+
+pub array_of-returns-clause-gives : goal.array_of-returns-clause-gives
+array_of-returns-clause-gives t c = elements-none _ _ c.loop-element.array (none-left _ _ c.loop-element.element-iterator.rest.ok.0 c.in-None.ensures.steps.0) c.loop-element.invariant.finished
+
+pub array_of-returns-in_err-value_of-clause-placed : goal.array_of-returns-in_err-value_of-clause-placed
+array_of-returns-in_err-value_of-clause-placed t c = λ n h.
+    let here = (items_rest n _ _ c.in-Some.element c.in-Some.ensures.steps.0 (c.loop-element.invariant.inside n h)).0 in
+    let placed = c.in_err-value_of.ensures.placed n here in
+    search (rules)
+
+-- ---- assignments
+
+pub place_one-returns-clause-gives : goal.place_one-returns-clause-gives
+place_one-returns-clause-gives t c =
+    places-one c.args.pair c.as_slice.result.now c.args.node.now c.place_pair.new.node c.place_pair.result c.as_slice.ensures.value
+    (c.place_pair.ensures.gives (view c.args.pair.value) c.value_of-value.ensures.gives (val_span c.args.pair.value))
+
+pub place_one-returns-clause-placed : goal.place_one-returns-clause-placed
+place_one-returns-clause-placed t c = λ n h.
+    let inside = assignment_inside n c.args.pair h in
+    c.place_pair.ensures.placed n (rw c.as_slice.ensures.value inside.0) inside.1 (c.value_of-value.ensures.placed n inside.2)
+
+pub place_pairs-loop-pair-init : goal.place_pairs-loop-pair-init
+place_pairs-loop-pair-init t c = record {
+  can = tt;
+  ends = tt;
+  inside = λ n h. key_values_again n _ _ c.into_iter-pair-iterator.ensures.into_iter_gives.0 h;
+  borrows = λ text ps h before. (again_from text ps assignment_written _ _ c.into_iter-pair-iterator.ensures.into_iter_gives.0 h, before);
+  placing = remains-first _ _ _ c.into_iter-pair-iterator.ensures.into_iter_gives.0;
+}
+
+pub place_pairs-loop-pair-preserved : goal.place_pairs-loop-pair-preserved
+place_pairs-loop-pair-preserved t c = record {
+  can = tt;
+  ends = tt;
+  inside = λ n h. (key_values_rest n _ _ c.in-Some.pair c.in-Some.ensures.steps.0 (c.loop-pair.invariant.inside n h)).1;
+  borrows = λ text ps h node.
+      let before = c.loop-pair.invariant.borrows text ps h node in
+      let first = first_from text ps assignment_written _ _ c.in-Some.pair c.in-Some.ensures.steps.0 before.0 in
+      (first.1, c.in_ok-place_one.ensures.borrows text ps first.0 before.1);
+  placing = placing-more c.loop-pair.node c.place_one.new.node _ _ _ _ c.in-Some.pair c.in-Some.ensures.steps.0 c.loop-pair.invariant.placing c.in_ok-place_one.ensures.gives;
+}
+
+pub place_pairs-returns-in_err-place_one-clause-gives : goal.place_pairs-returns-in_err-place_one-clause-gives
+place_pairs-returns-in_err-place_one-clause-gives t c =
+    let q = c.from_residual.result in
+    let e = c.in_err-place_one.field-0.0 in
+    placing-err c.loop-pair.node c.place_one.new.node c.args.node.now c.place_one.new.node _ _ _ c.in-Some.pair q e c.in-Some.ensures.steps.0 c.loop-pair.invariant.placing
+    (err-of q e _ c.from_residual.ensures.1 (λ y p. p)) c.in_err-place_one.ensures.gives
+
+pub place_pairs-returns-clause-gives : goal.place_pairs-returns-clause-gives
+place_pairs-returns-clause-gives t c = placing-none c.loop-pair.node _ _ _ (none-left _ _ c.loop-pair.pair-iterator.rest.ok.0 c.in-None.ensures.steps.0) c.loop-pair.invariant.placing
+
+pub place_pairs-returns-in_err-place_one-clause-placed : goal.place_pairs-returns-in_err-place_one-clause-placed
+place_pairs-returns-in_err-place_one-clause-placed t c = λ n h.
+    let here = (key_values_rest n _ _ c.in-Some.pair c.in-Some.ensures.steps.0 (c.loop-pair.invariant.inside n h)).0 in
+    let placed = c.in_err-place_one.ensures.placed n here in
+    search (rules)
+
+-- ---- inline tables
+
+pub table_of-returns-in_err-place_pairs-clause-gives : goal.table_of-returns-in_err-place_pairs-clause-gives
+table_of-returns-in_err-place_pairs-clause-gives t c =
+    let q = c.from_residual.result in
+    let e = c.in_err-place_pairs.field-0.0 in
+    table-err c.new-scope.result c.place_pairs.new.node _ (λ t. inner_view (Table t)) q e c.new-scope.ensures.fresh (err-of q e _ c.from_residual.ensures.1 (λ y p. p)) c.in_err-place_pairs.ensures.gives
+
+pub table_of-returns-clause-gives : goal.table_of-returns-clause-gives
+table_of-returns-clause-gives t c =
+    table-gives c.new-scope.result c.place_pairs.new.node _ c.in_ok-into_table.field-0 c.new-scope.ensures.fresh c.in_ok-place_pairs.ensures.gives c.in_ok-into_table.ensures.finishes
+
+pub value_of-returns-in_err-array_of-in-Array-clause-gives : goal.value_of-returns-in_err-array_of-in-Array-clause-gives
+value_of-returns-in_err-array_of-in-Array-clause-gives t c =
+    let q = c.from_residual.result in
+    let e = c.in_err-array_of-in-Array.field-0.0 in
+    array-err c.args.val c.in-Array.elements q e c.in-Array.is (err-of q e _ c.from_residual.ensures.1 (λ y p. p)) c.in_err-array_of-in-Array.ensures.gives
+
+pub value_of-returns-in_err-table_of-in-Inline-clause-gives : goal.value_of-returns-in_err-table_of-in-Inline-clause-gives
+value_of-returns-in_err-table_of-in-Inline-clause-gives t c =
+    let q = c.from_residual-in_err-table_of-in-Inline.result in
+    let e = c.in_err-table_of-in-Inline.field-0.0 in
+    inline-err c.args.val c.in-Inline.pairs q e c.in-Inline.is (err-of q e _ c.from_residual-in_err-table_of-in-Inline.ensures.1 (λ y p. p)) c.in_err-table_of-in-Inline.ensures.gives
+
+pub value_of-returns-clause-gives : goal.value_of-returns-clause-gives
+value_of-returns-clause-gives t c =
+    let v = c.args.val in
+    let x = c.with_span.result in
+    let inner = c.match-kind.inner in
+    let seen = c.with_span.ensures.view in
+    elim c.match-kind.branch [
+      | value_of-in-String w ↦ string-gives v inner x w.in-String.text w.in-String.is w.inner-is seen
+      | value_of-in-Integer w ↦
+          let n = w.in-Integer.number in
+          let fits : SFits w64 n = search (rules, the_lemmas) in
+          let whole : to_z w64 (of_z w64 n) ≡ n = to_z-of_z w64 n fits in
+          integer-gives v inner x n w.in-Integer.is (w.inner-is ∙ ap inners.Integer whole) seen
+      | value_of-in-Float w ↦ float-gives v inner x _ w.in-Float.is w.inner-is seen
+      | value_of-in-Boolean w ↦ boolean-gives v inner x _ w.in-Boolean.is w.inner-is seen
+      | value_of-in-Datetime w ↦ datetime-gives v inner x _ w.in-Datetime.is w.inner-is seen
+      | value_of-in-Array+in_ok-array_of-in-Array w ↦ array-gives v w.in-Array.elements w.in_ok-array_of-in-Array.field-0 inner x w.in-Array.is w.inner-is seen w.in_ok-array_of-in-Array.ensures.gives
+      | value_of-in-Inline+in_ok-table_of-in-Inline w ↦ inline-gives v w.in-Inline.pairs w.in_ok-table_of-in-Inline.field-0 inner x w.in-Inline.is w.inner-is seen w.in_ok-table_of-in-Inline.ensures.gives
+    ]
+
+pub table_of-returns-in_err-place_pairs-clause-placed : goal.table_of-returns-in_err-place_pairs-clause-placed
+table_of-returns-in_err-place_pairs-clause-placed t c = λ n h. let placed = c.in_err-place_pairs.ensures.placed n h in search (rules)
+
+pub value_of-returns-in_err-table_of-in-Inline-clause-placed : goal.value_of-returns-in_err-table_of-in-Inline-clause-placed
+value_of-returns-in_err-table_of-in-Inline-clause-placed t c = λ n h.
+    let placed = c.in_err-table_of-in-Inline.ensures.placed n (inline_inside n c.args.val c.in-Inline.pairs c.in-Inline.is h) in
+    search (rules)
+
+-- ---- what is borrowed
+
+pub array_of-returns-clause-borrows : goal.array_of-returns-clause-borrows
+array_of-returns-clause-borrows t c = λ text ps h. (c.loop-element.invariant.borrows text ps h).1
+
+pub place_one-returns-clause-borrows : goal.place_one-returns-clause-borrows
+place_one-returns-clause-borrows t c = λ text ps h.
+    let from = assignment_from text ps c.args.pair h in
+    c.place_pair.ensures.borrows text ps (rw c.as_slice.ensures.value from.0) from.1 (c.value_of-value.ensures.borrows text ps from.2)
+
+pub place_pairs-returns-clause-borrows : goal.place_pairs-returns-clause-borrows
+place_pairs-returns-clause-borrows t c = λ text ps h node. (c.loop-pair.invariant.borrows text ps h node).1
+
+pub table_of-returns-clause-borrows : goal.table_of-returns-clause-borrows
+table_of-returns-clause-borrows t c = λ text ps h.
+    let placed = c.in_ok-place_pairs.ensures.borrows text ps h (rw c.new-scope.ensures.bare tt) in
+    let inside = of_node text ps c.place_pairs.new.node placed in
+    c.in_ok-into_table.ensures.borrows text ps inside.1 inside.0
+
+pub value_of-returns-clause-borrows : goal.value_of-returns-clause-borrows
+value_of-returns-clause-borrows t c = λ text ps h.
+    let v = c.args.val in
+    let x = c.with_span.result in
+    let inner = c.match-kind.inner in
+    let kept = c.with_span.ensures.kept in
+    elim c.match-kind.branch [
+      | value_of-in-String w ↦ borrowing.string_from text ps v x inner w.in-String.text w.in-String.is w.inner-is kept h
+      | value_of-in-Integer w ↦ borrowing.integer_right text ps x inner _ v.span kept w.inner-is
+      | value_of-in-Float w ↦ borrowing.float_right text ps x inner _ v.span kept w.inner-is
+      | value_of-in-Boolean w ↦ borrowing.boolean_right text ps x inner _ v.span kept w.inner-is
+      | value_of-in-Datetime w ↦ borrowing.datetime_right text ps x inner _ v.span kept w.inner-is
+      | value_of-in-Array+in_ok-array_of-in-Array w ↦
+          borrowing.array_right text ps x inner w.in_ok-array_of-in-Array.field-0 v.span kept w.inner-is
+          (w.in_ok-array_of-in-Array.ensures.borrows text ps (borrowing.array_from text ps v w.in-Array.elements w.in-Array.is h))
+      | value_of-in-Inline+in_ok-table_of-in-Inline w ↦
+          borrowing.table_right text ps x inner w.in_ok-table_of-in-Inline.field-0 v.span kept w.inner-is
+          (w.in_ok-table_of-in-Inline.ensures.borrows text ps (borrowing.inline_from text ps v w.in-Inline.pairs w.in-Inline.is h))
+    ]

@@ -1,0 +1,56 @@
+use Rattle.std.proofs.Common.{[], map, refl, rules, subst, sym, ◌∙◌}
+use Rattle.std.proofs.lemmas.Bool.{not-false, not-true}
+use Rattle.toml_span_read.specs.Data.{key_value}
+use Rattle.toml_span_read.specs.Keys.{simple_key}
+use Rattle.toml_span.specs.declared.claims.Sort.TheVariants.{ArrayOfTables}
+use Rattle.toml_span.specs.Claims.{key_value_claims, header_mark}
+use Rattle.toml_span.specs.code.Relative.{adding, one_more}
+use Rattle.toml_span.specs.code.Placing.{Reaches}
+use Rattle.toml_span.specs.code.Tree.{IsHeld, IsOpen, counts}
+use Rattle.toml_span.proofs.Claimed.{Marked, marked-roll}
+use Rattle.toml_span.proofs.Placed.{err-of}
+use Rattle.toml_span.proofs.Borrowing.{keeps_marked, keeps_same}
+use Rattle.toml_span.proofs.Headers.{end-first, end-first-err, end-further, end-table, no-entries, some-entries}
+use Rattle.toml_span.proofs.PlaceLemmas.{header_inside}
+use Rattle.toml_span.proofs.sections.end_header.Goals as goal
+use Rattle.toml_span.proofs.sections.end_header.Goals.{then-is_empty+in_ok-claim, else-is_empty}
+
+pub returns-then-not-head-clause-gives : goal.returns-then-not-head-clause-gives
+returns-then-not-head-clause-gives c =
+    end-table c.args.head (simple_key c.args.part.now) (key_value_claims (map key_value c.args.pairs.items) []) c.args.node.now c.open_table.new.node c.open_table.result
+    (not-true c.args.head.array c.if-not-head.true) c.open_table.ensures.gives
+
+pub returns-in_err-claim-clause-gives : goal.returns-in_err-claim-clause-gives
+returns-in_err-claim-clause-gives c =
+    end-first-err c.args.head (simple_key c.args.part.now) (key_value_claims (map key_value c.args.pairs.items) []) c.args.node.now _ c.from_residual.result c.in_err-claim.field-0.0 _ _
+    (not-false c.args.head.array c.if-not-head.false) (no-entries c.args.node.now (sym c.is_empty.ensures ∙ c.if-is_empty.true))
+    (err-of c.from_residual.result c.in_err-claim.field-0.0 _ c.from_residual.ensures.1 (λ y p. p)) (rw c.header_mark-mark.ensures at c.in_err-claim.ensures.gives)
+
+pub returns-in_err-claim-clause-placed : goal.returns-in_err-claim-clause-placed
+returns-in_err-claim-clause-placed c = λ n simple_key line pairs. let placed = c.in_err-claim.ensures.placed n (header_inside n _ _ _ _ _ c.header_mark-mark.ensures simple_key line) in search (rules)
+
+pub returns-clause-gives : goal.returns-clause-gives
+returns-clause-gives c =
+    let k = simple_key c.args.part.now in
+    let m = header_mark c.args.head ArrayOfTables c.args.part.now.span in
+    let tail = key_value_claims (map key_value c.args.pairs.items) [] in
+    let array = not-false c.args.head.array c.if-not-head.false in
+    elim c.if-is_empty.branch [
+      | then-is_empty+in_ok-claim w ↦
+          let claimed = rw w.header_mark-mark.ensures at w.in_ok-claim.ensures.gives in
+          end-first c.args.head k tail c.args.node.now c.if-is_empty.node c.add_entry.new.node c.add_entry.result array
+          (no-entries c.args.node.now (sym c.is_empty.ensures ∙ w.if-is_empty.true)) claimed.0
+          (subst (Marked m c.args.node.now) (sym w.node-is) (marked-roll m c.args.node.now _ claimed.1 refl refl refl)) c.add_entry.ensures.gives
+      | else-is_empty w ↦
+          end-further c.args.head k tail c.args.node.now c.add_entry.new.node c.add_entry.result array
+          (some-entries c.args.node.now (sym c.is_empty.ensures ∙ w.if-is_empty.false))
+          (subst (λ n. Reaches IsOpen IsHeld n c.add_entry.new.node c.add_entry.result (adding c.args.head k tail (counts n [])) (one_more (counts n))) w.node-is c.add_entry.ensures.gives)
+    ]
+
+pub returns-clause-borrows : goal.returns-clause-borrows
+returns-clause-borrows c = λ text ps pairs.
+    let keep = c.add_entry.ensures.borrows text ps pairs in
+    elim c.if-is_empty.branch [
+      | then-is_empty+in_ok-claim w ↦ keeps_marked text ps c.args.node.now _ c.add_entry.new.node c.add_entry.result refl refl refl (keeps_same text ps _ _ c.add_entry.new.node c.add_entry.result w.node-is keep)
+      | else-is_empty w ↦ keeps_same text ps _ c.args.node.now c.add_entry.new.node c.add_entry.result w.node-is keep
+    ]

@@ -1,0 +1,24 @@
+-- What a document is read as.
+use Rattle.std.specs.Prelude.{◌≡◌, ⊤, ℕ, ◌⊎◌, List, Result, Err}
+use Rattle.toml_span_lex.specs.declared.stop.Stop.{Stop}
+use Rattle.toml_span_lex.specs.declared.stop.Stop.TheVariants as stops
+use Rattle.toml_span_tree.specs.declared.value.Value.{Value}
+use Rattle.toml_span_tree.specs.Node.{Node}
+use Rattle.toml_span_tree.specs.Value.{view}
+use Rattle.toml_span_tree.specs.declared.error.Error.{Error}
+use Rattle.toml_span_tree.specs.Error.{content_of}
+use Rattle.toml_span_typed.specs.Errors.{Errors, one}
+use Rattle.toml_span.specs.Parsing.{IsTree, IsRefusal}
+use Rattle.toml_span_read.specs.Limits.{depth_limit}
+
+-- the text has a tree, of which the type's reading allows the answer
+abbrev pub IsRead : {T : Type 0} → (Node → Result T Errors → Node → Type 0) → List ℕ → Result T Errors → Type 0
+IsRead reads text answer =
+    (root : Value) × (left : Node) × IsTree text depth_limit root × reads (view root) answer left
+
+-- the text is refused, and the one error tells why; or it has a tree, and these are the errors of its read
+abbrev pub NotRead : {T : Type 0} → (Node → Result T Errors → Node → Type 0) → List ℕ → Stop Errors → Type 0
+NotRead reads text (stops.Memory e) = ⊤
+NotRead reads text (stops.Fault faults) =
+    ((error : Error) × IsRefusal text depth_limit (stops.Fault error) × (faults ≡ one (content_of error)))
+    ⊎ IsRead reads text (Err faults)

@@ -1,0 +1,84 @@
+-- What the sections that are read so far make, whatever sections follow.
+use Rattle.std.specs.Prelude.{◌≡◌, ⊤, ℕ, List, [], ◌++◌, map, length, Result, Ok, Err, Option, Some, None, IfNone}
+use Rattle.std.specs.Prelude.{IfSome}
+use Rattle.toml_span_lex.specs.declared.stop.Stop.{Stop}
+use Rattle.toml_span_lex.specs.declared.stop.Stop.TheVariants as stops
+use Rattle.toml_span_tree.specs.declared.error.Error.{Error}
+use Rattle.toml_span_read.specs.Data.{Block, block}
+use Rattle.toml_span_read.specs.Places.{IsInside}
+use Rattle.toml_span_read.specs.Keys.{SimpleKey}
+use Rattle.toml_span_read.specs.Borrowed.{AreWrittenRight as AreRightRead, sections_written}
+use Rattle.toml_span_read.specs.Grammar.{SpellsDocument}
+use Rattle.toml_span_read.specs.declared.section.Section.{Section}
+use Rattle.toml_span_read.specs.code.Stuck.{StuckDocument}
+use Rattle.toml_span_read.specs.declared.fault.Fault.{Fault}
+use Rattle.toml_span.specs.declared.claims.Halt.{Halt}
+use Rattle.toml_span.specs.declared.branch.Branch.{Branch}
+use Rattle.toml_span.specs.Claims.{key_value_claims, head_of, claims_behind, claims}
+use Rattle.toml_span.specs.code.Placing.{Places, AreSections}
+use Rattle.toml_span.specs.code.Relative.{section_at, grown}
+use Rattle.toml_span.specs.code.Tree.{counts, cells, IsScope}
+use Rattle.toml_span.specs.code.Machine.{nothing, clash_met, put_all, clash_told}
+use Rattle.toml_span.specs.Paths.{elements_added, opened_by}
+use Rattle.toml_span.specs.declared.claims.Clash.{Clash}
+use Rattle.toml_span.specs.Clashes.{first_clash}
+use Rattle.toml_span.specs.Borrowed.{AreBorrowedRight}
+use Rattle.toml_span.specs.code.Borrowed.{standing, AreFrom}
+use Rattle.toml_span.specs.declared.branch.Branch.TheViews.{out-Branch}
+use Rattle.toml_span.specs.declared.sections.Grown.{Grown}
+use Rattle.toml_span.specs.Parsing.{IsClashOf}
+
+-- a section placed from the root on
+abbrev pub Placed : Block → Branch → Branch → Result (Unit {0}) Halt → Type 0
+Placed b root new r =
+    Places root new r (section_at (counts root) (head_of b) b.header (key_value_claims b.key_values []))
+    (grown (counts root) (head_of b) b.header)
+
+-- what is left to place behind some sections, into a tree of what they claim
+pub record Remaining (all rest : List Block) (root : Branch) : Type 0 where
+  pub earlier : List Block
+  pub headers : AreSections rest
+  pub telling : clash_met (cells root) (claims_behind earlier rest) ≡ clash_met nothing (claims all)
+  pub putting : put_all (cells root) (claims_behind earlier rest) ≡ put_all nothing (claims all)
+  pub counting : counts root ≡ elements_added (opened_by earlier)
+  pub scope : IsScope root
+
+-- The tree has what these sections claim, and those that follow are left to place. Or this is their first clash.
+abbrev pub GrowsTo : List Block → Branch → Option Clash → Type 0
+GrowsTo bs root None = (rest : List Block) → AreSections rest → Remaining (bs ++ rest) rest root
+GrowsTo bs root (Some c) = (rest : List Block) → AreSections rest → first_clash (claims (bs ++ rest)) ≡ Some (clash_told c)
+
+abbrev pub Grows : List Block → Grown → Type 0
+Grows bs g = GrowsTo bs g.root g.clash
+
+-- a clash is told inside the first n bytes
+abbrev pub IsGrownInside : ℕ → Grown → Type 0
+IsGrownInside n g = IfSome g.clash (λ c. IsInside n c.meeting.span)
+
+-- what stands in the tree is borrowed as it was read
+abbrev pub GrownRight : List ℕ → List SimpleKey → Grown → Type 0
+GrownRight text ps g = IfNone g.clash (AreBorrowedRight text ps (standing g.root))
+
+-- no two clash, and no table is to be finished
+abbrev pub IsBare : Grown → Type 0
+IsBare g = (g.clash ≡ None) × ((out-Branch g.root).tables.entries ≡ [])
+
+-- The text spells these sections, and this is what they make.
+pub record IsGrown (text : List ℕ) (limit : ℕ) (g : Grown) : Type 0 where
+  pub sections : List Section
+  pub spelled : SpellsDocument (map block sections) text limit
+  pub grows : Grows (map block sections) g
+  pub inside : IsGrownInside (length text) g
+  pub bare : sections ≡ [] → IsBare g
+  pub read : AreRightRead text (sections_written sections)
+  pub borrows : (ps : List SimpleKey) → AreFrom text ps (sections_written sections) → GrownRight text ps g
+
+abbrev pub GrownGives : List ℕ → ℕ → Result Grown (Stop Fault) → Type 0
+GrownGives text limit (Ok g) = IsGrown text limit g
+GrownGives text limit (Err (stops.Memory e)) = Unit {0}
+GrownGives text limit (Err (stops.Fault e)) = StuckDocument text limit e
+
+-- of sections that were read only a clash is told
+abbrev pub IsClashStop : List Block → List ℕ → Stop Error → Type 0
+IsClashStop blocks text (stops.Memory e) = ⊤
+IsClashStop blocks text (stops.Fault error) = IsClashOf blocks text error

@@ -1,0 +1,88 @@
+-- What the tree under construction keeps of the claims so far, path by path, and what it tells.
+use Rattle.std.specs.Prelude.{◌≡◌, ⊤, ℕ, Bool, not, ◌||◌, if◌then◌else◌, List, [], ◌∷◌, Result, Ok, Err, Option, Some}
+use Rattle.std.specs.Prelude.{None, option_map, string_bytes}
+use Rattle.toml_span_tree.specs.Path.{Place, Path, Step}
+use Rattle.toml_span.specs.declared.claims.Mark.{Mark}
+use Rattle.toml_span.specs.Claims.{Claim, Claims, no_claims, claimed, scope}
+use Rattle.toml_span.specs.Flat.{by_header}
+use Rattle.toml_span.specs.code.Marks.{partner, remember}
+use Rattle.toml_span.specs.Paths.{same_path, same_step}
+use Rattle.toml_span.specs.Clashes.{NamedClash, named, or_else}
+use Rattle.toml_span.specs.declared.claims.Clash as code
+use Rattle.toml_span.specs.declared.claims.Halt.{Halt}
+use Rattle.toml_span.specs.declared.claims.Halt.TheVariants.{Memory, Clash}
+
+-- what a path shows so far: whether a header decides, and what stands there
+pub record Decided : Type 0 where
+  pub header : Bool
+  pub place : Place
+
+-- what is kept at a path: the first claim of each sort in its own scope, and what decides, whatever the scope
+pub record Cell : Type 0 where
+  pub marks : List Mark
+  pub shown : Option Decided
+
+abbrev pub State : Type 0
+State = Path → Cell
+
+abbrev pub no_cell : Cell
+no_cell = record { marks = []; shown = None }
+
+abbrev pub nothing : State
+nothing p = no_cell
+
+-- the first header decides, or else the first claim
+abbrev pub decide : Option Decided → Decided → Option Decided
+decide None next = Some next
+decide (Some first) next = if first.header || not next.header then Some first else Some next
+
+abbrev pub decided : Claim → Decided
+decided c = record { header = by_header c.mark.sort; place = c.place }
+
+-- a claim of the scope, and one of a scope inside
+abbrev pub with_claim : Claim → Cell → Cell
+with_claim c x = record { marks = remember x.marks c.mark; shown = decide x.shown (decided c) }
+
+abbrev pub with_inner : Claim → Cell → Cell
+with_inner c x = record { marks = x.marks; shown = decide x.shown (decided c) }
+
+unfoldable pub change : State → Path → (Cell → Cell) → State
+change st p f q = if same_path p q then f (st q) else st q
+
+-- all claims, as those of scopes inside
+unfoldable pub show_all : State → Claims → State
+show_all st no_claims = st
+show_all st (claimed c cs) = show_all (change st c.path (with_inner c)) cs
+show_all st (scope inner cs) = show_all (show_all st inner) cs
+
+-- the claims of the scope one after another, and those of the scopes inside
+unfoldable pub put_all : State → Claims → State
+put_all st no_claims = st
+put_all st (claimed c cs) = put_all (change st c.path (with_claim c)) cs
+put_all st (scope inner cs) = put_all (show_all st inner) cs
+
+-- the clash of a claim with the earliest of those on its path
+abbrev pub met : List Mark → Mark → List ℕ → Option NamedClash
+met marks mark name = option_map (named name) (partner marks mark)
+
+-- the first clash that is met, where a scope inside starts with nothing
+unfoldable pub clash_met : State → Claims → Option NamedClash
+clash_met st no_claims = None
+clash_met st (claimed c cs) =
+    or_else (met (st c.path).marks c.mark c.name) (clash_met (change st c.path (with_claim c)) cs)
+clash_met st (scope inner cs) = or_else (clash_met nothing inner) (clash_met (show_all st inner) cs)
+
+-- what a halt tells
+abbrev pub clash_told : code.Clash → NamedClash
+clash_told c = record { meeting = c.meeting; name = string_bytes c.name }
+
+-- Ok, where P holds, if there is no clash, and else that clash. It may be want of memory.
+abbrev pub Gives : {A : Type 0} → Result A Halt → Option NamedClash → (A → Type 0) → Type 0
+Gives (Ok x) o P = (o ≡ None) × P x
+Gives (Err (Clash c)) o P = o ≡ Some (clash_told c)
+Gives (Err (Memory e)) o P = ⊤
+
+-- the state with another one below a step
+unfoldable pub graft : {A : Type 0} → Step → (Path → A) → (Path → A) → Path → A
+graft s f sub [] = f []
+graft s f sub (t ∷ q) = if same_step s t then sub q else f (t ∷ q)

@@ -1,0 +1,65 @@
+-- What a branch of the tree under construction keeps of the claims on it.
+use Rattle.std.specs.Prelude.{◌≡◌, ⊤, ℕ, Bool, true, nat_eq, if◌then◌else◌, List, [], ◌∷◌, ◌++◌, Option, Some, None}
+use Rattle.std.specs.Prelude.{string_bytes}
+use Rattle.std.specs.List.{list_any}
+use Rattle.toml_span_read.specs.Places.{IsInside}
+use Rattle.toml_span.specs.declared.claims.Sort.{Sort}
+use Rattle.toml_span.specs.declared.claims.Sort.TheVariants.{Passed, StandardTable, ArrayOfTables, TableElement}
+use Rattle.toml_span.specs.declared.claims.Sort.TheVariants.{Dotted}
+use Rattle.toml_span.specs.declared.claims.Sort.TheVariants.{Assigned}
+use Rattle.toml_span.specs.declared.claims.Mark.{Mark}
+use Rattle.toml_span.specs.declared.claims.Meeting.{Meeting}
+use Rattle.toml_span.specs.declared.claims.Halt.{Halt}
+use Rattle.toml_span.specs.declared.claims.Halt.TheVariants.{Memory, Clash}
+use Rattle.toml_span.specs.Flat.{by_header}
+use Rattle.toml_span.specs.Clashes.{meets, or_else}
+
+abbrev pub sort_number : Sort → ℕ
+sort_number Passed = 0
+sort_number StandardTable = 1
+sort_number ArrayOfTables = 2
+sort_number TableElement = 3
+sort_number Dotted = 4
+sort_number Assigned = 5
+
+abbrev pub same_sort : Sort → Sort → Bool
+same_sort a b = nat_eq (sort_number a) (sort_number b)
+
+-- the first claim of each sort is kept, in the order of the text
+abbrev pub remember : List Mark → Mark → List Mark
+remember marks mark = if list_any (λ seen. same_sort seen.sort mark.sort) marks then marks else marks ++ mark ∷ []
+
+-- the clash of a claim with the earliest of these that it clashes with
+abbrev pub partner : List Mark → Mark → Option Meeting
+partner [] later = None
+partner (earlier ∷ marks) later = or_else (meets earlier later) (partner marks later)
+
+-- the halt at a clash over a name; or want of memory
+abbrev pub Halts : Halt → Meeting → List ℕ → Type 0
+Halts (Clash c) m name = (c.meeting ≡ m) × (string_bytes c.name ≡ name)
+Halts (Memory e) m name = ⊤
+
+abbrev pub IsMemory : Halt → Type 0
+IsMemory (Memory e) = ⊤
+IsMemory (Clash c) = ⊥
+
+abbrev pub first_by_header : List Mark → Option Mark
+first_by_header [] = None
+first_by_header (mark ∷ marks) = if by_header mark.sort then Some mark else first_by_header marks
+
+abbrev pub first : List Mark → Option Mark
+first [] = None
+first (mark ∷ marks) = Some mark
+
+-- the claim that says where a branch stands: that of the first header, or else the first one
+abbrev pub deciding : List Mark → Option Mark
+deciding marks = or_else (first_by_header marks) (first marks)
+
+-- the key of a claim, and of a header's claim its line too
+abbrev pub IsMarkInside : ℕ → Mark → Type 0
+IsMarkInside n mark = IsInside n mark.key × (by_header mark.sort ≡ true → IsInside n mark.line)
+
+-- a clash is told inside the first n bytes
+abbrev pub IsHaltInside : ℕ → Halt → Type 0
+IsHaltInside n (Memory e) = ⊤
+IsHaltInside n (Clash c) = IsInside n c.meeting.span

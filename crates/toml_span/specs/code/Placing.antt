@@ -1,0 +1,148 @@
+-- What the functions that place claims give.
+use Rattle.std.specs.Prelude.{◌≡◌, ⊤, ℕ, ◌⊎◌, false, List, [], ◌∷◌, Result, Ok, Err, Option, Some, None, option_map}
+use Rattle.std.specs.BTreeMap.{BTreeMap}
+use Rattle.std.specs.Cmp.Lexicographic.{slice_cmp}
+use Rattle.std.specs.Cow.{cow_str_bytes}
+use Rattle.std.specs.List.Sorted.{IsStrictlySortedBy}
+use Rattle.std.specs.Map.{keys_of}
+use Rattle.std.specs.Ordering.{nat_cmp}
+use Rattle.std.specs.Global.{Vec, Box}
+use Rattle.std.specs.declared.alloc.AllocError.{AllocError}
+use Rattle.std.specs.List.{AllZip}
+use Rattle.toml_span_lex.specs.declared.span.Span.{Span}
+use Rattle.toml_span_lex.specs.declared.key.Key.{Key}
+use Rattle.toml_span_tree.specs.Path.{Path, Step, place_of as tree_place, Place, reached}
+use Rattle.toml_span_tree.specs.Value.{view, inner_view, inner_of as tree_inner}
+use Rattle.toml_span_tree.specs.declared.value.Value.{Value}
+use Rattle.toml_span_tree.specs.Node as tree
+use Rattle.toml_span_tree.specs.declared.value.ValueInner.TheVariants.{Table as table_inner}
+use Rattle.toml_span_read.specs.Data.{ParsedValue as Read, parsed_span, Block}
+use Rattle.toml_span.specs.declared.claims.Halt.{Halt}
+use Rattle.toml_span.specs.declared.branch.Branch.{Branch}
+use Rattle.toml_span.specs.Claims.{Claims, value_claims, value_shape, parsed_inner, shape_claimed, claims}
+use Rattle.toml_span.specs.code.Machine.{Gives, clash_met, put_all, nothing, show_all, Cell, State, clash_told}
+use Rattle.toml_span.specs.code.Tree.{entries, cells, counts, marks, IsScope, IsChild, IsHeld, Sound}
+use Rattle.toml_span.specs.code.Tree.{value_shows}
+use Rattle.toml_span.specs.declared.claims.Mark.{Mark}
+use Rattle.toml_span.specs.code.Marks.{remember, deciding}
+use Rattle.toml_span.specs.declared.claims.Sort.{Sort}
+use Rattle.toml_span.specs.declared.claims.Sort.TheVariants.{StandardTable, TableElement}
+use Rattle.toml_span.specs.Ordered.{IsOrdered, HoldsOrdered}
+use Rattle.toml_span.specs.declared.branch.Branch.TheViews.{out-Branch}
+use Rattle.toml_span.specs.declared.claims.Halt.TheVariants.{Memory, Clash}
+use Rattle.toml_span.specs.Clashes.{Resolves, first_clash}
+use Rattle.toml_span.specs.Flat.{Shows, flat}
+
+-- The claims are placed from a branch on, which then has so many entries, or else the first clash is told.
+abbrev pub Reaches : (Branch → Type 0) → (Branch → Type 0) → Branch → Branch → Result (Unit {0}) Halt → Claims
+    → (Path → ℕ) → Type 0
+Reaches Before After old new r cs entries =
+    Before old
+    → Gives r (clash_met (cells old) cs)
+    (λ _. (cells new ≡ put_all (cells old) cs) × (counts new ≡ entries) × After new)
+
+-- below a table, whose own claims stay
+abbrev pub Places : Branch → Branch → Result (Unit {0}) Halt → Claims → (Path → ℕ) → Type 0
+Places old new r cs entries = Reaches IsScope (λ n. IsScope n × (marks n ≡ marks old)) old new r cs entries
+
+-- from a branch on that stands at a name
+abbrev pub Passes : Branch → Branch → Result (Unit {0}) Halt → Claims → (Path → ℕ) → Type 0
+Passes old new r cs entries = Reaches IsChild IsHeld old new r cs entries
+
+-- from a table on, which is claimed
+abbrev pub Opening : (Branch → Type 0) → Mark → Branch → Branch → Result (Unit {0}) Halt → Claims → (Path → ℕ) → Type 0
+Opening Before m old new r cs entries =
+    Reaches Before (λ n. IsScope n × (marks n ≡ remember (marks old) m)) old new r cs entries
+
+-- a branch that is claimed for a section, or a table that is claimed for an entry
+abbrev pub Opens : Sort → Branch → Type 0
+Opens sort n = Sound n × ((sort ≡ StandardTable) ⊎ ((sort ≡ TableElement) × (entries n ≡ [])))
+
+-- ---- values
+
+-- the finished value shows what was read, itself and below it what it claims, and its tables are in order
+abbrev pub IsFinished : Read → Value → Type 0
+IsFinished v x =
+    ((at : Option Span)
+    → tree_place (at, view x) ≡ record { shape = value_shape (parsed_inner v); key_span = at; span = parsed_span v })
+    × ((s : Step) (p : Path) → value_shows None (view x) (s ∷ p) ≡ (show_all nothing (value_claims v []) (s ∷ p)).shown)
+    × IsOrdered (view x)
+
+-- the value, or the first clash in it
+abbrev pub ValueGives : Result Value Halt → Read → Type 0
+ValueGives r v = Gives r (clash_met nothing (value_claims v [])) (IsFinished v)
+
+-- the place, whatever decides it
+abbrev pub place_shown : Cell → Option Place
+place_shown x = option_map (λ d. d.place) x.shown
+
+-- below it a tree shows what a state shows
+abbrev pub ShowsBelow : tree.Inner → State → Type 0
+ShowsBelow i st =
+    (s : Step) (p : Path)
+    → option_map tree_place (reached (s ∷ p) (None, tree.node i (record { start = 0; end = 0 })))
+    ≡ place_shown (st (s ∷ p))
+
+-- the same, with what decides, which no header does
+abbrev pub ShowsPlain : tree.Inner → State → Type 0
+ShowsPlain i st =
+    (s : Step) (p : Path) → value_shows None (tree.node i (record { start = 0; end = 0 })) (s ∷ p) ≡ (st (s ∷ p)).shown
+
+-- what a scope of an inline table, or of an array, gives
+abbrev pub ScopeGives : {A : Type 0} → Result A Halt → (A → tree.Inner) → Claims → Type 0
+ScopeGives r seen cs =
+    Gives r (clash_met nothing cs) (λ x. ShowsPlain (seen x) (show_all nothing cs) × HoldsOrdered (seen x))
+
+-- ---- finishing
+
+abbrev pub Table : Type 0
+Table = BTreeMap Key Value
+
+-- the names of a table ascend
+abbrev pub NamesAscend : Table → Type 0
+NamesAscend t =
+    IsStrictlySortedBy (λ k l. slice_cmp nat_cmp (cow_str_bytes k.name) (cow_str_bytes l.name)) (keys_of t.entries)
+
+abbrev pub Array : Type 0
+Array = Vec Value
+
+-- the table of a branch's values and of what its branches have become
+abbrev pub Finishes : BTreeMap Key (Box Branch) → Table → Result Table AllocError → Type 0
+Finishes tables values (Ok t) =
+    (n : Branch) → (out-Branch n).tables ≡ tables → (out-Branch n).values ≡ values → IsScope n
+    → ShowsBelow (inner_view (table_inner t)) (cells n) × HoldsOrdered (inner_view (table_inner t))
+Finishes tables values (Err e) = ⊤
+
+-- the key's span and the value that a branch has become
+abbrev pub Becomes : Branch → Result (Span × Value) AllocError → Type 0
+Becomes n (Ok r) =
+    Sound n
+    → ((m : Mark) (at : Option Span) → deciding (marks n) ≡ Some m
+    → (r.0 ≡ m.key)
+    × (tree_place (at, view r.1) ≡ record { shape = shape_claimed m.sort; key_span = at; span = m.extent }))
+    × ShowsBelow (tree_inner (view r.1)) (cells n) × IsOrdered (view r.1)
+Becomes n (Err e) = ⊤
+
+-- an entry's value, which stands at no key
+abbrev pub BecomesEntry : Branch → Value → Type 0
+BecomesEntry n v = (at : Span) × Becomes n (Ok (at, v))
+
+-- the elements that the entries of an array of tables have become, place by place
+abbrev pub EachBecomes : List Branch → Result Array AllocError → Type 0
+EachBecomes ns (Ok a) = AllZip BecomesEntry ns a.items
+EachBecomes ns (Err e) = ⊤
+
+-- ---- the document
+
+-- a section without a header is no array of tables
+abbrev pub AreSections : List Block → Type 0
+AreSections [] = ⊤
+AreSections (b ∷ bs) = (b.header ≡ [] → b.array ≡ false) × AreSections bs
+
+-- The tree is given exactly where no two claims clash, shows the flat document, and is in order. Or the first clash is
+-- told.
+abbrev pub Assembles : List Block → ℕ → Result Value Halt → Type 0
+Assembles bs length (Ok root) =
+    Resolves (claims bs) × Shows (view root) (flat length (claims bs)) × IsOrdered (view root)
+Assembles bs length (Err (Clash c)) = first_clash (claims bs) ≡ Some (clash_told c)
+Assembles bs length (Err (Memory e)) = ⊤

@@ -1,0 +1,95 @@
+-- What headers and assignments claim, seen from the branch at which they start.
+use Rattle.std.specs.Prelude.{ℕ, zero, suc, if◌then◌else◌, List, [], ◌∷◌}
+use Rattle.toml_span_tree.specs.Path.{Step, key, position, Path}
+use Rattle.toml_span_read.specs.Data.{ParsedValue}
+use Rattle.toml_span_read.specs.Keys.{SimpleKey}
+use Rattle.toml_span.specs.Claims.{Claim, Claims, no_claims, claimed, scope, assigned, dotted, value_claims}
+use Rattle.toml_span.specs.Claims.{header_claim, array_claims}
+use Rattle.toml_span.specs.declared.claims.Sort.{Sort}
+use Rattle.toml_span.specs.declared.claims.Sort.TheVariants.{Passed, StandardTable, ArrayOfTables, TableElement}
+use Rattle.toml_span.specs.declared.claims.Head.{Head}
+use Rattle.toml_span.specs.code.Machine.{graft}
+
+-- a claim below a step, and all claims below it
+abbrev pub step_down : Step → Claim → Claim
+step_down s c = record { path = s ∷ c.path; name = c.name; mark = c.mark; place = c.place }
+
+unfoldable pub under : Step → Claims → Claims
+under s no_claims = no_claims
+under s (claimed c cs) = claimed (step_down s c) (under s cs)
+under s (scope inner cs) = scope (under s inner) (under s cs)
+
+-- ---- assignments
+
+-- a value assigned to the last part of a key, behind these inner parts
+unfoldable pub pair_at : List SimpleKey → SimpleKey → ParsedValue → Claims
+pair_at [] last v = under (key last.name) (claimed (assigned [] last v) (value_claims v []))
+pair_at (k ∷ inner) last v = under (key k.name) (claimed (dotted [] k v) (pair_at inner last v))
+
+-- the same, from the branch of the first inner part
+abbrev pub through_pair : SimpleKey → List SimpleKey → SimpleKey → ParsedValue → Claims
+through_pair k inner last v = claimed (dotted [] k v) (pair_at inner last v)
+
+-- ---- sections
+
+-- what a part of a header claims that is followed by these, where nothing stands yet
+abbrev pub part_sort : Head → List SimpleKey → Sort
+part_sort h [] = if h.array then ArrayOfTables else StandardTable
+part_sort h (l ∷ more) = Passed
+
+-- from a branch with n entries, the latest of them or the branch itself
+abbrev pub entered : ℕ → (Path → ℕ) → ((Path → ℕ) → Claims) → Claims
+entered zero e f = f e
+entered (suc latest) e f = under (position latest) (f (λ q. e (position latest ∷ q)))
+
+-- a claim of a table, and those below it
+abbrev pub opening : Head → Sort → SimpleKey → Claims → Claims
+opening h sort k tail = claimed (header_claim h sort [] k) tail
+
+-- the entry behind n others
+abbrev pub adding : Head → SimpleKey → Claims → ℕ → Claims
+adding h k tail n = under (position n) (opening h TableElement k tail)
+
+-- at the branch at which a header ends, where n entries are open
+abbrev pub ending : Head → SimpleKey → Claims → ℕ → Claims
+ending h k tail n = if h.array then array_claims h [] k n (adding h k tail n) else opening h StandardTable k tail
+
+-- `tail` are the claims below the table that the header opens
+unfoldable pub section_at : (Path → ℕ) → Head → List SimpleKey → Claims → Claims
+section_at e h [] tail = tail
+section_at e h (k ∷ []) tail = under (key k.name) (ending h k tail (e (key k.name ∷ [])))
+section_at e h (k ∷ l ∷ more) tail =
+    under (key k.name)
+    (entered (e (key k.name ∷ [])) (λ q. e (key k.name ∷ q)) (λ f. opening h Passed k (section_at f h (l ∷ more) tail)))
+
+-- from a branch that the header passes through
+abbrev pub passing : Head → SimpleKey → List SimpleKey → Claims → (Path → ℕ) → Claims
+passing h k rest tail f = opening h Passed k (section_at f h rest tail)
+
+-- from the branch of the part k on
+abbrev pub through : (Path → ℕ) → Head → SimpleKey → List SimpleKey → Claims → Claims
+through e h k [] tail = ending h k tail (e [])
+through e h k (l ∷ more) tail = entered (e []) e (passing h k (l ∷ more) tail)
+
+-- ---- how many entries there are then
+
+abbrev pub one_more : (Path → ℕ) → Path → ℕ
+one_more e [] = suc (e [])
+one_more e (s ∷ p) = e (s ∷ p)
+
+abbrev pub grown_here : (Path → ℕ) → Head → Path → ℕ
+grown_here e h p = if h.array then one_more e p else e p
+
+abbrev pub grown_below : ℕ → (Path → ℕ) → ((Path → ℕ) → Path → ℕ) → Path → ℕ
+grown_below zero e f = f e
+grown_below (suc latest) e f = graft (position latest) e (f (λ q. e (position latest ∷ q)))
+
+unfoldable pub grown : (Path → ℕ) → Head → List SimpleKey → Path → ℕ
+grown e h [] = e
+grown e h (k ∷ []) = graft (key k.name) e (grown_here (λ q. e (key k.name ∷ q)) h)
+grown e h (k ∷ l ∷ more) =
+    graft (key k.name) e (grown_below (e (key k.name ∷ [])) (λ q. e (key k.name ∷ q)) (λ f. grown f h (l ∷ more)))
+
+abbrev pub grown_through : (Path → ℕ) → Head → List SimpleKey → Path → ℕ
+grown_through e h [] = grown_here e h
+grown_through e h (l ∷ more) = grown_below (e []) e (λ f. grown f h (l ∷ more))

@@ -1,0 +1,162 @@
+//! The tree under construction.
+ghost use Rattle.std.specs.Prelude.{◌≡◌, ℕ, List, [], false, IfOk, IfSome, IsOk};
+ghost use Rattle.toml_span_read.specs.Keys.{SimpleKey};
+ghost use Rattle.toml_span.specs.Flat as kept;
+ghost use Rattle.toml_span.specs.code.Marks as code;
+ghost use Rattle.toml_span.specs.Borrowed.{AreBorrowedRight, held, value_standing};
+ghost use Rattle.toml_span.specs.code.Borrowed.{array_standing, boxes_standing, entries_of, standing};
+ghost use Rattle.toml_span.specs.code.Borrowed.{table_standing};
+ghost use Rattle.toml_span.specs.code.Tree.{IsFresh};
+ghost use Rattle.toml_span.specs.code.Placing.{Becomes, EachBecomes, Finishes, NamesAscend};
+
+use crate::claims::{Mark, Marks, Sort};
+use smallvec::SmallVec;
+use std::alloc::{AllocError, Global};
+use std::collections::BTreeMap;
+use toml_span_lex::key::Key;
+use toml_span_lex::span::Span;
+use toml_span_tree::{Array, Table, Value, ValueInner};
+
+/// Branches by name. Each is in a block of its own, since a leaf of the map has room for fifteen entries.
+pub type Branches<'de> = BTreeMap<Key<'de>, Box<Branch<'de>>>;
+
+/// A table or an array of tables, while the sections are placed.
+///
+/// An assigned value is closed: it stands in `values` as it will in the tree, and its key's span is all
+/// that is kept of its claim. No name stands both in `values` and in `tables`.
+#[derive(Drop)]
+pub struct Branch<'de> {
+    /// The claims on the branch.
+    pub marks: Marks,
+    /// The assigned values.
+    pub values: Table<'de>,
+    /// What headers and dotted keys made: tables, and arrays of tables.
+    pub tables: Branches<'de>,
+    /// The elements, if this is an array of tables. An array has one at least.
+    pub entries: Vec<Branch<'de>>,
+}
+
+impl<'de> Branch<'de> {
+    /// A table on which nothing is claimed, and in which nothing stands.
+    pub fn new(alloc: Global) -> Self
+        ensures fresh { IsFresh result }
+        ensures bare { standing result ≡ [] }
+    {
+        Self {
+            marks: SmallVec::new(alloc),
+            values: BTreeMap::new(alloc),
+            tables: BTreeMap::new(alloc),
+            entries: Vec::new(alloc),
+        }
+    }
+}
+
+/// Whether a header made the claim.
+fn by_header(sort: Sort) -> bool
+    ensures { result ≡ kept.by_header sort }
+{
+    !matches!(sort, Sort::Dotted | Sort::Assigned)
+}
+
+/// The claim that says where a branch stands: that of the first header, or else the first one.
+fn deciding(marks: &[Mark]) -> Option<Mark>
+    ensures { result ≡ code.deciding marks.now }
+{
+    for mark in marks {
+        if by_header(mark.sort) {
+            return Some(*mark);
+        }
+    }
+    marks.first().copied()
+}
+
+/// The key's span and the span of the branch with these claims.
+fn spans(marks: &[Mark]) -> (Span, Span)
+    ensures { IfSome (code.deciding marks.now) (λ m. result ≡ (m.key, m.extent)) }
+{
+    match deciding(marks) {
+        Some(mark) => (mark.key, mark.extent),
+        None => (Span::default(), Span::default()),
+    }
+}
+
+/// The names of a table are in order, and none stands there twice.
+fn in_order(table: &Table<'_>)
+    ensures { NamesAscend table.now }
+{
+    // A map keeps its keys in order, and says so when it is asked for its length.
+    let _ = table.len();
+}
+
+/// The table of what these branches have become, and of these values. Only want of memory is refused, and
+/// none is wanted where there are no branches.
+#[cycle(finish)]
+pub fn into_table<'de>(
+    tables: Branches<'de>,
+    mut values: Table<'de>,
+) -> Result<Table<'de>, AllocError>
+    ensures finishes { Finishes tables.entry values.entry result }
+    ensures borrows { (text : List ℕ) → (ps : List SimpleKey)
+        → AreBorrowedRight text ps (boxes_standing tables.entry.entries)
+        → AreBorrowedRight text ps (table_standing values.entry.entries)
+        → IfOk result (λ table. AreBorrowedRight text ps (table_standing table.entries)) }
+    // Where there are no branches, no memory is wanted.
+    ensures bare { tables.entry.entries ≡ [] → IsOk result }
+{
+    if tables.is_empty() {
+        drop(tables);
+        in_order(&values);
+        return Ok(values);
+    }
+    for (key, child) in tables {
+        let (span, value) = into_value(Box::into_inner(child))?;
+        let key = Key {
+            name: key.name,
+            span,
+        };
+        drop(values.insert(key, value)?);
+    }
+    in_order(&values);
+    Ok(values)
+}
+
+/// The value that a branch has become, and the span of its key.
+#[cycle(finish)]
+fn into_value<'de>(node: Branch<'de>) -> Result<(Span, Value<'de>), AllocError>
+    ensures becomes { Becomes node.entry result }
+    ensures borrows { (text : List ℕ) → (ps : List SimpleKey) → AreBorrowedRight text ps (standing node.entry)
+        → IfOk result (λ found. ((held found.1).0 ≡ false) × AreBorrowedRight text ps (value_standing found.1)) }
+{
+    let Branch {
+        marks,
+        values,
+        tables,
+        entries,
+    } = node;
+    let (key_span, span) = spans(marks.as_slice());
+    if entries.is_empty() {
+        drop(entries);
+        let table = into_table(tables, values)?;
+        return Ok((key_span, Value::with_span(ValueInner::Table(table), span)));
+    }
+    drop(values);
+    drop(tables);
+    let array = into_array(entries)?;
+    Ok((key_span, Value::with_span(ValueInner::Array(array), span)))
+}
+
+/// The elements of an array of tables as finished values.
+#[cycle(finish)]
+fn into_array<'de>(entries: Vec<Branch<'de>>) -> Result<Array<'de>, AllocError>
+    ensures becomes { EachBecomes entries.entry.items result }
+    ensures borrows { (text : List ℕ) → (ps : List SimpleKey)
+        → AreBorrowedRight text ps (entries_of entries.entry.items)
+        → IfOk result (λ array. AreBorrowedRight text ps (array_standing array.items)) }
+{
+    let mut array = Vec::with_capacity(*entries.allocator(), entries.len())?;
+    for entry in entries {
+        let (_, value) = into_value(entry)?;
+        array.push(value)?;
+    }
+    Ok(array)
+}

@@ -1,0 +1,110 @@
+//! Reads a document into a tree.
+ghost use Rattle.std.specs.Prelude.{◌≡◌, ◌≤◌, ℕ, List, true, IfOk, IfErr, IsOk, length};
+ghost use Rattle.toml_span_lex.specs.Tokenizer.{FirstPlace};
+ghost use Rattle.toml_span_read.specs.code.Faults.{IsPlacedStop};
+ghost use Rattle.toml_span_read.specs.Keys.{SimpleKey};
+ghost use Rattle.toml_span_read.specs.Data.{Block};
+ghost use Rattle.toml_span_read.specs.Reading.{OnlyFormsTakeMemory};
+ghost use Rattle.toml_span_read.specs.Limits.{depth_limit};
+ghost use Rattle.toml_span_tree.specs.Value.{is_whole, view};
+ghost use Rattle.toml_span.specs.Borrowed.{AreBorrowedRight, value_standing};
+ghost use Rattle.toml_span.specs.code.Growing.{GrownGives, GrownRight, Grows, IsBare, IsGrownInside};
+ghost use Rattle.toml_span.specs.code.Growing.{IsClashStop};
+ghost use Rattle.toml_span.specs.Parsing.{IsBorrowedTree, IsRefusal, IsTree, IsTreeOf, IsRoot};
+
+use crate::sections::{Grown, begin, finish, grow};
+use std::alloc::Global;
+use crate::claims::Halt;
+use toml_span_lex::stop::Stop;
+use toml_span_read::fault::{Fault, error_of, line_info};
+use toml_span_read::{read_first, read_section};
+use toml_span_tree::{Error, Value};
+
+/// How deep a value, a header and a dotted key may be.
+const LIMIT: usize = 128;
+
+/// What the sections of a text make, or its fault. Each section is placed as it is read.
+fn grown_of<'de>(alloc: Global, text: &'de str, limit: usize) -> Result<Grown<'de>, Stop<Fault>>
+    requires some { 1 ≤ limit }
+    requires small { limit ≤ depth_limit }
+    ensures placed { IfErr result (IsPlacedStop text.now) }
+    ensures gives { GrownGives text.now limit result }
+    ensures memory { (start : ℕ) × FirstPlace text.now start × OnlyFormsTakeMemory text.now start result }
+{
+    let (first, start) = read_first(alloc, text, limit)?;
+    let mut grown = match begin(alloc, first) {
+        Ok(grown) => grown,
+        Err(error) => return Err(Stop::Memory(error)),
+    };
+    let mut at = start;
+    'sections: while at < text.len() {
+        let (section, next) = read_section(alloc, text, at, limit)?;
+        if let Err(error) = grow(alloc, &mut grown, section) {
+            return Err(Stop::Memory(error));
+        }
+        at = next;
+    }
+    Ok(grown)
+}
+
+/// The tree of a document, or its first clash.
+fn tree_of<'de>(grown: Grown<'de>, text: &'de str) -> Result<Value<'de>, Stop<Error<'de>>>
+    requires inside { IsGrownInside (length text.now) grown }
+    ensures tree { (bs : List Block) → Grows bs grown.entry → IfOk result (IsTreeOf bs (length text.now)) }
+    ensures root { IfOk result (IsRoot (length text.now)) }
+    ensures whole { (bs : List Block) → Grows bs grown.entry → IfOk result (λ root. is_whole (view root) ≡ true) }
+    ensures borrows { (ps : List SimpleKey) → GrownRight text.now ps grown.entry
+        → IfOk result (λ root. AreBorrowedRight text.now ps (value_standing root)) }
+    ensures refused { (bs : List Block) → Grows bs grown.entry → IfErr result (IsClashStop bs text.now) }
+    ensures bare { IsBare grown.entry → IsOk result }
+{
+    match finish(grown, text.len()) {
+        Ok(root) => Ok(root),
+        Err(Halt::Memory(error)) => Err(Stop::Memory(error)),
+        Err(Halt::Clash(clash)) => {
+            let place = line_info(text, clash.meeting.span.start);
+            Err(Stop::Fault(clash.into_error(place)))
+        }
+    }
+}
+
+/// The tree of a document, with the limit 128 (see `parse_with_limit`).
+///
+/// The error is the first fault of reading or, where the text is read, the first clash of two claims on
+/// one path; or `Stop::Memory`, where a request for memory was refused. There is no tree then.
+pub fn parse<'de>(alloc: Global, s: &'de str) -> Result<Value<'de>, Stop<Error<'de>>>
+    ensures tree { IfOk result (IsTree s.now depth_limit) }
+    ensures root { IfOk result (IsRoot (length s.now)) }
+    ensures whole { IfOk result (λ root. is_whole (view root) ≡ true) }
+    ensures borrows { IfOk result (IsBorrowedTree s.now depth_limit) }
+    ensures refused { IfErr result (IsRefusal s.now depth_limit) }
+    // Memory is wanted only where more than comments and blank lines stand in the text.
+    ensures memory { (start : ℕ) × FirstPlace s.now start × OnlyFormsTakeMemory s.now start result }
+{
+    parse_with_limit(alloc, s, LIMIT)
+}
+
+/// The tree of a document. A value may be so many brackets, braces and key parts deep, and a header and
+/// a dotted key may have so many parts, as `limit` says, which is from 1 to 128. The errors are those of
+/// `parse`, and `ExceededDepthLimit` comes at this limit.
+pub fn parse_with_limit<'de>(
+    alloc: Global,
+    s: &'de str,
+    limit: usize,
+) -> Result<Value<'de>, Stop<Error<'de>>>
+    requires some { 1 ≤ limit }
+    requires small { limit ≤ depth_limit }
+    ensures tree { IfOk result (IsTree s.now limit) }
+    ensures root { IfOk result (IsRoot (length s.now)) }
+    ensures whole { IfOk result (λ root. is_whole (view root) ≡ true) }
+    ensures borrows { IfOk result (IsBorrowedTree s.now limit) }
+    ensures refused { IfErr result (IsRefusal s.now limit) }
+    // Memory is wanted only where more than comments and blank lines stand in the text.
+    ensures memory { (start : ℕ) × FirstPlace s.now start × OnlyFormsTakeMemory s.now start result }
+{
+    match grown_of(alloc, s, limit) {
+        Ok(grown) => tree_of(grown, s),
+        Err(Stop::Memory(error)) => Err(Stop::Memory(error)),
+        Err(Stop::Fault(fault)) => Err(Stop::Fault(error_of(s, fault))),
+    }
+}

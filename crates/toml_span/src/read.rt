@@ -1,0 +1,43 @@
+//! Reads a document as a type, and tells where a span stands.
+ghost use Rattle.std.specs.Prelude.{◌≡◌, ◌+◌, ℕ, IfOk, IfErr, Ok, length, min};
+ghost use Rattle.toml_span_read.specs.Places.{IsLineInfo};
+ghost use Rattle.toml_span.specs.Reading.{IsRead, NotRead};
+
+use crate::de::parse;
+use std::alloc::Global;
+use toml_span_lex::span::Span;
+use toml_span_lex::stop::Stop;
+use toml_span_read::fault::line_info;
+use toml_span_typed::{DeserError, Deserialize};
+
+/// Reads a document as a type: `parse`, and then `deserialize` of the root.
+///
+/// The errors are the one for which the text is refused, or all errors of the type's read; or `Stop::Memory`.
+pub fn from_str<'de, T: Deserialize<'de>>(
+    alloc: Global,
+    text: &'de str,
+) -> Result<T, Stop<DeserError<'de>>>
+    ensures read { IfOk result (λ x. IsRead T.reads text.now (Ok x)) }
+    ensures refused { IfErr result (NotRead T.reads text.now) }
+{
+    let mut root = match parse(alloc, text) {
+        Ok(root) => root,
+        Err(Stop::Fault(error)) => return Err(Stop::Fault(error.into())),
+        Err(Stop::Memory(error)) => return Err(Stop::Memory(error)),
+    };
+    T::deserialize(alloc, &mut root)
+}
+
+/// The line at which a span starts, and the byte of that line, both counted from 1: one more than the line
+/// feeds before it, and than the bytes behind the last of them. A span that starts past the text has
+/// those of the text's end.
+///
+/// These are `Error::line_info`, which counts both from 0, and one more of each. The column that editors
+/// show counts characters, not bytes: `toml_span_report::line_column` has it.
+pub fn line_and_byte(text: &str, span: Span) -> (usize, usize)
+    ensures { (line byte : ℕ) × IsLineInfo text.now (min span.start (length text.now)) line byte
+        × (result ≡ (line + 1, byte + 1)) }
+{
+    let (line, byte) = line_info(text, span.start.min(text.len()));
+    (line + 1, byte + 1)
+}

@@ -1,0 +1,323 @@
+//! Assignments placed below a branch: a section's table, or an inline table.
+ghost use Rattle.std.specs.Prelude.{◌≡◌, ⊤, ℕ, List, map, [], IfOk, IfErr};
+ghost use Rattle.std.specs.Cow.{cow_str_bytes};
+ghost use Rattle.toml_span_tree.specs.Value.{items_view, inner_view};
+ghost use Rattle.toml_span_tree.specs.Node as tree;
+ghost use Rattle.toml_span_tree.specs.declared.value.ValueInner.TheVariants as inners;
+ghost use Rattle.toml_span_read.specs.Borrowed.{assignment_written, assignments_written, joined, key_written};
+ghost use Rattle.toml_span_read.specs.Borrowed.{keys_written, written};
+ghost use Rattle.toml_span_read.specs.Data.{key_value, view, onto, no_items, ParsedValue as Read, parsed_span};
+ghost use Rattle.toml_span_read.specs.Places.{IsInside, PartsInside, KeyValueInside, KeyValuesInside, KeysInside};
+ghost use Rattle.toml_span_read.specs.Places.{ItemKeysInside};
+ghost use Rattle.toml_span_read.specs.Keys.{SimpleKey, simple_key as part_of};
+ghost use Rattle.toml_span.specs.code.Borrowed.{AreFrom, IsFrom, Keeps, ValueRight, array_standing};
+ghost use Rattle.toml_span.specs.code.Borrowed.{table_standing};
+ghost use Rattle.toml_span.specs.Borrowed.{AreBorrowedRight};
+ghost use Rattle.toml_span.specs.Claims.{assignment_claims, key_value_claims, item_claims};
+ghost use Rattle.toml_span.specs.code.Machine.{Gives, met};
+ghost use Rattle.toml_span.specs.code.Placing.{Places, Passes, ValueGives, ScopeGives};
+ghost use Rattle.toml_span.specs.code.Marks.{IsMarkInside, IsHaltInside};
+ghost use Rattle.toml_span.specs.code.Relative.{pair_at, through_pair};
+ghost use Rattle.toml_span.specs.code.Tree.{child_in, closed_in, closed_marks, counts, held_marks};
+
+use std::alloc::Global;
+use std::collections::btree_map::Entry;
+use crate::branch::{Branch, Branches, into_table};
+use crate::claims::{Halt, Mark, Sort, admit, claim};
+use crate::rest::Rest;
+use toml_span_lex::key::Key;
+use toml_span_lex::span::Span;
+use toml_span_read::{Assignment, DottedKey, Val, ValKind};
+use toml_span_tree::{Array, Table, Value, ValueInner};
+
+/// Up to so many assignments are taken apart without giving their memory back on the way, which takes
+/// time: the system clears memory that is asked for anew.
+const SHORT_LIST: usize = 65_536;
+
+/// The claim of a part of an assignment's key.
+fn pair_mark(sort: Sort, key: &Key<'_>, span: Span) -> Mark
+    ensures { result ≡ record { sort = sort; key = key.now.span; line = span; extent = span } }
+{
+    Mark {
+        sort,
+        key: key.span,
+        line: span,
+        extent: span,
+    }
+}
+
+/// Halts where a claim on a name clashes with a value that is assigned there.
+pub(crate) fn admit_beside_value<'de>(
+    alloc: Global,
+    values: &Table<'de>,
+    mark: Mark,
+    key: &Key<'de>,
+) -> Result<(), Halt>
+    ensures gives { Gives result (met (closed_marks (closed_in (cow_str_bytes key.now.name) values.now)) mark
+        (cow_str_bytes key.now.name)) (λ _. ⊤) }
+    ensures placed { (n : ℕ) → IsMarkInside n mark → IfErr result (IsHaltInside n) }
+{
+    match values.get_key_value(key) {
+        Some((earlier, value)) => admit(
+            alloc,
+            &[pair_mark(Sort::Assigned, earlier, value.span)],
+            mark,
+            key,
+        ),
+        None => Ok(()),
+    }
+}
+
+/// Halts where a claim on a name clashes with what headers and dotted keys made there.
+fn admit_beside_table<'de>(
+    alloc: Global,
+    tables: &Branches<'de>,
+    mark: Mark,
+    key: &Key<'de>,
+) -> Result<(), Halt>
+    ensures gives { Gives result (met (held_marks (child_in (cow_str_bytes key.now.name) tables.now)) mark
+        (cow_str_bytes key.now.name)) (λ _. ⊤) }
+    ensures placed { (n : ℕ) → IsMarkInside n mark → IfErr result (IsHaltInside n) }
+{
+    match tables.get(key) {
+        Some(child) => admit(alloc, child.marks.as_slice(), mark, key),
+        None => Ok(()),
+    }
+}
+
+/// Assigns a value to a name of a branch.
+fn assign<'de>(
+    alloc: Global,
+    node: &mut Branch<'de>,
+    key: Key<'de>,
+    value: Result<Value<'de>, Halt>,
+    span: Span,
+) -> Result<(), Halt>
+    ensures gives { (v : Read) → ValueGives value.entry v → span ≡ parsed_span v
+        → Places node.old node.new result (pair_at [] (part_of key.entry) v) (counts node.old) }
+    ensures placed { (n : ℕ) → IsInside n key.entry.span → IfErr value.entry (IsHaltInside n)
+        → IfErr result (IsHaltInside n) }
+    ensures borrows { (text : List ℕ) → (ps : List SimpleKey) → IsFrom text ps (key_written key.entry)
+        → ValueRight text ps value.entry → Keeps text ps node.old node.new result }
+{
+    let mark = pair_mark(Sort::Assigned, &key, span);
+    admit_beside_table(alloc, &node.tables, mark, &key)?;
+    match node.values.entry(key)? {
+        Entry::Occupied(entry) => {
+            drop(value);
+            let earlier = entry.key();
+            admit(
+                alloc,
+                &[pair_mark(Sort::Assigned, earlier, entry.get().span)],
+                mark,
+                earlier,
+            )
+        }
+        Entry::Vacant(entry) => {
+            entry.insert(value?);
+            Ok(())
+        }
+    }
+}
+
+/// Places an assignment below a branch, inner part by inner part. `span` is the value's.
+///
+/// An inline table is a scope of its own. What clashes in it is told behind the clashes of the key to
+/// which it is assigned, since it stands behind that key.
+#[cycle(place_pair)]
+fn place_pair<'de>(
+    alloc: Global,
+    node: &mut Branch<'de>,
+    inner: &[Key<'de>],
+    last: Key<'de>,
+    value: Result<Value<'de>, Halt>,
+    span: Span,
+) -> Result<(), Halt>
+    ensures gives { (v : Read) → ValueGives value.entry v → span ≡ parsed_span v
+        → Places node.old node.new result (pair_at (map part_of inner.now) (part_of last.entry) v) (counts node.old) }
+    ensures placed { (n : ℕ) → PartsInside n (map part_of inner.now) → IsInside n last.entry.span
+        → IfErr value.entry (IsHaltInside n) → IfErr result (IsHaltInside n) }
+    ensures borrows { (text : List ℕ) → (ps : List SimpleKey) → AreFrom text ps (keys_written inner.now)
+        → IsFrom text ps (key_written last.entry)
+        → ValueRight text ps value.entry → Keeps text ps node.old node.new result }
+{
+    let [part, rest @ ..] = inner else {
+        return assign(alloc, node, last, value, span);
+    };
+    match node.tables.entry(part.clone(alloc)?)? {
+        Entry::Occupied(entry) => {
+            pass_child(alloc, entry.into_mut(), part, rest, last, value, span)
+        }
+        Entry::Vacant(entry) => {
+            let mark = pair_mark(Sort::Dotted, part, span);
+            admit_beside_value(alloc, &node.values, mark, part)?;
+            let mut child = Box::new(alloc, Branch::new(alloc))?;
+            pass_child(alloc, &mut child, part, rest, last, value, span)?;
+            entry.insert(child);
+            Ok(())
+        }
+    }
+}
+
+/// From the branch of an inner part on, in its block.
+#[cycle(place_pair)]
+fn pass_child<'de>(
+    alloc: Global,
+    child: &mut Box<Branch<'de>>,
+    part: &Key<'de>,
+    rest: &[Key<'de>],
+    last: Key<'de>,
+    value: Result<Value<'de>, Halt>,
+    span: Span,
+) -> Result<(), Halt>
+    ensures gives { (v : Read) → ValueGives value.entry v → span ≡ parsed_span v
+        → Passes child.old.value child.new.value result (through_pair (part_of part.now) (map part_of rest.now)
+        (part_of last.entry) v) (counts child.old.value) }
+    ensures placed { (n : ℕ) → IsInside n part.now.span → PartsInside n (map part_of rest.now)
+        → IsInside n last.entry.span → IfErr value.entry (IsHaltInside n) → IfErr result (IsHaltInside n) }
+    ensures borrows { (text : List ℕ) → (ps : List SimpleKey) → IsFrom text ps (key_written part.now)
+        → AreFrom text ps (keys_written rest.now) → IsFrom text ps (key_written last.entry)
+        → ValueRight text ps value.entry → Keeps text ps child.old.value child.new.value result }
+{
+    pass_pair(alloc, child.as_mut(), part, rest, last, value, span)
+}
+
+/// Claims the branch of an inner part, and places the rest below it.
+#[cycle(place_pair)]
+fn pass_pair<'de>(
+    alloc: Global,
+    node: &mut Branch<'de>,
+    part: &Key<'de>,
+    rest: &[Key<'de>],
+    last: Key<'de>,
+    value: Result<Value<'de>, Halt>,
+    span: Span,
+) -> Result<(), Halt>
+    ensures gives { (v : Read) → ValueGives value.entry v → span ≡ parsed_span v
+        → Passes node.old node.new result (through_pair (part_of part.now) (map part_of rest.now)
+        (part_of last.entry) v) (counts node.old) }
+    ensures placed { (n : ℕ) → IsInside n part.now.span → PartsInside n (map part_of rest.now)
+        → IsInside n last.entry.span → IfErr value.entry (IsHaltInside n) → IfErr result (IsHaltInside n) }
+    ensures borrows { (text : List ℕ) → (ps : List SimpleKey) → IsFrom text ps (key_written part.now)
+        → AreFrom text ps (keys_written rest.now) → IsFrom text ps (key_written last.entry)
+        → ValueRight text ps value.entry → Keeps text ps node.old node.new result }
+{
+    claim(
+        alloc,
+        &mut node.marks,
+        pair_mark(Sort::Dotted, part, span),
+        part,
+    )?;
+    place_pair(alloc, node, rest, last, value, span)
+}
+
+/// Places an assignment below a branch.
+#[cycle(value_of)]
+fn place_one<'de>(alloc: Global, pair: Assignment<'de>, node: &mut Branch<'de>) -> Result<(), Halt>
+    ensures gives { Places node.old node.new result (assignment_claims (key_value pair.entry) []) (counts node.old) }
+    ensures placed { (n : ℕ) → KeyValueInside n (key_value pair.entry) → IfErr result (IsHaltInside n) }
+    ensures borrows { (text : List ℕ) → (ps : List SimpleKey) → AreFrom text ps (assignment_written pair.entry)
+        → Keeps text ps node.old node.new result }
+{
+    let Assignment {
+        parts: DottedKey { inner, last },
+        value,
+        extent: _,
+    } = pair;
+    let span = value.span;
+    let value = value_of(alloc, value);
+    place_pair(alloc, node, inner.as_slice(), last, value, span)
+}
+
+/// Places assignments below a branch.
+#[cycle(value_of)]
+fn place_pairs<'de>(
+    alloc: Global,
+    pairs: Vec<Assignment<'de>>,
+    node: &mut Branch<'de>,
+) -> Result<(), Halt>
+    ensures gives { Places node.old node.new result (key_value_claims (map key_value pairs.entry.items) [])
+        (counts node.old) }
+    ensures placed { (n : ℕ) → KeyValuesInside n (map key_value pairs.entry.items) → IfErr result (IsHaltInside n) }
+    ensures borrows { (text : List ℕ) → (ps : List SimpleKey) → AreFrom text ps (assignments_written pairs.entry.items)
+        → Keeps text ps node.old node.new result }
+{
+    for pair in pairs {
+        place_one(alloc, pair, node)?;
+    }
+    Ok(())
+}
+
+/// Places the assignments of a section below its branch.
+pub(crate) fn place_all<'de>(
+    alloc: Global,
+    pairs: Vec<Assignment<'de>>,
+    node: &mut Branch<'de>,
+) -> Result<(), Halt>
+    ensures gives { Places node.old node.new result (key_value_claims (map key_value pairs.entry.items) [])
+        (counts node.old) }
+    ensures placed { (n : ℕ) → KeyValuesInside n (map key_value pairs.entry.items) → IfErr result (IsHaltInside n) }
+    ensures borrows { (text : List ℕ) → (ps : List SimpleKey) → AreFrom text ps (assignments_written pairs.entry.items)
+        → Keeps text ps node.old node.new result }
+{
+    if pairs.len() <= SHORT_LIST {
+        return place_pairs(alloc, pairs, node);
+    }
+    for pair in Rest::new(pairs) {
+        place_one(alloc, pair, node)?;
+    }
+    Ok(())
+}
+
+/// The table of an inline table.
+#[cycle(value_of)]
+fn table_of<'de>(alloc: Global, pairs: Vec<Assignment<'de>>) -> Result<Table<'de>, Halt>
+    ensures gives { ScopeGives result (λ t. inner_view (inners.Table t))
+        (key_value_claims (map key_value pairs.entry.items) []) }
+    ensures placed { (n : ℕ) → KeyValuesInside n (map key_value pairs.entry.items) → IfErr result (IsHaltInside n) }
+    ensures borrows { (text : List ℕ) → (ps : List SimpleKey) → AreFrom text ps (assignments_written pairs.entry.items)
+        → IfOk result (λ table. AreBorrowedRight text ps (table_standing table.entries)) }
+{
+    let mut scope = Branch::new(alloc);
+    place_pairs(alloc, pairs, &mut scope)?;
+    Ok(into_table(scope.tables, scope.values)?)
+}
+
+/// The elements of an array.
+#[cycle(value_of)]
+fn array_of<'de>(alloc: Global, elements: Vec<Val<'de>>) -> Result<Array<'de>, Halt>
+    ensures gives { ScopeGives result (λ xs. inner_view (inners.Array xs))
+        (item_claims (onto (map view elements.entry.items) no_items) 0 []) }
+    ensures placed { (n : ℕ) → ItemKeysInside n (onto (map view elements.entry.items) no_items)
+        → IfErr result (IsHaltInside n) }
+    ensures borrows { (text : List ℕ) → (ps : List SimpleKey)
+        → AreFrom text ps (joined (map written elements.entry.items))
+        → IfOk result (λ array. AreBorrowedRight text ps (array_standing array.items)) }
+{
+    let mut array = Vec::with_capacity(alloc, elements.len())?;
+    for element in elements {
+        array.push(value_of(alloc, element)?)?;
+    }
+    Ok(array)
+}
+
+/// The value that was read.
+#[cycle(value_of)]
+fn value_of<'de>(alloc: Global, val: Val<'de>) -> Result<Value<'de>, Halt>
+    ensures gives { ValueGives result (view val.entry) }
+    ensures placed { (n : ℕ) → KeysInside n (view val.entry) → IfErr result (IsHaltInside n) }
+    ensures borrows { (text : List ℕ) → (ps : List SimpleKey) → AreFrom text ps (written val.entry)
+        → ValueRight text ps result }
+{
+    let Val { kind, span } = val;
+    let inner = match kind {
+        ValKind::String(text) => ValueInner::String(text),
+        ValKind::Integer(number) => ValueInner::Integer(number),
+        ValKind::Float(text) => ValueInner::Float(text),
+        ValKind::Boolean(truth) => ValueInner::Boolean(truth),
+        ValKind::Datetime(text) => ValueInner::Datetime(text),
+        ValKind::Array(elements) => ValueInner::Array(array_of(alloc, elements)?),
+        ValKind::Inline(pairs) => ValueInner::Table(table_of(alloc, pairs)?),
+    };
+    Ok(Value::with_span(inner, span))
+}

@@ -1,0 +1,355 @@
+//! Sections placed one by one into a tree.
+ghost use Rattle.std.specs.Prelude.{◌≡◌, ℕ, List, map, [], ◌∷◌, ◌++◌, IfOk, IfErr, IfSome, IsOk, IsOkAnd, None, OnOk};
+ghost use Rattle.toml_span_read.specs.Borrowed.{assignments_written, key_written, keys_written, section_written};
+ghost use Rattle.toml_span_read.specs.Data.{key_value, Block, block};
+ghost use Rattle.toml_span_read.specs.Places.{IsInside, PartsInside, KeyValuesInside, SectionInside};
+ghost use Rattle.toml_span_read.specs.Keys.{SimpleKey, simple_key as part_of};
+ghost use Rattle.toml_span_read.specs.code.Sections.{first_blocks};
+ghost use Rattle.toml_span.specs.declared.claims.Sort.TheVariants.{Passed};
+ghost use Rattle.toml_span.specs.code.Borrowed.{AreFrom, IsFrom, Keeps, ValueRight};
+ghost use Rattle.toml_span.specs.Claims as claims;
+ghost use Rattle.toml_span.specs.Claims.{key_value_claims};
+ghost use Rattle.toml_span.specs.code.Marks.{IsHaltInside};
+ghost use Rattle.toml_span.specs.code.Placing.{AreSections, Assembles, Opening, Opens, Passes, Places, Reaches};
+ghost use Rattle.toml_span.specs.code.Relative.{adding, ending, grown, grown_here, grown_through, one_more};
+ghost use Rattle.toml_span.specs.code.Relative.{opening, part_sort, passing, section_at, through};
+ghost use Rattle.toml_span.specs.code.Tree.{counts, IsHeld, IsOpen, IsScope};
+ghost use Rattle.toml_span.specs.code.Growing.{GrownRight, Grows, IsBare, IsGrownInside, Placed};
+ghost use Rattle.toml_span.specs.Parsing.{IsRoot};
+
+use crate::scopes::{admit_beside_value, place_all};
+use std::alloc::{AllocError, Global};
+use std::collections::btree_map::Entry;
+use crate::branch::{Branch, into_table};
+use crate::claims::{Clash, Halt, Head, Mark, Sort, claim};
+use toml_span_lex::key::Key;
+use toml_span_lex::span::Span;
+use toml_span_read::{Assignment, Section};
+use toml_span_tree::{Value, ValueInner};
+
+/// The claim of a part of a header.
+fn header_mark(head: Head, sort: Sort, key: &Key<'_>) -> Mark
+    ensures { result ≡ claims.header_mark head sort key.now.span }
+{
+    Mark {
+        sort,
+        key: key.span,
+        line: head.line,
+        extent: head.extent,
+    }
+}
+
+/// What the part of a header claims that is followed by these.
+fn sort_of(head: Head, rest: &[Key<'_>]) -> Sort
+    ensures { result ≡ part_sort head (map part_of rest.now) }
+{
+    if !rest.is_empty() {
+        Sort::Passed
+    } else if head.array {
+        Sort::ArrayOfTables
+    } else {
+        Sort::StandardTable
+    }
+}
+
+/// Places a section below a branch, part by part of its header.
+#[cycle(place_section)]
+fn place_section<'de>(
+    alloc: Global,
+    node: &mut Branch<'de>,
+    parts: &[Key<'de>],
+    head: Head,
+    pairs: Vec<Assignment<'de>>,
+) -> Result<(), Halt>
+    ensures gives { Places node.old node.new result (section_at (counts node.old) head (map part_of parts.now)
+        (key_value_claims (map key_value pairs.entry.items) []))
+        (grown (counts node.old) head (map part_of parts.now)) }
+    ensures placed { (n : ℕ) → PartsInside n (map part_of parts.now) → IsInside n head.line
+        → KeyValuesInside n (map key_value pairs.entry.items) → IfErr result (IsHaltInside n) }
+    ensures borrows { (text : List ℕ) → (ps : List SimpleKey) → AreFrom text ps (keys_written parts.now)
+        → AreFrom text ps (assignments_written pairs.entry.items)
+        → Keeps text ps node.old node.new result }
+{
+    let [part, rest @ ..] = parts else {
+        return place_all(alloc, pairs, node);
+    };
+    match node.tables.entry(part.clone(alloc)?)? {
+        Entry::Occupied(entry) => pass_child(alloc, entry.into_mut(), part, rest, head, pairs),
+        Entry::Vacant(entry) => {
+            let mark = header_mark(head, sort_of(head, rest), part);
+            admit_beside_value(alloc, &node.values, mark, part)?;
+            let mut child = Box::new(alloc, Branch::new(alloc))?;
+            pass_child(alloc, &mut child, part, rest, head, pairs)?;
+            entry.insert(child);
+            Ok(())
+        }
+    }
+}
+
+/// From the branch of a part on, in its block.
+#[cycle(place_section)]
+fn pass_child<'de>(
+    alloc: Global,
+    child: &mut Box<Branch<'de>>,
+    part: &Key<'de>,
+    rest: &[Key<'de>],
+    head: Head,
+    pairs: Vec<Assignment<'de>>,
+) -> Result<(), Halt>
+    ensures gives { Passes child.old.value child.new.value result
+        (through (counts child.old.value) head (part_of part.now) (map part_of rest.now)
+        (key_value_claims (map key_value pairs.entry.items) [])) (grown_through (counts child.old.value) head
+        (map part_of rest.now)) }
+    ensures placed { (n : ℕ) → IsInside n part.now.span → PartsInside n (map part_of rest.now) → IsInside n head.line
+        → KeyValuesInside n (map key_value pairs.entry.items) → IfErr result (IsHaltInside n) }
+    ensures borrows { (text : List ℕ) → (ps : List SimpleKey) → IsFrom text ps (key_written part.now)
+        → AreFrom text ps (keys_written rest.now) → AreFrom text ps (assignments_written pairs.entry.items)
+        → Keeps text ps child.old.value child.new.value result }
+{
+    pass_header(alloc, child.as_mut(), part, rest, head, pairs)
+}
+
+/// From the branch of a part on: into the latest element where it is an array of tables.
+#[cycle(place_section)]
+fn pass_header<'de>(
+    alloc: Global,
+    node: &mut Branch<'de>,
+    part: &Key<'de>,
+    rest: &[Key<'de>],
+    head: Head,
+    pairs: Vec<Assignment<'de>>,
+) -> Result<(), Halt>
+    ensures gives { Passes node.old node.new result (through (counts node.old) head (part_of part.now)
+        (map part_of rest.now) (key_value_claims (map key_value pairs.entry.items) []))
+        (grown_through (counts node.old) head (map part_of rest.now)) }
+    ensures placed { (n : ℕ) → IsInside n part.now.span → PartsInside n (map part_of rest.now) → IsInside n head.line
+        → KeyValuesInside n (map key_value pairs.entry.items) → IfErr result (IsHaltInside n) }
+    ensures borrows { (text : List ℕ) → (ps : List SimpleKey) → IsFrom text ps (key_written part.now)
+        → AreFrom text ps (keys_written rest.now) → AreFrom text ps (assignments_written pairs.entry.items)
+        → Keeps text ps node.old node.new result }
+{
+    if rest.is_empty() {
+        return end_header(alloc, node, part, head, pairs);
+    }
+    match node.entries.last_mut() {
+        Some(latest) => descend(alloc, latest, part, rest, head, pairs),
+        None => descend(alloc, node, part, rest, head, pairs),
+    }
+}
+
+/// Passes through a branch.
+#[cycle(place_section)]
+fn descend<'de>(
+    alloc: Global,
+    node: &mut Branch<'de>,
+    part: &Key<'de>,
+    rest: &[Key<'de>],
+    head: Head,
+    pairs: Vec<Assignment<'de>>,
+) -> Result<(), Halt>
+    ensures gives { Opening IsScope (claims.header_mark head Passed part.now.span) node.old node.new result
+        (passing head (part_of part.now) (map part_of rest.now) (key_value_claims (map key_value pairs.entry.items) [])
+        (counts node.old)) (grown (counts node.old) head (map part_of rest.now)) }
+    ensures placed { (n : ℕ) → IsInside n part.now.span → PartsInside n (map part_of rest.now) → IsInside n head.line
+        → KeyValuesInside n (map key_value pairs.entry.items) → IfErr result (IsHaltInside n) }
+    ensures borrows { (text : List ℕ) → (ps : List SimpleKey) → IsFrom text ps (key_written part.now)
+        → AreFrom text ps (keys_written rest.now) → AreFrom text ps (assignments_written pairs.entry.items)
+        → Keeps text ps node.old node.new result }
+{
+    claim(
+        alloc,
+        &mut node.marks,
+        header_mark(head, Sort::Passed, part),
+        part,
+    )?;
+    place_section(alloc, node, rest, head, pairs)
+}
+
+/// Claims a branch for a section or an element, and places the assignments below it.
+fn open_table<'de>(
+    alloc: Global,
+    node: &mut Branch<'de>,
+    sort: Sort,
+    part: &Key<'de>,
+    head: Head,
+    pairs: Vec<Assignment<'de>>,
+) -> Result<(), Halt>
+    ensures gives { Opening (Opens sort) (claims.header_mark head sort part.now.span) node.old node.new result
+        (opening head sort (part_of part.now) (key_value_claims (map key_value pairs.entry.items) []))
+        (counts node.old) }
+    ensures placed { (n : ℕ) → IsInside n part.now.span → IsInside n head.line
+        → KeyValuesInside n (map key_value pairs.entry.items) → IfErr result (IsHaltInside n) }
+    ensures borrows { (text : List ℕ) → (ps : List SimpleKey) → AreFrom text ps (assignments_written pairs.entry.items)
+        → Keeps text ps node.old node.new result }
+{
+    claim(alloc, &mut node.marks, header_mark(head, sort, part), part)?;
+    place_all(alloc, pairs, node)
+}
+
+/// Adds an element to an array of tables.
+fn add_entry<'de>(
+    alloc: Global,
+    node: &mut Branch<'de>,
+    part: &Key<'de>,
+    head: Head,
+    pairs: Vec<Assignment<'de>>,
+) -> Result<(), Halt>
+    ensures gives { Reaches IsOpen IsHeld node.old node.new result
+        (adding head (part_of part.now) (key_value_claims (map key_value pairs.entry.items) []) (counts node.old []))
+        (one_more (counts node.old)) }
+    ensures placed { (n : ℕ) → IsInside n part.now.span → IsInside n head.line
+        → KeyValuesInside n (map key_value pairs.entry.items) → IfErr result (IsHaltInside n) }
+    ensures borrows { (text : List ℕ) → (ps : List SimpleKey) → AreFrom text ps (assignments_written pairs.entry.items)
+        → Keeps text ps node.old node.new result }
+{
+    let mut entry = Branch::new(alloc);
+    open_table(alloc, &mut entry, Sort::TableElement, part, head, pairs)?;
+    node.entries.push(entry)?;
+    Ok(())
+}
+
+/// Claims the branch at the end of a header, and places the assignments there.
+fn end_header<'de>(
+    alloc: Global,
+    node: &mut Branch<'de>,
+    part: &Key<'de>,
+    head: Head,
+    pairs: Vec<Assignment<'de>>,
+) -> Result<(), Halt>
+    ensures gives { Passes node.old node.new result (ending head (part_of part.now)
+        (key_value_claims (map key_value pairs.entry.items) []) (counts node.old []))
+        (grown_here (counts node.old) head) }
+    ensures placed { (n : ℕ) → IsInside n part.now.span → IsInside n head.line
+        → KeyValuesInside n (map key_value pairs.entry.items) → IfErr result (IsHaltInside n) }
+    ensures borrows { (text : List ℕ) → (ps : List SimpleKey) → AreFrom text ps (assignments_written pairs.entry.items)
+        → Keeps text ps node.old node.new result }
+{
+    if !head.array {
+        return open_table(alloc, node, Sort::StandardTable, part, head, pairs);
+    }
+    if node.entries.is_empty() {
+        let mark = header_mark(head, Sort::ArrayOfTables, part);
+        claim(alloc, &mut node.marks, mark, part)?;
+    }
+    add_entry(alloc, node, part, head, pairs)
+}
+
+/// Places a section below the root of a tree.
+fn place<'de>(alloc: Global, root: &mut Branch<'de>, section: Section<'de>) -> Result<(), Halt>
+    ensures gives { Placed (block section.entry) root.old root.new result }
+    ensures placed { (n : ℕ) → SectionInside n section.entry → IfErr result (IsHaltInside n) }
+    ensures borrows { (text : List ℕ) → (ps : List SimpleKey) → AreFrom text ps (section_written section.entry)
+        → Keeps text ps root.old root.new result }
+{
+    let Section {
+        header,
+        array,
+        header_span: line,
+        extent,
+        assignments,
+    } = section;
+    let head = Head {
+        array,
+        line,
+        extent,
+    };
+    place_section(alloc, root, header.as_slice(), head, assignments)
+}
+
+/// What the sections that are read so far make.
+#[derive(Drop)]
+pub(crate) struct Grown<'de> {
+    /// Their tree, as long as no two clash.
+    root: Branch<'de>,
+    /// Their first clash.
+    clash: Option<Clash>,
+}
+
+impl<'de> Grown<'de> {
+    /// What no sections make.
+    pub(crate) fn new(alloc: Global) -> Self
+        ensures grows { Grows [] result }
+        ensures inside { (n : ℕ) → IsGrownInside n result }
+        ensures borrows { (text : List ℕ) → (ps : List SimpleKey) → GrownRight text ps result }
+        ensures bare { IsBare result }
+    {
+        Self {
+            root: Branch::new(alloc),
+            clash: None,
+        }
+    }
+}
+
+/// Places one more section, unless two have clashed.
+pub(crate) fn grow<'de>(
+    alloc: Global,
+    grown: &mut Grown<'de>,
+    section: Section<'de>,
+) -> Result<(), AllocError>
+    ensures grows { (bs : List Block) → AreSections (block section.entry ∷ []) → Grows bs grown.old
+        → OnOk result (Grows (bs ++ (block section.entry ∷ [])) grown.new) }
+    ensures inside { (n : ℕ) → SectionInside n section.entry → IsGrownInside n grown.old
+        → OnOk result (IsGrownInside n grown.new) }
+    ensures borrows { (text : List ℕ) → (ps : List SimpleKey) → AreFrom text ps (section_written section.entry)
+        → GrownRight text ps grown.old → OnOk result (GrownRight text ps grown.new) }
+{
+    if grown.clash.is_some() {
+        drop(section);
+        return Ok(());
+    }
+    match place(alloc, &mut grown.root, section) {
+        Ok(()) => Ok(()),
+        Err(Halt::Clash(clash)) => {
+            grown.clash = Some(clash);
+            Ok(())
+        }
+        Err(Halt::Memory(error)) => Err(error),
+    }
+}
+
+/// What the section before the first header makes, if there is one.
+pub(crate) fn begin<'de>(
+    alloc: Global,
+    first: Option<Section<'de>>,
+) -> Result<Grown<'de>, AllocError>
+    ensures grows { AreSections (first_blocks first.entry) → IfOk result (Grows (first_blocks first.entry)) }
+    ensures inside { (n : ℕ) → IfSome first.entry (SectionInside n) → IfOk result (IsGrownInside n) }
+    ensures borrows { (text : List ℕ) → (ps : List SimpleKey)
+        → IfSome first.entry (λ section. AreFrom text ps (section_written section))
+        → IfOk result (GrownRight text ps) }
+    ensures bare { first.entry ≡ None → IsOkAnd result IsBare }
+{
+    let mut grown = Grown::new(alloc);
+    match first {
+        Some(section) => {
+            grow(alloc, &mut grown, section)?;
+            Ok(grown)
+        }
+        None => Ok(grown),
+    }
+}
+
+/// The tree of a document, which is `length` bytes long, or its first clash.
+pub(crate) fn finish<'de>(grown: Grown<'de>, length: usize) -> Result<Value<'de>, Halt>
+    ensures gives { (bs : List Block) → Grows bs grown.entry → Assembles bs length result }
+    ensures root { IfOk result (IsRoot length) }
+    ensures placed { (n : ℕ) → IsGrownInside n grown.entry → IfErr result (IsHaltInside n) }
+    ensures borrows { (text : List ℕ) → (ps : List SimpleKey) → GrownRight text ps grown.entry
+        → ValueRight text ps result }
+    ensures bare { IsBare grown.entry → IsOk result }
+{
+    let Grown { root, clash } = grown;
+    match clash {
+        Some(clash) => {
+            drop(root);
+            return Err(Halt::Clash(clash));
+        }
+        None => {}
+    }
+    let table = into_table(root.tables, root.values)?;
+    let span = Span {
+        start: 0,
+        end: length,
+    };
+    Ok(Value::with_span(ValueInner::Table(table), span))
+}

@@ -1,3 +1,0 @@
-pub mod Parsing
-pub mod Reading
-pub mod code

@@ -1,7 +1,0 @@
-pub mod Paths
-pub mod Claims
-pub mod Clashes
-pub mod Flat
-pub mod Ordered
-pub mod Borrowed
-pub mod code

@@ -1,0 +1,134 @@
+-- No two keys of a document start at one place.
+use Rattle.std.proofs.Common.{◌≡◌, ℕ, ◌<◌, ◌⊎◌, List, [], ◌∷◌, ◌++◌, Option, Some, None, length, arith, refl, sym, ap, ◌∙◌, inl, inr}
+use Rattle.std.specs.Prelude.{option_and_then}
+use Rattle.std.proofs.lemmas.List.{append_cancel_left}
+use Rattle.std.proofs.lemmas.Option.{none-some}
+use Rattle.toml_span_lex.specs.declared.span.Span.{Span}
+use Rattle.toml_span_tree.specs.Path.{Path, key, position, Place, place_at}
+use Rattle.toml_span_tree.specs.Value.{view}
+use Rattle.toml_span_tree.specs.declared.value.Value.{Value}
+use Rattle.toml_span_read.specs.Data.{Block}
+use Rattle.toml_span_read.specs.Grammar.{SpellsDocument}
+use Rattle.toml_span.specs.declared.claims.Sort.TheVariants.{TableElement}
+use Rattle.toml_span.specs.Claims.{Claim, Claims, no_claims, claimed, scope, claims}
+use Rattle.toml_span.specs.Flat.{all_claims, flat}
+use Rattle.toml_span_laws.specs.Clashing.{IsIn}
+use Rattle.toml_span_laws.specs.Order.{claim_start, Follows, key_at, KeysApart}
+use Rattle.toml_span.specs.Parsing.{IsTree}
+use Rattle.toml_span.proofs.EachClaim.{Each, flat-decides}
+use Rattle.toml_span_laws.proofs.Order.{IsKeyed, Onward, Rising, follows-start, document-rises}
+
+-- ---- claims of a list
+
+pub in-left : (c : Claim) (xs ys : List Claim) → IsIn c xs → IsIn c (xs ++ ys)
+in-left c [] ys h = absurd h
+in-left c (x ∷ xs) ys (inl here) = inl here
+in-left c (x ∷ xs) ys (inr later) = inr (in-left c xs ys later)
+
+pub in-right : (c : Claim) (xs ys : List Claim) → IsIn c ys → IsIn c (xs ++ ys)
+in-right c [] ys h = h
+in-right c (x ∷ xs) ys h = inr (in-right c xs ys h)
+
+-- each claim is in the list that holds all of them
+each-in : (cs : Claims) (l : List Claim) → ((c : Claim) → IsIn c (all_claims cs) → IsIn c l) → Each (λ c. IsIn c l) cs
+unfolding all_claims
+each-in no_claims l f = tt
+each-in (claimed c cs) l f = (f c (inl refl), each-in cs l (λ d h. f d (inr h)))
+each-in (scope inner cs) l f =
+    (each-in inner l (λ d h. f d (in-left d (all_claims inner) (all_claims cs) h)), each-in cs l (λ d h. f d (in-right d (all_claims inner) (all_claims cs) h)))
+
+-- ---- claims that ascend
+
+-- the claim starts behind the other, or it is an entry
+abbrev pub IsLater : Claim → Claim → Type 0
+IsLater c d = (claim_start c < claim_start d) ⊎ (d.mark.sort ≡ TableElement)
+
+follows-later : (c d : Claim) → Follows c d → IsLater c d
+follows-later c d (inl behind) = inl behind
+follows-later c d (inr opened) = inr opened.1
+
+later-on : (c d e : Claim) → Follows c d → IsLater d e → IsLater c e
+later-on c d e f (inl behind) = inl (omega (arith, follows-start c d f, behind))
+later-on c d e f (inr entry) = inr entry
+
+pub onward-later : (c d : Claim) (ds : List Claim) (j : ℕ) → Onward c ds j → IsIn d ds → IsLater c d
+onward-later c d [] j h i = absurd i
+onward-later c d (e ∷ ds) j h (inl same) = rw same (follows-later c e h.1)
+onward-later c d (e ∷ ds) j h (inr later) = later-on c e d h.1 (onward-later e d ds j h.2 later)
+
+pub onward-rest : (c : Claim) (ds : List Claim) (j : ℕ) → Onward c ds j → Rising ds (claim_start c) j
+onward-rest c [] j h = omega (arith, h.1)
+onward-rest c (d ∷ ds) j h = (follows-start c d h.1, h.2)
+
+onward-keyed : (c : Claim) (ds : List Claim) (j : ℕ) → Onward c ds j → IsKeyed c
+onward-keyed c [] j h = h.0
+onward-keyed c (d ∷ ds) j h = h.0
+
+rising-keyed : (c : Claim) (l : List Claim) (i j : ℕ) → Rising l i j → IsIn c l → IsKeyed c
+rising-keyed c [] i j r h = absurd h
+rising-keyed c (d ∷ ds) i j r (inl same) = rw same (onward-keyed d ds j r.1)
+rising-keyed c (d ∷ ds) i j r (inr later) = rising-keyed c ds (claim_start d) j (onward-rest d ds j r.1) later
+
+not-later : (c d : Claim) → (d.mark.sort ≡ TableElement → ⊥) → claim_start c ≡ claim_start d → IsLater c d → ⊥
+not-later c d f e (inl behind) = omega arith
+not-later c d f e (inr entry) = f entry
+
+-- two claims that start at one place are one, if neither is an entry
+one-claim : (c d : Claim) (l : List Claim) (i j : ℕ) → Rising l i j → IsIn c l → IsIn d l → (c.mark.sort ≡ TableElement → ⊥) → (d.mark.sort ≡ TableElement → ⊥) → claim_start c ≡ claim_start d → c ≡ d
+one-claim c d [] i j r h g f e at = absurd h
+one-claim c d (x ∷ xs) i j r (inl same) (inl other) f e at = same ∙ sym other
+one-claim c d (x ∷ xs) i j r (inl same) (inr later) f e at = absurd (not-later c d e at (rw same (onward-later x d xs j r.1 later)))
+one-claim c d (x ∷ xs) i j r (inr later) (inl other) f e at = absurd (not-later d c f (sym at) (rw other (onward-later x c xs j r.1 later)))
+one-claim c d (x ∷ xs) i j r (inr later) (inr also) f e at = one-claim c d xs (claim_start x) j (onward-rest x xs j r.1) later also f e at
+
+-- ---- keys
+
+-- the claim of the list that says where the key at a path stands
+record ClaimAt (l : List Claim) (p : Path) (k : Span) : Type 0 where
+  claim : Claim
+  on : claim.path ≡ p
+  among : IsIn claim l
+  spanned : claim.place.key_span ≡ Some k
+
+keyed-place : (o : Option Place) (k : Span) → option_and_then (λ x. x.key_span) o ≡ Some k → (x : Place) × (o ≡ Some x) × (x.key_span ≡ Some k)
+keyed-place None k h = absurd (none-some k h)
+keyed-place (Some x) k h = (x, refl, h)
+
+key-claimed : (n : ℕ) (cs : Claims) (p : Path) (k : Span) → key_at (flat n cs) p ≡ Some k → ClaimAt (all_claims cs) p k
+unfolding flat
+key-claimed n cs [] k h = absurd (none-some k h)
+key-claimed n cs (s ∷ p) k h =
+    let (x, is, spanned) = keyed-place (flat n cs (s ∷ p)) k h in
+    let d = flat-decides (λ c. IsIn c (all_claims cs)) n cs s p x (each-in cs (all_claims cs) (λ c i. i)) is in
+    record { claim = d.claim; on = d.on; among = d.holds; spanned = ap (λ y. y.key_span) d.place ∙ spanned }
+
+one-key : (l : List Claim) (i j : ℕ) (p q : Path) (k m : Span) → Rising l i j → ClaimAt l p k → ClaimAt l q m → k.start ≡ m.start → p ≡ q
+one-key l i j p q k m r a b e =
+    let c = rising-keyed a.claim l i j r a.among k a.spanned in
+    let d = rising-keyed b.claim l i j r b.among m b.spanned in
+    let same = one-claim a.claim b.claim l i j r a.among b.among c.1 d.1 (ap (λ s. s.start) (sym c.0) ∙ e ∙ ap (λ s. s.start) d.0) in
+    sym a.on ∙ ap (λ x. x.path) same ∙ b.on
+
+pub flat-apart : (text : List ℕ) (limit n : ℕ) (bs : List Block) → SpellsDocument bs text limit → KeysApart (flat n (claims bs))
+flat-apart text limit n bs h p q k l is at e =
+    one-key (all_claims (claims bs)) 0 (length text) p q k l (document-rises bs text limit h) (key-claimed n (claims bs) p k is) (key-claimed n (claims bs) q l at) e
+
+pub tree-apart : (text : List ℕ) (limit : ℕ) (root : Value) → IsTree text limit root → KeysApart (λ p. place_at p (view root))
+tree-apart text limit root (bs, spelled, tree) p q k l is at e =
+    let spanned = λ (o : Option Place). option_and_then (λ x. x.key_span) o in
+    flat-apart text limit (length text) bs spelled p q k l (ap spanned (sym (tree.shows p)) ∙ is) (ap spanned (sym (tree.shows q)) ∙ at) e
+
+-- ---- in one table
+
+last_name : Path → List ℕ
+last_name [] = []
+last_name (key name ∷ p) = name
+last_name (position i ∷ p) = []
+
+same-name : (p : Path) (a b : List ℕ) → p ++ (key a ∷ []) ≡ p ++ (key b ∷ []) → a ≡ b
+unfolding last_name
+same-name p a b h = ap last_name (append_cancel_left p (key a ∷ []) (key b ∷ []) h)
+
+pub names-apart : (text : List ℕ) (limit n : ℕ) (bs : List Block) (p : Path) (a b : List ℕ) (k l : Span) → SpellsDocument bs text limit
+    → key_at (flat n (claims bs)) (p ++ (key a ∷ [])) ≡ Some k → key_at (flat n (claims bs)) (p ++ (key b ∷ [])) ≡ Some l → (a ≡ b → ⊥) → k.start ≡ l.start → ⊥
+names-apart text limit n bs p a b k l h is at other same = other (same-name p a b (flat-apart text limit n bs h (p ++ (key a ∷ [])) (p ++ (key b ∷ [])) k l is at same))

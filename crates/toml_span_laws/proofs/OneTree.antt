@@ -1,0 +1,142 @@
+-- Two trees in order that show the same are the same.
+use Rattle.std.proofs.Common.{◌≡◌, ◌<◌, ◌⊎◌, ℕ, suc, List, [], ◌∷◌, Option, Some, None, option_map, refl, sym, ap, ◌∙◌, subst, inl, inr, arith}
+use Rattle.std.specs.Prelude.{option_and_then}
+use Rattle.std.specs.Str.{bytes_eq}
+use Rattle.std.proofs.lemmas.Bool.{cases_Bool, cases_order}
+use Rattle.std.proofs.lemmas.Option.{none-some, same_Some}
+use Rattle.toml_span_lex.specs.declared.span.Span.{Span}
+use Rattle.toml_span_tree.specs.Node.{Node, node, Inner, taken, scalar, array, table, Items, no_items, item, Members, no_members, member, entry_at, element_at}
+use Rattle.toml_span_tree.specs.Path.{Path, Step, key, position, Place, shape_of, reached, at_step, place_of, place_at}
+use Rattle.toml_span.specs.Ordered.{IsNameBefore, EachName, IsOrdered, HoldsOrdered, AreOrdered, MembersOrdered}
+use Rattle.toml_span.proofs.Ordered.{one-each, same-name, first-entry, later-entry}
+use Rattle.toml_span_laws.specs.Document.{without_key, IsValueOf}
+
+abbrev pub At : Type 0
+At = Option Span × Node
+
+-- what is shown behind a step
+abbrev pub shown : Option At → Path → Option Place
+shown o p = option_map place_of (option_and_then (reached p) o)
+
+-- ---- names
+
+names-order : (a b : List ℕ) → (a ≡ b) ⊎ (IsNameBefore a b ⊎ IsNameBefore b a)
+names-order [] [] = inl refl
+names-order [] (y ∷ ys) = inr (inl tt)
+names-order (x ∷ xs) [] = inr (inr tt)
+names-order (x ∷ xs) (y ∷ ys) = by (cases_order x y) (names-order xs ys)
+  where
+    by : (x ≡ y) ⊎ ((x < y) ⊎ (y < x)) → (xs ≡ ys) ⊎ (IsNameBefore xs ys ⊎ IsNameBefore ys xs)
+        → (x ∷ xs ≡ y ∷ ys) ⊎ (IsNameBefore (x ∷ xs) (y ∷ ys) ⊎ IsNameBefore (y ∷ ys) (x ∷ xs))
+    by (inl same) (inl rest) = inl (ap (λ z. z ∷ xs) same ∙ ap (λ zs. y ∷ zs) rest)
+    by (inl same) (inr (inl less)) = inr (inl (inr (same, less)))
+    by (inl same) (inr (inr more)) = inr (inr (inr (sym same, more)))
+    by (inr (inl less)) rest = inr (inl (inl less))
+    by (inr (inr more)) rest = inr (inr (inl more))
+
+before-all : (a b c : List ℕ) → IsNameBefore a b → IsNameBefore b c → IsNameBefore a c
+before-all a [] c h g = absurd h
+before-all a (y ∷ ys) [] h g = absurd g
+before-all [] (y ∷ ys) (z ∷ zs) h g = tt
+before-all (x ∷ xs) (y ∷ ys) (z ∷ zs) (inl h) (inl g) = inl (omega (arith, h, g))
+before-all (x ∷ xs) (y ∷ ys) (z ∷ zs) (inl h) (inr (same, g)) = inl (omega (arith, h, same))
+before-all (x ∷ xs) (y ∷ ys) (z ∷ zs) (inr (same, h)) (inl g) = inl (omega (arith, same, g))
+before-all (x ∷ xs) (y ∷ ys) (z ∷ zs) (inr (s, h)) (inr (t, g)) = inr (s ∙ t, before-all xs ys zs h g)
+
+each-before : (a b : List ℕ) (ms : Members) → IsNameBefore a b → EachName (IsNameBefore b) ms → EachName (IsNameBefore a) ms
+each-before a b no_members h each = tt
+each-before a b (member c at n ms) h each = (before-all a b c h each.0, each-before a b ms h each.1)
+
+-- ---- entries
+
+-- a name that is before all others is none of them
+pub not-again : (a : List ℕ) (at : Span) (n : Node) (ms : Members) → MembersOrdered (member a at n ms) → entry_at a ms ≡ None
+not-again a at n ms h = (one-each (node (table (member a at n ms)) at) h).0
+
+-- nor is it behind one that is behind it
+not-there : (a b : List ℕ) (at : Span) (n : Node) (ms : Members) → IsNameBefore a b → MembersOrdered (member b at n ms) → entry_at a (member b at n ms) ≡ None
+not-there a b at n ms less h = not-again a at n (member b at n ms) ((less, each-before a b ms less h.0), h.1, h)
+
+shown-first : (a : List ℕ) (at : Span) (n : Node) (ms ls : Members) → ((p : Path) → shown (entry_at a (member a at n ms)) p ≡ shown (entry_at a ls) p) → entry_at a ls ≡ None → ⊥
+shown-first a at n ms ls same none =
+    none-some (place_of (Some at, n)) (sym (ap (λ o. shown o []) none) ∙ sym (same []) ∙ ap (λ o. shown o []) (first-entry a at n ms))
+
+rest-shown : (a : List ℕ) (s t : Span) (n m : Node) (ms ls : Members) → entry_at a ms ≡ None → entry_at a ls ≡ None
+    → ((k : List ℕ) (p : Path) → shown (entry_at k (member a s n ms)) p ≡ shown (entry_at k (member a t m ls)) p)
+    → (k : List ℕ) (p : Path) → shown (entry_at k ms) p ≡ shown (entry_at k ls) p
+rest-shown a s t n m ms ls once single same k p = elim (cases_Bool (bytes_eq k a)) [
+  | inl is ↦
+      let here = same-name k a is in
+      ap (λ j. shown (entry_at j ms) p) here ∙ ap (λ o. shown o p) (once ∙ sym single) ∙ ap (λ j. shown (entry_at j ls) p) (sym here)
+  | inr off ↦ ap (λ o. shown o p) (sym (later-entry k a s n ms off)) ∙ same k p ∙ ap (λ o. shown o p) (later-entry k a t m ls off)
+]
+
+-- a key's span apart
+value-shown : (k l : Option Span) (n m : Node) → ((p : Path) → option_map place_of (reached p (k, n)) ≡ option_map place_of (reached p (l, m)))
+    → (p : Path) → place_at p n ≡ place_at p m
+value-shown k l n m same [] = ap (λ x. Some (without_key x)) (same_Some (place_of (k, n)) (place_of (l, m)) (same []))
+value-shown k l n m same (q ∷ p) = same (q ∷ p)
+
+head-shown : (a : List ℕ) (s t : Span) (n m : Node) (ms ls : Members) → ((p : Path) → shown (entry_at a (member a s n ms)) p ≡ shown (entry_at a (member a t m ls)) p)
+    → (p : Path) → shown (Some (Some s, n)) p ≡ shown (Some (Some t, m)) p
+head-shown a s t n m ms ls same p = ap (λ o. shown o p) (sym (first-entry a s n ms)) ∙ same p ∙ ap (λ o. shown o p) (first-entry a t m ls)
+
+span-in : Place → Option Span
+span-in x = x.key_span
+
+one-key : (s t : Span) (n m : Node) → shown (Some (Some s, n)) [] ≡ shown (Some (Some t, m)) [] → s ≡ t
+unfolding span-in
+one-key s t n m same = same_Some s t (ap span-in (same_Some (place_of (Some s, n)) (place_of (Some t, m)) same))
+
+-- ---- trees
+
+mutual
+  pub node-one : (n m : Node) → IsOrdered n → IsOrdered m → ((p : Path) → place_at p n ≡ place_at p m) → n ≡ m
+  node-one (node i s) (node j t) h g same =
+      let place = same_Some (place_of (None, node i s)) (place_of (None, node j t)) (same []) in
+      let inner = inner-one i j h g (ap (λ x. x.shape) place) (λ q p. same (q ∷ p)) in
+      ap (λ k. node k s) inner ∙ ap (λ u. node j u) (ap (λ x. x.span) place)
+
+  inner-one : (i j : Inner) → HoldsOrdered i → HoldsOrdered j → shape_of i ≡ shape_of j → ((q : Step) (p : Path) → shown (at_step q i) p ≡ shown (at_step q j) p) → i ≡ j
+  inner-one taken taken h g is same = refl
+  inner-one taken (scalar y) h g is same = cc
+  inner-one taken (array ms) h g is same = cc
+  inner-one taken (table ls) h g is same = cc
+  inner-one (scalar x) taken h g is same = cc
+  inner-one (scalar x) (scalar y) h g is same = cc
+  inner-one (scalar x) (array ms) h g is same = cc
+  inner-one (scalar x) (table ls) h g is same = cc
+  inner-one (array ns) taken h g is same = cc
+  inner-one (array ns) (scalar y) h g is same = cc
+  inner-one (array ns) (array ms) h g is same = ap array (items-one ns ms h g (λ i p. same (position i) p))
+  inner-one (array ns) (table ls) h g is same = cc
+  inner-one (table ms) taken h g is same = cc
+  inner-one (table ms) (scalar y) h g is same = cc
+  inner-one (table ms) (array ns) h g is same = cc
+  inner-one (table ms) (table ls) h g is same = ap table (members-one ms ls h g (λ k p. same (key k) p))
+
+  items-one : (ns ms : Items) → AreOrdered ns → AreOrdered ms → ((i : ℕ) (p : Path) → shown (element_at i ns) p ≡ shown (element_at i ms) p) → ns ≡ ms
+  items-one no_items no_items h g same = refl
+  items-one no_items (item m ms) h g same = absurd (none-some (place_of (None, m)) (same 0 []))
+  items-one (item n ns) no_items h g same = absurd (none-some (place_of (None, n)) (sym (same 0 [])))
+  items-one (item n ns) (item m ms) h g same =
+      ap (λ k. item k ns) (node-one n m h.0 g.0 (λ p. same 0 p)) ∙ ap (λ ks. item m ks) (items-one ns ms h.1 g.1 (λ i p. same (suc i) p))
+
+  members-one : (ms ls : Members) → MembersOrdered ms → MembersOrdered ls → ((k : List ℕ) (p : Path) → shown (entry_at k ms) p ≡ shown (entry_at k ls) p) → ms ≡ ls
+  members-one no_members no_members h g same = refl
+  members-one no_members (member b t m ls) h g same = absurd (shown-first b t m ls no_members (λ p. sym (same b p)) refl)
+  members-one (member a s n ms) no_members h g same = absurd (shown-first a s n ms no_members (same a) refl)
+  members-one (member a s n ms) (member b t m ls) h g same = elim (names-order a b) [
+    | inl is ↦
+        let more : MembersOrdered (member a t m ls) = subst (λ c. MembersOrdered (member c t m ls)) (sym is) g in
+        let shows : (k : List ℕ) (p : Path) → shown (entry_at k (member a s n ms)) p ≡ shown (entry_at k (member a t m ls)) p = λ k p. same k p ∙ ap (λ c. shown (entry_at k (member c t m ls)) p) (sym is) in
+        let head = head-shown a s t n m ms ls (shows a) in
+        let first = node-one n m h.1 more.1 (value-shown (Some s) (Some t) n m head) in
+        let rest = members-one ms ls h.2 more.2 (rest-shown a s t n m ms ls (not-again a s n ms h) (not-again a t m ls more) shows) in
+        ap (λ u. member a u n ms) (one-key s t n m (head [])) ∙ ap (λ k. member a t k ms) first ∙ ap (λ ks. member a t m ks) rest ∙ ap (λ c. member c t m ls) is
+    | inr (inl less) ↦ absurd (shown-first a s n ms (member b t m ls) (same a) (not-there a b t m ls less g))
+    | inr (inr more) ↦ absurd (shown-first b t m ls (member a s n ms) (λ p. sym (same b p)) (not-there b a s n ms more h))
+  ]
+
+pub one-value : (places : Path → Option Place) (n m : Node) → IsValueOf places n → IsValueOf places m → n ≡ m
+one-value places n m h g = node-one n m h.0 g.0 (λ p. h.1 p ∙ sym (g.1 p))

@@ -1,0 +1,141 @@
+-- What a pointer names in a document's tree is what stands there in the flat document.
+use Rattle.std.proofs.Common.{◌≡◌, ◌↔◌, ℕ, zero, suc, Bool, true, false, cond, List, [], ◌∷◌, ◌++◌, length, Option, Some, None, option_map, refl, sym, ap, ◌∙◌, subst, true≢false}
+use Rattle.std.specs.Prelude.{⊤, option_and_then}
+use Rattle.std.specs.Str.{bytes_eq}
+use Rattle.std.proofs.lemmas.Option.{none-some, same_Some}
+use Rattle.toml_span_lex.specs.declared.span.Span.{Span}
+use Rattle.toml_span_tree.specs.Node.{Node, node, Inner, taken, scalar, array, table, Items, no_items, item, Members, no_members, member, entry_at, element_at}
+use Rattle.toml_span_tree.specs.Path.{Path, Step, key, position, Place, reached, at_step, place_of, node_at}
+use Rattle.toml_span_tree.specs.Pointer.{pointed, pointer_segments, NamesPath}
+use Rattle.toml_span_tree.specs.Value.{inner_of, view}
+use Rattle.toml_span_tree.specs.declared.value.Value.{Value}
+use Rattle.toml_span_tree.proofs.PointerLaws.{pointed-is}
+use Rattle.toml_span_read.specs.Data.{Block}
+use Rattle.toml_span_read.specs.Grammar.{SpellsDocument}
+use Rattle.toml_span.specs.Claims.{claims}
+use Rattle.toml_span.specs.Flat.{flat, Shows}
+use Rattle.toml_span.specs.Ordered.{IsOrdered, HoldsOrdered, AreOrdered, MembersOrdered}
+use Rattle.toml_span.specs.Parsing.{IsTree}
+use Rattle.toml_span.proofs.ShownWhole.{shown-filled}
+use Rattle.toml_span_laws.specs.Document.{StandsAt, without_key, subtree, IsValueOf, PointsAt}
+use Rattle.toml_span_laws.proofs.Answered.{one-document}
+use Rattle.toml_span_laws.proofs.OneTree.{At, one-value}
+
+-- ---- below a path
+
+further : (p q : Path) (o : Option At) → ((x : At) → reached (p ++ q) x ≡ option_and_then (reached q) (reached p x))
+    → option_and_then (reached (p ++ q)) o ≡ option_and_then (reached q) (option_and_then (reached p) o)
+further p q None on = refl
+further p q (Some x) on = on x
+
+reached-on : (p q : Path) (x : At) → reached (p ++ q) x ≡ option_and_then (reached q) (reached p x)
+reached-on [] q x = refl
+reached-on (s ∷ p) q x = further p q (at_step s (inner_of x.1)) (λ y. reached-on p q y)
+
+element-ordered : (i : ℕ) (ns : Items) (x : At) → AreOrdered ns → element_at i ns ≡ Some x → IsOrdered x.1
+element-ordered i no_items x h is = absurd (none-some x is)
+element-ordered zero (item n ns) x h is = subst (λ (y : At). IsOrdered y.1) (same_Some (None, n) x is) h.0
+element-ordered (suc i) (item n ns) x h is = element-ordered i ns x h.1 is
+
+entry-or : (b : Bool) (at : Span) (n : Node) (rest : Option At) (x : At) → IsOrdered n → (rest ≡ Some x → IsOrdered x.1) → cond b (Some (Some at, n)) rest ≡ Some x → IsOrdered x.1
+entry-or true at n rest x h more here = subst (λ (y : At). IsOrdered y.1) (same_Some (Some at, n) x here) h
+entry-or false at n rest x h more there = more there
+
+entry-ordered : (name : List ℕ) (ms : Members) (x : At) → MembersOrdered ms → entry_at name ms ≡ Some x → IsOrdered x.1
+entry-ordered name no_members x h is = absurd (none-some x is)
+entry-ordered name (member other at n ms) x h is = entry-or (bytes_eq name other) at n (entry_at name ms) x h.1 (entry-ordered name ms x h.2) is
+
+below-ordered : (s : Step) (i : Inner) (x : At) → HoldsOrdered i → at_step s i ≡ Some x → IsOrdered x.1
+below-ordered s taken x h is = absurd (none-some x is)
+below-ordered s (scalar y) x h is = absurd (none-some x is)
+below-ordered (key name) (array ns) x h is = absurd (none-some x is)
+below-ordered (position i) (array ns) x h is = element-ordered i ns x h is
+below-ordered (key name) (table ms) x h is = entry-ordered name ms x h is
+below-ordered (position i) (table ms) x h is = absurd (none-some x is)
+
+step-of : (p : Path) (o : Option At) (x : At) → option_and_then (reached p) o ≡ Some x → (y : At) × (o ≡ Some y) × (reached p y ≡ Some x)
+step-of p None x h = absurd (none-some x h)
+step-of p (Some y) x h = (y, refl, h)
+
+inside-ordered : (n : Node) → IsOrdered n → HoldsOrdered (inner_of n)
+inside-ordered (node i at) h = h
+
+reached-ordered : (p : Path) (y x : At) → IsOrdered y.1 → reached p y ≡ Some x → IsOrdered x.1
+reached-ordered [] y x h is = subst (λ (z : At). IsOrdered z.1) (same_Some y x is) h
+reached-ordered (s ∷ p) y x h is =
+    let (z, there, on) = step-of p (at_step s (inner_of y.1)) x is in
+    reached-ordered p z x (below-ordered s (inner_of y.1) z (inside-ordered y.1 h) there) on
+
+-- the value at a path shows what stands below the path
+part-shown : (places : Path → Option Place) (n : Node) (path : Path) (x : At) → Shows n places → reached path (None, n) ≡ Some x → Shows x.1 (subtree places path)
+part-shown places n path x shows is [] = ap (option_map without_key) (sym (ap (option_map place_of) is) ∙ shows path)
+part-shown places n path x shows is (s ∷ p) =
+    sym (ap (λ o. option_map place_of (option_and_then (reached (s ∷ p)) o)) is) ∙ sym (ap (option_map place_of) (reached-on path (s ∷ p) (None, n))) ∙ shows (path ++ (s ∷ p))
+
+pub part-value : (places : Path → Option Place) (n : Node) (path : Path) (x : At) → IsValueOf places n → reached path (None, n) ≡ Some x → IsValueOf (subtree places path) x.1
+part-value places n path x h is = (reached-ordered path (None, n) x h.0 is, part-shown places n path x h.1 is)
+
+-- ---- what stands at a path
+
+pub place-node : (o : Option At) (place : Place) → option_map place_of o ≡ Some place → (x : At) × (o ≡ Some x) × (place_of x ≡ place)
+place-node None place h = absurd (none-some place h)
+place-node (Some x) place h = (x, refl, same_Some (place_of x) place h)
+
+pub node-reached : (o : Option At) (m : Node) → option_map (λ r. r.1) o ≡ Some m → (k : Option Span) × (o ≡ Some (k, m))
+node-reached None m h = absurd (none-some m h)
+node-reached (Some r) m h = (r.0, ap (λ (n : Node). Some (r.0, n)) (same_Some r.1 m h))
+
+keyed : (o : Option Place) (place : Place) → Some place ≡ option_map without_key o → (x : Place) × (o ≡ Some x)
+keyed None place h = absurd (none-some place (sym h))
+keyed (Some x) place h = (x, refl)
+
+stands : (pointer : List ℕ) (n m : Node) (places : Path → Option Place) → Shows n places → pointed pointer n ≡ Some m → StandsAt pointer places (λ place. ⊤)
+stands pointer n m places shows is =
+    let (names, path, cut, named, there, whole) = (pointed-is pointer n m).0 is in
+    let (k, at) = node-reached (reached path (None, n)) m there in
+    (names, path, place_of (k, m), cut, named, sym (shows path) ∙ ap (option_map place_of) at, tt)
+
+-- ---- trees of documents
+
+names-value : (pointer : List ℕ) (n m : Node) (length : ℕ) (bs : List Block) → IsValueOf (flat length (claims bs)) n → pointed pointer n ≡ Some m → PointsAt pointer (flat length (claims bs)) m
+names-value pointer n m length bs h is =
+    let (names, path, cut, named, there, whole) = (pointed-is pointer n m).0 is in
+    let (k, at) = node-reached (reached path (None, n)) m there in
+    (names, path, cut, named, part-value (flat length (claims bs)) n path (k, m) h at)
+
+-- what stands at a path that the segments name is named
+found-there : (pointer : List ℕ) (names : List (List ℕ)) (path : Path) (place : Place) (n : Node) (length : ℕ) (bs : List Block) → Shows n (flat length (claims bs))
+    → pointer_segments pointer ≡ Some names → NamesPath names path → flat length (claims bs) path ≡ Some place
+    → (m : Node) × (k : Option Span) × (reached path (None, n) ≡ Some (k, m)) × (pointed pointer n ≡ Some m)
+found-there pointer names path place n length bs shows cut named is =
+    let (x, at, same) = place-node (reached path (None, n)) place (shows path ∙ is) in
+    let there : node_at path n ≡ Some x.1 = ap (option_map (λ r. r.1)) at in
+    let filled = shown-filled n length bs shows path x.1 there in
+    (x.1, x.0, at, (pointed-is pointer n x.1).1 (names, path, cut, named, there, λ t. absurd (true≢false (sym t ∙ filled))))
+
+value-named : (pointer : List ℕ) (n m : Node) (length : ℕ) (bs : List Block) → IsValueOf (flat length (claims bs)) n → PointsAt pointer (flat length (claims bs)) m → pointed pointer n ≡ Some m
+value-named pointer n m length bs h (names, path, cut, named, value) =
+    let places = flat length (claims bs) in
+    let (place, stands) = keyed (places path) (place_of (None, m)) (value.1 []) in
+    let (w, k, at, is) = found-there pointer names path place n length bs h.1 cut named stands in
+    is ∙ ap Some (one-value (subtree places path) w m (part-value places n path (k, w) h at) value)
+
+pub tree-value : (text : List ℕ) (limit : ℕ) (root : Value) (bs : List Block) → IsTree text limit root → SpellsDocument bs text limit → IsValueOf (flat (length text) (claims bs)) (view root)
+tree-value text limit root bs (cs, others, tree) spelled =
+    (tree.ordered, subst (λ l. Shows (view root) (flat (length text) (claims l))) (one-document text limit cs bs others spelled) tree.shows)
+
+pub pointer-value : (text : List ℕ) (limit : ℕ) (root : Value) (bs : List Block) (pointer : List ℕ) (m : Node) → IsTree text limit root → SpellsDocument bs text limit
+    → (pointed pointer (view root) ≡ Some m) ↔ PointsAt pointer (flat (length text) (claims bs)) m
+pointer-value text limit root bs pointer m tree spelled =
+    let value = tree-value text limit root bs tree spelled in
+    (names-value pointer (view root) m (length text) bs value, value-named pointer (view root) m (length text) bs value)
+
+pub pointer-some : (text : List ℕ) (limit : ℕ) (root : Value) (bs : List Block) (pointer : List ℕ) → IsTree text limit root → SpellsDocument bs text limit
+    → ((m : Node) × (pointed pointer (view root) ≡ Some m)) ↔ StandsAt pointer (flat (length text) (claims bs)) (λ place. ⊤)
+pointer-some text limit root bs pointer tree spelled =
+    let value = tree-value text limit root bs tree spelled in (
+      λ found. stands pointer (view root) found.0 (flat (length text) (claims bs)) value.1 found.1,
+      λ there.
+          let at = found-there pointer there.0 there.1 there.2 (view root) (length text) bs value.1 there.3 there.4 there.5 in
+          (at.0, at.3),
+    )

@@ -1,0 +1,70 @@
+-- What is assigned in a document is read again from the text at its place.
+use Rattle.std.proofs.Common.{◌≡◌, ℕ, ◌≤◌, List, [], ◌∷◌, Some, None, length, sym, ◌∙◌, ap, subst, inl, inr}
+use Rattle.std.proofs.lemmas.Option.{same_Some}
+use Rattle.toml_span_lex.specs.declared.span.Span.{Span}
+use Rattle.toml_span_tree.specs.Node.{Scalar, text as text_scalar, integer, float, boolean, datetime}
+use Rattle.toml_span_tree.specs.Path.{Path, Place, shape_scalar, shape_table, place_at}
+use Rattle.toml_span_tree.specs.Value.{view}
+use Rattle.toml_span_tree.specs.declared.value.Value.{Value}
+use Rattle.toml_span_laws.specs.Again.{SpellsAgain, ReadsAgain, ScalarReadsAgain}
+use Rattle.toml_span_read.specs.Data.{ParsedValue, parsed, scalar, array, inline, parsed_span, Block}
+use Rattle.toml_span_read.specs.Grammar.{from_to, Spells, SpellsDocument}
+use Rattle.toml_span_laws.proofs.AgainLines.{document_spelled}
+use Rattle.toml_span.specs.Claims.{Claim, parsed_inner, value_shape, claims}
+use Rattle.toml_span.specs.Flat.{flat}
+use Rattle.toml_span.specs.Parsing.{IsTree}
+use Rattle.toml_span.proofs.EachClaim.{flat-decides}
+use Rattle.toml_span_laws.proofs.SpelledClaims.{Spelled, OfText, document-of_text}
+
+-- ---- values
+
+-- a value whose span is from where it begins to where it ends
+pub at-span : (v : ParsedValue) (text : List ℕ) (limit d i j : ℕ) → 1 ≤ d → Spells v text limit d i j → parsed_span v ≡ from_to i j → ReadsAgain text limit v
+at-span v text limit d i j deep h e = subst (λ (s : Span). SpellsAgain v text limit s.start s.end) (sym e) (document_spelled v text limit d i j deep h)
+
+pub scalar-again : (s : Scalar) (span : Span) (text : List ℕ) (limit d i j : ℕ) → 1 ≤ d → Spells (parsed (scalar s) span) text limit d i j → ScalarReadsAgain text limit s span
+scalar-again (text_scalar v) span text limit d i j deep h = tt
+scalar-again (integer n) span text limit d i j deep h = at-span (parsed (scalar (integer n)) span) text limit d i j deep h h.1.2
+scalar-again (float x) span text limit d i j deep h = at-span (parsed (scalar (float x)) span) text limit d i j deep h h.1.2
+scalar-again (boolean b) span text limit d i j deep h = at-span (parsed (scalar (boolean b)) span) text limit d i j deep h h.1.1
+scalar-again (datetime x) span text limit d i j deep h = at-span (parsed (scalar (datetime x)) span) text limit d i j deep h h.1.4
+
+-- ---- the flat document
+
+-- the text spells this scalar, with this span
+abbrev pub HasScalar : List ℕ → ℕ → Scalar → Span → Type 0
+HasScalar text limit s span = Spelled text limit (parsed (scalar s) span)
+
+scalar-value : (text : List ℕ) (limit : ℕ) (v : ParsedValue) (s : Scalar) → Spelled text limit v → shape_scalar s ≡ value_shape (parsed_inner v) → HasScalar text limit s (parsed_span v)
+scalar-value text limit (parsed (scalar t) span) s h e = let same : s ≡ t = cc in rw same h
+scalar-value text limit (parsed (array vs) span) s h e = cc
+scalar-value text limit (parsed (inline ps) span) s h e = cc
+
+scalar-claimed : (text : List ℕ) (limit : ℕ) (c : Claim) (s : Scalar) → OfText text limit c → c.place.shape ≡ shape_scalar s → HasScalar text limit s c.place.span
+scalar-claimed text limit c s (inl a) is = subst (HasScalar text limit s) (sym a.span) (scalar-value text limit a.value s a.spelled (sym is ∙ a.shape))
+scalar-claimed text limit c s (inr made) is = absurd (made.shape s is)
+
+pub flat-scalar : (text : List ℕ) (limit n : ℕ) (bs : List Block) (p : Path) (x : Place) (s : Scalar) → SpellsDocument bs text limit → flat n (claims bs) p ≡ Some x → x.shape ≡ shape_scalar s
+    → HasScalar text limit s x.span
+unfolding flat
+flat-scalar text limit n bs [] x s h at is =
+    let table : shape_table ≡ x.shape = ap (λ y. y.shape) (same_Some (record { shape = shape_table; key_span = None; span = record { start = 0; end = n } }) x at) in
+    absurd (let no : shape_table ≡ shape_scalar s = table ∙ is in cc)
+flat-scalar text limit n bs (t ∷ p) x s h at is =
+    let d = flat-decides (OfText text limit) n (claims bs) t p x (document-of_text bs text limit h) at in
+    subst (λ (y : Place). HasScalar text limit s y.span) d.place (scalar-claimed text limit d.claim s d.holds (ap (λ y. y.shape) d.place ∙ is))
+
+pub flat-again : (text : List ℕ) (limit n : ℕ) (bs : List Block) (p : Path) (x : Place) (s : Scalar) → SpellsDocument bs text limit → flat n (claims bs) p ≡ Some x → x.shape ≡ shape_scalar s
+    → ScalarReadsAgain text limit s x.span
+flat-again text limit n bs p x s h at is =
+    let v = flat-scalar text limit n bs p x s h at is in scalar-again s x.span text limit v.depth v.from v.to v.deep v.spells
+
+-- ---- the tree
+
+pub tree-scalar : (text : List ℕ) (limit : ℕ) (root : Value) (p : Path) (x : Place) (s : Scalar) → IsTree text limit root → place_at p (view root) ≡ Some x → x.shape ≡ shape_scalar s
+    → HasScalar text limit s x.span
+tree-scalar text limit root p x s (bs, spelled, tree) at is = flat-scalar text limit (length text) bs p x s spelled (sym (tree.shows p) ∙ at) is
+
+pub tree-again : (text : List ℕ) (limit : ℕ) (root : Value) (p : Path) (x : Place) (s : Scalar) → IsTree text limit root → place_at p (view root) ≡ Some x → x.shape ≡ shape_scalar s
+    → ScalarReadsAgain text limit s x.span
+tree-again text limit root p x s (bs, spelled, tree) at is = flat-again text limit (length text) bs p x s spelled (sym (tree.shows p) ∙ at) is

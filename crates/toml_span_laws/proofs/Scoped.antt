@@ -1,0 +1,394 @@
+-- How the claims of a document stand in scopes: each has a parent in its scope, and each scope inside stands below an assigned claim.
+use Rattle.std.proofs.Common.{◌≡◌, ℕ, zero, suc, ◌<◌, ◌⊎◌, Bool, true, false, List, [], ◌∷◌, ◌++◌, Option, Some, None, arith, refl, sym, ap, ◌∙◌, subst, append_assoc, append-nil, inl, inr}
+use Rattle.std.specs.Prelude.{⊤, if◌then◌else◌}
+use Rattle.std.proofs.lemmas.Bool.{cases_Bool, cases_lt}
+use Rattle.toml_span_tree.specs.Path.{Path, Step, key, position}
+use Rattle.toml_span_read.specs.Data.{ParsedValue, parsed, ParsedInner, scalar, array, inline, ParsedItems, no_items, item, ParsedPairs, no_pairs, pair, KeyValue, Block}
+use Rattle.toml_span_read.specs.Keys.{SimpleKey}
+use Rattle.toml_span.specs.declared.claims.Sort.{Sort}
+use Rattle.toml_span.specs.declared.claims.Sort.TheVariants.{Passed, StandardTable, ArrayOfTables, TableElement, Assigned}
+use Rattle.toml_span.specs.declared.claims.Head.{Head}
+use Rattle.toml_span.specs.Claims.{Claim, Claims, no_claims, claimed, scope, followed, key_claims, value_claims, inner_claims, item_claims, pair_claims, key_value_claims, element, assigned, dotted, head_of, header_claim, array_claims, end_claims, header_claims, section_claims, claims_behind, claims}
+use Rattle.toml_span.specs.Paths.{same_path, with_key, with_position, enter, target, elements_added, opened_by, section_path}
+use Rattle.toml_span.specs.code.Placing.{AreSections}
+use Rattle.toml_span.proofs.EachClaim.{same_path-eq}
+use Rattle.toml_span_laws.specs.Clashing.{IsIn, own}
+use Rattle.toml_span_laws.proofs.Apart.{in-left, in-right}
+
+-- ---- one claim
+
+-- the path is further inside than the base
+abbrev pub IsUnder : Path → Path → Type 0
+IsUnder base p = (s : Step) × (rest : Path) × (p ≡ base ++ (s ∷ rest))
+
+-- it is one step further inside
+abbrev pub IsChild : Path → Path → Type 0
+IsChild base p = (s : Step) × (p ≡ base ++ (s ∷ []))
+
+-- among the claims one of this sort has this path
+abbrev pub Has : List Claim → Sort → Path → Type 0
+Has l sort p = (e : Claim) × IsIn e l × (e.mark.sort ≡ sort) × (e.path ≡ p)
+
+-- one that assigns nothing has it
+abbrev pub Makes : List Claim → Path → Type 0
+Makes l p = (e : Claim) × IsIn e l × (e.mark.sort ≡ Assigned → ⊥) × (e.path ≡ p)
+
+-- a claim of a scope with this base, behind these earlier ones of the scope
+pub record Fits (base : Path) (earlier : List Claim) (c : Claim) : Type 0 where
+  pub under : IsUnder base c.path
+  pub parent : IsChild base c.path ⊎ ((p : Path) × Makes earlier p × IsChild p c.path)
+  pub entry : c.mark.sort ≡ TableElement → (base ≡ []) × ((p : Path) × (k : List ℕ) × (n : ℕ) × (c.path ≡ (p ++ (key k ∷ [])) ++ (position n ∷ [])))
+  pub assigned : c.mark.sort ≡ Assigned → ((p : Path) × (k : List ℕ) × (c.path ≡ p ++ (key k ∷ []))) ⊎ IsChild base c.path
+  pub passed : c.mark.sort ≡ Passed → (p : Path) (n : ℕ) → c.path ≡ p ++ (position n ∷ []) → Has earlier TableElement c.path
+
+-- Each claim fits its scope, and each scope stands right behind a claim that assigns, at whose path it has its base.
+abbrev pub Scoped : Path → List Claim → Option Claim → Claims → Type 0
+Scoped base earlier last no_claims = ⊤
+Scoped base earlier last (claimed c cs) = Fits base earlier c × Scoped base (earlier ++ (c ∷ [])) (Some c) cs
+Scoped base earlier None (scope inner cs) = ⊥
+Scoped base earlier (Some a) (scope inner cs) =
+    (a.mark.sort ≡ Assigned) × IsUnder base a.path × Scoped a.path [] None inner × Scoped base earlier None cs
+
+-- ---- paths
+
+unsnoc : (p q : Path) (x y : Step) → p ++ (x ∷ []) ≡ q ++ (y ∷ []) → (p ≡ q) × (x ≡ y)
+unsnoc [] [] x y h = (refl, cc)
+unsnoc [] (b ∷ []) x y h = cc
+unsnoc [] (b ∷ c ∷ q) x y h = cc
+unsnoc (a ∷ []) [] x y h = cc
+unsnoc (a ∷ b ∷ p) [] x y h = cc
+unsnoc (a ∷ p) (b ∷ q) x y h =
+    let first : a ≡ b = cc in
+    let rest : p ++ (x ∷ []) ≡ q ++ (y ∷ []) = cc in
+    let more = unsnoc p q x y rest in
+    (ap (λ l. l ∷ p) first ∙ ap (λ l. b ∷ l) more.0, more.1)
+
+pub front-same : (p q : Path) (x y : Step) → p ++ (x ∷ []) ≡ q ++ (y ∷ []) → p ≡ q
+front-same p q x y h = (unsnoc p q x y h).0
+
+pub last-same : (p q : Path) (x y : Step) → p ++ (x ∷ []) ≡ q ++ (y ∷ []) → x ≡ y
+last-same p q x y h = (unsnoc p q x y h).1
+
+pub key-position : (p q : Path) (k : List ℕ) (n : ℕ) → p ++ (key k ∷ []) ≡ q ++ (position n ∷ []) → ⊥
+key-position p q k n h = let no : key k ≡ position n = last-same p q (key k) (position n) h in cc
+
+some-first : (r : Path) (x : Step) → (s : Step) × (rest : Path) × (r ++ (x ∷ []) ≡ s ∷ rest)
+some-first [] x = (x, [], refl)
+some-first (s ∷ r) x = (s, r ++ (x ∷ []), refl)
+
+-- a path at the base or further inside
+abbrev pub IsFrom : Path → Path → Type 0
+IsFrom base p = (r : Path) × (p ≡ base ++ r)
+
+child-under : (base p : Path) (x : Step) → IsFrom base p → IsUnder base (p ++ (x ∷ []))
+child-under base p x (r, is) =
+    let (s, rest, first) = some-first r x in
+    (s, rest, ap (λ l. l ++ (x ∷ [])) is ∙ append_assoc base r (x ∷ []) ∙ ap (λ l. base ++ l) first)
+
+child-from : (base p : Path) (x : Step) → IsFrom base p → IsFrom base (p ++ (x ∷ []))
+child-from base p x (r, is) = (r ++ (x ∷ []), ap (λ l. l ++ (x ∷ [])) is ∙ append_assoc base r (x ∷ []))
+
+-- ---- claims behind others
+
+pub has-on : (l more : List Claim) (sort : Sort) (p : Path) → Has l sort p → Has (l ++ more) sort p
+has-on l more sort p (e, here, is, on) = (e, in-left e l more here, is, on)
+
+makes-on : (l more : List Claim) (p : Path) → Makes l p → Makes (l ++ more) p
+makes-on l more p (e, here, is, on) = (e, in-left e l more here, is, on)
+
+pub fits-on : (base : Path) (l more : List Claim) (c : Claim) → Fits base l c → Fits base (l ++ more) c
+fits-on base l more c f = record {
+  under = f.under;
+  parent = elim f.parent [
+    | inl child ↦ inl child
+    | inr inside ↦ inr (inside.0, makes-on l more inside.0 inside.1, inside.2)
+  ];
+  entry = f.entry;
+  assigned = f.assigned;
+  passed = λ is p n on. has-on l more TableElement c.path (f.passed is p n on);
+}
+
+scoped-loose : (base : Path) (earlier : List Claim) (last : Option Claim) (cs : Claims) → Scoped base earlier None cs → Scoped base earlier last cs
+scoped-loose base earlier None cs h = h
+scoped-loose base earlier (Some a) no_claims h = tt
+scoped-loose base earlier (Some a) (claimed c cs) h = h
+scoped-loose base earlier (Some a) (scope inner cs) h = absurd h
+
+scoped-followed : (base : Path) (earlier : List Claim) (last : Option Claim) (xs ys : Claims) → Scoped base earlier last xs → Scoped base (earlier ++ own xs) None ys → Scoped base earlier last (followed xs ys)
+unfolding followed
+scoped-followed base earlier last no_claims ys h g = scoped-loose base earlier last ys (subst (λ l. Scoped base l None ys) (append-nil earlier) g)
+scoped-followed base earlier last (claimed c xs) ys h g =
+    (h.0, scoped-followed base (earlier ++ (c ∷ [])) (Some c) xs ys h.1 (subst (λ l. Scoped base l None ys) (sym (append_assoc earlier (c ∷ []) (own xs))) g))
+scoped-followed base earlier None (scope inner xs) ys h g = absurd h
+scoped-followed base earlier (Some a) (scope inner xs) ys h g = (h.0, h.1, h.2, scoped-followed base earlier None xs ys h.3 g)
+
+-- ---- keys and values
+
+-- what stands at the path: the base itself, or a table that the scope has made
+abbrev Stands : Path → List Claim → Path → Type 0
+Stands base earlier p = IsFrom base p × ((p ≡ base) ⊎ Makes earlier p)
+
+stands-on : (base : Path) (l more : List Claim) (p : Path) → Stands base l p → Stands base (l ++ more) p
+stands-on base l more p (from, inl same) = (from, inl same)
+stands-on base l more p (from, inr made) = (from, inr (makes-on l more p made))
+
+child-parent : (base : Path) (earlier : List Claim) (p : Path) (x : Step) → Stands base earlier p → IsChild base (p ++ (x ∷ [])) ⊎ ((q : Path) × Makes earlier q × IsChild q (p ++ (x ∷ [])))
+child-parent base earlier p x (from, inl same) = inl (x, ap (λ l. l ++ (x ∷ [])) same)
+child-parent base earlier p x (from, inr made) = inr (p, made, (x, refl))
+
+-- a claim of a table at a key
+table-fits : (base : Path) (earlier : List Claim) (p : Path) (k : List ℕ) (c : Claim) → Stands base earlier p → c.path ≡ p ++ (key k ∷ []) → (c.mark.sort ≡ TableElement → ⊥) → Fits base earlier c
+table-fits base earlier p k c stands on plain = record {
+  under = rw on (child-under base p (key k) stands.0);
+  parent = rw on (child-parent base earlier p (key k) stands);
+  entry = λ is. absurd (plain is);
+  assigned = λ is. inl (p, k, on);
+  passed = λ is q n there. absurd (key-position p q k n (sym on ∙ there));
+}
+
+key-scoped : (base : Path) (earlier : List Claim) (p : Path) (parts : List SimpleKey) (v : ParsedValue) (inside : Path → Claims) → Stands base earlier p
+    → ((k : SimpleKey) (q : Path) (l : List Claim) → IsUnder base (with_key q k) → Scoped base l (Some (assigned (with_key q k) k v)) (inside (with_key q k))) → Scoped base earlier None (key_claims p parts v inside)
+unfolding key_claims
+key-scoped base earlier p [] v inside stands h = tt
+key-scoped base earlier p (k ∷ []) v inside stands h =
+    (table-fits base earlier p k.name (assigned (with_key p k) k v) stands refl (λ e. cc), h k p (earlier ++ (assigned (with_key p k) k v ∷ [])) (child-under base p (key k.name) stands.0))
+key-scoped base earlier p (k ∷ l ∷ more) v inside stands h =
+    let c = dotted (with_key p k) k v in (
+      table-fits base earlier p k.name c stands refl (λ e. cc),
+      scoped-loose base (earlier ++ (c ∷ [])) (Some c) (key_claims (with_key p k) (l ∷ more) v inside)
+          (key-scoped base (earlier ++ (c ∷ [])) (with_key p k) (l ∷ more) v inside
+          (child-from base p (key k.name) stands.0, inr (c, in-right c earlier (c ∷ []) (inl refl), (λ e. cc), refl)) h),
+    )
+
+element-fits : (p : Path) (earlier : List Claim) (n : ℕ) (v : ParsedValue) → Fits p earlier (element (with_position p n) v)
+element-fits p earlier n v = record {
+  under = (position n, [], refl);
+  parent = inl (position n, refl);
+  entry = λ is. cc;
+  assigned = λ is. inr (position n, refl);
+  passed = λ is q m there. cc;
+}
+
+mutual
+  unfolding value_claims inner_claims item_claims pair_claims
+
+  value-scoped : (v : ParsedValue) (base : Path) (earlier : List Claim) (a : Claim) → a.mark.sort ≡ Assigned → IsUnder base a.path → Scoped base earlier (Some a) (value_claims v a.path)
+  value-scoped (parsed k span) base earlier a is under = inner-scoped k base earlier a is under
+
+  inner-scoped : (k : ParsedInner) (base : Path) (earlier : List Claim) (a : Claim) → a.mark.sort ≡ Assigned → IsUnder base a.path → Scoped base earlier (Some a) (inner_claims k a.path)
+  inner-scoped (scalar s) base earlier a is under = tt
+  inner-scoped (array vs) base earlier a is under = (is, under, items-scoped vs 0 a.path [], tt)
+  inner-scoped (inline ps) base earlier a is under = (is, under, pairs-scoped ps a.path [], tt)
+
+  items-scoped : (vs : ParsedItems) (n : ℕ) (p : Path) (earlier : List Claim) → Scoped p earlier None (item_claims vs n p)
+  items-scoped no_items n p earlier = tt
+  items-scoped (item v vs) n p earlier =
+      let c = element (with_position p n) v in
+      let l = earlier ++ (c ∷ []) in (
+        element-fits p earlier n v,
+        scoped-followed p l (Some c) (value_claims v (with_position p n)) (item_claims vs (suc n) p)
+            (value-scoped v p l c refl (position n, [], refl)) (items-scoped vs (suc n) p (l ++ own (value_claims v (with_position p n)))),
+      )
+
+  pairs-scoped : (ps : ParsedPairs) (p : Path) (earlier : List Claim) → Scoped p earlier None (pair_claims ps p)
+  pairs-scoped no_pairs p earlier = tt
+  pairs-scoped (pair parts v extent ps) p earlier =
+      let front = key_claims p parts v (value_claims v) in
+      scoped-followed p earlier None front (pair_claims ps p)
+      (key-scoped p earlier p parts v (value_claims v) (([], sym (append-nil p)), inl refl)
+      (λ k q l under. value-scoped v p l (assigned (with_key q k) k v) refl under))
+      (pairs-scoped ps p (earlier ++ own front))
+
+key_values-scoped : (es : List KeyValue) (base : Path) (earlier : List Claim) (p : Path) → Stands base earlier p → Scoped base earlier None (key_value_claims es p)
+unfolding key_value_claims
+key_values-scoped [] base earlier p stands = tt
+key_values-scoped (e ∷ es) base earlier p stands =
+    let front = key_claims p e.parts e.value (value_claims e.value) in
+    scoped-followed base earlier None front (key_value_claims es p)
+    (key-scoped base earlier p e.parts e.value (value_claims e.value) stands
+    (λ k q l under. value-scoped e.value base l (assigned (with_key q k) k e.value) refl under))
+    (key_values-scoped es base (earlier ++ own front) p (stands-on base earlier (own front) p stands))
+
+-- ---- headers
+
+-- an array of tables with so many entries
+abbrev HasEntries : List Claim → Path → ℕ → Type 0
+HasEntries l p n = (m : ℕ) → m < n → Has l ArrayOfTables p × Has l TableElement (with_position p m)
+
+entries-on : (l more : List Claim) (p : Path) (n : ℕ) → HasEntries l p n → HasEntries (l ++ more) p n
+entries-on l more p n h m few = (has-on l more ArrayOfTables p (h m few).0, has-on l more TableElement (with_position p m) (h m few).1)
+
+root-from : (p : Path) → IsFrom [] p
+root-from p = (p, refl)
+
+-- a claim of the document at a position of an array of tables
+entry-fits : (earlier : List Claim) (p : Path) (k : List ℕ) (n : ℕ) (c : Claim) → Has earlier ArrayOfTables (p ++ (key k ∷ [])) → c.path ≡ (p ++ (key k ∷ [])) ++ (position n ∷ [])
+    → (c.mark.sort ≡ Assigned → ⊥) → (c.mark.sort ≡ Passed → Has earlier TableElement ((p ++ (key k ∷ [])) ++ (position n ∷ []))) → Fits [] earlier c
+entry-fits earlier p k n c (e, here, is, there) on plain passed = record {
+  under = rw on (child-under [] (p ++ (key k ∷ [])) (position n) (root-from (p ++ (key k ∷ []))));
+  parent = inr (p ++ (key k ∷ []), (e, here, (λ no. let wrong : ArrayOfTables ≡ Assigned = sym is ∙ no in cc), there), (position n, on));
+  entry = λ e. (refl, (p, k, n, on));
+  assigned = λ is. absurd (plain is);
+  passed = λ is q m there. rw on (passed is);
+}
+
+passed-fits : (n : ℕ) (earlier : List Claim) (h : Head) (p : Path) (k : SimpleKey) → Stands [] earlier p → HasEntries earlier (with_key p k) n → Fits [] earlier (header_claim h Passed (enter n (with_key p k)) k)
+unfolding enter
+passed-fits zero earlier h p k stands few = table-fits [] earlier p k.name (header_claim h Passed (with_key p k) k) stands refl (λ e. cc)
+passed-fits (suc n) earlier h p k stands few =
+    let found = few n (omega arith) in
+    entry-fits earlier p k.name n (header_claim h Passed (with_position (with_key p k) n) k) found.0 refl (λ e. cc) (λ e. found.1)
+
+-- what a header leaves at its end
+abbrev Ends : Bool → List Claim → Path → ℕ → Type 0
+Ends true l p n = Has l ArrayOfTables p × Has l TableElement (with_position p n)
+Ends false l p n = Has l StandardTable p
+
+-- a header's claims fit, and its end is claimed
+record Header (earlier : List Claim) (h : Head) (p : Path) (n : ℕ) (cs : Claims) : Type 0 where
+  scoped : Scoped [] earlier None cs
+  ends : Ends h.array (earlier ++ own cs) p n
+
+added : (n : ℕ) (earlier : List Claim) (h : Head) (p : Path) (k : SimpleKey) → Stands [] earlier p → HasEntries earlier (with_key p k) n
+    → Scoped [] earlier None (array_claims h (with_key p k) k n (claimed (header_claim h TableElement (with_position (with_key p k) n) k) no_claims))
+    × Ends true (earlier ++ own (array_claims h (with_key p k) k n (claimed (header_claim h TableElement (with_position (with_key p k) n) k) no_claims))) (with_key p k) n
+added zero earlier h p k stands few =
+    let q = with_key p k in
+    let a = header_claim h ArrayOfTables q k in
+    let c = header_claim h TableElement (with_position q 0) k in
+    let found : Has (earlier ++ (a ∷ [])) ArrayOfTables q = (a, in-right a earlier (a ∷ []) (inl refl), refl, refl) in (
+      (table-fits [] earlier p k.name a stands refl (λ e. cc), (entry-fits (earlier ++ (a ∷ [])) p k.name 0 c found refl (λ e. cc) (λ e. cc), tt)),
+      ((a, in-right a earlier (a ∷ c ∷ []) (inl refl), refl, refl), (c, in-right c earlier (a ∷ c ∷ []) (inr (inl refl)), refl, refl)),
+    )
+added (suc n) earlier h p k stands few =
+    let q = with_key p k in
+    let c = header_claim h TableElement (with_position q (suc n)) k in
+    let found = (few n (omega arith)).0 in (
+      (entry-fits earlier p k.name (suc n) c found refl (λ e. cc) (λ e. cc), tt),
+      (has-on earlier (c ∷ []) ArrayOfTables q found, (c, in-right c earlier (c ∷ []) (inl refl), refl, refl)),
+    )
+
+end-header : (n : ℕ) (earlier : List Claim) (h : Head) (p : Path) (k : SimpleKey) → Stands [] earlier p → HasEntries earlier (with_key p k) n → Header earlier h (with_key p k) n (end_claims h (with_key p k) k n)
+unfolding end_claims
+end-header n earlier h p k stands few = elim (cases_Bool h.array) [
+  | inl arr ↦ let both = added n earlier h p k stands few in record { scoped = rw arr both.0; ends = rw arr both.1 }
+  | inr tab ↦
+      let c = header_claim h StandardTable (with_key p k) k in
+      record {
+        scoped = rw tab (table-fits [] earlier p k.name c stands refl (λ e. cc), tt);
+        ends = rw tab (c, in-right c earlier (c ∷ []) (inl refl), refl, refl);
+      }
+]
+
+-- at each path as many entries as are counted
+abbrev Counted : List Claim → (Path → ℕ) → Type 0
+Counted l e = (p : Path) → HasEntries l p (e p)
+
+header-scoped : (e : Path → ℕ) (earlier : List Claim) (h : Head) (p : Path) (k : SimpleKey) (parts : List SimpleKey) → Stands [] earlier p → Counted earlier e
+    → Header earlier h (target e p (k ∷ parts)) (e (target e p (k ∷ parts))) (header_claims e h p (k ∷ parts))
+unfolding header_claims target
+header-scoped e earlier h p k [] stands counted = end-header (e (with_key p k)) earlier h p k stands (counted (with_key p k))
+header-scoped e earlier h p k (l ∷ more) stands counted =
+    let n = e (with_key p k) in
+    let q = enter n (with_key p k) in
+    let c = header_claim h Passed q k in
+    let on = earlier ++ (c ∷ []) in
+    let rest = header-scoped e on h q l more (root-from q, inr (c, in-right c earlier (c ∷ []) (inl refl), (λ e. cc), refl)) (λ r. entries-on earlier (c ∷ []) r (e r) (counted r)) in
+    record {
+      scoped = (passed-fits n earlier h p k stands (counted (with_key p k)), scoped-loose [] on (Some c) (header_claims e h q (l ∷ more)) rest.scoped);
+      ends = subst (λ xs. Ends h.array xs (target e q (l ∷ more)) (e (target e q (l ∷ more)))) (append_assoc earlier (c ∷ []) (own (header_claims e h q (l ∷ more)))) rest.ends;
+    }
+
+-- ---- sections
+
+makes-of : (l : List Claim) (sort : Sort) (p : Path) → (sort ≡ Assigned → ⊥) → Has l sort p → Makes l p
+makes-of l sort p plain (e, here, is, on) = (e, here, (λ no. plain (sym is ∙ no)), on)
+
+end-makes : (array : Bool) (l : List Claim) (p : Path) (n : ℕ) → Ends array l p n → Makes l (if array then with_position p n else p)
+end-makes true l p n h = makes-of l TableElement (with_position p n) (λ e. cc) h.1
+end-makes false l p n h = makes-of l StandardTable p (λ e. cc) h
+
+pub own-followed : (xs ys : Claims) → own (followed xs ys) ≡ own xs ++ own ys
+unfolding followed
+own-followed no_claims ys = refl
+own-followed (claimed c xs) ys = ap (λ l. c ∷ l) (own-followed xs ys)
+own-followed (scope inner xs) ys = own-followed xs ys
+
+one-more : (l : List Claim) (p : Path) (n : ℕ) → HasEntries l p n → Has l ArrayOfTables p → Has l TableElement (with_position p n) → HasEntries l p (suc n)
+one-more l p n h made entry m few = elim (cases_lt m n) [
+  | inl before ↦ h m before
+  | inr last ↦ let same : m ≡ n = omega (arith, few, last) in (made, subst (λ i. Has l TableElement (with_position p i)) (sym same) entry)
+]
+
+counted-array : (l : List Claim) (before : List Path) (t : Path) → Counted l (elements_added before) → Ends true l t (elements_added before t) → Counted l (elements_added (t ∷ before))
+counted-array l before t counted ends p = elim (cases_Bool (same_path t p)) [
+  | inl here ↦
+      let same = same_path-eq t p here in
+      rw here (one-more l p (elements_added before p) (counted p) (subst (λ q. Has l ArrayOfTables q) same ends.0) (subst (λ q. Has l TableElement (with_position q (elements_added before q))) same ends.1))
+  | inr off ↦ rw off (counted p)
+]
+
+-- what a section claims fits, and its entries are counted
+record Placed (earlier : List Claim) (b : Block) (blocks : List Block) : Type 0 where
+  scoped : Scoped [] earlier None (section_claims (elements_added (opened_by blocks)) b)
+  counted : Counted (earlier ++ own (section_claims (elements_added (opened_by blocks)) b)) (elements_added (opened_by (b ∷ blocks)))
+
+-- the header of a section, and what is opened by it
+record Opened (earlier : List Claim) (b : Block) (blocks : List Block) : Type 0 where
+  scoped : Scoped [] earlier None (header_claims (elements_added (opened_by blocks)) (head_of b) [] b.header)
+  stands : Stands [] (earlier ++ own (header_claims (elements_added (opened_by blocks)) (head_of b) [] b.header)) (section_path (elements_added (opened_by blocks)) b)
+  counted : Counted (earlier ++ own (header_claims (elements_added (opened_by blocks)) (head_of b) [] b.header)) (elements_added (opened_by (b ∷ blocks)))
+
+counted-on : (l more : List Claim) (e : Path → ℕ) → Counted l e → Counted (l ++ more) e
+counted-on l more e h p = entries-on l more p (e p) (h p)
+
+counted-end : (array : Bool) (l : List Claim) (before : List Path) (t : Path) → Counted l (elements_added before) → Ends array l t (elements_added before t) → Counted l (elements_added (if array then t ∷ before else before))
+counted-end true l before t counted ends = counted-array l before t counted ends
+counted-end false l before t counted ends = counted
+
+opened : (earlier : List Claim) (b : Block) (blocks : List Block) (parts : List SimpleKey) → b.header ≡ parts → (b.header ≡ [] → b.array ≡ false) → Counted earlier (elements_added (opened_by blocks)) → Opened earlier b blocks
+unfolding header_claims target opened_by
+opened earlier b blocks [] is headers counted =
+    record {
+      scoped = rw is tt;
+      stands = rw (is, headers is) (root-from [], inl refl);
+      counted = rw (is, headers is) (counted-on earlier [] (elements_added (opened_by blocks)) counted);
+    }
+opened earlier b blocks (k ∷ parts) is headers counted =
+    let e = elements_added (opened_by blocks) in
+    let t = target e [] (k ∷ parts) in
+    let made = header-scoped e earlier (head_of b) [] k parts (root-from [], inl refl) counted in
+    let l = earlier ++ own (header_claims e (head_of b) [] (k ∷ parts)) in
+    record {
+      scoped = rw is made.scoped;
+      stands = rw is (root-from (if b.array then with_position t (e t) else t), inr (end-makes b.array l t (e t) made.ends));
+      counted = rw is (counted-end b.array l (opened_by blocks) t (counted-on earlier (own (header_claims e (head_of b) [] (k ∷ parts))) e counted) made.ends);
+    }
+
+section-scoped : (earlier : List Claim) (b : Block) (blocks : List Block) → (b.header ≡ [] → b.array ≡ false) → Counted earlier (elements_added (opened_by blocks)) → Placed earlier b blocks
+unfolding section_claims
+section-scoped earlier b blocks headers counted =
+    let e = elements_added (opened_by blocks) in
+    let front = header_claims e (head_of b) [] b.header in
+    let p = section_path e b in
+    let behind = key_value_claims b.key_values p in
+    let o = opened earlier b blocks b.header refl headers counted in
+    let all : (earlier ++ own front) ++ own behind ≡ earlier ++ own (followed front behind) =
+    append_assoc earlier (own front) (own behind) ∙ ap (λ l. earlier ++ l) (sym (own-followed front behind)) in
+    record {
+      scoped = scoped-followed [] earlier None front behind o.scoped (key_values-scoped b.key_values [] (earlier ++ own front) p o.stands);
+      counted = subst (λ l. Counted l (elements_added (opened_by (b ∷ blocks)))) all (counted-on (earlier ++ own front) (own behind) (elements_added (opened_by (b ∷ blocks))) o.counted);
+    }
+
+behind-scoped : (earlier : List Claim) (blocks bs : List Block) → AreSections bs → Counted earlier (elements_added (opened_by blocks)) → Scoped [] earlier None (claims_behind blocks bs)
+unfolding claims_behind
+behind-scoped earlier blocks [] headers counted = tt
+behind-scoped earlier blocks (b ∷ bs) headers counted =
+    let front = section_claims (elements_added (opened_by blocks)) b in
+    let here = section-scoped earlier b blocks headers.0 counted in
+    scoped-followed [] earlier None front (claims_behind (b ∷ blocks) bs) here.scoped
+    (behind-scoped (earlier ++ own front) (b ∷ blocks) bs headers.1 here.counted)
+
+pub document-scoped : (bs : List Block) → AreSections bs → Scoped [] [] None (claims bs)
+unfolding opened_by
+document-scoped bs headers = behind-scoped [] [] bs headers (λ p m few. absurd (omega (arith, few)))

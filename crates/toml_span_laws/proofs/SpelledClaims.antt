@@ -1,0 +1,213 @@
+-- What the claims of a document assign is spelled in its text, and the claims behind each are those of its value.
+use Rattle.std.proofs.Common.{◌≡◌, ℕ, zero, suc, ◌+◌, ◌≤◌, ◌⊎◌, List, [], ◌∷◌, ◌++◌, length, arith, refl, sym, ap, ◌∙◌, subst, inl, inr}
+use Rattle.std.specs.Prelude.{⊤}
+use Rattle.std.proofs.lemmas.Bool.{cases_Bool}
+use Rattle.toml_span_lex.specs.declared.span.Span.{Span}
+use Rattle.toml_span_tree.specs.Node.{Scalar}
+use Rattle.toml_span_tree.specs.Path.{Path, shape_scalar}
+use Rattle.toml_span_read.specs.Data.{ParsedValue, parsed, ParsedInner, scalar, array, inline, ParsedItems, no_items, item, ParsedPairs, no_pairs, pair, KeyValue, parsed_span, Block}
+use Rattle.toml_span_read.specs.Grammar.{Spells, SpellsInner, SpellsItems, SpellsPairs, SpellsDocument, SpellsSections, SpellsKeyValues, first_block}
+use Rattle.toml_span_read.specs.Keys.{SimpleKey, SpellsKey}
+use Rattle.toml_span.specs.declared.claims.Mark.{Mark}
+use Rattle.toml_span.specs.declared.claims.Sort.{Sort}
+use Rattle.toml_span.specs.declared.claims.Sort.TheVariants.{Passed, StandardTable, ArrayOfTables, TableElement, Dotted as DottedTable, Assigned}
+use Rattle.toml_span.specs.declared.claims.Head.{Head}
+use Rattle.toml_span.specs.Paths.{with_key, with_position, enter, elements_added, opened_by, section_path}
+use Rattle.toml_span.specs.Claims.{Claim, Claims, no_claims, claimed, scope, followed, shape_claimed, table_claim, header_mark, header_claim, pair_mark, value_shape, parsed_inner, element, key_claims, value_claims, inner_claims, item_claims, pair_claims, key_value_claims, array_claims, end_claims, header_claims, section_claims, claims_behind, claims, head_of}
+use Rattle.toml_span.proofs.EachClaim.{Each}
+
+-- ---- one claim
+
+-- the text from one place to another spells the value
+pub record Spelled (text : List ℕ) (limit : ℕ) (v : ParsedValue) : Type 0 where
+  pub depth : ℕ
+  pub from : ℕ
+  pub to : ℕ
+  pub deep : 1 ≤ depth
+  pub spells : Spells v text limit depth from to
+
+-- the claim assigns a value that is spelled
+pub record Assigns (text : List ℕ) (limit : ℕ) (c : Claim) : Type 0 where
+  pub value : ParsedValue
+  pub spelled : Spelled text limit value
+  pub shape : c.place.shape ≡ value_shape (parsed_inner value)
+  pub span : c.place.span ≡ parsed_span value
+
+-- the claim assigns nothing: it makes a table or an array
+pub record Makes (c : Claim) : Type 0 where
+  pub sort : c.mark.sort ≡ Assigned → ⊥
+  pub shape : (s : Scalar) → c.place.shape ≡ shape_scalar s → ⊥
+
+abbrev pub OfText : List ℕ → ℕ → Claim → Type 0
+OfText text limit c = Assigns text limit c ⊎ Makes c
+
+-- Each claim assigns a value that is spelled, and right behind it stand the claims of that value; or it assigns nothing.
+abbrev pub AllSpelled : List ℕ → ℕ → Claims → Type 0
+AllSpelled text limit no_claims = ⊤
+AllSpelled text limit (claimed c cs) =
+    (((a : Assigns text limit c) × (rest : Claims) × (cs ≡ followed (value_claims a.value c.path) rest)) ⊎ Makes c) × AllSpelled text limit cs
+AllSpelled text limit (scope inner cs) = AllSpelled text limit inner × AllSpelled text limit cs
+
+pub followed-none : (xs : Claims) → followed xs no_claims ≡ xs
+unfolding followed
+followed-none no_claims = refl
+followed-none (claimed c xs) = ap (claimed c) (followed-none xs)
+followed-none (scope inner xs) = ap (scope inner) (followed-none xs)
+
+followed-assoc : (xs ys zs : Claims) → followed (followed xs ys) zs ≡ followed xs (followed ys zs)
+unfolding followed
+followed-assoc no_claims ys zs = refl
+followed-assoc (claimed c xs) ys zs = ap (claimed c) (followed-assoc xs ys zs)
+followed-assoc (scope inner xs) ys zs = ap (scope inner) (followed-assoc xs ys zs)
+
+spelled-followed : (text : List ℕ) (limit : ℕ) (xs ys : Claims) → AllSpelled text limit xs → AllSpelled text limit ys → AllSpelled text limit (followed xs ys)
+unfolding followed
+spelled-followed text limit no_claims ys h g = g
+spelled-followed text limit (claimed c xs) ys h g = (
+  elim h.0 [
+    | inl (a, rest, behind) ↦ inl (a, followed rest ys, ap (λ t. followed t ys) behind ∙ followed-assoc (value_claims a.value c.path) rest ys)
+    | inr made ↦ inr made
+  ],
+  spelled-followed text limit xs ys h.1 g,
+)
+spelled-followed text limit (scope inner xs) ys h g = (h.0, spelled-followed text limit xs ys h.1 g)
+
+no-scalar : (sort : Sort) (s : Scalar) → shape_claimed sort ≡ shape_scalar s → ⊥
+no-scalar Passed s h = cc
+no-scalar StandardTable s h = cc
+no-scalar ArrayOfTables s h = cc
+no-scalar TableElement s h = cc
+no-scalar DottedTable s h = cc
+no-scalar Assigned s h = cc
+
+-- a claim that assigns nothing, before others
+table-of_text : (text : List ℕ) (limit : ℕ) (p : Path) (k : SimpleKey) (m : Mark) (cs : Claims) → (m.sort ≡ Assigned → ⊥) → AllSpelled text limit cs → AllSpelled text limit (claimed (table_claim p k m) cs)
+table-of_text text limit p k m cs h g = (inr (record { sort = h; shape = no-scalar m.sort }), g)
+
+-- ---- values
+
+key-of_text : (text : List ℕ) (limit : ℕ) (p : Path) (parts : List SimpleKey) (v : ParsedValue) → Spelled text limit v → ((q : Path) → AllSpelled text limit (value_claims v q))
+    → AllSpelled text limit (key_claims p parts v (value_claims v))
+unfolding key_claims
+key-of_text text limit p [] v s h = tt
+key-of_text text limit p (k ∷ []) v s h =
+    let q = with_key p k in (inl (record { value = v; spelled = s; shape = refl; span = refl }, no_claims, sym (followed-none (value_claims v q))), h q)
+key-of_text text limit p (k ∷ l ∷ more) v s h =
+    table-of_text text limit (with_key p k) k (pair_mark DottedTable k.span (parsed_span v)) (key_claims (with_key p k) (l ∷ more) v (value_claims v)) (λ e. cc)
+    (key-of_text text limit (with_key p k) (l ∷ more) v s h)
+
+element-of_text : (v : ParsedValue) (q : Path) (rest : Claims) (text : List ℕ) (limit : ℕ) → Spelled text limit v → AllSpelled text limit (value_claims v q) → AllSpelled text limit rest
+    → AllSpelled text limit (claimed (element q v) (followed (value_claims v q) rest))
+element-of_text v q rest text limit s h g =
+    (inl (record { value = v; spelled = s; shape = refl; span = refl }, rest, refl), spelled-followed text limit (value_claims v q) rest h g)
+
+mutual
+  unfolding value_claims inner_claims item_claims pair_claims
+
+  value-of_text : (v : ParsedValue) (p : Path) (text : List ℕ) (limit d i j : ℕ) → 1 ≤ d → Spells v text limit d i j → AllSpelled text limit (value_claims v p)
+  value-of_text (parsed k span) p text limit d i j deep (few, h) = inner-of_text k span p text limit d i j h
+
+  inner-of_text : (k : ParsedInner) (span : Span) (p : Path) (text : List ℕ) (limit d i j : ℕ) → SpellsInner k span text limit d i j → AllSpelled text limit (inner_claims k p)
+  inner-of_text (scalar s) span p text limit d i j h = tt
+  inner-of_text (array vs) span p text limit d i j (here, e, k, gap, h) = (items-of_text vs 0 p text limit (d + 1) k j (omega arith) h, tt)
+  inner-of_text (inline ps) span p text limit d i j (here, e, k, gap, h) = (pairs-of_text ps [] p text limit (d + 1) k j (omega arith) h, tt)
+
+  items-of_text : (vs : ParsedItems) (n : ℕ) (p : Path) (text : List ℕ) (limit d i j : ℕ) → 1 ≤ d → SpellsItems vs text limit d i j → AllSpelled text limit (item_claims vs n p)
+  items-of_text no_items n p text limit d i j deep h = tt
+  items-of_text (item v vs) n p text limit d i j deep (m, h, inl (e, close)) =
+      element-of_text v (with_position p n) (item_claims vs (suc n) p) text limit (record { depth = d; from = i; to = m; deep = deep; spells = h })
+      (value-of_text v (with_position p n) text limit d i m deep h) (rw e tt)
+  items-of_text (item v vs) n p text limit d i j deep (m, h, inr (k, comma, rest)) =
+      element-of_text v (with_position p n) (item_claims vs (suc n) p) text limit (record { depth = d; from = i; to = m; deep = deep; spells = h })
+      (value-of_text v (with_position p n) text limit d i m deep h) (items-of_text vs (suc n) p text limit d k j deep rest)
+
+  pairs-of_text : (ps : ParsedPairs) (es : List KeyValue) (p : Path) (text : List ℕ) (limit d i j : ℕ) → 1 ≤ d → SpellsPairs ps es text limit d i j → AllSpelled text limit (pair_claims ps p)
+  pairs-of_text no_pairs es p text limit d i j deep h = tt
+  pairs-of_text (pair ss v x ps) es p text limit d i j deep (m, (a, b, key, few, sign, h, extent), clear, inl (e, close)) =
+      spelled-followed text limit (key_claims p ss v (value_claims v)) (pair_claims ps p)
+      (key-of_text text limit p ss v (record { depth = d + length ss; from = b; to = m; deep = omega arith; spells = h })
+      (λ q. value-of_text v q text limit (d + length ss) b m (omega arith) h)) (rw e tt)
+  pairs-of_text (pair ss v x ps) es p text limit d i j deep (m, (a, b, key, few, sign, h, extent), clear, inr (k, comma, rest)) =
+      spelled-followed text limit (key_claims p ss v (value_claims v)) (pair_claims ps p)
+      (key-of_text text limit p ss v (record { depth = d + length ss; from = b; to = m; deep = omega arith; spells = h })
+      (λ q. value-of_text v q text limit (d + length ss) b m (omega arith) h))
+      (pairs-of_text ps (es ++ (record { parts = ss; value = v; extent = x } ∷ [])) p text limit d k j deep rest)
+
+-- ---- sections
+
+pub some-part : (parts : List SimpleKey) (text : List ℕ) (i j : ℕ) → SpellsKey parts text i j → 1 ≤ length parts
+some-part [] text i j h = absurd h
+some-part (k ∷ parts) text i j h = omega arith
+
+key_values-of_text : (es before : List KeyValue) (p : Path) (text : List ℕ) (limit i j : ℕ) → SpellsKeyValues es before text limit i j → AllSpelled text limit (key_value_claims es p)
+unfolding key_value_claims
+key_values-of_text [] before p text limit i j h = tt
+key_values-of_text (e ∷ es) before p text limit i j (m, n, k, h, tail, clear, gap, rest) =
+    let deep = some-part e.parts text i h.key_end h.key in
+    spelled-followed text limit (key_claims p e.parts e.value (value_claims e.value)) (key_value_claims es p)
+    (key-of_text text limit p e.parts e.value (record { depth = length e.parts; from = h.from; to = m; deep = deep; spells = h.spelled })
+    (λ q. value-of_text e.value q text limit (length e.parts) h.from m deep h.spelled))
+    (key_values-of_text es (before ++ (e ∷ [])) p text limit k j rest)
+
+made : (text : List ℕ) (limit : ℕ) (h : Head) (sort : Sort) (p : Path) (k : SimpleKey) (cs : Claims) → (sort ≡ Assigned → ⊥) → AllSpelled text limit cs → AllSpelled text limit (claimed (header_claim h sort p k) cs)
+made text limit h sort p k cs f g = table-of_text text limit p k (header_mark h sort k.span) cs f g
+
+entry-of_text : (text : List ℕ) (limit : ℕ) (h : Head) (p : Path) (k : SimpleKey) (n : ℕ) → AllSpelled text limit (array_claims h p k n (claimed (header_claim h TableElement (with_position p n) k) no_claims))
+entry-of_text text limit h p k zero =
+    made text limit h ArrayOfTables p k (claimed (header_claim h TableElement (with_position p 0) k) no_claims) (λ e. cc) (made text limit h TableElement (with_position p 0) k no_claims (λ e. cc) tt)
+entry-of_text text limit h p k (suc n) = made text limit h TableElement (with_position p (suc n)) k no_claims (λ e. cc) tt
+
+end-of_text : (text : List ℕ) (limit : ℕ) (h : Head) (p : Path) (k : SimpleKey) (n : ℕ) → AllSpelled text limit (end_claims h p k n)
+unfolding end_claims
+end-of_text text limit h p k n = elim (cases_Bool h.array) [
+  | inl double ↦ rw double (entry-of_text text limit h p k n)
+  | inr single ↦ rw single (made text limit h StandardTable p k no_claims (λ e. cc) tt)
+]
+
+header-of_text : (text : List ℕ) (limit : ℕ) (e : Path → ℕ) (h : Head) (p : Path) (parts : List SimpleKey) → AllSpelled text limit (header_claims e h p parts)
+unfolding header_claims
+header-of_text text limit e h p [] = tt
+header-of_text text limit e h p (k ∷ []) = end-of_text text limit h (with_key p k) k (e (with_key p k))
+header-of_text text limit e h p (k ∷ l ∷ more) =
+    let q = enter (e (with_key p k)) (with_key p k) in made text limit h Passed q k (header_claims e h q (l ∷ more)) (λ e. cc) (header-of_text text limit e h q (l ∷ more))
+
+-- ---- documents
+
+-- what these sections assign is spelled
+abbrev BlocksOfText : List ℕ → ℕ → List Block → Type 0
+BlocksOfText text limit [] = ⊤
+BlocksOfText text limit (b ∷ bs) = ((p : Path) → AllSpelled text limit (key_value_claims b.key_values p)) × BlocksOfText text limit bs
+
+sections-of_text : (bs : List Block) (text : List ℕ) (limit i : ℕ) → SpellsSections bs text limit i → BlocksOfText text limit bs
+sections-of_text [] text limit i h = tt
+sections-of_text (b ∷ bs) text limit i (j, h, rest) = (λ p. key_values-of_text b.key_values [] p text limit h.lines.0 j h.lines.2, sections-of_text bs text limit j rest)
+
+with-first : (es : List KeyValue) (bs : List Block) (text : List ℕ) (limit : ℕ) → ((p : Path) → AllSpelled text limit (key_value_claims es p)) → BlocksOfText text limit bs
+    → BlocksOfText text limit (first_block es ++ bs)
+with-first [] bs text limit h more = more
+with-first (e ∷ es) bs text limit h more = (h, more)
+
+behind-of_text : (earlier bs : List Block) (text : List ℕ) (limit : ℕ) → BlocksOfText text limit bs → AllSpelled text limit (claims_behind earlier bs)
+unfolding claims_behind section_claims
+behind-of_text earlier [] text limit h = tt
+behind-of_text earlier (b ∷ bs) text limit h =
+    let e = elements_added (opened_by earlier) in
+    spelled-followed text limit (section_claims e b) (claims_behind (b ∷ earlier) bs)
+    (spelled-followed text limit (header_claims e (head_of b) [] b.header) (key_value_claims b.key_values (section_path e b))
+    (header-of_text text limit e (head_of b) [] b.header) (h.0 (section_path e b)))
+    (behind-of_text (b ∷ earlier) bs text limit h.1)
+
+pub document-spelled : (bs : List Block) (text : List ℕ) (limit : ℕ) → SpellsDocument bs text limit → AllSpelled text limit (claims bs)
+document-spelled bs text limit x =
+    let first = λ (p : Path). key_values-of_text x.first [] p text limit x.lines.0 x.end x.lines.2 in
+    behind-of_text [] bs text limit
+    (subst (BlocksOfText text limit) (sym x.all) (with-first x.first x.rest text limit first (sections-of_text x.rest text limit x.end x.sections)))
+
+-- each claim by itself
+each-of_text : (text : List ℕ) (limit : ℕ) (cs : Claims) → AllSpelled text limit cs → Each (OfText text limit) cs
+each-of_text text limit no_claims h = tt
+each-of_text text limit (claimed c cs) h = (elim h.0 [ inl (a, rest, behind) ↦ inl a | inr made ↦ inr made ], each-of_text text limit cs h.1)
+each-of_text text limit (scope inner cs) h = (each-of_text text limit inner h.0, each-of_text text limit cs h.1)
+
+pub document-of_text : (bs : List Block) (text : List ℕ) (limit : ℕ) → SpellsDocument bs text limit → Each (OfText text limit) (claims bs)
+document-of_text bs text limit h = each-of_text text limit (claims bs) (document-spelled bs text limit h)

@@ -1,0 +1,5 @@
+use Rattle.toml_span_laws.proofs.NumberLaws.{number_unique}
+use Rattle.toml_span_laws.proofs.numbers.one_number.Goals as goal
+
+pub returns : goal.returns
+returns c = number_unique

@@ -1,0 +1,5 @@
+use Rattle.toml_span_laws.proofs.ClaimedValues.{document-again}
+use Rattle.toml_span_laws.proofs.parse.brackets_read_again.Goals as goal
+
+pub returns : goal.returns
+returns c = λ text limit blocks h. document-again blocks text limit h

@@ -1,0 +1,5 @@
+use Rattle.toml_span_laws.proofs.Order.{document-ascends}
+use Rattle.toml_span_laws.proofs.parse.claims_ascend.Goals as goal
+
+pub returns : goal.returns
+returns c = λ text limit blocks h. document-ascends blocks text limit h

@@ -1,0 +1,5 @@
+use Rattle.toml_span_laws.proofs.StartLaws.{document_keys_increase}
+use Rattle.toml_span_laws.proofs.starts.keys_start_apart.Goals as goal
+
+pub returns : goal.returns
+returns c = λ text limit blocks h. document_keys_increase blocks text limit h

@@ -1,0 +1,5 @@
+use Rattle.toml_span_laws.proofs.UndatedLaws.{document_dated}
+use Rattle.toml_span_laws.proofs.undated.undated_document.Goals as goal
+
+pub returns : goal.returns
+returns c = λ text limit blocks h. document_dated blocks text limit h

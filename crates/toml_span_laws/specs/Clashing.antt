@@ -1,0 +1,46 @@
+-- Claims of one scope: which of them clash, and which two are the first by the places of their keys.
+use Rattle.std.specs.Prelude.{◌≡◌, ◌<◌, ◌⊎◌, List, [], ◌∷◌, ◌++◌, Some}
+use Rattle.toml_span.specs.Claims.{Claim, Claims, no_claims, claimed, scope}
+use Rattle.toml_span.specs.Clashes.{NamedClash, clash}
+use Rattle.toml_span_laws.specs.Order.{claim_start}
+
+-- the claim stands in the list
+abbrev pub IsIn : Claim → List Claim → Type 0
+IsIn c [] = ⊥
+IsIn c (d ∷ ds) = (c ≡ d) ⊎ IsIn c ds
+
+-- an earlier claim clashes with a later one
+abbrev pub DoClash : Claim → Claim → Type 0
+DoClash c d = (t : NamedClash) × (clash c d ≡ Some t)
+
+-- Behind these earlier claims of the scope, or in a scope inside, a claim clashes with an earlier one of its scope.
+abbrev pub IsPair : List Claim → Claims → Claim → Claim → Type 0
+IsPair earlier no_claims c d = ⊥
+IsPair earlier (claimed x cs) c d = ((d ≡ x) × IsIn c earlier × DoClash c d) ⊎ IsPair (earlier ++ (x ∷ [])) cs c d
+IsPair earlier (scope inner cs) c d = IsPair [] inner c d ⊎ IsPair earlier cs c d
+
+-- The two clash. The later one starts before every other claim that clashes with an earlier one of its scope, and the
+-- earlier one before every other claim with which the later one clashes.
+pub record IsFirstPair (earlier : List Claim) (cs : Claims) (c d : Claim) : Type 0 where
+  pub pair : IsPair earlier cs c d
+  pub first : (e f : Claim) → IsPair earlier cs e f → (f ≡ d) ⊎ (claim_start d < claim_start f)
+  pub partner : (e : Claim) → IsPair earlier cs e d → (e ≡ c) ⊎ (claim_start c < claim_start e)
+
+-- ---- claims of one scope
+
+-- the claims of the outer scope
+abbrev pub own : Claims → List Claim
+own no_claims = []
+own (claimed c cs) = c ∷ own cs
+own (scope inner cs) = own cs
+
+-- two claims of one of the scopes inside
+abbrev pub ShareInside : Claims → Claim → Claim → Type 0
+ShareInside no_claims c d = ⊥
+ShareInside (claimed x cs) c d = ShareInside cs c d
+ShareInside (scope inner cs) c d = (IsIn c (own inner) × IsIn d (own inner)) ⊎ ShareInside inner c d
+    ⊎ ShareInside cs c d
+
+-- two claims of one scope, the outer one or one inside
+abbrev pub ShareScope : Claims → Claim → Claim → Type 0
+ShareScope cs c d = (IsIn c (own cs) × IsIn d (own cs)) ⊎ ShareInside cs c d

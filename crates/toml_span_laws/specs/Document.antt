@@ -1,0 +1,45 @@
+-- What callers say of a text that is read.
+use Rattle.std.specs.Prelude.{◌≡◌, ℕ, List, [], ◌∷◌, ◌++◌, length, Option, Some, None, option_map}
+use Rattle.toml_span_tree.specs.Path.{Path, Place}
+use Rattle.toml_span_tree.specs.Pointer.{pointer_segments, NamesPath}
+use Rattle.toml_span_tree.specs.Node.{Node}
+use Rattle.toml_span_read.specs.Data.{Block}
+use Rattle.toml_span_read.specs.Grammar.{SpellsDocument}
+use Rattle.toml_span_read.specs.Limits.{depth_limit}
+use Rattle.toml_span.specs.Claims.{claims}
+use Rattle.toml_span.specs.Clashes.{Resolves}
+use Rattle.toml_span.specs.Flat.{flat, Shows}
+use Rattle.toml_span.specs.Ordered.{IsOrdered}
+
+-- The text spells sections of which no two claims clash, and P holds of their flat document.
+abbrev pub IsDocument : List ℕ → ((Path → Option Place) → Type 0) → Type 0
+IsDocument text P =
+    (blocks : List Block) × SpellsDocument blocks text depth_limit × Resolves (claims blocks)
+    × P (flat (length text) (claims blocks))
+
+-- At a path whose steps the pointer's segments name stands a place of which P holds.
+abbrev pub StandsAt : List ℕ → (Path → Option Place) → (Place → Type 0) → Type 0
+StandsAt pointer places P =
+    (names : List (List ℕ)) × (path : Path) × (place : Place) × (pointer_segments pointer ≡ Some names)
+    × NamesPath names path × (places path ≡ Some place) × P place
+
+-- ---- the part of a flat document below a path, and the value that shows it
+
+-- A value shows its own place without the span of the key at which it stands.
+abbrev pub without_key : Place → Place
+without_key x = record { shape = x.shape; key_span = None; span = x.span }
+
+-- what stands at a path and below it, seen from there
+abbrev pub subtree : (Path → Option Place) → Path → Path → Option Place
+subtree places path [] = option_map without_key (places path)
+subtree places path (s ∷ p) = places (path ++ (s ∷ p))
+
+-- The value shows just these places, and its tables are in the order of their names. There is one such value at most.
+abbrev pub IsValueOf : (Path → Option Place) → Node → Type 0
+IsValueOf places n = IsOrdered n × Shows n places
+
+-- the pointer's segments name the steps of a path, and this is the value of what stands there
+abbrev pub PointsAt : List ℕ → (Path → Option Place) → Node → Type 0
+PointsAt pointer places n =
+    (names : List (List ℕ)) × (path : Path) × (pointer_segments pointer ≡ Some names) × NamesPath names path
+    × IsValueOf (subtree places path) n

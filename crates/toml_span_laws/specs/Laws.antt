@@ -1,0 +1,47 @@
+-- What the laws cite.
+use Rattle.std.specs.Prelude.{◌≡◌, ⊤, ℕ, suc, ◌+◌, Bool, List, [], ◌∷◌}
+use Rattle.toml_span_lex.specs.declared.span.Span.{Span}
+use Rattle.toml_span_lex.specs.Strings.{IsString, IsEmptyOnOneLine}
+use Rattle.toml_span_tree.specs.Path.{Path, key, position}
+use Rattle.toml_span_read.specs.Data.{parsed_span}
+use Rattle.toml_span_read.specs.Data as read
+use Rattle.toml_span_laws.specs.Places.{CutsContent}
+use Rattle.toml_span_laws.specs.Again.{ReadsAgain, ScalarReadsAgain}
+use Rattle.toml_span.specs.declared.claims.Sort.TheVariants.{Assigned}
+use Rattle.toml_span.specs.Claims.{Claims, no_claims, claimed, scope, followed, parsed_inner}
+use Rattle.toml_span.specs.Claims.{value_claims}
+use Rattle.toml_span.specs.Claims.{value_shape}
+
+-- how many keys a path has
+abbrev pub keys_in : Path → ℕ
+keys_in [] = 0
+keys_in (key name ∷ p) = suc (keys_in p)
+keys_in (position i ∷ p) = keys_in p
+
+-- The text from i to j is a string with this value. The span is all that stands between its quotes, or, of two quotes
+-- alone, the first of them.
+pub record ShowsString (text value : List ℕ) (span : Span) : Type 0 where
+  pub i : ℕ
+  pub j : ℕ
+  pub source : List ℕ
+  pub multi : Bool
+  pub spelled : IsString text i j span source value multi
+  pub content : (IsEmptyOnOneLine i j → ⊥) → CutsContent text i j span value multi
+  pub opening : IsEmptyOnOneLine i j → (value ≡ []) × (span ≡ record { start = i; end = i + 1 })
+
+-- the text at the value's span is read again as that value; of a string nothing is said
+abbrev pub ValueReadsAgain : List ℕ → ℕ → read.ParsedValue → Type 0
+ValueReadsAgain text limit (read.parsed (read.scalar s) span) = ScalarReadsAgain text limit s span
+ValueReadsAgain text limit (read.parsed (read.array items) span) =
+    ReadsAgain text limit (read.parsed (read.array items) span)
+ValueReadsAgain text limit (read.parsed (read.inline pairs) span) =
+    ReadsAgain text limit (read.parsed (read.inline pairs) span)
+
+-- What a claim assigns is read again as a value, and the claims right behind it are what that value claims.
+abbrev pub AssignsAgain : List ℕ → ℕ → Claims → Type 0
+AssignsAgain text limit no_claims = ⊤
+AssignsAgain text limit (claimed c cs) =
+    (c.mark.sort ≡ Assigned → (v : read.ParsedValue) × (rest : Claims) × ValueReadsAgain text limit v
+    × (c.place.shape ≡ value_shape (parsed_inner v))
+    × (c.place.span ≡ parsed_span v) × (cs ≡ followed (value_claims v c.path) rest)) × AssignsAgain text limit cs
+AssignsAgain text limit (scope inner cs) = AssignsAgain text limit inner × AssignsAgain text limit cs

@@ -1,0 +1,11 @@
+pub mod Places
+pub mod Again
+pub mod Undated
+pub mod Clashing
+pub mod Document
+pub mod Order
+pub mod Laws
+pub mod Outcomes
+pub mod Helpers
+pub mod Moved
+pub mod code

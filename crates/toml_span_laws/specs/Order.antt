@@ -1,0 +1,32 @@
+-- The order of claims and keys in the text.
+use Rattle.std.specs.Prelude.{◌≡◌, ⊤, ℕ, ◌<◌, ◌⊎◌, List, [], ◌∷◌, Option, Some, option_and_then}
+use Rattle.toml_span_lex.specs.declared.span.Span.{Span}
+use Rattle.toml_span_tree.specs.Path.{Path, Place}
+use Rattle.toml_span.specs.Claims.{Claim}
+use Rattle.toml_span.specs.declared.claims.Sort.TheVariants.{ArrayOfTables, TableElement}
+
+-- where the key starts that claims, or the element
+abbrev pub claim_start : Claim → ℕ
+claim_start c = c.mark.key.start
+
+-- the second claim starts behind the first; or the first is an array of tables and the second its element, which one
+-- key claims
+abbrev pub Follows : Claim → Claim → Type 0
+Follows c d =
+    (claim_start c < claim_start d)
+    ⊎ ((c.mark.sort ≡ ArrayOfTables) × (d.mark.sort ≡ TableElement) × (c.mark.key ≡ d.mark.key))
+
+-- each claim follows the one before it
+abbrev pub Ascends : List Claim → Type 0
+Ascends [] = ⊤
+Ascends (c ∷ []) = ⊤
+Ascends (c ∷ d ∷ cs) = Follows c d × Ascends (d ∷ cs)
+
+-- where the key at a path stands, if what stands there has one
+abbrev pub key_at : (Path → Option Place) → Path → Option Span
+key_at places p = option_and_then (λ x. x.key_span) (places p)
+
+-- no two keys start at one place
+abbrev pub KeysApart : (Path → Option Place) → Type 0
+KeysApart places =
+    (p q : Path) (k l : Span) → key_at places p ≡ Some k → key_at places q ≡ Some l → k.start ≡ l.start → p ≡ q

@@ -1,0 +1,19 @@
+//! Laws of what is read again.
+ghost use Rattle.std.specs.Prelude.{◌≤◌, ℕ, List};
+ghost use Rattle.toml_span_read.specs.Data.{ParsedValue, Block};
+ghost use Rattle.toml_span_read.specs.Grammar.{Spells, SpellsDocument};
+ghost use Rattle.toml_span_laws.specs.Again.{SpellsAgain, BlocksReadAgain};
+
+/// The text that spells a value spells it again: behind `x = ` it is a document of one assignment, whose key
+/// is `x` and whose value is the same, with all its spans moved.
+pub fn spelled_again()
+    ensures { (text : List ℕ) (limit depth i j : ℕ) (v : ParsedValue) → 1 ≤ depth → Spells v text limit depth i j
+        → SpellsAgain v text limit i j }
+{}
+
+/// In a document each number, truth value, date, array and inline table, at every nesting, is spelled again by
+/// the text at its span.
+pub fn values_read_again()
+    ensures { (text : List ℕ) (limit : ℕ) (blocks : List Block) → SpellsDocument blocks text limit
+        → BlocksReadAgain text limit blocks }
+{}

@@ -1,0 +1,17 @@
+//! Laws of the grammar, of its faults and of `parse`: what follows from the definitions that contracts cite.
+#![tactic(auto)]
+
+pub mod again;
+pub mod due;
+pub mod earlier;
+pub mod judged;
+pub mod keys;
+pub mod keys_order;
+pub mod limits;
+pub mod lines;
+pub mod numbers;
+pub mod parse;
+pub mod starts;
+pub mod strings;
+pub mod undated;
+pub mod values;

@@ -1,0 +1,85 @@
+//! Laws of lines, headers, sections and the document.
+ghost use Rattle.std.specs.Prelude.{◌≡◌, ℕ, Bool, false, List, length, map, Result, Vec};
+ghost use Rattle.std.specs.Global.{Global};
+ghost use Rattle.toml_span_lex.specs.declared.stop.Stop.{Stop};
+ghost use Rattle.toml_span_tree.specs.declared.error.Error.{Error};
+ghost use Rattle.toml_span_read.specs.declared.section.Section.{Section};
+ghost use Rattle.toml_span_lex.specs.Bytes.{is_blank, MaximalRun};
+ghost use Rattle.toml_span_read.specs.declared.fault.Fault.{Fault};
+ghost use Rattle.toml_span_read.specs.Gaps.{MaximalGap, begins_gap, BlankLines, BehindLines};
+ghost use Rattle.toml_span_read.specs.Keys.{SimpleKey};
+ghost use Rattle.toml_span_read.specs.Places.{SectionsInside};
+ghost use Rattle.toml_span_laws.specs.Places.{BlocksAscend};
+ghost use Rattle.toml_span_read.specs.Data.{Block, block};
+ghost use Rattle.toml_span_read.specs.Grammar.{SpellsDocument, SpellsHeader};
+ghost use Rattle.toml_span_read.specs.Due.{IsDue};
+ghost use Rattle.toml_span_read.specs.Reading.{ReadsDocument, AreRead};
+ghost use Rattle.toml_span_read.specs.code.Stuck.{StuckHeader, StuckKeyValue, StuckTail};
+
+/// A text spells at most one document.
+pub fn one_document()
+    ensures { (text : List ℕ) (limit : ℕ) (blocks others : List Block) → SpellsDocument blocks text limit
+        → SpellsDocument others text limit → blocks ≡ others }
+{}
+
+/// Where a text spells a document, no fault is told in it.
+pub fn document_or_fault()
+    ensures { (text : List ℕ) (limit : ℕ) (blocks : List Block) (fault : Fault) → SpellsDocument blocks text limit
+        → IsDue text limit fault → ⊥ }
+{}
+
+/// What spells a document is read as it, unless memory runs out.
+pub fn read_where_spelled()
+    ensures { (text : List ℕ) (limit : ℕ) (result : Result (Vec Section Global) (Stop Error)) (blocks : List Block)
+        → ReadsDocument text limit result → SpellsDocument blocks text limit → AreRead blocks result }
+{}
+
+/// At most one header stands at a place.
+pub fn one_header()
+    ensures { (text : List ℕ) (limit i j k : ℕ) (ps qs : List SimpleKey) (array other : Bool)
+        → SpellsHeader ps array text limit i j → SpellsHeader qs other text limit i k
+        → (ps ≡ qs) × (array ≡ other) × (j ≡ k) }
+{}
+
+/// Where a header stands, none gets stuck.
+pub fn header_or_fault()
+    ensures { (text : List ℕ) (limit i j : ℕ) (ps : List SimpleKey) (array : Bool) (fault : Fault)
+        → SpellsHeader ps array text limit i j → StuckHeader text limit i fault → ⊥ }
+{}
+
+/// What stands before a form is blank lines, and the spaces and tabs before it.
+pub fn blank_lines()
+    ensures before { (text : List ℕ) (i j : ℕ) → MaximalGap text i j → BehindLines text j
+        → (ends : List ℕ) × (k : ℕ) × BlankLines text i ends k × MaximalRun is_blank text k j }
+    ensures behind { (text : List ℕ) (i j k : ℕ) (ends : List ℕ) → BlankLines text i ends k
+        → MaximalRun is_blank text k j → begins_gap text j ≡ false → MaximalGap text i j }
+{}
+
+/// The headers, the keys and the values that a text spells stand one behind the other.
+pub fn document_ascends()
+    ensures { (text : List ℕ) (limit : ℕ) (blocks : List Block) → SpellsDocument blocks text limit
+        → BlocksAscend blocks 0 (length text) }
+{}
+
+/// Their keys and headers stand inside the text, those of inline tables too.
+pub fn sections_inside_the_text()
+    ensures { (text : List ℕ) (limit : ℕ) (sections : List Section) → SpellsDocument (map block sections) text limit
+        → SectionsInside (length text) sections }
+{}
+
+/// Where a line or a header is due and none stands, one fault does: of an assignment, of the rest of its line,
+/// and of a header.
+pub fn one_line_fault()
+    ensures assignment { (text : List ℕ) (limit i : ℕ) (fault other : Fault) → StuckKeyValue text limit i fault
+        → StuckKeyValue text limit i other → fault ≡ other }
+    ensures rest { (text : List ℕ) (i : ℕ) (fault other : Fault) → StuckTail text i fault → StuckTail text i other
+        → fault ≡ other }
+    ensures header { (text : List ℕ) (limit i : ℕ) (fault other : Fault) → StuckHeader text limit i fault
+        → StuckHeader text limit i other → fault ≡ other }
+{}
+
+/// One fault is told of a text, wherever something is due in it.
+pub fn one_fault()
+    ensures { (text : List ℕ) (limit : ℕ) (fault other : Fault) → IsDue text limit fault
+        → IsDue text limit other → fault ≡ other }
+{}

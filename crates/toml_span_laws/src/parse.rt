@@ -1,0 +1,237 @@
+//! Laws of claims, and of what a text is answered.
+ghost use Rattle.std.specs.Prelude.{◌≡◌, ◌≢◌, ◌≤◌, ◌↔◌, ⊤, ◌*◌, ◌⊎◌, ◌++◌, ◌∷◌, ℕ, false, true, List, [], length};
+ghost use Rattle.std.specs.Prelude.{slice_range, Option, Some, option_map, Result, Ok, Err, IsOk};
+ghost use Rattle.toml_span_lex.specs.Bytes.{quotation_mark};
+ghost use Rattle.toml_span_lex.specs.Strings.{HasChange};
+ghost use Rattle.toml_span_lex.specs.declared.span.Span.{Span};
+ghost use Rattle.toml_span_lex.specs.declared.stop.Stop.{Stop};
+ghost use Rattle.toml_span_lex.specs.declared.stop.Stop.TheVariants.{Fault as refused};
+ghost use Rattle.toml_span_typed.specs.Errors.{Errors};
+ghost use Rattle.toml_span_typed.specs.TableHelper.{OpensTable, Refuses, Requires, State, Tries};
+ghost use Rattle.toml_span_typed.specs.declared.de_helpers.table_helper.TableHelper.{TableHelper};
+ghost use Rattle.toml_span_typed.specs.declared.de_helpers.table_helper.Unfinished.{Unfinished};
+ghost use Rattle.toml_span_typed.specs.declared.de_helpers.table_helper.Unfinished.TheVariants.{Faults as unfinished};
+ghost use Rattle.toml_span_typed.specs.declared.de_helpers.table_helper.Unfinished.TheVariants.{Memory as starved};
+ghost use Rattle.std.specs.declared.alloc.AllocError.{AllocError};
+ghost use Rattle.toml_span_laws.specs.Again.{ScalarReadsAgain};
+ghost use Rattle.toml_span_read.specs.Data.{Block};
+ghost use Rattle.toml_span_read.specs.Grammar.{SpellsDocument};
+ghost use Rattle.toml_span_tree.specs.Error.{content_of};
+ghost use Rattle.toml_span_tree.specs.Node.{Node, Scalar, text as string};
+ghost use Rattle.toml_span_tree.specs.Path.{Path, Place, shape_scalar, shape_table, key, node_at, place_at};
+ghost use Rattle.toml_span_tree.specs.Pointer.{pointed};
+ghost use Rattle.toml_span_tree.specs.Value.{is_taken, is_whole, view};
+ghost use Rattle.toml_span_tree.specs.declared.error.Error.{Error};
+ghost use Rattle.toml_span_tree.specs.declared.value.Value.{Value};
+ghost use Rattle.toml_span.specs.Claims.{Claim, claims};
+ghost use Rattle.toml_span.specs.Clashes.{Resolves};
+ghost use Rattle.toml_span.specs.Flat.{Shows, all_claims, flat};
+ghost use Rattle.toml_span.specs.Ordered.{HasOneEach, IsOrdered};
+ghost use Rattle.toml_span_laws.specs.Moved.{AssignsBrackets, StandsMoved, at_x, text_again};
+ghost use Rattle.toml_span_laws.specs.Document.{StandsAt, IsValueOf, PointsAt};
+ghost use Rattle.toml_span_laws.specs.Helpers.{EndsWith, HasNoKeyBut, IsOver, RequiresAt, TriesAt, except};
+ghost use Rattle.toml_span_laws.specs.Laws.{AssignsAgain, keys_in, ShowsString};
+ghost use Rattle.toml_span_laws.specs.Order.{Ascends, key_at, KeysApart};
+ghost use Rattle.toml_span_laws.specs.Outcomes.{HasOutcome, IsAlike, IsAnswered, IsAnswerOf, Outcome, resolved};
+ghost use Rattle.toml_span.specs.Parsing.{IsClash, IsFault, IsRefusal, IsTree};
+
+pub mod clashes;
+
+use crate::judged::document_or_due;
+use toml_span_typed::Deserialize;
+
+/// A text that has a tree is not refused, and one with a clash has no fault of reading. All trees of a text are equal
+/// as data, all errors that tell of its clash are alike, and so are all that tell of its fault: whatever refuses it
+/// tells the same. So all answers to a text are alike, want of memory aside.
+pub fn one_answer()
+    ensures refused { (text : List ℕ) (limit : ℕ) (root : Value) (error : Error) → IsTree text limit root
+        → IsRefusal text limit (refused error) → ⊥ }
+    ensures apart { (text : List ℕ) (limit : ℕ) (error other : Error) → IsFault text limit error
+        → IsClash text limit other → ⊥ }
+    ensures tree { (text : List ℕ) (limit : ℕ) (root other : Value) → IsTree text limit root → IsTree text limit other
+        → view root ≡ view other }
+    ensures clash { (text : List ℕ) (limit : ℕ) (error other : Error) → IsClash text limit error
+        → IsClash text limit other → content_of error ≡ content_of other }
+    ensures fault { (text : List ℕ) (limit : ℕ) (error other : Error) → IsFault text limit error
+        → IsFault text limit other → content_of error ≡ content_of other }
+    ensures told { (text : List ℕ) (limit : ℕ) (error other : Error) → IsRefusal text limit (refused error)
+        → IsRefusal text limit (refused other) → content_of error ≡ content_of other }
+    ensures alike { (text : List ℕ) (limit : ℕ) (result other : Result Value (Stop Error))
+        → IsAnswered text limit result → IsAnswered text limit other → IsAlike result other }
+{}
+
+/// Each text has one outcome within a limit: sections of which no two claims clash, sections and their first
+/// clash, or the fault that is told where something is due.
+pub fn one_outcome(text: &str)
+    ensures some { (limit : ℕ) → 1 ≤ limit → (outcome : Outcome) × HasOutcome text.now limit outcome }
+    ensures one { (limit : ℕ) (outcome other : Outcome) → HasOutcome text.now limit outcome
+        → HasOutcome text.now limit other → outcome ≡ other }
+{
+    document_or_due(text);
+}
+
+/// The outcome of a text decides its answer, want of memory aside: the tree of the sections, or an error that
+/// tells the clash or the fault.
+pub fn outcome_decides()
+    ensures { (text : List ℕ) (limit : ℕ) (outcome : Outcome) (result : Result Value (Stop Error))
+        → HasOutcome text limit outcome → IsAnswered text limit result → IsAnswerOf text outcome result }
+{}
+
+/// Nothing is taken in a tree that shows the flat document of some sections: no path leads to what is taken,
+/// and the tree is whole if no name stands twice in a table.
+pub fn shown_is_whole()
+    ensures filled { (n : Node) (length : ℕ) (blocks : List Block) → Shows n (flat length (claims blocks))
+        → (path : Path) (m : Node) → node_at path n ≡ Some m → is_taken m ≡ false }
+    ensures whole { (n : Node) (length : ℕ) (blocks : List Block) → HasOneEach n → Shows n (flat length (claims blocks))
+        → is_whole n ≡ true }
+{}
+
+/// In no table of a tree that is in order a name stands twice.
+pub fn ordered_has_one_each()
+    ensures { (n : Node) → IsOrdered n → HasOneEach n }
+{}
+
+/// No path of a document that is spelled within a limit has more keys than a header and an assignment may
+/// have together, and none has more than three steps for each level; so it is with each value of its tree.
+pub fn paths_within()
+    ensures keys { (text : List ℕ) (limit n : ℕ) (blocks : List Block) (path : Path) (place : Place)
+        → SpellsDocument blocks text limit → flat n (claims blocks) path ≡ Some place → keys_in path ≤ 2 * limit }
+    ensures steps { (text : List ℕ) (limit n : ℕ) (blocks : List Block) (path : Path) (place : Place)
+        → SpellsDocument blocks text limit → flat n (claims blocks) path ≡ Some place → length path ≤ 3 * limit }
+    ensures tree { (text : List ℕ) (limit : ℕ) (root : Value) (path : Path) (m : Node) → IsTree text limit root
+        → node_at path (view root) ≡ Some m → (keys_in path ≤ 2 * limit) × (length path ≤ 3 * limit) }
+{}
+
+/// The claims of a document, of every scope, stand in the order of the text: each starts behind the one
+/// before it, but for an array of tables and its element, which one key claims.
+pub fn claims_ascend()
+    ensures { (text : List ℕ) (limit : ℕ) (blocks : List Block) → SpellsDocument blocks text limit
+        → Ascends (all_claims (claims blocks)) }
+{}
+
+/// No two keys of the flat document, or of the tree, start at one place: so no two names of one table do.
+pub fn keys_stand_apart()
+    ensures flat { (text : List ℕ) (limit n : ℕ) (blocks : List Block) → SpellsDocument blocks text limit
+        → KeysApart (flat n (claims blocks)) }
+    ensures names { (text : List ℕ) (limit n : ℕ) (blocks : List Block) (path : Path) (a b : List ℕ) (k l : Span)
+        → SpellsDocument blocks text limit → key_at (flat n (claims blocks)) (path ++ (key a ∷ [])) ≡ Some k
+        → key_at (flat n (claims blocks)) (path ++ (key b ∷ [])) ≡ Some l → a ≢ b → k.start ≢ l.start }
+    ensures tree { (text : List ℕ) (limit : ℕ) (root : Value) → IsTree text limit root
+        → KeysApart (λ path. place_at path (view root)) }
+{}
+
+/// Each number, truth value and date of a document, and of a text's tree, is spelled again by the text at
+/// its span: behind `x = ` it is a document of one assignment of that value.
+pub fn scalars_read_again()
+    ensures flat { (text : List ℕ) (limit n : ℕ) (blocks : List Block) (path : Path) (place : Place) (s : Scalar)
+        → SpellsDocument blocks text limit → flat n (claims blocks) path ≡ Some place → place.shape ≡ shape_scalar s
+        → ScalarReadsAgain text limit s place.span }
+    ensures tree { (text : List ℕ) (limit : ℕ) (root : Value) (path : Path) (place : Place) (s : Scalar)
+        → IsTree text limit root → place_at path (view root) ≡ Some place → place.shape ≡ shape_scalar s
+        → ScalarReadsAgain text limit s place.span }
+{}
+
+/// The span of each string of a document, and of a text's tree, is what stands between its quotes, and its
+/// value is what that stands for; of two quotes alone the span is the first. Where neither a backslash nor a
+/// carriage return stands in the span, the value is the text at the span, or it is empty.
+pub fn strings_show_the_text()
+    ensures flat { (text : List ℕ) (limit n : ℕ) (blocks : List Block) (path : Path) (place : Place) (value : List ℕ)
+        → SpellsDocument blocks text limit → flat n (claims blocks) path ≡ Some place
+        → place.shape ≡ shape_scalar (string value) → ShowsString text value place.span }
+    ensures tree { (text : List ℕ) (limit : ℕ) (root : Value) (path : Path) (place : Place) (value : List ℕ)
+        → IsTree text limit root → place_at path (view root) ≡ Some place → place.shape ≡ shape_scalar (string value)
+        → ShowsString text value place.span }
+    ensures unchanged { (text : List ℕ) (limit : ℕ) (root : Value) (path : Path) (place : Place) (value : List ℕ)
+        → IsTree text limit root → place_at path (view root) ≡ Some place → place.shape ≡ shape_scalar (string value)
+        → (HasChange quotation_mark text place.span.start place.span.end → ⊥)
+        → (value ≡ []) ⊎ (value ≡ slice_range text place.span.start place.span.end) }
+{}
+
+/// Whatever a claim assigns, also an array or an inline table, is spelled again by the text at its span, but
+/// for strings; and what the value claims that is read there, stands right behind it.
+pub fn brackets_read_again()
+    ensures { (text : List ℕ) (limit : ℕ) (blocks : List Block) → SpellsDocument blocks text limit
+        → AssignsAgain text limit (claims blocks) }
+{}
+
+/// An array in brackets, or an inline table, is a value of its own. Its claim says what stands at its path. Behind
+/// `x = ` the text at its span is a document of which no two claims clash, and what stands there at `/x` and below is
+/// what stands at the path and below: the same kinds, keys and values, with each span, also of a key, moved as the
+/// text is. So it is with the trees of the two texts.
+pub fn bracketed_values_stand_alone()
+    ensures place { (text : List ℕ) (limit n : ℕ) (blocks : List Block) (c : Claim) → SpellsDocument blocks text limit
+        → Resolves (claims blocks) → AssignsBrackets blocks c → flat n (claims blocks) c.path ≡ Some c.place }
+    ensures document { (text : List ℕ) (limit : ℕ) (blocks : List Block) (c : Claim) → SpellsDocument blocks text limit
+        → Resolves (claims blocks) → AssignsBrackets blocks c
+        → (again : List Block) × HasOutcome (text_again text c.place.span) limit (resolved again)
+        × StandsMoved c.place.span.start 4 (flat (length text) (claims blocks)) c.path
+        (flat (length (text_again text c.place.span)) (claims again)) at_x }
+    ensures tree { (text : List ℕ) (limit : ℕ) (root other : Value) (blocks : List Block) (c : Claim)
+        → SpellsDocument blocks text limit → IsTree text limit root → AssignsBrackets blocks c
+        → IsTree (text_again text c.place.span) limit other
+        → StandsMoved c.place.span.start 4 (λ path. place_at path (view root)) c.path
+        (λ path. place_at path (view other)) at_x }
+{}
+
+/// One value at most, whose tables are in order, shows given places: so the tree of a text is the value of its flat
+/// document, and whatever is a function of a tree, as its JSON value or what a type reads, is one of the flat
+/// document.
+pub fn one_tree()
+    ensures value { (places : Path → Option Place) (n m : Node) → IsValueOf places n → IsValueOf places m → n ≡ m }
+    ensures document { (text : List ℕ) (limit : ℕ) (root : Value) (blocks : List Block) → IsTree text limit root
+        → SpellsDocument blocks text limit → IsValueOf (flat (length text) (claims blocks)) (view root) }
+{}
+
+/// In the tree that `parse` gives of a text a pointer names a value exactly where its segments name the path
+/// of something in the flat document, and the value is the one that shows what stands there and below.
+pub fn pointers_name_places()
+    ensures some { (text : List ℕ) (limit : ℕ) (root : Value) (blocks : List Block) (pointer : List ℕ)
+        → IsTree text limit root → SpellsDocument blocks text limit
+        → ((m : Node) × (pointed pointer (view root) ≡ Some m))
+        ↔ StandsAt pointer (flat (length text) (claims blocks)) (λ _. ⊤) }
+    ensures value { (text : List ℕ) (limit : ℕ) (root : Value) (blocks : List Block) (pointer : List ℕ) (m : Node)
+        → IsTree text limit root → SpellsDocument blocks text limit
+        → (pointed pointer (view root) ≡ Some m) ↔ PointsAt pointer (flat (length text) (claims blocks)) m }
+{}
+
+/// A helper opens on a value exactly where the flat document has a table there, and holds the entries of that
+/// table.
+pub fn helper_opens_on_a_table()
+    ensures some { (places : Path → Option Place) (m : Node) → IsValueOf places m → ((s : State) × OpensTable m (Ok s))
+        ↔ (option_map (λ x. x.shape) (places []) ≡ Some shape_table) }
+    ensures over { (places : Path → Option Place) (m : Node) (s : State) → IsValueOf places m → OpensTable m (Ok s)
+        → IsOver places s × (s.asked ≡ []) × (s.errors ≡ []) }
+{}
+
+/// `required` reads the value that shows what the flat document has below the key, and `MissingField` comes
+/// exactly where it has nothing there. The helper stays over its table.
+pub fn required_reads_the_document<'de, T: Deserialize<'de>>()
+    ensures reads { (places : Path → Option Place) (name : List ℕ) (before after : State)
+        (answer : Result T (Stop Error)) → IsOver places before → Requires T.reads name before answer after
+        → RequiresAt T.reads name (except before.asked places) before answer after }
+    ensures over { (places : Path → Option Place) (name : List ℕ) (before after : State)
+        (answer : Result T (Stop Error)) → IsOver places before → Requires T.reads name before answer after
+        → IsOver places after }
+{}
+
+/// `optional` does so too: it gives None and keeps nothing exactly where the flat document has nothing there.
+pub fn optional_reads_the_document<'de, T: Deserialize<'de>>()
+    ensures reads { (places : Path → Option Place) (name : List ℕ) (before after : State)
+        (answer : Result (Option T) AllocError) → IsOver places before → Tries T.reads name before answer after
+        → TriesAt T.reads name (except before.asked places) before answer after }
+    ensures over { (places : Path → Option Place) (name : List ℕ) (before after : State)
+        (answer : Result (Option T) AllocError) → IsOver places before → Tries T.reads name before answer after
+        → IsOver places after }
+{}
+
+/// `finalize(None)` is Ok exactly where no error was kept and the flat document has no key in the table but
+/// those that were asked for. Else its errors are those that were kept and, behind them, that of the other
+/// keys; memory runs out only where there are other keys.
+pub fn finalize_ends_the_table()
+    ensures ok { (places : Path → Option Place) (s : State) (answer : Result (Unit {0}) Unfinished) → IsOver places s
+        → Refuses s answer → IsOk answer ↔ ((s.errors ≡ []) × HasNoKeyBut s.asked places) }
+    ensures faults { (places : Path → Option Place) (s : State) (faults : Errors) → IsOver places s
+        → Refuses s (Err (unfinished faults)) → EndsWith places s faults }
+    ensures memory { (places : Path → Option Place) (s : State) (helper : TableHelper) → IsOver places s
+        → Refuses s (Err (starved helper)) → HasNoKeyBut s.asked places → ⊥ }
+{}

@@ -1,5 +1,0 @@
-use Rattle.toml_span_read_laws.proofs.AgainLines.{document_spelled}
-use Rattle.toml_span_read_laws.proofs.again.spelled_again.Goals as goal
-
-pub returns : goal.returns
-returns c = λ text limit depth i j v deep h. document_spelled v text limit depth i j deep h

@@ -1,5 +1,0 @@
-use Rattle.toml_span_read_laws.proofs.WordLaws.{called}
-use Rattle.toml_span_read_laws.proofs.due.one_wording.Goals as goal
-
-pub returns : goal.returns
-returns c = λ l. called l

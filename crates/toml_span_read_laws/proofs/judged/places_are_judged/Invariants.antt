@@ -1,7 +1,0 @@
-use Rattle.std.proofs.Common.{◌<◌, ℕ}
-use Rattle.std.specs.Str.{IsCharBoundary}
-use Rattle.toml_span_read_laws.specs.code.Judged.{Judged}
-use Rattle.toml_span_read_laws.proofs.judged.places_are_judged.Given as goal
-
-abbrev pub invariant-loop-at : goal.invariant-loop-at
-invariant-loop-at l = (i : ℕ) → i < l.at → IsCharBoundary l.text i → Judged l.text i

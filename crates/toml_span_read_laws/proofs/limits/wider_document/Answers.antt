@@ -1,5 +1,0 @@
-use Rattle.toml_span_read_laws.proofs.WiderDocument.{document_wider}
-use Rattle.toml_span_read_laws.proofs.limits.wider_document.Goals as goal
-
-pub returns : goal.returns
-returns c = λ text limit wider blocks l h. document_wider blocks text limit wider l h

@@ -1,8 +1,0 @@
-use Rattle.toml_span_read_laws.proofs.BlankLaws.{gap_lines, lines_are_gap}
-use Rattle.toml_span_read_laws.proofs.lines.blank_lines.Goals as goal
-
-pub returns-clause-before : goal.returns-clause-before
-returns-clause-before c = λ text i j g d. gap_lines text i j g d
-
-pub returns-clause-behind : goal.returns-clause-behind
-returns-clause-behind c = λ text i j k ends l r n. lines_are_gap text i j k ends l r n

@@ -1,5 +1,0 @@
-use Rattle.toml_span_read_laws.proofs.NumberFaults.{number_fault}
-use Rattle.toml_span_read_laws.proofs.numbers.one_number_fault.Goals as goal
-
-pub returns : goal.returns
-returns c = number_fault

@@ -1,5 +1,0 @@
-use Rattle.toml_span_read_laws.proofs.StartLaws.{document_starts_increase}
-use Rattle.toml_span_read_laws.proofs.starts.brackets_start_apart.Goals as goal
-
-pub returns : goal.returns
-returns c = λ text limit blocks h. document_starts_increase blocks text limit h

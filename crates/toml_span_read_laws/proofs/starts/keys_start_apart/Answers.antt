@@ -1,5 +1,0 @@
-use Rattle.toml_span_read_laws.proofs.StartLaws.{document_keys_increase}
-use Rattle.toml_span_read_laws.proofs.starts.keys_start_apart.Goals as goal
-
-pub returns : goal.returns
-returns c = λ text limit blocks h. document_keys_increase blocks text limit h

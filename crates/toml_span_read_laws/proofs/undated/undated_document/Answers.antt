@@ -1,5 +1,0 @@
-use Rattle.toml_span_read_laws.proofs.UndatedLaws.{document_dated}
-use Rattle.toml_span_read_laws.proofs.undated.undated_document.Goals as goal
-
-pub returns : goal.returns
-returns c = λ text limit blocks h. document_dated blocks text limit h

@@ -1,4 +1,0 @@
-pub mod Places
-pub mod Again
-pub mod Undated
-pub mod code
