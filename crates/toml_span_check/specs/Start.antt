@@ -7,7 +7,7 @@ use Rattle.clap.specs.declared.error.kind.ErrorKind.TheVariants.{DisplayHelp, Ou
 use Rattle.toml_span_lines.specs.Run.{HasWritten}
 use Rattle.toml_span_check.specs.Options.{Asks, faults}
 use Rattle.toml_span_check.specs.Run.{Reading, Runs}
-use Rattle.toml_span_check.specs.declared.TheConstants.{USAGE}
+use Rattle.toml_span_check.specs.declared.options.TheConstants.{USAGE}
 use Rattle.toml_span_check.specs.declared.answer.Task.{Task}
 use Rattle.toml_span_check.specs.declared.faults.Format.{Format}
 
@@ -17,12 +17,14 @@ pub record Says (old new : Option (List ℕ)) (failed : Bool) (text : List ℕ) 
   pub whole : failed ≡ false → Appends old new text × (status ≡ said)
   pub cut : failed ≡ true → status ≡ 3
 
--- What is told for an error of this kind: the usage, where the words ask for help; else what is wrong with them.
-pub record Refuses (kind : ErrorKind) (told told' : Option (List ℕ)) (untold : Bool) (warned warned' : Option (List ℕ))
-    (unwarned : Bool) (status : ℕ) : Type 0 where
-  pub helps : kind ≡ DisplayHelp → Says told told' untold USAGE.now 0 status × Keeps warned warned'
-  pub warns : kind ≢ DisplayHelp → Keeps told told'
-      × (((status ≡ 4) × Keeps warned warned') ⊎ ((message : List ℕ) × Says warned warned' unwarned message 2 status))
+-- What is told for an error of this kind: the usage, where the words ask for help; else what is wrong with them, or
+-- nothing for want of memory.
+abbrev pub Refuses : ErrorKind → Option (List ℕ) → Option (List ℕ) → Bool → Option (List ℕ) → Option (List ℕ) → Bool → ℕ
+    → Type 0
+Refuses kind told told' untold warned warned' unwarned status =
+    ((kind ≡ DisplayHelp) × Says told told' untold USAGE.now 0 status × Keeps warned warned')
+    ⊎ ((kind ≢ DisplayHelp) × Keeps told told' × ((message : List ℕ) × Says warned warned' unwarned message 2 status))
+    ⊎ ((status ≡ 4) × Keeps told told' × Keeps warned warned')
 
 -- A run on words. Where they are taken it is a run on what they ask for; else no file is read. For want of memory,
 -- which is status 4, nothing is read or written.

@@ -88,6 +88,7 @@ fn command<'w>(alloc: Global) -> Result<Command<'w>, AllocError>
     ensures { IfOk result (λ c. app_of c ≡ spec.program) }
 {
     Command::new(alloc, "toml_span_check")
+        .bin_name("toml_span_check")?
         .override_help(USAGE)
         .arg(choice(alloc, "format", "text"))?
         .arg(choice(alloc, "color", "auto"))?

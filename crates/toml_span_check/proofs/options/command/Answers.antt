@@ -15,7 +15,7 @@ added old new a app rule adds own before is = adds.shape own ∙ ap₂ with_rule
 pub returns : goal.returns
 unfolding program
 returns c =
-    let empty = ap app_of_fields c.override_help.ensures ∙ c.new.ensures.app in
+    let empty = ap app_of_fields c.override_help.ensures ∙ ap app_of_fields c.in_ok-bin_name.ensures.0 ∙ c.new.ensures.app in
     let one = added _ _ _ _ _ c.in_ok-arg.ensures c.choice.ensures.own empty c.choice.ensures.rule in
     let two = added _ _ _ _ _ c.in_ok-arg-2.ensures c.choice-2.ensures.own one c.choice-2.ensures.rule in
     let three = added _ _ _ _ _ c.in_ok-arg-3.ensures c.option.ensures.own two c.option.ensures.rule in
