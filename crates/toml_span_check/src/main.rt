@@ -17,7 +17,7 @@ use crate::start::start;
 use std::env;
 use std::io::IsTerminal;
 use std::process::ExitCode;
-use toml_span_lines::watched::Watched;
+use toml_span_lines::told::Told;
 
 /// Runs the program, and answers its status.
 fn status_of(rt: HostRuntime) -> anyhow::Result<u8>
@@ -27,8 +27,8 @@ fn status_of(rt: HostRuntime) -> anyhow::Result<u8>
     let words: Vec<String> = env::args(&rt)?.collect(alloc)?;
     let out = rt.stdout();
     let is_terminal = out.is_terminal();
-    let mut out = Watched::new(out);
-    let mut errors = Watched::new(rt.stderr());
+    let mut out = Told::new(out);
+    let mut errors = Told::new(rt.stderr());
     let mut inputs = Host { rt };
     Ok(start(
         alloc,

@@ -68,16 +68,16 @@ first-read n input bytes None h l e = absurd h
 first-read n input bytes (Some rest) h l (inl full) = sym (ap (λ xs. take n xs) h ∙ take_at bytes rest n full)
 first-read n input bytes (Some rest) h l (inr end) = sym (ap (λ xs. take n xs) (h ∙ ap (λ xs. bytes ++ xs) end ∙ append-nil bytes) ∙ take_all n bytes l)
 
-same-told : (told : List ℕ) (new last : Option (List ℕ)) (text other : List ℕ) → Appends (Some told) new text → Appends (Some told) last other → text ≡ other → new ≡ last
-same-told told None last text other a b e = absurd a
-same-told told (Some xs) None text other a b e = absurd b
-same-told told (Some xs) (Some ys) text other a b e = ap (λ (zs : List ℕ). Some zs) (a ∙ ap (λ t. told ++ t) e ∙ sym b)
+same-written : (old : List ℕ) (new last : Option (List ℕ)) (text other : List ℕ) → Appends (Some old) new text → Appends (Some old) last other → text ≡ other → new ≡ last
+same-written old None last text other a b e = absurd a
+same-written old (Some xs) None text other a b e = absurd b
+same-written old (Some xs) (Some ys) text other a b e = ap (λ (zs : List ℕ). Some zs) (a ∙ ap (λ t. old ++ t) e ∙ sym b)
 
-pub one-run : (limit status other : ℕ) (input told : List ℕ) (left rest new last : Option (List ℕ)) (a b c d : Bool) → Runs limit (Some input) left a (Some told) new b status
-    → Runs limit (Some input) rest c (Some told) last d other → nat_lt status 3 ≡ true → nat_lt other 3 ≡ true → (status ≡ other) × (new ≡ last)
-one-run limit status other input told left rest new last a b c d r s l m =
+pub one-run : (limit status other : ℕ) (input old : List ℕ) (left rest new last : Option (List ℕ)) (a b c d : Bool) → Runs limit (Some input) left a (Some old) new b status
+    → Runs limit (Some input) rest c (Some old) last d other → nat_lt status 3 ≡ true → nat_lt other 3 ≡ true → (status ≡ other) × (new ≡ last)
+one-run limit status other input old left rest new last a b c d r s l m =
     let x = r.answers l in
     let y = s.answers m in
     let same : x.0 ≡ y.0 = first-read (bound + 1) input x.0 left x.2.0.0 x.2.0.1 x.2.1 ∙ sym (first-read (bound + 1) input y.0 rest y.2.0.0 y.2.0.1 y.2.1) in
     let u = one-output y.0 limit status other x.1 y.1 (subst (λ (bs : List ℕ). IsAnswer bs limit status x.1) same x.3) y.3 in
-    (u.0, same-told told new last x.1 y.1 x.4 y.4 u.1)
+    (u.0, same-written old new last x.1 y.1 x.4 y.4 u.1)

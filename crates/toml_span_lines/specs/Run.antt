@@ -36,20 +36,20 @@ HasWritten old new text = (n : ℕ) × (n ≤ length text) × Appends old new (t
 
 -- a run within a limit: what is left to read before and after, whether reading failed, what is written before and
 -- after, whether writing failed, and the status
-pub record Runs (limit : ℕ) (left left' : Option (List ℕ)) (unread : Bool) (told told' : Option (List ℕ))
+pub record Runs (limit : ℕ) (left left' : Option (List ℕ)) (unread : Bool) (written written' : Option (List ℕ))
     (unwritten : Bool) (status : ℕ) : Type 0 where
   -- never more than the bound and one byte are read
   pub reads : (bytes : List ℕ) × HasRead left left' bytes
   -- status 3 exactly where one of the two failed
   pub failed : (status ≡ 3) ↔ IsTrue (unread || unwritten)
   -- after a failed read, and without memory, nothing is written
-  pub silent : IsTrue (unread || nat_eq status 4) → Keeps told told'
+  pub silent : IsTrue (unread || nat_eq status 4) → Keeps written written'
   -- after a failed write a prefix of an answer is written
   pub cut : IsTrue unwritten → (bytes text : List ℕ) × (answered : ℕ) × HasReadAll left left' bytes
-      × IsAnswer bytes limit answered text × HasWritten told told' text
+      × IsAnswer bytes limit answered text × HasWritten written written' text
   -- else the answer's status and its text
   pub answers : nat_lt status 3 ≡ true → (bytes text : List ℕ) × HasReadAll left left' bytes
-      × IsAnswer bytes limit status text × Appends told told' text
+      × IsAnswer bytes limit status text × Appends written written' text
   pub known : status ≤ 4
 
 -- the first bytes of a text were written: all of it where no write failed

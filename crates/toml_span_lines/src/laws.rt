@@ -33,8 +33,8 @@ pub fn one_answer()
 pub fn one_output()
     ensures answer { (bytes : List ℕ) (limit status other : ℕ) (text last : List ℕ) → IsAnswer bytes limit status text
         → IsAnswer bytes limit other last → (status ≡ other) × (text ≡ last) }
-    ensures run { (limit status other : ℕ) (input told : List ℕ) (left rest new last : Option (List ℕ)) (a b c d : Bool)
-        → Runs limit (Some input) left a (Some told) new b status
-        → Runs limit (Some input) rest c (Some told) last d other → nat_lt status 3 ≡ true → nat_lt other 3 ≡ true
+    ensures run { (limit status other : ℕ) (input old : List ℕ) (left rest new last : Option (List ℕ)) (a b c d : Bool)
+        → Runs limit (Some input) left a (Some old) new b status
+        → Runs limit (Some input) rest c (Some old) last d other → nat_lt status 3 ≡ true → nat_lt other 3 ≡ true
         → (status ≡ other) × (new ≡ last) }
 {}

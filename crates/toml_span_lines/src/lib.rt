@@ -7,4 +7,4 @@ pub mod lines;
 pub mod run;
 pub mod sink;
 pub mod source;
-pub mod watched;
+pub mod told;

@@ -1,5 +1,5 @@
 //! What is read from.
-ghost use Rattle.std.specs.Prelude.{◌≡◌, ℕ, Bool, false, List, Option};
+ghost use Rattle.std.specs.Prelude.{◌≡◌, ℕ, Bool, List, Option};
 ghost use Rattle.std.specs.Io.{ReadsAtMost};
 ghost use Rattle.std.specs.Io.KnownBytes.{ReadConsumes};
 ghost use Rattle.toml_span_lines.specs.Ends.{after_read};
@@ -15,9 +15,8 @@ pub trait Source {
     ghost failed: { Self → Bool };
 
     /// Reads bytes into the front of the buffer, and answers how many. 0 is the end of what there is,
-    /// unless the buffer is empty. Not called once a read has answered an error, which `has_failed` then tells.
+    /// unless the buffer is empty. `has_failed` then tells whether this or an earlier read has answered an error.
     fn read(&mut self, buf: &mut [u8]) -> io::Result<usize>
-        requires { failed self.old ≡ false }
         ensures bound { ReadsAtMost result buf.new }
         ensures bytes { ReadConsumes (remaining self.old) (remaining self.new) result buf.new }
         ensures failed_after { failed self.new ≡ after_read (failed self.old) result };

@@ -10,6 +10,7 @@ mod escapes;
 mod faults;
 mod holders;
 mod places;
+mod runs;
 mod sections;
 mod texts;
 mod tokens;
@@ -63,6 +64,7 @@ fn push_answer(alloc: Global, row: Row<'_>, out: &mut String) -> Result<bool, Al
             || faults::answer(alloc, row, out)?
             || sections::answer(alloc, row, out)?
             || texts::answer(alloc, row, out)?
+            || runs::answer(alloc, row, out)?
             || callers::answer(alloc, row, out)?
             || trees::answer(alloc, row, out)?,
     )

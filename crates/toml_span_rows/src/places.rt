@@ -75,7 +75,7 @@ fn push_spanned(
     let wide: Spanned<u32> = Spanned::with_span(number, span).map();
     let copy = wide.clone(alloc)?;
     let other = Spanned::new(u32::from(other));
-    let same = (wide.eq_value(&other.value), copy == other);
+    let same = (wide.eq_value(other.as_ref()), copy == other);
     push_told_line((copy.span, same, copy.cmp(&other)), out)?;
     let default = Spanned::<u8>::default();
     push_told((copy, default.span, default.take()), out)?;

@@ -1,6 +1,6 @@
-//! Trees of documents: `parse LIMIT`, `write OPERATION ..`, `json`, `kinds`, `again`, `text_order`, `nodes`,
+//! Trees of documents: `parse LIMIT`, `twice`, `write OPERATION ..`, `json`, `kinds`, `again`, `text_order`, `nodes`,
 //! `diagnostics` and typed reads. A text that is no document answers with its fault, of which `diagnostics` has all
-//! that it prints.
+//! that it prints. `twice` parses twice: what the first answers in a word, and the second whole.
 ghost use Rattle.std.specs.Prelude.{◌≤◌, IfSome};
 
 use crate::faults::push_twice;
@@ -10,7 +10,7 @@ use shown::{push_fault, push_lines};
 use std::alloc::{AllocError, Global};
 use toml_span::de::parse_with_limit;
 use toml_span::value::Value;
-use toml_span::{Error, Stop};
+use toml_span::{Error, Stop, parse};
 
 mod kinds;
 mod orders;
@@ -19,12 +19,12 @@ mod places;
 pub mod shown;
 mod writes;
 
-/// The limit of a row, which `parse`, `read` and `reads` name.
+/// The limit of a row, which `parse`, `read`, `reads` and `run` name.
 pub(crate) fn limit_of(row: Row<'_>) -> Option<usize>
     ensures some { IfSome result (λ limit. 1 ≤ limit) }
     ensures small { IfSome result (λ limit. limit ≤ 128) }
 {
-    if row.call != "parse" && row.call != "read" && row.call != "reads" {
+    if !matches!(row.call, "parse" | "read" | "reads" | "run") {
         return Some(128);
     }
     let limit = row.word(0).parse::<usize>().ok()?;
@@ -59,7 +59,7 @@ fn push_call<'t>(
     out: &mut String,
 ) -> Result<bool, AllocError> {
     match row.call {
-        "parse" => push_lines(alloc, root, 0, out),
+        "parse" | "twice" => push_lines(alloc, root, 0, out),
         "json" => push_json(alloc, root, out),
         "kinds" => kinds::push_kinds(alloc, root, out),
         "again" => pieces::push_again(alloc, row.text, root, out),
@@ -85,11 +85,30 @@ fn push_refused(
     push_fault(fault, out)
 }
 
+/// Adds what a first `parse` answers: `tree`, `fault`, or that there is no memory.
+fn push_first(alloc: Global, text: &str, out: &mut String) -> Result<(), AllocError> {
+    let word = match parse(alloc, text) {
+        Ok(root) => {
+            drop(root);
+            "tree\n"
+        }
+        Err(Stop::Fault(fault)) => {
+            drop(fault);
+            "fault\n"
+        }
+        Err(Stop::Memory(_)) => "AllocError\n",
+    };
+    out.push_str(word)
+}
+
 /// Writes the answer of a row, one line each, or says that there is no such call.
 pub fn answer(alloc: Global, row: Row<'_>, out: &mut String) -> Result<bool, AllocError> {
     let Some(limit) = limit_of(row) else {
         return Ok(false);
     };
+    if row.call == "twice" {
+        push_first(alloc, row.text, out)?;
+    }
     match parse_with_limit(alloc, row.text, limit) {
         Ok(mut root) => {
             let known = push_call(alloc, row, &mut root, out);

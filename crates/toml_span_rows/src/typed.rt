@@ -6,6 +6,7 @@
 //! - `expected WANTED`: the error that something else than the value at `/a` was expected.
 //! - `parse_string TYPE` parses the string at `/a`.
 //! - `open` opens a helper over the value at `/a`.
+//! - `from_table NAME` makes a helper of the table at `/a`: whether it holds the name.
 //! - `fields CALL ..` opens a helper over the root, and makes each call in turn.
 mod fields;
 mod lists;
@@ -23,7 +24,7 @@ use crate::typed::reads::{errors_of, push_read};
 use std::alloc::{AllocError, Global};
 use toml_span::DeserError;
 use toml_span::de_helpers::{TableHelper, expected, parse};
-use toml_span::value::Value;
+use toml_span::value::{Value, ValueInner};
 
 /// Writes the answer of a row to a tree, or says that there is no such call.
 pub fn answer<'de>(
@@ -60,6 +61,7 @@ fn push_at<'de>(
         "parse_string" => return push_parsed(alloc, word, value, out),
         "expected" => push_expected(word, value, out),
         "open" => push_opened(alloc, value, out),
+        "from_table" => push_from_table(alloc, word, value, out),
         _ => return Ok(false),
     }?;
     Ok(true)
@@ -166,5 +168,29 @@ fn push_opened(alloc: Global, value: &mut Value<'_>, out: &mut String) -> Result
             out.push_str("opened")
         }
         Err(errors) => push_told(errors, out),
+    }
+}
+
+/// Answers `from_table`.
+fn push_from_table<'de>(
+    alloc: Global,
+    name: &'de str,
+    value: &mut Value<'de>,
+    out: &mut String,
+) -> Result<(), AllocError> {
+    if value.is_taken() {
+        return Ok(());
+    }
+    match value.take() {
+        ValueInner::Table(table) => {
+            let helper = TableHelper::from_table(alloc, table, value.span);
+            let holds = helper.contains(name);
+            drop(helper);
+            push_told(holds, out)
+        }
+        other => {
+            drop(other);
+            out.push_str("no table")
+        }
     }
 }

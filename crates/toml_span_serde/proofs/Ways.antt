@@ -45,7 +45,7 @@ counted i (item n ns) = counted (i + 1) ns
 -- ---- behind a value
 
 mutual
-  walked-node : (n : Node) (way : Way) → walked (pieces n) way ≡ ended way
+  pub walked-node : (n : Node) (way : Way) → walked (pieces n) way ≡ ended way
   walked-node (node i span) way = walked-held i span way
 
   walked-held : (i : Inner) (span : Span) (way : Way) → walked (held_pieces span i) way ≡ ended way
@@ -56,13 +56,13 @@ mutual
   walked-held (table ms) span way =
       walked-append (members_pieces ms) (piece table_ends span ∷ []) way ∙ ap ended (walked-members ms way)
 
-  walked-items : (ns : Items) (i : ℕ) (way : Way) → walked (items_pieces ns) (position i ∷ way) ≡ position (counted i ns) ∷ way
+  pub walked-items : (ns : Items) (i : ℕ) (way : Way) → walked (items_pieces ns) (position i ∷ way) ≡ position (counted i ns) ∷ way
   walked-items no_items i way = refl
   walked-items (item n ns) i way =
       walked-append (pieces n) (items_pieces ns) (position i ∷ way)
       ∙ ap (walked (items_pieces ns)) (walked-node n (position i ∷ way)) ∙ walked-items ns (i + 1) way
 
-  walked-members : (ms : Members) (way : Way) → walked (members_pieces ms) way ≡ way
+  pub walked-members : (ms : Members) (way : Way) → walked (members_pieces ms) way ≡ way
   walked-members no_members way = refl
   walked-members (member name span n ms) way =
       walked-append (pieces n) (members_pieces ms) (key name ∷ way)

@@ -8,5 +8,9 @@ use Rattle.toml_span_serde.specs.declared.row.Row.{Row}
 abbrev pub pieces_in : Row → List Piece
 pieces_in row = map piece_of row.pieces.items
 
+-- all pieces of the row that a reader goes through
+abbrev pub laid : Reader → List Piece
+laid r = map piece_of r.pieces.now
+
 abbrev pub ahead : Reader → List Piece
 ahead r = map piece_of (drop r.next r.pieces.now)

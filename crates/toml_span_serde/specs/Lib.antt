@@ -4,5 +4,8 @@ pub mod Asks
 pub mod Reads
 pub mod Ahead
 pub mod Misfits
+pub mod Misreads
+pub mod Stops
+pub mod Texts
 pub mod Shown
 pub mod Walk

@@ -1,13 +1,20 @@
--- What is left to go through, while a tree becomes a row of pieces; for private clauses.
-use Rattle.std.specs.Prelude.{List, [], ◌∷◌, ◌++◌, map, reverse}
+-- What private clauses say: the pieces of the code as those of a tree, what is left to go through while a tree becomes
+-- a row of pieces, the reasons that have a text, and how
+-- deep the pieces stand.
+use Rattle.std.specs.Prelude.{ℕ, ◌+◌, ◌-◌, List, [], ◌∷◌, ◌++◌, String, map, reverse}
+use Rattle.std.specs.Global.{Global}
 use Rattle.toml_span_tree.specs.Node.{text, integer, float, boolean, datetime}
 use Rattle.toml_span_tree.specs.Value.{view, float_value}
 use Rattle.toml_span_serde.specs.Pieces as spec
+use Rattle.toml_span_serde.specs.declared.misfit.Reason.{Reason}
+use Rattle.toml_span_serde.specs.declared.misfit.Reason.TheVariants as reason
 use Rattle.toml_span_serde.specs.declared.pieces.Content.{Content}
 use Rattle.toml_span_serde.specs.declared.pieces.Content.TheVariants as is
 use Rattle.toml_span_serde.specs.declared.pieces.Piece.{Piece}
 use Rattle.toml_span_serde.specs.declared.pieces.Task.{Task}
 use Rattle.toml_span_serde.specs.declared.pieces.Task.TheVariants as task
+use Rattle.toml_span_serde.specs.declared.reader.TextReason.{TextReason}
+use Rattle.toml_span_serde.specs.declared.reader.TextReason.TheVariants as told
 
 abbrev pub piece_content : Content → spec.Content
 piece_content (is.Text s) = spec.value (text s.now)
@@ -36,3 +43,20 @@ all_pieces (t ∷ ts) = task_pieces t ++ all_pieces ts
 -- the pieces that were put down from the last to the first
 abbrev pub turned : List Piece → List spec.Piece
 turned ps = map piece_of (reverse ps)
+
+abbrev pub reason_of : TextReason → String Global → Reason
+reason_of told.MissingField words = reason.MissingField words
+reason_of told.DuplicateField words = reason.DuplicateField words
+reason_of told.UnknownField words = reason.UnknownField words
+reason_of told.UnknownVariant words = reason.UnknownVariant words
+reason_of told.Custom words = reason.Custom words
+
+-- how many arrays and tables are open behind a piece
+abbrev pub depth_behind : spec.Content → ℕ → ℕ
+depth_behind (spec.value s) d = d
+depth_behind spec.nothing d = d
+depth_behind spec.array_begins d = d + 1
+depth_behind spec.array_ends d = d - 1
+depth_behind spec.table_begins d = d + 1
+depth_behind spec.table_ends d = d - 1
+depth_behind (spec.key s) d = d

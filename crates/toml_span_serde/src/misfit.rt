@@ -1,10 +1,13 @@
 //! Why a value is not read as a type.
+ghost use Rattle.std.specs.Fmt.{WritesOnOk};
+ghost use Rattle.std.specs.List.{flat_map};
 ghost use Rattle.std.specs.Prelude.{◌≡◌, IfOk, Some, map, string_bytes};
 ghost use Rattle.toml_span_tree.specs.Error.{content_of, kind_of};
 ghost use Rattle.toml_span_tree.specs.Diagnostic.{labels_of, label_content, message_of};
 ghost use Rattle.toml_span_tree.specs.Message.{code_of};
 ghost use Rattle.toml_span_serde.specs.Misfits.{content_of_error, content_of_misfit, kind_of_reason, name_of};
 ghost use Rattle.toml_span_serde.specs.Misfits.{reason_text, words_of};
+ghost use Rattle.toml_span_serde.specs.Texts.{error_text, further_text, misfit_text, place_text};
 
 use crate::path::Step;
 use std::alloc::{AllocError, Global};
@@ -56,7 +59,7 @@ impl Expected {
             Expected::Float => "a float",
             Expected::Character => "a character",
             Expected::String => "a string",
-            Expected::PlainString => "a string that equals the text at its span",
+            Expected::PlainString => "a string without escapes",
             Expected::Array => "an array",
             Expected::Table => "a table",
             Expected::Key => "a key",
@@ -178,24 +181,47 @@ pub enum Error<'s> {
     Misfit(Misfit),
 }
 
+/// Writes the steps behind the first, each name behind a dot.
+fn write_further<W: Write>(f: &mut Formatter<W>, steps: &[Step]) -> fmt::Result
+    ensures { WritesOnOk W.write_str_gives f.old result (flat_map further_text steps.now) f.new }
+{
+    for step in steps {
+        if let Step::Key(_) = step {
+            f.write_str(".")?;
+        }
+        write!(f, "{step}")?;
+    }
+    Ok(())
+}
+
+/// Writes a path, as `servers[1].port: `, or nothing for the root.
+fn write_place<W: Write>(f: &mut Formatter<W>, path: &[Step]) -> fmt::Result
+    ensures { WritesOnOk W.write_str_gives f.old result (place_text path.now) f.new }
+{
+    match path.split_first() {
+        Some((first, further)) => {
+            write!(f, "{first}")?;
+            write_further(f, further)?;
+            f.write_str(": ")
+        }
+        None => Ok(()),
+    }
+}
+
 impl Display for Misfit {
+    ghost output = { λ misfit. Some (misfit_text misfit) };
+
     /// The path, as `servers[1].port`, and the reason.
     fn fmt<W: Write>(&self, f: &mut Formatter<W>) -> fmt::Result {
-        for (i, step) in self.path.iter().enumerate() {
-            if i > 0 && matches!(step, Step::Key(_)) {
-                f.write_str(".")?;
-            }
-            write!(f, "{step}")?;
-        }
-        if !self.path.is_empty() {
-            f.write_str(": ")?;
-        }
+        write_place(f, self.path.as_slice())?;
         let reason = &self.reason;
         write!(f, "{reason}")
     }
 }
 
 impl Display for Error<'_> {
+    ghost output = { λ error. Some (error_text error) };
+
     fn fmt<W: Write>(&self, f: &mut Formatter<W>) -> fmt::Result {
         match self {
             Error::Refused(error) => write!(f, "{error}"),

@@ -1,7 +1,8 @@
 //! Paths from the root of a tree.
-ghost use Rattle.std.specs.Prelude.{◌≡◌, [], IfOk, OnOk, map, reverse};
+ghost use Rattle.std.specs.Prelude.{◌≡◌, [], IfOk, OnOk, Some, map, reverse};
 ghost use Rattle.toml_span_serde.specs.Misfits.{path_of, step_of};
 ghost use Rattle.toml_span_serde.specs.Tasks.{piece_content, piece_of};
+ghost use Rattle.toml_span_serde.specs.Texts.{step_text};
 ghost use Rattle.toml_span_serde.specs.Walk.{behind, down_of, ended, outer, walked, way_at, way_of};
 
 use crate::pieces::{Content, Piece};
@@ -17,6 +18,8 @@ pub enum Step {
 }
 
 impl Display for Step {
+    ghost output = { λ step. Some (step_text step) };
+
     fn fmt<W: Write>(&self, f: &mut Formatter<W>) -> fmt::Result {
         match self {
             Step::Key(name) => f.write_str(name.as_str()),

@@ -1,10 +1,14 @@
 //! A tree as a row of pieces, in the order in which a reader goes through it.
-ghost use Rattle.std.specs.Prelude.{◌≡◌, ◌++◌, ◌∷◌, IfOk, OnOk, map};
+ghost use Rattle.std.specs.Prelude.{◌≡◌, ◌<◌, ◌≤◌, ◌-◌, ◌^◌, ◌++◌, ◌∷◌, IfOk, IfSome, List, OnOk, Some, length, map};
+ghost use Rattle.toml_span_tree.specs.Node.{Node};
 ghost use Rattle.toml_span_tree.specs.Value.{items_view, members_view, view};
-ghost use Rattle.toml_span_serde.specs.Pieces.{array_begins, items_pieces, members_pieces, piece, pieces, table_begins};
-ghost use Rattle.toml_span_serde.specs.Tasks.{all_pieces, piece_of, task_pieces, turned};
+ghost use Rattle.toml_span_serde.specs.Misreads.{Begins, kind_ahead, kind_of, refusal, text_of};
+ghost use Rattle.toml_span_serde.specs.Pieces.{Piece as Laid, array_begins, items_pieces, members_pieces, piece, pieces};
+ghost use Rattle.toml_span_serde.specs.Pieces.{table_begins};
+ghost use Rattle.toml_span_serde.specs.Tasks.{all_pieces, depth_behind, piece_content, piece_of, task_pieces, turned};
 
-use crate::misfit::Found;
+use crate::misfit::{Found, Reason};
+use serde::Kind;
 use std::alloc::{AllocError, Global};
 use toml_span_lex::span::Span;
 use toml_span_tree::{Array, FloatText, Table, Value, ValueInner};
@@ -32,9 +36,11 @@ pub(crate) struct Piece<'v> {
     pub span: Span,
 }
 
-impl Content<'_> {
+impl<'v> Content<'v> {
     /// The kind of what stands there.
-    pub(crate) fn kind(&self) -> Found {
+    pub(crate) fn kind(&self) -> Found
+        ensures { result ≡ kind_of (piece_content self.now) }
+    {
         match self {
             Content::Text(_) => Found::String,
             Content::Integer(_) => Found::Integer,
@@ -47,6 +53,73 @@ impl Content<'_> {
             Content::Key(_) => Found::Key,
         }
     }
+
+    /// What serde takes it for before it is read.
+    pub(crate) fn serde_kind(&self) -> Kind
+        ensures { result ≡ kind_ahead (piece_content self.now) }
+    {
+        match self {
+            Content::Text(_) | Content::Key(_) | Content::Datetime(_) => Kind::Str,
+            Content::Integer(number) if *number < 0 => Kind::Signed,
+            Content::Integer(_) => Kind::Unsigned,
+            Content::Float(_) => Kind::Float,
+            Content::Boolean(_) => Kind::Bool,
+            Content::Taken => Kind::Unit,
+            Content::ArrayBegins | Content::ArrayEnds => Kind::Seq,
+            Content::TableBegins | Content::TableEnds => Kind::Map,
+        }
+    }
+
+    /// How many arrays and tables are open behind it, of so many before it.
+    fn depth_behind(&self, depth: usize) -> usize
+        requires { depth < 2 ^ 64 - 1 }
+        ensures { result ≡ depth_behind (piece_content self.now) depth }
+    {
+        match self {
+            Content::ArrayBegins | Content::TableBegins => depth + 1,
+            Content::ArrayEnds | Content::TableEnds => depth.saturating_sub(1),
+            _ => depth,
+        }
+    }
+
+    /// Why a type does not take it, once it is read.
+    pub(crate) fn refusal(&self) -> Reason
+        ensures { result ≡ refusal (piece_content self.now) }
+    {
+        match self {
+            Content::Integer(_) => Reason::OutOfRange,
+            _ => Reason::Invalid,
+        }
+    }
+
+    /// The text of a string or of a key, and of nothing else.
+    pub(crate) fn text(&self) -> &'v str
+        ensures { result.now ≡ text_of (piece_content self.now) }
+    {
+        match self {
+            Content::Text(text) | Content::Key(text) => *text,
+            _ => "",
+        }
+    }
+}
+
+/// How many pieces the value has that begins here, or 1 for a key. It is None where the value has no end.
+pub(crate) fn count_value(ahead: &[Piece<'_>]) -> Option<usize>
+    ensures value { (n : Node) (rest : List Laid) → map piece_of ahead.now ≡ pieces n ++ rest
+        → result ≡ Some (length (pieces n)) }
+    ensures single { (p : Laid) (rest : List Laid) → map piece_of ahead.now ≡ p ∷ rest → ¬ Begins p.content
+        → result ≡ Some 1 }
+    ensures inside { IfSome result (λ count. count ≤ length ahead.now) }
+{
+    let (mut count, mut depth) = (0usize, 0usize);
+    for piece in ahead {
+        count += 1;
+        depth = piece.content.depth_behind(depth);
+        if depth == 0 {
+            return Some(count);
+        }
+    }
+    None
 }
 
 /// What is left to go through, from the last to the first.

@@ -71,7 +71,8 @@ fn read_lent<'de, T: Deserialize<'de>>(
     }
 }
 
-/// What the reader has next, as a type that may borrow from the input.
+/// What the reader has next, as a type that may borrow from the input. serde's trait says nothing of the errors of
+/// `deserialize`, so nothing is proved of which misread comes: rows show each reason.
 fn read_by<'de, T: Deserialize<'de>>(
     alloc: Global,
     input: &'de [u8],
@@ -80,7 +81,8 @@ fn read_by<'de, T: Deserialize<'de>>(
     T::deserialize(alloc, &mut Deserializer::new(input, reader))
 }
 
-/// What the reader has next, as a type that borrows nothing.
+/// What the reader has next, as a type that borrows nothing. serde's trait says nothing of the errors of
+/// `deserialize_owned` either.
 fn read_owned<T: DeserializeOwned>(
     alloc: Global,
     reader: &mut Reader<'_, '_>,

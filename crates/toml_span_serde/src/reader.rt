@@ -1,13 +1,20 @@
 //! A tree as a `Format` of serde's.
-ghost use Rattle.std.specs.Prelude.{◌≡◌, ◌+◌, ◌-◌, ◌<◌, ◌^◌, ◌∷◌, IfOk, OnOk, drop, map};
-ghost use Rattle.toml_span_tree.specs.Node.{integer};
-ghost use Rattle.toml_span_serde.specs.Pieces.{value};
-ghost use Rattle.toml_span_serde.specs.Tasks.{piece_of};
-ghost use Rattle.toml_span_serde.specs.Reads.{IsText, Picks, Reads, TakesPiece};
-ghost use Rattle.toml_span_serde.specs.Ahead.{ahead};
+ghost use Rattle.std.specs.Prelude.{◌≡◌, ◌+◌, ◌-◌, ◌<◌, ◌^◌, ◌∷◌, ◌++◌, ◌↔◌, [], false, true, IfErr, IfOk, IsOk, IsTrue};
+ghost use Rattle.std.specs.Prelude.{List, MatchOption, OnOk, drop, length, map, slice_get};
+ghost use Rattle.serde.specs.Event as event;
+ghost use Rattle.toml_span_lex.specs.declared.stop.Stop.TheVariants as stop;
+ghost use Rattle.toml_span_tree.specs.Node.{Node, integer};
+ghost use Rattle.toml_span_serde.specs.Ahead.{ahead, laid};
+ghost use Rattle.toml_span_serde.specs.Misreads.{Begins, IsAnyInteger, IsAnyText, Misses, Says, Tells, invalid_reason};
+ghost use Rattle.toml_span_serde.specs.Misreads.{is_unknown, kind_ahead, kind_of, text_in, variant_place};
+ghost use Rattle.toml_span_serde.specs.Pieces.{Piece as Laid, pieces, value};
+ghost use Rattle.toml_span_serde.specs.Reads.{IsText, Picks, Reads, Sees, TakesPiece};
+ghost use Rattle.toml_span_serde.specs.Tasks.{piece_content, piece_of, reason_of};
+ghost use Rattle.toml_span_serde.specs.declared.misfit.Expected.TheVariants as expected;
+ghost use Rattle.toml_span_serde.specs.declared.misfit.Reason.TheVariants as is;
 
-use crate::misfit::{Expected, Found, Reason};
-use crate::pieces::{Content, Piece};
+use crate::misfit::{Expected, Reason};
+use crate::pieces::{Content, Piece, count_value};
 use crate::spanned::{END, START};
 use serde::{Format, Kind, Name, find};
 use std::alloc::{AllocError, Global};
@@ -33,7 +40,9 @@ enum TextReason {
 }
 
 impl TextReason {
-    fn of(self, text: String) -> Reason {
+    fn of(self, text: String) -> Reason
+        ensures { result ≡ reason_of self text }
+    {
         match self {
             TextReason::MissingField => Reason::MissingField(text),
             TextReason::DuplicateField => Reason::DuplicateField(text),
@@ -53,6 +62,10 @@ pub struct Reader<'p, 'v> {
     next: usize,
     /// The piece that was looked at last.
     at: usize,
+    /// The piece whose text was last read as the name of a variant.
+    variant: usize,
+    /// Whether the last step read a key that stands for none of the names.
+    is_unknown: bool,
 }
 
 impl<'p, 'v> Reader<'p, 'v> {
@@ -65,6 +78,8 @@ impl<'p, 'v> Reader<'p, 'v> {
             pieces,
             next: 0,
             at: 0,
+            variant: 0,
+            is_unknown: false,
         }
     }
 
@@ -72,10 +87,15 @@ impl<'p, 'v> Reader<'p, 'v> {
     fn look(&mut self) -> Result<Piece<'v>, Stop<Misread>>
         ensures next { IfOk result (λ p. ahead self.old
             ≡ piece_of p ∷ map piece_of (drop (self.old.next + 1) self.old.pieces.now)) }
+        ensures inside { OnOk result (self.old.next < length self.old.pieces.now) }
         ensures small { OnOk result (self.old.next < 2 ^ 64 - 1) }
+        ensures none { IfErr result (λ e. (ahead self.old ≡ []) × Tells (λ why. why ≡ is.Invalid) self.old.next e) }
         ensures stays { (self.new.next ≡ self.old.next) × (self.new.pieces ≡ self.old.pieces) }
+        ensures notes { (self.new.at ≡ self.old.next) × (self.new.variant ≡ self.old.variant)
+            × (self.new.is_unknown ≡ false) }
     {
         self.at = self.next;
+        self.is_unknown = false;
         match self.pieces.get(self.next) {
             Some(piece) => Ok(*piece),
             None => Err(self.misread(Reason::Invalid)),
@@ -84,38 +104,88 @@ impl<'p, 'v> Reader<'p, 'v> {
 
     /// What comes next, which is passed.
     fn take(&mut self) -> Result<Piece<'v>, Stop<Misread>>
-        ensures { IfOk result (λ p. ahead self.old ≡ piece_of p ∷ ahead self.new) }
+        ensures next { IfOk result (λ p. ahead self.old ≡ piece_of p ∷ ahead self.new) }
+        ensures none { IfErr result (λ e. (ahead self.old ≡ []) × Tells (λ why. why ≡ is.Invalid) self.old.next e) }
+        ensures notes { (self.new.at ≡ self.old.next) × (self.new.variant ≡ self.old.variant)
+            × (self.new.is_unknown ≡ false) }
     {
         let piece = self.look()?;
         self.next += 1;
         Ok(piece)
     }
 
-    fn misread(&self, reason: Reason) -> Stop<Misread> {
+    /// The misread of the piece that was looked at last.
+    fn misread(&self, reason: Reason) -> Stop<Misread>
+        ensures { result ≡ stop.Fault (record { reason = reason; at = self.now.at }) }
+    {
         Stop::Fault(Misread {
             reason,
             at: self.at,
         })
     }
 
-    /// The misread that tells a text of its own.
-    fn told(&self, reason: TextReason, text: &str) -> Stop<Misread> {
+    /// The misread of this piece that tells a text.
+    fn told_at(&self, at: usize, reason: TextReason, text: &str) -> Stop<Misread>
+        ensures { Tells (Says (reason_of reason) text.now) at result }
+    {
         match String::from_str(self.alloc, text) {
-            Ok(text) => self.misread(reason.of(text)),
+            Ok(text) => Stop::Fault(Misread {
+                reason: reason.of(text),
+                at,
+            }),
             Err(e) => Stop::Memory(e),
         }
     }
 
-    fn wanted(&self, expected: Expected, found: Content<'_>) -> Stop<Misread> {
+    /// The misread of the piece that was looked at last, which tells a text.
+    fn told(&self, reason: TextReason, text: &str) -> Stop<Misread>
+        ensures { Tells (Says (reason_of reason) text.now) self.now.at result }
+    {
+        self.told_at(self.at, reason, text)
+    }
+
+    /// The misread of this piece that tells the piece's text.
+    fn told_of(&self, at: usize, reason: TextReason) -> Stop<Misread>
+        ensures { Tells (Says (reason_of reason) (text_in (slice_get (laid self.now) at))) at result }
+    {
+        self.told_at(at, reason, self.text_at(at))
+    }
+
+    /// The piece that names an unknown variant.
+    fn variant_place(&self) -> usize
+        ensures { result ≡ variant_place self.now }
+    {
+        if self.is_unknown {
+            self.at
+        } else {
+            self.variant
+        }
+    }
+
+    fn wanted(&self, expected: Expected, found: Content<'_>) -> Stop<Misread>
+        ensures { Tells (λ why. why ≡ is.Wanted expected (kind_of (piece_content found.entry))) self.now.at result }
+    {
         self.misread(Reason::Wanted {
             expected,
             found: found.kind(),
         })
     }
 
+    /// The text of a piece; one that is neither a string nor a key has none.
+    fn text_at(&self, at: usize) -> &'v str
+        ensures { result.now ≡ text_in (slice_get (laid self.now) at) }
+    {
+        match self.pieces.get(at) {
+            Some(piece) => piece.content.text(),
+            None => "",
+        }
+    }
+
     /// The text of a string or of a key.
     fn text(&mut self, expected: Expected) -> Result<&'v str, Stop<Misread>>
-        ensures { IfOk result (λ text. TakesPiece (IsText text.now) (ahead self.old) (ahead self.new)) }
+        ensures text { IfOk result (λ text. TakesPiece (IsText text.now) (ahead self.old) (ahead self.new)) }
+        ensures misses { IfErr result (Tells (Misses IsAnyText expected (ahead self.old)) self.old.next) }
+        ensures notes { (self.new.variant ≡ self.old.variant) × (self.new.is_unknown ≡ false) }
     {
         match self.take()?.content {
             Content::Text(text) | Content::Key(text) => Ok(text),
@@ -124,24 +194,12 @@ impl<'p, 'v> Reader<'p, 'v> {
     }
 
     fn integer(&mut self) -> Result<i64, Stop<Misread>>
-        ensures { IfOk result (λ z. TakesPiece (λ c. c ≡ value (integer z)) (ahead self.old) (ahead self.new)) }
+        ensures integer { IfOk result (λ z. TakesPiece (λ c. c ≡ value (integer z)) (ahead self.old) (ahead self.new)) }
+        ensures misses { IfErr result (Tells (Misses IsAnyInteger expected.Integer (ahead self.old)) self.old.next) }
     {
         match self.take()?.content {
             Content::Integer(number) => Ok(number),
             found => Err(self.wanted(Expected::Integer, found)),
-        }
-    }
-
-    /// The text of what was looked at last, if it is a string or a key.
-    fn named(&self) -> &str {
-        match self.pieces.get(self.at) {
-            Some(
-                Piece {
-                    content: Content::Text(text) | Content::Key(text),
-                    ..
-                },
-            ) => text,
-            _ => "",
         }
     }
 }
@@ -249,18 +307,12 @@ impl Format for Reader<'_, '_> {
         Ok(self.string(alloc, input)?.into_bytes())
     }
 
-    fn peek(&mut self, _input: &[u8]) -> Result<Kind, Stop<Misread>> {
-        let piece = self.look()?;
-        Ok(match piece.content {
-            Content::Text(_) | Content::Key(_) | Content::Datetime(_) => Kind::Str,
-            Content::Integer(number) if number < 0 => Kind::Signed,
-            Content::Integer(_) => Kind::Unsigned,
-            Content::Float(_) => Kind::Float,
-            Content::Boolean(_) => Kind::Bool,
-            Content::Taken => Kind::Unit,
-            Content::ArrayBegins | Content::ArrayEnds => Kind::Seq,
-            Content::TableBegins | Content::TableEnds => Kind::Map,
-        })
+    fn peek(&mut self, _input: &[u8]) -> Result<Kind, Stop<Misread>>
+        ensures stays { OnOk result (ahead self.new ≡ ahead self.old) }
+        ensures kind { IfOk result (λ kind. Sees (λ p. kind ≡ kind_ahead p.content) (ahead self.old) (ahead self.new)) }
+        ensures none { IfErr result (λ e. (ahead self.old ≡ []) × Tells (λ why. why ≡ is.Invalid) self.old.next e) }
+    {
+        Ok(self.look()?.content.serde_kind())
     }
 
     /// TOML has no unit.
@@ -300,9 +352,18 @@ impl Format for Reader<'_, '_> {
         &mut self,
         _input: &[u8],
         names: &[Name<'_>],
-    ) -> Result<Option<usize>, Stop<Misread>> {
+    ) -> Result<Option<usize>, Stop<Misread>>
+        ensures key { IfOk result (λ o. MatchOption o (Reads (ahead self.old) event.map_ends (ahead self.new))
+            (λ at. Picks (ahead self.old) true names.now at (ahead self.new))) }
+        ensures notes { IfOk result (λ o. (self.new.at ≡ self.old.next) × (self.new.variant ≡ self.old.variant)
+            × (self.new.is_unknown ≡ is_unknown o (length names.now))) }
+    {
         match self.take()?.content {
-            Content::Key(key) => Ok(Some(find(names, key))),
+            Content::Key(key) => {
+                let found = find(names, key);
+                self.is_unknown = found >= names.len();
+                Ok(Some(found))
+            }
             Content::TableEnds => Ok(None),
             found => Err(self.wanted(Expected::Key, found)),
         }
@@ -319,7 +380,11 @@ impl Format for Reader<'_, '_> {
         }
     }
 
-    fn variant(&mut self, _input: &[u8], names: &[Name<'_>]) -> Result<usize, Stop<Misread>> {
+    fn variant(&mut self, _input: &[u8], names: &[Name<'_>]) -> Result<usize, Stop<Misread>>
+        ensures picks { IfOk result (λ at. Picks (ahead self.old) false names.now at (ahead self.new)) }
+        ensures notes { OnOk result ((self.new.variant ≡ self.old.next) × (self.new.is_unknown ≡ false)) }
+    {
+        self.variant = self.next;
         if let [name] = names {
             match name.name {
                 START => return Ok(self.look()?.span.start),
@@ -331,19 +396,22 @@ impl Format for Reader<'_, '_> {
         Ok(find(names, text))
     }
 
-    fn skip(&mut self, _input: &[u8]) -> Result<(), Stop<Misread>> {
-        let mut depth = 0usize;
-        for _ in 0..self.pieces.len() {
-            match self.take()?.content {
-                Content::ArrayBegins | Content::TableBegins => depth = depth.saturating_add(1),
-                Content::ArrayEnds | Content::TableEnds => depth = depth.saturating_sub(1),
-                _ => {}
+    /// Passes a whole value, or a key.
+    fn skip(&mut self, _input: &[u8]) -> Result<(), Stop<Misread>>
+        ensures value { (n : Node) (rest : List Laid) → ahead self.old ≡ pieces n ++ rest
+            → IsOk result × (ahead self.new ≡ rest) }
+        ensures single { (p : Laid) (rest : List Laid) → ahead self.old ≡ p ∷ rest → ¬ Begins p.content
+            → IsOk result × (ahead self.new ≡ rest) }
+        ensures notes { self.new.variant ≡ self.old.variant }
+    {
+        self.look()?;
+        match count_value(&self.pieces[self.next..]) {
+            Some(count) => {
+                self.next += count;
+                Ok(())
             }
-            if depth == 0 {
-                break;
-            }
+            None => Err(self.misread(Reason::Invalid)),
         }
-        Ok(())
     }
 
     fn mark(&mut self) -> usize
@@ -353,55 +421,77 @@ impl Format for Reader<'_, '_> {
     }
 
     fn rewind(&mut self, mark: usize)
-        ensures { self.new ≡ record self.old { next = mark; at = mark } }
+        ensures { self.new ≡ record self.old { next = mark; at = mark; is_unknown = false } }
     {
         self.next = mark;
         self.at = mark;
+        self.is_unknown = false;
     }
 
     fn release(&mut self, _mark: usize)
         ensures { self.new ≡ self.old }
     {}
 
-    fn is_fatal(&self, error: &Stop<Misread>) -> bool {
+    fn is_fatal(&self, error: &Stop<Misread>) -> bool
+        ensures { IsTrue result ↔ ((e : AllocError) × (error.now ≡ stop.Memory e)) }
+    {
         matches!(error, Stop::Memory(_))
     }
 
-    fn missing(&self, name: &str) -> Stop<Misread> {
+    fn missing(&self, name: &str) -> Stop<Misread>
+        ensures { Tells (Says is.MissingField name.now) self.now.at result }
+    {
         self.told(TextReason::MissingField, name)
     }
 
-    fn duplicate(&self, name: &str) -> Stop<Misread> {
+    fn duplicate(&self, name: &str) -> Stop<Misread>
+        ensures { Tells (Says is.DuplicateField name.now) self.now.at result }
+    {
         self.told(TextReason::DuplicateField, name)
     }
 
-    fn unknown_key(&self) -> Stop<Misread> {
-        self.told(TextReason::UnknownField, self.named())
+    fn unknown_key(&self) -> Stop<Misread>
+        ensures { Tells (Says is.UnknownField (text_in (slice_get (laid self.now) self.now.at))) self.now.at result }
+    {
+        self.told_of(self.at, TextReason::UnknownField)
     }
 
-    fn unknown_variant(&self) -> Stop<Misread> {
-        self.told(TextReason::UnknownVariant, self.named())
+    /// A tag is held against the names before its table is read again, so its place is kept.
+    fn unknown_variant(&self) -> Stop<Misread>
+        ensures { Tells (Says is.UnknownVariant (text_in (slice_get (laid self.now) (variant_place self.now))))
+            (variant_place self.now) result }
+    {
+        self.told_of(self.variant_place(), TextReason::UnknownVariant)
     }
 
-    fn wrong_len(&self) -> Stop<Misread> {
+    fn wrong_len(&self) -> Stop<Misread>
+        ensures { Tells (λ why. why ≡ is.Length) self.now.at result }
+    {
         self.misread(Reason::Length)
     }
 
     /// An integer that was read is out of the type's range. One that was only looked at is no unit.
-    fn invalid(&self) -> Stop<Misread> {
+    fn invalid(&self) -> Stop<Misread>
+        ensures { Tells (λ why. why ≡ invalid_reason self.now) self.now.at result }
+    {
+        if self.at >= self.next {
+            return self.misread(Reason::Invalid);
+        }
         match self.pieces.get(self.at) {
-            Some(piece) if self.at < self.next && piece.content.kind() == Found::Integer => {
-                self.misread(Reason::OutOfRange)
-            }
-            _ => self.misread(Reason::Invalid),
+            Some(piece) => self.misread(piece.content.refusal()),
+            None => self.misread(Reason::Invalid),
         }
     }
 
-    fn no_memory(&self) -> Stop<Misread> {
+    fn no_memory(&self) -> Stop<Misread>
+        ensures { (e : AllocError) × (result ≡ stop.Memory e) }
+    {
         Stop::Memory(AllocError)
     }
 
-    fn custom(&self, message: &str) -> Stop<Misread> {
+    fn custom(&self, message: &str) -> Stop<Misread>
+        ensures { Tells (Says is.Custom message.now) self.now.at result }
+    {
         self.told(TextReason::Custom, message)
     }
 }

@@ -1,11 +1,12 @@
 //! A tree that is to be read.
-ghost use Rattle.std.specs.Prelude.{◌≡◌, ◌<◌, IfOk, length};
+ghost use Rattle.std.specs.Prelude.{◌≡◌, ◌<◌, [], IfOk, Some, length, slice_get};
 ghost use Rattle.toml_span.specs.Ordered.{HasOneEach};
 ghost use Rattle.toml_span_tree.specs.Node.{Node};
 ghost use Rattle.toml_span_tree.specs.Value.{view};
 ghost use Rattle.toml_span_serde.specs.Ahead.{ahead, pieces_in};
 ghost use Rattle.toml_span_serde.specs.Misfits.{IsAt, Names, path_of};
 ghost use Rattle.toml_span_serde.specs.Pieces.{pieces};
+ghost use Rattle.toml_span_serde.specs.Stops.{IsOf, IsTold, spots};
 
 use crate::misfit::{Misfit, Reason};
 use crate::path::path_to;
@@ -38,10 +39,11 @@ impl<'v> Row<'v> {
         Reader::new(alloc, self.pieces.as_slice())
     }
 
-    /// Where in the tree a read stopped, and why: the span of its value, and the steps to it. A read that goes on
-    /// behind the end of the tree is told at the root; want of memory stays what it is.
+    /// Where in the tree a read stopped, and why: the bytes of the piece at which it did, and the steps to its value.
+    /// A read that goes on behind the end of the tree is told at the root; want of memory stays what it is.
     pub fn stopped(&self, alloc: Global, stop: Stop<Misread>) -> Stop<Misfit>
-        ensures { (n : Node) → pieces_in self.now ≡ pieces n → HasOneEach n → IsAt n result }
+        ensures place { (n : Node) → pieces_in self.now ≡ pieces n → HasOneEach n → IsAt n result }
+        ensures told { (n : Node) → pieces_in self.now ≡ pieces n → IsTold n stop result }
     {
         match stop {
             Stop::Memory(e) => Stop::Memory(e),
@@ -54,8 +56,9 @@ impl<'v> Row<'v> {
 
     /// A misread with the place of its piece, or of the first. A row has one at least.
     fn placed(&self, alloc: Global, misread: Misread) -> Result<Misfit, AllocError>
-        ensures { IfOk result (λ m. (n : Node) → pieces_in self.now ≡ pieces n → HasOneEach n
+        ensures place { IfOk result (λ m. (n : Node) → pieces_in self.now ≡ pieces n → HasOneEach n
             → Names (path_of m.path.items) m.span n) }
+        ensures told { IfOk result (λ m. (n : Node) → pieces_in self.now ≡ pieces n → IsOf n misread m) }
     {
         if misread.at < self.pieces.len() {
             return self.misfit_at(alloc, misread.reason, misread.at);
@@ -69,8 +72,10 @@ impl<'v> Row<'v> {
     /// A misfit at this piece.
     fn misfit_at(&self, alloc: Global, reason: Reason, at: usize) -> Result<Misfit, AllocError>
         requires { at < length self.now.pieces.items }
-        ensures { IfOk result (λ m. (n : Node) → pieces_in self.now ≡ pieces n → HasOneEach n
+        ensures place { IfOk result (λ m. (n : Node) → pieces_in self.now ≡ pieces n → HasOneEach n
             → Names (path_of m.path.items) m.span n) }
+        ensures told { IfOk result (λ m. (n : Node) → pieces_in self.now ≡ pieces n → (m.reason ≡ reason)
+            × (slice_get (spots [] n) at ≡ Some (path_of m.path.items, m.span))) }
     {
         let pieces = self.pieces.as_slice();
         let piece = pieces[at];

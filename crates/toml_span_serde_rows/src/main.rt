@@ -1,13 +1,15 @@
 //! Reads documents, a row each, and writes what each gives.
 //!
-//! A row is a word and a document on one line, with `;` for a line feed. `settings` is read as `Settings`, by derive;
-//! of `limits` the tree is read, as a map of numbers and their places. The answer is the value, or the code, the place,
+//! A row is a word and a document on one line, with `;` for a line feed. `settings` is read as `Settings`, by derive,
+//! and `device` as `Device`; of `limits` the tree is read, as a map of numbers and their places. The answer is the value, or the code, the place,
 //! the line and the column of what is refused, the path to it, and why. `show` shows the settings, or an error with its
 //! lines. Of a row for which memory is wanting it says so, and goes on.
 #![tactic(auto)]
 
+mod device;
 mod settings;
 
+use device::Device;
 use settings::{Settings, show};
 use std::alloc::Global;
 use std::collections::BTreeMap;
@@ -74,6 +76,7 @@ fn main(rt: HostRuntime) -> io::Result<()> {
         };
         match word {
             "settings" => tell(&rt, alloc, from_str::<Settings<'_>>(alloc, text.as_str()))?,
+            "device" => tell(&rt, alloc, from_str::<Device>(alloc, text.as_str()))?,
             "show" => match show(&rt, alloc, text.as_str()) {
                 Err(error) if error.kind() == ErrorKind::OutOfMemory => tell_no_memory(&rt)?,
                 shown => shown?,

@@ -3,10 +3,10 @@
 
 use std::process::ExitCode;
 use toml_span_lines::run::run;
-use toml_span_lines::watched::Watched;
+use toml_span_lines::told::Told;
 
 fn main(rt: HostRuntime) -> ExitCode {
-    let mut reader = Watched::new(rt.stdin());
-    let mut writer = Watched::new(rt.stdout());
+    let mut reader = Told::new(rt.stdin());
+    let mut writer = Told::new(rt.stdout());
     ExitCode::from(run(rt.alloc(), &mut reader, &mut writer))
 }

@@ -8,18 +8,18 @@ use std::io::{Read, Write};
 
 /// A reader or a writer of std that tells whether it has failed.
 #[derive(Drop)]
-pub struct Watched<T> {
+pub struct Told<T> {
     inner: T,
     failed: bool,
 }
 
-impl<T> Watched<T> {
+impl<T> Told<T> {
     /// One that has not failed.
     pub fn new(inner: T) -> Self
         ensures inner { result.inner ≡ inner }
         ensures failed { result.failed ≡ false }
     {
-        Watched {
+        Told {
             inner,
             failed: false,
         }
@@ -29,12 +29,12 @@ impl<T> Watched<T> {
     pub fn into_inner(self) -> T
         ensures { result ≡ self.inner }
     {
-        let Watched { inner, failed: _ } = self;
+        let Told { inner, failed: _ } = self;
         inner
     }
 }
 
-impl<T: Read> Source for Watched<T> {
+impl<T: Read> Source for Told<T> {
     ghost remaining = { λ t. T.remaining t.inner };
 
     ghost failed = { λ t. t.failed };
@@ -52,7 +52,7 @@ impl<T: Read> Source for Watched<T> {
     }
 }
 
-impl<T: Write> Sink for Watched<T> {
+impl<T: Write> Sink for Told<T> {
     ghost contents = { λ t. T.contents t.inner };
 
     ghost failed = { λ t. t.failed };

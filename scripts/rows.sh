@@ -1,0 +1,21 @@
+#!/usr/bin/env bash
+# Rows of tests: bash scripts/rows.sh [ROW..]
+#
+# With rows as words it prints each with its answer. With none it holds the rows of crates/toml_span_rows/stdout against
+# the program: it makes `stdin` of the lines of `stdout` that are no answers, runs it, and shows each answer that differs
+# (< as stored, > now), with status 1. docs/ROWS.md says how a row is read. What runs is a native build
+# (scripts/native.sh), which is made once after a change of the sources.
+set -euo pipefail
+cd "$(dirname "$0")/.."
+program=$(bash scripts/native.sh toml_span_rows </dev/null)
+if [ $# -gt 0 ]; then
+    printf '%s\n' "$@" | "$program"
+    exit
+fi
+cd crates/toml_span_rows
+work=$(mktemp -d)
+trap 'rm -rf "$work"' EXIT
+grep -v '^    ' stdout >"$work/stdin"
+cmp -s "$work/stdin" stdin || cp "$work/stdin" stdin
+"$program" <stdin >"$work/stdout" || true
+diff stdout "$work/stdout"
