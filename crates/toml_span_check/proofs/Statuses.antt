@@ -61,5 +61,5 @@ pub starts-small : (words : List (List ℕ)) (t : Bool) (old new : Option (List 
     Starts words t old new told told' untold warned warned' unwarned status → status ≤ 4
 starts-small words t old new told told' untold warned warned' unwarned status (inl (format, task, pointer, names, fine, asks, runs)) = runs.known
 starts-small words t old new told told' untold warned warned' unwarned status (inr (kind, among, same, inl (is, says, keeps))) = says-small _ _ _ _ _ _ (omega arith) says
-starts-small words t old new told told' untold warned warned' unwarned status (inr (kind, among, same, inr (inl (other, keeps, message, says)))) = says-small _ _ _ _ _ _ (omega arith) says
-starts-small words t old new told told' untold warned warned' unwarned status (inr (kind, among, same, inr (inr (four, kept)))) = omega (arith, four)
+starts-small words t old new told told' untold warned warned' unwarned status (inr (kind, among, same, inr (inl (other, keeps, (message, says))))) = says-small _ _ _ _ _ _ (omega arith) says
+starts-small words t old new told told' untold warned warned' unwarned status (inr (kind, among, same, inr (inr (four, kept, silent)))) = omega (arith, four)

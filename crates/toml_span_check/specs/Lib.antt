@@ -5,3 +5,4 @@ pub mod Options
 pub mod Run
 pub mod Shown
 pub mod Start
+pub mod Visible

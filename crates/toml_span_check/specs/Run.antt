@@ -7,6 +7,7 @@ use Rattle.std.specs.declared.io.ErrorKind.{ErrorKind}
 use Rattle.std.specs.declared.io.ErrorKind.TheVariants as kind
 use Rattle.toml_span_lines.specs.Run.{HasRead, HasReadAll, HasWritten}
 use Rattle.toml_span_check.specs.Answer.{IsAnswer}
+use Rattle.toml_span_check.specs.Visible.{visible}
 use Rattle.toml_span_check.specs.declared.answer.Task.{Task}
 use Rattle.toml_span_check.specs.declared.faults.Format.{Format}
 use Rattle.toml_span_check.specs.declared.input.Unread.{Unread}
@@ -45,7 +46,7 @@ why Failed = codes "reading it failed"
 
 -- what is told of a file that can't be read
 abbrev pub complaint : List ℕ → Unread → List ℕ
-complaint name unread = codes "toml_span_check: " ++ name ++ codes ": " ++ why unread ++ codes "\n"
+complaint name unread = codes "toml_span_check: " ++ visible name ++ codes ": " ++ why unread ++ codes "\n"
 
 -- What is told of files, one after another: what their bytes give, what is told of those that can't be read, and the
 -- greatest of their statuses, which is 2 for one that can't be read.

@@ -6,6 +6,7 @@ use Rattle.clap.specs.declared.error.kind.ErrorKind.{ErrorKind}
 use Rattle.clap.specs.declared.error.kind.ErrorKind.TheVariants.{DisplayHelp, OutOfMemory}
 use Rattle.toml_span_lines.specs.Run.{HasWritten}
 use Rattle.toml_span_check.specs.Options.{Asks, faults}
+use Rattle.toml_span_check.specs.Visible.{visible_lines}
 use Rattle.toml_span_check.specs.Run.{Reading, Runs}
 use Rattle.toml_span_check.specs.declared.options.TheConstants.{USAGE}
 use Rattle.toml_span_check.specs.declared.answer.Task.{Task}
@@ -23,7 +24,7 @@ abbrev pub Refuses : ErrorKind → Option (List ℕ) → Option (List ℕ) → B
     → Type 0
 Refuses kind told told' untold warned warned' unwarned status =
     ((kind ≡ DisplayHelp) × Says told told' untold USAGE.now 0 status × Keeps warned warned')
-    ⊎ ((kind ≢ DisplayHelp) × Keeps told told' × ((message : List ℕ) × Says warned warned' unwarned message 2 status))
+    ⊎ ((kind ≢ DisplayHelp) × Keeps told told' × ((message : List ℕ) × Says warned warned' unwarned (visible_lines message) 2 status))
     ⊎ ((status ≡ 4) × Keeps told told' × Keeps warned warned')
 
 -- A run on words. Where they are taken it is a run on what they ask for; else no file is read. For want of memory,

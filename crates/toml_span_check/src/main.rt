@@ -11,6 +11,7 @@ mod options;
 mod run;
 mod shown;
 mod start;
+mod visible;
 
 use crate::input::Host;
 use crate::start::start;

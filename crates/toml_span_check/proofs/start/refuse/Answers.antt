@@ -10,7 +10,8 @@ returns-in-DisplayHelp g c = inl (sym c.kind.ensures ∙ c.in-DisplayHelp.is, c.
 
 pub returns-in-Ok : goal.returns-in-Ok
 returns-in-Ok g c =
-    inr (inl (λ is. c.in_default.not-DisplayHelp (c.kind.ensures ∙ is), Keeps-refl _, (c.as_str.result.now, c.say.ensures)))
+    let says = c.say-in-Ok.ensures in
+    inr (inl (λ is. c.in_default.not-DisplayHelp (c.kind.ensures ∙ is), Keeps-refl _, (c.in-Ok.ensures.0, rw (c.as_str.ensures.value ∙ c.in-Ok.ensures.1) at says)))
 
 pub returns-in-Err : goal.returns-in-Err
 returns-in-Err g c = inr (inr (refl, Keeps-refl _, Keeps-refl _))
