@@ -119,7 +119,7 @@ abbrev pub mistake_kinds : Result (Format × Task) Mistake → Kinds
 mistake_kinds (Ok what) = []
 mistake_kinds (Err mistake) = kind_of mistake ∷ []
 
--- the kind of the error by which clap refuses words: `DisplayHelp` where they ask for help, and none where it takes them
+-- the kind of the error by which clap refuses words: `DisplayHelp` where they ask for help, none where it takes them
 unfoldable pub refusals : List (List ℕ) → Kinds
 refusals words = fault_of program words
 

@@ -42,10 +42,7 @@ fn unread_by(error: &io::Error) -> Unread
 }
 
 /// Reads all there is, but no more than the bound and one byte.
-fn read_bytes<R: Read>(
-    alloc: Global,
-    reader: &mut R,
-) -> Result<Result<Vec<u8>, Unread>, AllocError>
+fn read_bytes<R: Read>(alloc: Global, reader: &mut R) -> Result<Result<Vec<u8>, Unread>, AllocError>
     ensures { IfOk result (λ r. HasReadOrNot (R.remaining reader.old) (R.remaining reader.new) (read_of r)) }
 {
     let mut bytes = Vec::new(alloc);

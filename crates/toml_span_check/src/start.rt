@@ -6,8 +6,8 @@ ghost use Rattle.toml_span_check.specs.Start.{Refuses, Says, Starts};
 
 use crate::input::Inputs;
 use crate::options::{USAGE, options_of};
-use crate::visible::{visible, visible_lines};
 use crate::run::run;
+use crate::visible::{visible, visible_lines};
 use clap::Error;
 use clap::error::ErrorKind;
 use std::alloc::{AllocError, Global};
@@ -74,8 +74,8 @@ fn refuse<O: Sink, E: Sink>(
     }
 }
 
-/// Does what the words ask for, of which the first is the program's name: runs on files (see `run`), or tells the usage,
-/// with status 0, or what is wrong with the words, with status 2. Status 3: a write fails, 4: there is no memory.
+/// Does what the words ask for, of which the first is the program's name: runs on files (see `run`), or tells the
+/// usage, with status 0, or what is wrong with the words, with status 2. Status 3: a write fails, 4: there is no memory.
 pub(crate) fn start<I: Inputs, O: Sink, E: Sink>(
     alloc: Global,
     words: &[String],
