@@ -24,13 +24,14 @@ abbrev pub Refuses : ErrorKind → Option (List ℕ) → Option (List ℕ) → B
     → Type 0
 Refuses kind told told' untold warned warned' unwarned status =
     ((kind ≡ DisplayHelp) × Says told told' untold USAGE.now 0 status × Keeps warned warned')
-    ⊎ ((kind ≢ DisplayHelp) × Keeps told told' × ((message : List ℕ) × Says warned warned' unwarned (visible_lines message) 2 status))
+    ⊎ ((kind ≢ DisplayHelp) × Keeps told told'
+    × ((message : List ℕ) × Says warned warned' unwarned (visible_lines message) 2 status))
     ⊎ ((status ≡ 4) × Keeps told told' × Keeps warned warned')
 
 -- A run on words. Where they are taken it is a run on what they ask for; else no file is read. For want of memory,
 -- which is status 4, nothing is read or written.
-abbrev pub Starts : List (List ℕ) → Bool → Option (List Reading) → Option (List Reading) → Option (List ℕ) → Option (List ℕ) → Bool
-    → Option (List ℕ) → Option (List ℕ) → Bool → ℕ → Type 0
+abbrev pub Starts : List (List ℕ) → Bool → Option (List Reading) → Option (List Reading)
+    → Option (List ℕ) → Option (List ℕ) → Bool → Option (List ℕ) → Option (List ℕ) → Bool → ℕ → Type 0
 Starts words is_terminal old new told told' untold warned warned' unwarned status =
     ((format : Format) × (task : Task) × (pointer : List ℕ) × (names : List (List ℕ)) × (faults words is_terminal ≡ [])
     × Asks words is_terminal format task pointer names
