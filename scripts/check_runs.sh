@@ -68,13 +68,30 @@ for document in runs/tagged/*.toml data/*.toml; do
     done
 done
 
-# an end that fails
-count=$((count + 1))
+# an end that fails: of a report, of the usage, and of what is wrong with the words
+ended() {
+    count=$((count + 1))
+    if [ "$status" -ne 3 ]; then
+        wrong=$((wrong + 1))
+        echo "check runs: a write of $1 that fails ended with status $status (wanted: 3)"
+    fi
+}
 timeout 60 "$program" data/settings.toml >/dev/full 2>"$work/complaint"
 status=$?
-if [ "$status" -ne 3 ]; then
+ended "a report"
+timeout 60 "$program" --help >/dev/full 2>"$work/complaint"
+status=$?
+ended "the usage"
+timeout 60 "$program" --format >"$work/written" 2>/dev/full
+status=$?
+ended "what is wrong"
+
+# a name with a line feed makes no second line
+count=$((count + 1))
+timeout 60 "$program" $'nothing\n::error file=data/settings.toml' >"$work/written" 2>"$work/complaint"
+if [ "$(wc -l <"$work/complaint")" -ne 1 ]; then
     wrong=$((wrong + 1))
-    echo "check runs: a write that fails ended with status $status (wanted: 3)"
+    echo "check runs: a name with a line feed is told in more than a line"
 fi
 
 # each request for memory refused in turn: status 4 and nothing is written, or else the whole answer

@@ -1,3 +1,4 @@
+pub mod Rows
 pub mod Statuses
 pub mod Tellings
 pub mod Walks

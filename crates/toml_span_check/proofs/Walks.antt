@@ -2,7 +2,7 @@
 use Rattle.std.proofs.Common.{ℕ, ◌+◌, ◌<◌, ◌≡◌, refl, List, ◌∷◌, ◌++◌, codes, map, drop, length, get_or, sym, ap, ◌∙◌, append_assoc, Bool, true}
 use Rattle.std.proofs.lemmas.List.{drop_more}
 use Rattle.std.specs.Cow.{cow_str_bytes}
-use Rattle.json.specs.Print.{quoted}
+use Rattle.toml_span_check.specs.Visible.{quoted}
 use Rattle.toml_span_lex.specs.declared.key.Key.{Key}
 use Rattle.toml_span_tree.specs.declared.value.Value.{Value}
 use Rattle.toml_span_tree.specs.Diagnostic.{LabelContent}

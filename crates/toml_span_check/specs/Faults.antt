@@ -1,7 +1,7 @@
 -- What is told of a file that is not read: in lines with marks, in one line, or as one line of JSON.
 use Rattle.std.specs.Prelude.{ℕ, Bool, true, false, List, [], ◌∷◌, ◌++◌, codes}
 use Rattle.std.specs.Fmt.{decimal}
-use Rattle.json.specs.Print.{quoted}
+use Rattle.toml_span_check.specs.Visible.{quoted}
 use Rattle.toml_span_lex.specs.declared.span.Span.{Span}
 use Rattle.toml_span_tree.specs.Diagnostic.{LabelContent}
 use Rattle.toml_span_report.specs.Places.{place, line_number, column}

@@ -3,8 +3,11 @@ use Rattle.std.specs.Prelude.{◌≡◌, ◌↔◌, ◌≤◌, ⊤, ℕ, max, Bo
 use Rattle.std.specs.Prelude.{Some, None, Result, Ok, Err, Vec}
 use Rattle.std.specs.Global.{Global}
 use Rattle.std.specs.Io.KnownBytes.{Appends, Keeps}
-use Rattle.toml_span_lines.specs.Run.{HasWritten}
+use Rattle.std.specs.declared.io.ErrorKind.{ErrorKind}
+use Rattle.std.specs.declared.io.ErrorKind.TheVariants as kind
+use Rattle.toml_span_lines.specs.Run.{HasRead, HasReadAll, HasWritten}
 use Rattle.toml_span_check.specs.Answer.{IsAnswer}
+use Rattle.toml_span_check.specs.Visible.{visible}
 use Rattle.toml_span_check.specs.declared.answer.Task.{Task}
 use Rattle.toml_span_check.specs.declared.faults.Format.{Format}
 use Rattle.toml_span_check.specs.declared.input.Unread.{Unread}
@@ -17,6 +20,18 @@ Reading = List ℕ × Result (List ℕ) Unread
 abbrev pub read_of : Result (Vec ℕ Global) Unread → Result (List ℕ) Unread
 read_of (Ok bytes) = Ok bytes.items
 read_of (Err reason) = Err reason
+
+-- why a reader gave no bytes, by the kind of its error
+abbrev pub unread_by : ErrorKind → Unread
+unread_by kind.NotFound = Missing
+unread_by kind.PermissionDenied = Forbidden
+unread_by kind.IsADirectory = Folder
+unread_by _ = Failed
+
+-- What reading a reader gave: all there is, or more than the bound; or why a read failed, and what was read is lost.
+abbrev pub HasReadOrNot : Option (List ℕ) → Option (List ℕ) → Result (List ℕ) Unread → Type 0
+HasReadOrNot old new (Ok bytes) = HasReadAll old new bytes
+HasReadOrNot old new (Err reason) = (bytes : List ℕ) × HasRead old new bytes
 
 -- more readings, where they are known
 abbrev pub Logs : Option (List Reading) → Option (List Reading) → List Reading → Type 0
@@ -31,7 +46,7 @@ why Failed = codes "reading it failed"
 
 -- what is told of a file that can't be read
 abbrev pub complaint : List ℕ → Unread → List ℕ
-complaint name unread = codes "toml_span_check: " ++ name ++ codes ": " ++ why unread ++ codes "\n"
+complaint name unread = codes "toml_span_check: " ++ visible name ++ codes ": " ++ why unread ++ codes "\n"
 
 -- What is told of files, one after another: what their bytes give, what is told of those that can't be read, and the
 -- greatest of their statuses, which is 2 for one that can't be read.

@@ -1,25 +1,11 @@
 -- The JSON text that is shown of a tree: as it is, or with the type of each scalar, as toml-test reads it.
-use Rattle.std.specs.Prelude.{ℕ, ◌==◌, ◌||◌, nat_lt, Bool, true, false, List, [], ◌++◌, codes, length, drop}
-use Rattle.std.specs.Prelude.{slice_index, if◌then◌else◌}
+use Rattle.std.specs.Prelude.{ℕ, Bool, true, false, List, [], ◌++◌, codes, if◌then◌else◌}
 use Rattle.std.specs.Fmt.{signed_decimal}
-use Rattle.std.specs.List.{list_any}
-use Rattle.json.specs.Print.{quoted}
+use Rattle.toml_span_check.specs.Visible.{quoted}
 use Rattle.toml_span_tree.specs.Float.{float_text}
 use Rattle.toml_span_tree.specs.Node.{Scalar, text, integer, float, boolean, datetime, Node, node, Inner, taken, scalar}
 use Rattle.toml_span_tree.specs.Node.{array, table, Items, no_items, item, Members, no_members, member}
-
--- ---- dates
-
--- a sign that begins an offset
-abbrev pub begins_offset : ℕ → Bool
-begins_offset byte = (byte == 90 || byte == 122) || (byte == 43 || byte == 45)
-
-abbrev pub date_type : List ℕ → List ℕ
-date_type date =
-    if slice_index date 2 == 58 then codes "time-local"
-    else if nat_lt (length date) 11 then codes "date-local"
-    else if list_any begins_offset (drop 11 date) then codes "datetime"
-    else codes "datetime-local"
+use Rattle.toml_span_check.specs.Dates.{date_type, with_seconds}
 
 -- ---- scalars
 
@@ -36,7 +22,7 @@ scalar_text true (text s) = tagged (codes "string") s
 scalar_text true (integer z) = tagged (codes "integer") (signed_decimal z)
 scalar_text true (float x) = tagged (codes "float") (float_text x)
 scalar_text true (boolean b) = tagged (codes "bool") (truth b)
-scalar_text true (datetime d) = tagged (date_type d) d
+scalar_text true (datetime d) = tagged (date_type d) (with_seconds d)
 scalar_text false (text s) = quoted s
 scalar_text false (integer z) = signed_decimal z
 scalar_text false (float x) = quoted (float_text x)

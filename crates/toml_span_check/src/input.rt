@@ -1,6 +1,7 @@
 //! The files that are read.
 ghost use Rattle.std.specs.Prelude.{◌≡◌, ◌∷◌, List, [], IfOk, Option, None};
-ghost use Rattle.toml_span_check.specs.Run.{Reading, Logs, read_of};
+ghost use Rattle.std.specs.IoError.{error_kind};
+ghost use Rattle.toml_span_check.specs.Run.{Reading, Logs, HasReadOrNot, read_of, unread_by};
 
 use std::alloc::{AllocError, Global};
 use std::fs::File;
@@ -29,7 +30,9 @@ pub(crate) trait Inputs {
 }
 
 /// Why an opened file or a reader gave no bytes.
-fn unread_by(error: &io::Error) -> Unread {
+fn unread_by(error: &io::Error) -> Unread
+    ensures { result ≡ unread_by (error_kind error.now) }
+{
     match error.kind() {
         ErrorKind::NotFound => Unread::Missing,
         ErrorKind::PermissionDenied => Unread::Forbidden,
@@ -39,10 +42,9 @@ fn unread_by(error: &io::Error) -> Unread {
 }
 
 /// Reads all there is, but no more than the bound and one byte.
-fn read_bytes<R: Read>(
-    alloc: Global,
-    reader: &mut R,
-) -> Result<Result<Vec<u8>, Unread>, AllocError> {
+fn read_bytes<R: Read>(alloc: Global, reader: &mut R) -> Result<Result<Vec<u8>, Unread>, AllocError>
+    ensures { IfOk result (λ r. HasReadOrNot (R.remaining reader.old) (R.remaining reader.new) (read_of r)) }
+{
     let mut bytes = Vec::new(alloc);
     let mut buf = [0u8; 8192];
     while bytes.len() < BOUND + 1 {

@@ -1,46 +1,40 @@
 //! Checks TOML files: tells the fault of each one that is no document, and shows documents as JSON or as lines.
 #![tactic(auto)]
 
+ghost use Rattle.std.specs.Prelude.{◌≤◌, IfOk};
+
 mod answer;
+mod dates;
 mod faults;
 mod input;
 mod options;
 mod run;
 mod shown;
+mod start;
+mod visible;
 
 use crate::input::Host;
-use crate::options::options_of;
-use crate::run::run;
-use clap::error::ErrorKind;
+use crate::start::start;
 use std::env;
 use std::io::IsTerminal;
 use std::process::ExitCode;
 use toml_span_lines::told::Told;
 
 /// Runs the program, and answers its status.
-fn status_of(rt: HostRuntime) -> anyhow::Result<u8> {
+fn status_of(rt: HostRuntime) -> anyhow::Result<u8>
+    ensures { IfOk result (λ status. status ≤ 4) }
+{
     let alloc = rt.alloc();
     let words: Vec<String> = env::args(&rt)?.collect(alloc)?;
     let out = rt.stdout();
-    let options = match options_of(alloc, words.as_slice(), out.is_terminal()) {
-        Ok(options) => options,
-        Err(error) => {
-            if error.kind() == ErrorKind::OutOfMemory {
-                return Ok(4);
-            }
-            error.print(&rt)?;
-            return Ok(error.exit_code() as u8);
-        }
-    };
+    let is_terminal = out.is_terminal();
     let mut out = Told::new(out);
     let mut errors = Told::new(rt.stderr());
     let mut inputs = Host { rt };
-    Ok(run(
+    Ok(start(
         alloc,
-        options.format,
-        options.task,
-        options.pointer,
-        options.names.as_slice(),
+        words.as_slice(),
+        is_terminal,
         &mut inputs,
         &mut out,
         &mut errors,

@@ -1,8 +1,14 @@
 //! The words of the command line.
+ghost use Rattle.std.specs.Prelude.{◌≡◌, IfOk, false, is_some, map, string_bytes};
+ghost use Rattle.clap.specs.Kinds.{FailsBy};
+ghost use Rattle.clap.specs.Words.{app_of, first_of, found_of, rows_of, rule_of};
+ghost use Rattle.toml_span_check.specs.Options as spec;
+
 use crate::answer::{Form, Task};
 use crate::faults::Format;
+use clap::error::ErrorKind;
 use clap::{Arg, ArgAction, ArgMatches, Command, Error};
-use std::alloc::Global;
+use std::alloc::{AllocError, Global};
 use toml_span_report::Style;
 
 /// How the program is used.
@@ -34,71 +40,181 @@ pub(crate) struct Options<'w> {
     pub(crate) names: Vec<&'w str>,
 }
 
-/// A word with one of these values, and `default` where it is not given.
-fn choice<'w>(alloc: Global, name: &'w str, values: &'w [&'w str], default: &'w str) -> Arg<'w> {
-    Arg::new(alloc, name)
-        .long(name)
-        .value_parser(values)
-        .default_value(default)
+/// What is wrong with words that clap takes.
+#[derive(Clone, Copy, PartialEq, Eq)]
+enum Mistake {
+    /// There is no such format.
+    Format,
+    /// There is no such time for colours.
+    Color,
+    /// `--items` and `--tagged` are both given.
+    Forms,
 }
 
-/// A word without a value.
-fn flag<'w>(alloc: Global, name: &'w str) -> Arg<'w> {
+/// A flag, which has no value.
+fn flag<'w>(alloc: Global, name: &'w str) -> Arg<'w>
+    ensures rule { rule_of result ≡ spec.flag name.entry.now }
+    ensures own { result.global ≡ false }
+{
     Arg::new(alloc, name).long(name).action(ArgAction::SetTrue)
 }
 
-/// The words that the program knows.
-fn command<'w>(alloc: Global) -> Result<Command<'w>, Error> {
-    let command = Command::new(alloc, "toml_span_check")
-        .override_help(USAGE)
-        .arg(choice(alloc, "format", &["text", "json", "short"], "text"))?
-        .arg(choice(alloc, "color", &["auto", "always", "never"], "auto"))?
-        .arg(Arg::new(alloc, "get").long("get"))?
-        .arg(flag(alloc, "tagged"))?
-        .arg(flag(alloc, "items").conflicts_with("tagged")?)?
-        .arg(Arg::new(alloc, "FILE").num_args(0..).default_value("-"))?;
-    Ok(command)
+/// An option, which has a value.
+fn option<'w>(alloc: Global, name: &'w str) -> Arg<'w>
+    ensures rule { rule_of result ≡ spec.option name.entry.now }
+    ensures own { result.global ≡ false }
+{
+    Arg::new(alloc, name).long(name)
 }
 
-/// How faults are told.
-fn format_of(matches: &ArgMatches<'_>, is_terminal: bool) -> Format {
-    let style = match matches.get_str("color") {
-        Some("always") => Style::Coloured,
-        Some("auto") if is_terminal => Style::Coloured,
-        _ => Style::Plain,
-    };
-    match matches.get_str("format") {
-        Some("short") => Format::Short,
-        Some("json") => Format::Json,
-        _ => Format::Text(style),
+/// An option with a value where it is not given.
+fn choice<'w>(alloc: Global, name: &'w str, default: &'w str) -> Arg<'w>
+    ensures rule { rule_of result ≡ spec.choice name.entry.now default.entry.now }
+    ensures own { result.global ≡ false }
+{
+    Arg::new(alloc, name).long(name).default_value(default)
+}
+
+/// The names of files.
+fn files<'w>(alloc: Global) -> Arg<'w>
+    ensures rule { rule_of result ≡ spec.files }
+    ensures own { result.global ≡ false }
+{
+    Arg::new(alloc, "FILE").num_args(0..).default_value("-")
+}
+
+/// The words that the program knows.
+fn command<'w>(alloc: Global) -> Result<Command<'w>, AllocError>
+    ensures { IfOk result (λ c. app_of c ≡ spec.program) }
+{
+    Command::new(alloc, "toml_span_check")
+        .bin_name("toml_span_check")?
+        .override_help(USAGE)
+        .arg(choice(alloc, "format", "text"))?
+        .arg(choice(alloc, "color", "auto"))?
+        .arg(option(alloc, "get"))?
+        .arg(flag(alloc, "tagged"))?
+        .arg(flag(alloc, "items"))?
+        .arg(files(alloc))
+}
+
+/// The format of this name.
+fn format_named(name: &str, style: Style) -> Option<Format>
+    ensures { result ≡ spec.format_named name.now style }
+{
+    match name {
+        "text" => Some(Format::Text(style)),
+        "short" => Some(Format::Short),
+        "json" => Some(Format::Json),
+        _ => None,
     }
+}
+
+/// The style of this name.
+fn style_named(name: &str, is_terminal: bool) -> Option<Style>
+    ensures { result ≡ spec.style_named name.now is_terminal }
+{
+    match name {
+        "always" => Some(Style::Coloured),
+        "never" => Some(Style::Plain),
+        "auto" if is_terminal => Some(Style::Coloured),
+        "auto" => Some(Style::Plain),
+        _ => None,
+    }
+}
+
+/// The value of an option, and nothing where it has none.
+fn value_of<'w>(matches: &ArgMatches<'w>, name: &str) -> &'w str
+    ensures { result.now ≡ spec.value_of (rows_of (found_of matches.now)) name.now }
+{
+    matches.get_str(name).unwrap_or("")
+}
+
+/// Whether an option has a value.
+fn has_value(matches: &ArgMatches<'_>, name: &str) -> bool
+    ensures { result ≡ is_some (first_of name.now (rows_of (found_of matches.now))) }
+{
+    matches.get_str(name).is_some()
+}
+
+/// Whether a flag is given.
+fn is_given(matches: &ArgMatches<'_>, name: &str) -> bool
+    ensures { result ≡ spec.is_given (rows_of (found_of matches.now)) name.now }
+{
+    value_of(matches, name) == "true"
 }
 
 /// What is done with documents.
-fn task_of(matches: &ArgMatches<'_>) -> Task {
-    if matches.get_flag("items") {
-        Task::Show(Form::Items)
-    } else if matches.get_flag("tagged") {
-        Task::Show(Form::Tagged)
-    } else if matches.contains_id("get") {
-        Task::Show(Form::Plain)
-    } else {
-        Task::Check
+fn task_of(matches: &ArgMatches<'_>) -> Result<Task, Mistake>
+    ensures { result ≡ spec.task_of (rows_of (found_of matches.now)) }
+{
+    match (is_given(matches, "items"), is_given(matches, "tagged")) {
+        (true, true) => Err(Mistake::Forms),
+        (true, false) => Ok(Task::Show(Form::Items)),
+        (false, true) => Ok(Task::Show(Form::Tagged)),
+        (false, false) => Ok(if has_value(matches, "get") {
+            Task::Show(Form::Plain)
+        } else {
+            Task::Check
+        }),
     }
 }
 
-/// What these words ask for, of which the first is the program's name.
+/// How faults are told, and what is done with documents.
+fn asked(matches: &ArgMatches<'_>, is_terminal: bool) -> Result<(Format, Task), Mistake>
+    ensures { result ≡ spec.asked (rows_of (found_of matches.now)) is_terminal }
+{
+    let Some(style) = style_named(value_of(matches, "color"), is_terminal) else {
+        return Err(Mistake::Color);
+    };
+    let Some(format) = format_named(value_of(matches, "format"), style) else {
+        return Err(Mistake::Format);
+    };
+    match task_of(matches) {
+        Ok(task) => Ok((format, task)),
+        Err(mistake) => Err(mistake),
+    }
+}
+
+/// What kind of error a mistake is to clap.
+fn kind_of(mistake: Mistake) -> ErrorKind
+    ensures { result ≡ spec.kind_of mistake }
+{
+    match mistake {
+        Mistake::Format | Mistake::Color => ErrorKind::InvalidValue,
+        Mistake::Forms => ErrorKind::ArgumentConflict,
+    }
+}
+
+/// A mistake in words.
+fn message_of(mistake: Mistake) -> &'static str {
+    match mistake {
+        Mistake::Format => "the value of '--format' is 'text', 'json' or 'short'",
+        Mistake::Color => "the value of '--color' is 'auto', 'always' or 'never'",
+        Mistake::Forms => "the argument '--items' cannot be used with '--tagged'",
+    }
+}
+
+/// What these words ask for, of which the first is the program's name. An error is a mistake in the words or a request
+/// for help, as clap tells them, or memory is refused.
 pub(crate) fn options_of<'w>(
     alloc: Global,
     words: &'w [String],
     is_terminal: bool,
-) -> Result<Options<'w>, Error> {
-    let matches = command(alloc)?.try_get_matches_from(words)?;
-    let names = matches.get_strs("FILE").unwrap_or(&[]);
-    Ok(Options {
-        format: format_of(&matches, is_terminal),
-        task: task_of(&matches),
-        pointer: matches.get_str("get").unwrap_or(""),
-        names: Vec::from_slice(alloc, names)?,
-    })
+) -> Result<Options<'w>, Error>
+    ensures ok { IfOk result (λ o. spec.Asks (map (λ w. string_bytes w) words.entry.now) is_terminal
+        o.format o.task o.pointer.now (map (λ name. name.now) o.names.items)) }
+    ensures fails { FailsBy (spec.faults (map (λ w. string_bytes w) words.entry.now) is_terminal) result }
+{
+    let mut command = command(alloc)?;
+    let matches = command.try_get_matches_from_mut(words)?;
+    match asked(&matches, is_terminal) {
+        Ok((format, task)) => Ok(Options {
+            format,
+            task,
+            pointer: value_of(&matches, "get"),
+            names: Vec::from_slice(alloc, matches.get_strs("FILE").unwrap_or(&[]))?,
+        }),
+        Err(mistake) => Err(command.error(kind_of(mistake), message_of(mistake))?),
+    }
 }

@@ -6,6 +6,7 @@ ghost use Rattle.toml_span_check.specs.Run.{Runs, Tells, complaint};
 use crate::answer::{Task, answer};
 use crate::faults::Format;
 use crate::input::{Inputs, Unread};
+use crate::visible::push_visible;
 use std::alloc::{AllocError, Global};
 use toml_span_lines::run::write_bytes;
 use toml_span_lines::sink::Sink;
@@ -37,7 +38,7 @@ fn push_complaint(out: &mut String, name: &str, reason: Unread) -> Result<(), Al
     ensures { OnOk result (string_bytes out.new ≡ string_bytes out.old ++ complaint name.now reason) }
 {
     out.push_str("toml_span_check: ")?;
-    out.push_str(name)?;
+    push_visible(out, name)?;
     out.push_str(": ")?;
     out.push_str(why(reason))?;
     out.push_str("\n")

@@ -1,21 +1,22 @@
 //! The JSON text of a tree.
 ghost use Rattle.std.specs.Prelude.{◌≡◌, ◌++◌, false, true, OnOk, IfOk, string_bytes, codes};
-ghost use Rattle.std.specs.List.{list_any};
-ghost use Rattle.json.specs.Print as print;
+ghost use Rattle.toml_span_check.specs.Visible.{quoted};
 ghost use Rattle.toml_span_tree.specs.Value.{view, inner_view, items_view, members_view};
 ghost use Rattle.toml_span_check.specs.Shown as spec;
 
+use crate::dates::{date_type, with_seconds};
+use crate::visible::push_visible;
 use serde_json::Value as Json;
 use std::alloc::{AllocError, Global};
 use toml_span::value::{Table, Value, ValueInner};
 
-/// Adds a text in quotes, as JSON has it.
+/// Adds a text in quotes, as JSON has it, with the numbers of its hidden characters.
 pub(crate) fn push_quoted(alloc: Global, out: &mut String, text: &str) -> Result<(), AllocError>
-    ensures { OnOk result (string_bytes out.new ≡ string_bytes out.old ++ print.quoted text.now) }
+    ensures { OnOk result (string_bytes out.new ≡ string_bytes out.old ++ quoted text.now) }
 {
     let json = Json::String(String::from_str(alloc, text)?);
     let quoted = json.to_string(alloc)?;
-    out.push_str(quoted.as_str())
+    push_visible(out, quoted.as_str())
 }
 
 /// `true` or `false`.
@@ -33,37 +34,6 @@ pub(crate) fn push_comma(out: &mut String, later: bool) -> Result<(), AllocError
         out.push_str(",")?;
     }
     Ok(())
-}
-
-/// Whether a sign that begins an offset is among these bytes.
-fn has_offset(bytes: &[u8]) -> bool
-    ensures { result ≡ list_any spec.begins_offset bytes.now }
-{
-    for byte in bytes {
-        if matches!(*byte, b'Z' | b'z' | b'+' | b'-') {
-            return true;
-        }
-    }
-    false
-}
-
-/// The type of a date in the words of toml-test.
-fn date_type(date: &str) -> &'static str
-    ensures { result.now ≡ spec.date_type date.now }
-{
-    let bytes = date.as_bytes();
-    if bytes.get(2).copied() == Some(b':') {
-        return "time-local";
-    }
-    if bytes.len() < 11 {
-        return "date-local";
-    }
-    let (_, behind) = bytes.split_at(11);
-    if has_offset(behind) {
-        "datetime"
-    } else {
-        "datetime-local"
-    }
 }
 
 /// Adds a scalar with its type.
@@ -95,7 +65,8 @@ fn push_typed(alloc: Global, out: &mut String, scalar: &ValueInner<'_>) -> Resul
         ValueInner::Float(float) => push_tagged(alloc, out, "float", float.text()),
         ValueInner::Boolean(is_true) => push_tagged(alloc, out, "bool", truth(*is_true)),
         ValueInner::Datetime(date) => {
-            push_tagged(alloc, out, date_type(date.text()), date.text())
+            let text = with_seconds(alloc, date.text())?;
+            push_tagged(alloc, out, date_type(date.text()), text.as_str())
         }
         ValueInner::Array(_) => Ok(()),
         ValueInner::Table(_) => Ok(()),

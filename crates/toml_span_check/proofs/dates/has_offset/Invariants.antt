@@ -1,7 +1,7 @@
 use Rattle.std.proofs.Common.{◌≡◌, drop}
 use Rattle.std.specs.List.{list_any}
-use Rattle.toml_span_check.specs.Shown.{begins_offset}
-use Rattle.toml_span_check.proofs.shown.has_offset.Given as goal
+use Rattle.toml_span_check.specs.Dates.{begins_offset}
+use Rattle.toml_span_check.proofs.dates.has_offset.Given as goal
 
 abbrev pub invariant-loop-byte : goal.invariant-loop-byte
 invariant-loop-byte l = list_any begins_offset (drop l.byte-index l.bytes) ≡ list_any begins_offset l.bytes

@@ -1,0 +1,81 @@
+use Rattle.std.proofs.Common.{◌≡◌, ◌∙◌, ap, refl, sym, subst, inl, inr, ℕ, Bool, true, List, [], ◌∷◌, map, Result, Ok, Err, Option}
+use Rattle.std.proofs.lemmas.Result.{err_from_is_err_and}
+use Rattle.std.specs.Prelude.{unwrap_or}
+use Rattle.clap.specs.Kinds.{FailsBy, HasKind, Kinds, or_else}
+use Rattle.clap.specs.Values as clap
+use Rattle.clap.specs.Words.{App, HasMatchesOf, Row, app_of, all_of, fault_of, found_of, is_simple, is_simple_and_free, matches_of, rows_of}
+use Rattle.clap.specs.declared.error.Error.{Error}
+use Rattle.clap.specs.declared.parser.matches.ArgMatches.{ArgMatches}
+use Rattle.toml_span_check.specs.Options.{asked, faults, kind_of, mistake_kinds, options, program, refusals, value_of}
+use Rattle.toml_span_check.specs.declared.answer.Task.{Task}
+use Rattle.toml_span_check.specs.declared.faults.Format.{Format}
+use Rattle.toml_span_check.specs.declared.options.Mistake.{Mistake}
+use Rattle.toml_span_check.proofs.Rows.{all-row, or-none}
+use Rattle.toml_span_check.proofs.options.options_of.Goals as goal
+
+is-simple : is_simple program ≡ true
+unfolding program
+is-simple = refl
+
+is-free : is_simple_and_free program ≡ true
+unfolding program
+is-free = refl
+
+-- the rows are those of the words
+rows : (app : App) (words : List (List ℕ)) (m : ArgMatches) → app ≡ program → HasMatchesOf app words m → rows_of (found_of m) ≡ options words
+unfolding options
+rows app words m is has = (has (ap is_simple is ∙ is-simple)).0 ∙ ap (λ a. matches_of a words) is
+
+-- what clap refuses, it refuses by the words
+refused : (app : App) (words : List (List ℕ)) (e : Error) → app ≡ program → (is_simple_and_free app ≡ true → HasKind (fault_of app words) e) →
+    HasKind (refusals words) e
+unfolding refusals
+refused app words e is h = subst (λ (a : App). HasKind (fault_of a words) e) is (h (ap is_simple_and_free is ∙ is-free))
+
+-- what it takes, it doesn't refuse
+taken : (app : App) (words : List (List ℕ)) → app ≡ program → (is_simple_and_free app ≡ true → fault_of app words ≡ []) → refusals words ≡ []
+unfolding refusals
+taken app words is h = ap (λ a. fault_of a words) (sym is) ∙ h (ap is_simple_and_free is ∙ is-free)
+
+first-among : (first next : Kinds) (e : Error) → HasKind first e → HasKind (or_else first next) e
+first-among [] next e (inl h) = inl h
+first-among [] next e (inr h) = absurd h
+first-among (k ∷ ks) next e h = h
+
+mistaken : (words : List (List ℕ)) (t : Bool) (m : Mistake) (e : Error) → refusals words ≡ [] → asked (options words) t ≡ Err m → clap.kind_of e ≡ kind_of m →
+    HasKind (faults words t) e
+mistaken words t m e fine is kind = rw (fine, is) (inr (inl kind))
+
+pub returns-in_err-command-clause-fails : goal.returns-in_err-command-clause-fails
+returns-in_err-command-clause-fails c =
+    let p = err_from_is_err_and c.from_residual.result c.from_residual.ensures.1 in rw p.1 (inl p.2)
+
+pub returns-in_err-matches-clause-fails : goal.returns-in_err-matches-clause-fails
+returns-in_err-matches-clause-fails c =
+    let p = err_from_is_err_and c.from_residual-in_err-matches.result c.from_residual-in_err-matches.ensures.1 in
+    rw (p.1, p.2) (first-among _ _ c.in_err-matches.field-0.0 (refused _ _ c.in_err-matches.field-0.0 c.in_ok-command.ensures c.in_err-matches.ensures.kinds))
+
+pub returns-in-Ok-clause-ok : goal.returns-in-Ok-clause-ok
+returns-in-Ok-clause-ok c =
+    let these = rows _ _ c.in_ok-matches.matches c.in_ok-command.ensures c.in_ok-matches.ensures.ok.2 in
+    record {
+      what = ap (λ rs. asked rs c.args.is_terminal) (sym these) ∙ sym c.asked.ensures ∙ c.in-Ok.is;
+      place = c.value_of.ensures ∙ ap (λ rs. value_of rs (103 ∷ 101 ∷ 116 ∷ [])) these;
+      files =
+          ap (map (λ name. name.now)) (c.in_ok-from_slice-in-Ok.ensures.items ∙ ap (λ s. s.now) c.unwrap_or.ensures)
+          ∙ or-none c.get_strs.result _ refl
+          ∙ ap (λ (o : Option (List (List ℕ))). unwrap_or o []) (c.get_strs.ensures ∙ all-row c.in_ok-matches.matches _ ∙ ap (all_of (70 ∷ 73 ∷ 76 ∷ 69 ∷ [])) these);
+    }
+
+pub returns-in-Ok-clause-fails : goal.returns-in-Ok-clause-fails
+returns-in-Ok-clause-fails c =
+    let these = rows _ _ c.in_ok-matches.matches c.in_ok-command.ensures c.in_ok-matches.ensures.ok.2 in
+    let fine = taken _ _ c.in_ok-command.ensures c.in_ok-matches.ensures.kinds in
+    rw (fine, ap (λ rs. asked rs c.args.is_terminal) (sym these) ∙ sym c.asked.ensures ∙ c.in-Ok.is) refl
+
+pub returns-clause-fails : goal.returns-clause-fails
+returns-clause-fails c =
+    let these = rows _ _ c.in_ok-matches.matches c.in_ok-command.ensures c.in_ok-matches.ensures.ok.2 in
+    let fine = taken _ _ c.in_ok-command.ensures c.in_ok-matches.ensures.kinds in
+    mistaken _ _ c.in-Err.mistake c.in_ok-error-in-Err.field-0 fine (ap (λ rs. asked rs c.args.is_terminal) (sym these) ∙ sym c.asked.ensures ∙ c.in-Err.is)
+    (c.in_ok-error-in-Err.ensures.kind ∙ c.kind_of.ensures)

@@ -1,0 +1,35 @@
+-- Dates and times as toml-test has them.
+use Rattle.std.specs.Prelude.{ℕ, ◌==◌, ◌||◌, nat_lt, Bool, List, ◌++◌, codes, length, take, drop}
+use Rattle.std.specs.Prelude.{slice_index, if◌then◌else◌}
+use Rattle.std.specs.List.{list_any}
+
+-- a sign that begins an offset
+abbrev pub begins_offset : ℕ → Bool
+begins_offset byte = (byte == 90 || byte == 122) || (byte == 43 || byte == 45)
+
+-- `07:32:00`
+abbrev pub is_time : List ℕ → Bool
+is_time date = slice_index date 2 == 58
+
+abbrev pub date_type : List ℕ → List ℕ
+date_type date =
+    if is_time date then codes "time-local"
+    else if nat_lt (length date) 11 then codes "date-local"
+    else if list_any begins_offset (drop 11 date) then codes "datetime"
+    else codes "datetime-local"
+
+-- where the minutes of a time end
+abbrev pub minutes_end : List ℕ → ℕ
+minutes_end date = if is_time date then 5 else 16
+
+-- a time whose minutes end at a place has no seconds: it ends there, or its offset begins
+abbrev pub lacks_seconds : List ℕ → ℕ → Bool
+lacks_seconds date at = length date == at || begins_offset (slice_index date at)
+
+-- A date or a time, with its seconds where it has a time: `07:32` is `07:32:00`, and `1979-05-27 07:32Z` is
+-- `1979-05-27 07:32:00Z`.
+abbrev pub with_seconds : List ℕ → List ℕ
+with_seconds date =
+    if lacks_seconds date (minutes_end date)
+    then take (minutes_end date) date ++ codes ":00" ++ drop (minutes_end date) date
+    else date

@@ -1,0 +1,128 @@
+-- Which options come of which words. The words are cut into options by the kit's `clap`, whose `matches_of` and
+-- `fault_of` are functions of them.
+use Rattle.std.specs.Prelude.{◌≡◌, ◌&&◌, ◌||◌, ℕ, Bool, true, false, List, [], ◌∷◌, Option, Some, None, codes, is_some}
+use Rattle.std.specs.Prelude.{unwrap_or, if◌then◌else◌, Result, Ok, Err}
+use Rattle.std.specs.Str.{bytes_eq}
+use Rattle.clap.specs.Lexer.{usize_max}
+use Rattle.clap.specs.Kinds.{Kinds, or_else}
+use Rattle.clap.specs.Faults.{fault_of}
+use Rattle.clap.specs.Words.{App, Row, Rule, all_of, first_of, matches_of, new_app, new_rule, with_rule}
+use Rattle.clap.specs.declared.builder.action.ArgAction.TheVariants.{SetTrue}
+use Rattle.clap.specs.declared.error.kind.ErrorKind.{ErrorKind}
+use Rattle.clap.specs.declared.error.kind.ErrorKind.TheVariants.{ArgumentConflict, InvalidValue}
+use Rattle.toml_span_check.specs.declared.answer.Task.{Task}
+use Rattle.toml_span_check.specs.declared.answer.Task.TheVariants.{Check, Show}
+use Rattle.toml_span_check.specs.declared.answer.Form.TheVariants as form
+use Rattle.toml_span_check.specs.declared.faults.Format.{Format}
+use Rattle.toml_span_check.specs.declared.faults.Format.TheVariants.{Text, Short, Json}
+use Rattle.toml_span_check.specs.declared.options.Mistake.{Mistake}
+use Rattle.toml_span_check.specs.declared.options.Mistake.TheVariants as mistake
+use Rattle.toml_span_report.specs.declared.Style.{Style}
+use Rattle.toml_span_report.specs.declared.Style.TheVariants.{Plain, Coloured}
+
+-- ---- the words that the program knows
+
+-- `--NAME`
+abbrev pub flag : List ℕ → Rule
+flag name = record (new_rule name) { long = Some name; action = Some SetTrue }
+
+-- `--NAME VALUE`
+abbrev pub option : List ℕ → Rule
+option name = record (new_rule name) { long = Some name }
+
+-- the same, with a value where it is not given
+abbrev pub choice : List ℕ → List ℕ → Rule
+choice name default = record (option name) { defaults = default ∷ [] }
+
+-- any number of names, and `-` where there is none
+abbrev pub files : Rule
+files = record (new_rule (codes "FILE")) {
+  range = Some (record { start_inclusive = 0; end_inclusive = usize_max });
+  defaults = codes "-" ∷ [];
+}
+
+-- `toml_span_check [--format FORMAT] [--color WHEN] [--get POINTER] [--tagged] [--items] [FILE..]`
+unfoldable pub program : App
+program =
+    with_rule (with_rule (with_rule (with_rule (with_rule (with_rule (new_app (codes "toml_span_check"))
+    (choice (codes "format") (codes "text"))) (choice (codes "color") (codes "auto"))) (option (codes "get")))
+    (flag (codes "tagged"))) (flag (codes "items"))) files
+
+-- ---- what they ask for
+
+-- the value of an option, and nothing where it has none
+abbrev pub value_of : List Row → List ℕ → List ℕ
+value_of rows name = unwrap_or (first_of name rows) []
+
+abbrev pub is_given : List Row → List ℕ → Bool
+is_given rows name = bytes_eq (value_of rows name) (codes "true")
+
+abbrev pub style_named : List ℕ → Bool → Option Style
+style_named name is_terminal =
+    if bytes_eq name (codes "always") then Some Coloured
+    else if bytes_eq name (codes "never") then Some Plain
+    else if bytes_eq name (codes "auto") then Some (if is_terminal then Coloured else Plain)
+    else None
+
+abbrev pub format_named : List ℕ → Style → Option Format
+format_named name style =
+    if bytes_eq name (codes "text") then Some (Text style)
+    else if bytes_eq name (codes "short") then Some Short
+    else if bytes_eq name (codes "json") then Some Json
+    else None
+
+-- what is done with documents
+abbrev pub task_of : List Row → Result Task Mistake
+task_of rows =
+    if is_given rows (codes "items") && is_given rows (codes "tagged") then Err mistake.Forms
+    else if is_given rows (codes "items") then Ok (Show form.Items)
+    else if is_given rows (codes "tagged") then Ok (Show form.Tagged)
+    else if is_some (first_of (codes "get") rows) then Ok (Show form.Plain)
+    else Ok Check
+
+abbrev pub with_task : Format → Result Task Mistake → Result (Format × Task) Mistake
+with_task format (Ok task) = Ok (format, task)
+with_task format (Err mistake) = Err mistake
+
+abbrev pub with_format : Option Format → Result Task Mistake → Result (Format × Task) Mistake
+with_format (Some format) task = with_task format task
+with_format None task = Err mistake.Format
+
+abbrev pub with_style : Option Style → List Row → Result (Format × Task) Mistake
+with_style (Some style) rows = with_format (format_named (value_of rows (codes "format")) style) (task_of rows)
+with_style None rows = Err mistake.Color
+
+-- how faults are told and what is done with documents, or what is wrong
+abbrev pub asked : List Row → Bool → Result (Format × Task) Mistake
+asked rows is_terminal = with_style (style_named (value_of rows (codes "color")) is_terminal) rows
+
+-- the options that words are cut into, with their values
+unfoldable pub options : List (List ℕ) → List Row
+options words = matches_of program words
+
+-- What words ask for that are taken: the format and the task, where the value stands that is shown, and the names of
+-- the files.
+pub record Asks (words : List (List ℕ)) (is_terminal : Bool) (format : Format) (task : Task) (pointer : List ℕ)
+    (names : List (List ℕ)) : Type 0 where
+  pub what : asked (options words) is_terminal ≡ Ok (format, task)
+  pub place : pointer ≡ value_of (options words) (codes "get")
+  pub files : names ≡ unwrap_or (all_of (codes "FILE") (options words)) []
+
+-- ---- what is wrong with them
+
+abbrev pub kind_of : Mistake → ErrorKind
+kind_of mistake.Format = InvalidValue
+kind_of mistake.Color = InvalidValue
+kind_of mistake.Forms = ArgumentConflict
+
+abbrev pub mistake_kinds : Result (Format × Task) Mistake → Kinds
+mistake_kinds (Ok what) = []
+mistake_kinds (Err mistake) = kind_of mistake ∷ []
+
+-- the kind of the error by which clap refuses words: `DisplayHelp` where they ask for help, none where it takes them
+unfoldable pub refusals : List (List ℕ) → Kinds
+refusals words = fault_of program words
+
+-- the kind of the error that words give, and none where they are taken
+abbrev pub faults : List (List ℕ) → Bool → Kinds
+faults words is_terminal = or_else (refusals words) (mistake_kinds (asked (options words) is_terminal))

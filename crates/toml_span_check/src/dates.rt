@@ -1,0 +1,77 @@
+//! Dates and times as toml-test has them.
+ghost use Rattle.std.specs.Prelude.{◌≡◌, IfOk, string_bytes};
+ghost use Rattle.std.specs.List.{list_any};
+ghost use Rattle.toml_span_check.specs.Dates as spec;
+
+use std::alloc::{AllocError, Global};
+
+/// Whether this is a sign that begins an offset.
+fn begins_offset(byte: u8) -> bool
+    ensures { result ≡ spec.begins_offset byte }
+{
+    matches!(byte, b'Z' | b'z' | b'+' | b'-')
+}
+
+/// Whether a sign that begins an offset is among these bytes.
+fn has_offset(bytes: &[u8]) -> bool
+    ensures { result ≡ list_any spec.begins_offset bytes.now }
+{
+    for byte in bytes {
+        if begins_offset(*byte) {
+            return true;
+        }
+    }
+    false
+}
+
+/// Whether it is a time alone.
+fn is_time(bytes: &[u8]) -> bool
+    ensures { result ≡ spec.is_time bytes.now }
+{
+    bytes.get(2).copied() == Some(b':')
+}
+
+/// The type of a date in the words of toml-test.
+pub(crate) fn date_type(date: &str) -> &'static str
+    ensures { result.now ≡ spec.date_type date.now }
+{
+    let bytes = date.as_bytes();
+    if is_time(bytes) {
+        return "time-local";
+    }
+    if bytes.len() < 11 {
+        return "date-local";
+    }
+    let (_, behind) = bytes.split_at(11);
+    if has_offset(behind) {
+        "datetime"
+    } else {
+        "datetime-local"
+    }
+}
+
+/// Whether a time whose minutes end at this place has no seconds.
+fn lacks_seconds(bytes: &[u8], at: usize) -> bool
+    ensures { result ≡ spec.lacks_seconds bytes.now at }
+{
+    match bytes.get(at) {
+        Some(byte) => begins_offset(*byte),
+        None => bytes.len() == at,
+    }
+}
+
+/// A date, whose time has its seconds.
+pub(crate) fn with_seconds(alloc: Global, date: &str) -> Result<String, AllocError>
+    ensures { IfOk result (λ out. string_bytes out ≡ spec.with_seconds date.now) }
+{
+    let bytes = date.as_bytes();
+    let at = if is_time(bytes) { 5 } else { 16 };
+    if !lacks_seconds(bytes, at) {
+        return String::from_str(alloc, date);
+    }
+    let (front, behind) = date.split_at(at);
+    let mut out = String::from_str(alloc, front)?;
+    out.push_str(":00")?;
+    out.push_str(behind)?;
+    Ok(out)
+}

@@ -1,0 +1,89 @@
+//! Texts that are shown without the characters that terminals act on.
+ghost use Rattle.std.specs.Prelude.{◌≡◌, ◌<◌, ◌++◌, IfOk, OnOk, string_bytes};
+ghost use Rattle.std.specs.Prelude.{encode_utf8};
+ghost use Rattle.std.specs.Char.{digit_char};
+ghost use Rattle.toml_span_check.specs.Visible as spec;
+
+use std::alloc::{AllocError, Global};
+
+/// Whether this is a control character, one that ends a line, or one that turns the direction of the text.
+fn is_hidden(c: char) -> bool
+    ensures { result ≡ spec.is_hidden c }
+{
+    matches!(
+        c as u32,
+        0..=0x1F | 0x7F..=0x9F | 0x61C | 0x200E..=0x200F | 0x2028..=0x202E | 0x2066..=0x2069
+    )
+}
+
+/// Adds a digit in base 16.
+fn push_digit(out: &mut String, digit: u32) -> Result<(), AllocError>
+    requires { digit < 16 }
+    ensures { OnOk result (string_bytes out.new ≡ string_bytes out.old ++ encode_utf8 (digit_char digit)) }
+{
+    out.push(char::from_digit(digit, 16).unwrap_or('0'))
+}
+
+/// Adds a number below 2 ^ 16 with four digits in base 16.
+fn push_code(out: &mut String, code: u32) -> Result<(), AllocError>
+    requires { code < 65536 }
+    ensures { OnOk result (string_bytes out.new ≡ string_bytes out.old ++ spec.escape code) }
+{
+    out.push_str("\\u")?;
+    push_digit(out, code / 4096)?;
+    push_digit(out, code / 256 % 16)?;
+    push_digit(out, code / 16 % 16)?;
+    push_digit(out, code % 16)
+}
+
+/// Adds a character, or its number where it is hidden.
+fn push_char(out: &mut String, c: char) -> Result<(), AllocError>
+    ensures { OnOk result (string_bytes out.new ≡ string_bytes out.old ++ spec.visible_char c) }
+{
+    if is_hidden(c) {
+        push_code(out, c as u32)
+    } else {
+        out.push(c)
+    }
+}
+
+/// Adds a text with the numbers of its hidden characters.
+pub(crate) fn push_visible(out: &mut String, text: &str) -> Result<(), AllocError>
+    ensures { OnOk result (string_bytes out.new ≡ string_bytes out.old ++ spec.visible text.now) }
+{
+    for c in text.chars() {
+        push_char(out, c)?;
+    }
+    Ok(())
+}
+
+/// A text with the numbers of its hidden characters.
+pub(crate) fn visible(alloc: Global, text: &str) -> Result<String, AllocError>
+    ensures { IfOk result (λ out. string_bytes out ≡ spec.visible text.now) }
+{
+    let mut out = String::new(alloc);
+    push_visible(&mut out, text)?;
+    Ok(out)
+}
+
+/// Adds a character of lines, which a line feed ends.
+fn push_line_char(out: &mut String, c: char) -> Result<(), AllocError>
+    ensures { OnOk result (string_bytes out.new ≡ string_bytes out.old ++ spec.line_char c) }
+{
+    if c == '\n' {
+        out.push(c)
+    } else {
+        push_char(out, c)
+    }
+}
+
+/// Lines with the numbers of their hidden characters.
+pub(crate) fn visible_lines(alloc: Global, text: &str) -> Result<String, AllocError>
+    ensures { IfOk result (λ out. string_bytes out ≡ spec.visible_lines text.now) }
+{
+    let mut out = String::new(alloc);
+    for c in text.chars() {
+        push_line_char(&mut out, c)?;
+    }
+    Ok(out)
+}
