@@ -1,4 +1,4 @@
-use Rattle.std.proofs.Common.{◌≡◌, ◌++◌, string_bytes}
+use Rattle.std.proofs.Common.{◌≡◌, string_bytes}
 use Rattle.std.specs.List.{flat_map}
 use Rattle.toml_span_check.specs.Visible.{line_char}
 use Rattle.toml_span_check.proofs.visible.visible_lines.Given as goal
