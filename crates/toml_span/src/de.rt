@@ -12,9 +12,9 @@ ghost use Rattle.toml_span.specs.code.Growing.{GrownGives, GrownRight, Grows, Is
 ghost use Rattle.toml_span.specs.code.Growing.{IsClashStop};
 ghost use Rattle.toml_span.specs.Parsing.{IsBorrowedTree, IsRefusal, IsTree, IsTreeOf, IsRoot};
 
+use crate::claims::Halt;
 use crate::sections::{Grown, begin, finish, grow};
 use std::alloc::Global;
-use crate::claims::Halt;
 use toml_span_lex::stop::Stop;
 use toml_span_read::fault::{Fault, error_of, line_info};
 use toml_span_read::{read_first, read_section};

@@ -20,11 +20,11 @@ ghost use Rattle.toml_span.specs.code.Marks.{IsMarkInside, IsHaltInside};
 ghost use Rattle.toml_span.specs.code.Relative.{pair_at, through_pair};
 ghost use Rattle.toml_span.specs.code.Tree.{child_in, closed_in, closed_marks, counts, held_marks};
 
-use std::alloc::Global;
-use std::collections::btree_map::Entry;
 use crate::branch::{Branch, Branches, into_table};
 use crate::claims::{Halt, Mark, Sort, admit, claim};
 use crate::rest::Rest;
+use std::alloc::Global;
+use std::collections::btree_map::Entry;
 use toml_span_lex::key::Key;
 use toml_span_lex::span::Span;
 use toml_span_read::{Assignment, DottedKey, Val, ValKind};

@@ -17,11 +17,11 @@ ghost use Rattle.toml_span.specs.code.Tree.{counts, IsHeld, IsOpen, IsScope};
 ghost use Rattle.toml_span.specs.code.Growing.{GrownRight, Grows, IsBare, IsGrownInside, Placed};
 ghost use Rattle.toml_span.specs.Parsing.{IsRoot};
 
+use crate::branch::{Branch, into_table};
+use crate::claims::{Clash, Halt, Head, Mark, Sort, claim};
 use crate::scopes::{admit_beside_value, place_all};
 use std::alloc::{AllocError, Global};
 use std::collections::btree_map::Entry;
-use crate::branch::{Branch, into_table};
-use crate::claims::{Clash, Halt, Head, Mark, Sort, claim};
 use toml_span_lex::key::Key;
 use toml_span_lex::span::Span;
 use toml_span_read::{Assignment, Section};
