@@ -26,7 +26,8 @@ pub data Outcome : Type 0 where
 -- or this fault is told where something is due.
 abbrev pub HasOutcome : List ℕ → ℕ → Outcome → Type 0
 HasOutcome text limit (resolved blocks) = SpellsDocument blocks text limit × (first_clash (claims blocks) ≡ None)
-HasOutcome text limit (clashed blocks clash) = SpellsDocument blocks text limit × (first_clash (claims blocks) ≡ Some clash)
+HasOutcome text limit (clashed blocks clash) =
+    SpellsDocument blocks text limit × (first_clash (claims blocks) ≡ Some clash)
 HasOutcome text limit (refused_at fault) = IsDue text limit fault
 
 -- the text's tree, or its refusal

@@ -46,7 +46,8 @@ pub record Remaining (all rest : List Block) (root : Branch) : Type 0 where
 -- The tree has what these sections claim, and those that follow are left to place. Or this is their first clash.
 abbrev pub GrowsTo : List Block → Branch → Option Clash → Type 0
 GrowsTo bs root None = (rest : List Block) → AreSections rest → Remaining (bs ++ rest) rest root
-GrowsTo bs root (Some c) = (rest : List Block) → AreSections rest → first_clash (claims (bs ++ rest)) ≡ Some (clash_told c)
+GrowsTo bs root (Some c) =
+    (rest : List Block) → AreSections rest → first_clash (claims (bs ++ rest)) ≡ Some (clash_told c)
 
 abbrev pub Grows : List Block → Grown → Type 0
 Grows bs g = GrowsTo bs g.root g.clash
