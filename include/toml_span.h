@@ -59,7 +59,8 @@ typedef struct {
 
 /* Where the bytes of a text are: with `const char *sources[] = {text, strings};` they begin at
  * `sources[source] + at`. They are in the document (source 0) where they stand there as they are, at their span, and in
- * the strings (source 1) otherwise: a string with escapes, a float with underscores. No zero byte ends them. */
+ * the strings (source 1) otherwise: a string with escapes, and a float with a plus, underscores or `e` for `E`, since
+ * its text has none of these. No zero byte ends them. */
 typedef struct {
     size_t source, at, length;
 } toml_span_text;

@@ -31,6 +31,12 @@ def text_of(path):
         return file.read()
 
 
+def sorted_by_name(value):
+    if isinstance(value, dict):
+        return {name: sorted_by_name(value[name]) for name in sorted(value)}
+    return [sorted_by_name(held) for held in value] if isinstance(value, list) else value
+
+
 def tagged(value):
     """A value with the types of its scalars, as the JSON has it, but for the texts of floats and dates."""
     if isinstance(value, dict):
@@ -92,11 +98,9 @@ class Loads(unittest.TestCase):
                 continue
             self.assertEqual(tagged(toml_span.loads(text)), tagged(wanted), path)
             for parse_float in (str, Decimal):
-                self.assertEqual(
-                    repr(toml_span.loads(text, parse_float=parse_float) == tomllib.loads(text, parse_float=parse_float)),
-                    "True" if "nan" not in text or parse_float is str else "False",
-                    path,
-                )
+                ours = toml_span.loads(text, parse_float=parse_float)
+                theirs = tomllib.loads(text, parse_float=parse_float)
+                self.assertEqual(repr(sorted_by_name(ours)), repr(sorted_by_name(theirs)), path)
             same += 1
         self.assertGreater(same, 10)
 

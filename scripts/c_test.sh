@@ -72,7 +72,8 @@ for language in c:gcc c:clang c++:g++ c++:clang++; do
     compiler=${language#*:}
     command -v "$compiler" >/dev/null || continue
     program=$work/keys.$compiler
-    told "the example with $compiler" "$compiler" -x "${language%:*}" "${strict[@]}" examples/c/keys.c -x none "$archive" -o "$program"
+    told "the example with $compiler" "$compiler" -x "${language%:*}" "${strict[@]}" examples/c/keys.c \
+        -x none "$archive" -o "$program"
     told "what it writes" keys "$program"
     told "what it writes of a fault" refused "$program"
 done
@@ -84,14 +85,16 @@ told "what it writes" keys "$work/keys.shared"
 build() { told "$1.c" gcc -std=c11 "${strict[@]}" "$tests/$1.c" "$archive" -pthread -o "$work/$1" "${@:2}"; }
 wrap=-Wl,--wrap=malloc,--wrap=realloc
 sanitize=(-fsanitize=address,undefined -fno-sanitize-recover=all -g)
-told "the example with sanitizers" gcc -std=c11 "${strict[@]}" "${sanitize[@]}" examples/c/keys.c "$archive" -o "$work/keys.asan"
+told "the example with sanitizers" gcc -std=c11 "${strict[@]}" "${sanitize[@]}" examples/c/keys.c "$archive" \
+    -o "$work/keys.asan"
 told "what it writes with sanitizers" keys "$work/keys.asan"
 told "of a fault, with sanitizers" refused "$work/keys.asan"
 build hold "$wrap"
 told "refused memory and each room" "$work/hold" "${documents[@]}"
 if command -v valgrind >/dev/null; then
-    told "refused memory under valgrind" valgrind --quiet --error-exitcode=9 --leak-check=full --errors-for-leak-kinds=all \
-        "$work/hold" crates/toml_span_check/runs/tagged/{escapes,table_arrays}.toml crates/toml_span_check/data/settings.toml
+    told "refused memory under valgrind" valgrind --quiet --error-exitcode=9 --leak-check=full \
+        --errors-for-leak-kinds=all "$work/hold" crates/toml_span_check/runs/tagged/{escapes,table_arrays}.toml \
+        crates/toml_span_check/data/settings.toml
 fi
 build fuzz
 told "changed texts" "$work/fuzz" 1000000 "${documents[@]}"

@@ -1,8 +1,8 @@
 /* fuzz COUNT FILE..: texts that are changed at random, with pages around each array that may not be touched.
  *
  * Some lines of the documents with some bytes written over, left out or doubled, and arrays of a random length, each of
- * which begins or ends at such a page. Of a text that is read with room enough the records hang together: see `hangs`. The
- * numbers are those of a fixed seed. */
+ * which begins or ends at such a page. Of a text that is read with room enough the records hang together: see `hangs`.
+ * The numbers are those of a fixed seed. */
 #define _DEFAULT_SOURCE
 #include "toml_span.h"
 
@@ -66,13 +66,15 @@ static size_t change(char *text) {
 
 /* Whether the records hang together: numbers, places, texts and bounds. */
 static int hangs(const toml_span_node *nodes, toml_span_counts counts, size_t length) {
-    if (nodes[0].parent != TOML_SPAN_NONE || nodes[0].next != counts.nodes || nodes[0].kind != TOML_SPAN_TABLE) return 0;
+    if (nodes[0].parent != TOML_SPAN_NONE || nodes[0].kind != TOML_SPAN_TABLE) return 0;
+    if (nodes[0].next != counts.nodes) return 0;
     size_t aside = 0;
     for (size_t at = 0; at < counts.nodes; at++) {
         const toml_span_node *node = &nodes[at];
         size_t children = 0, child = at + 1;
         for (; child < node->next && child < counts.nodes; child = nodes[child].next) {
-            if (nodes[child].parent != at || nodes[child].position != children++ || nodes[child].next <= child) return 0;
+            if (nodes[child].parent != at || nodes[child].position != children++) return 0;
+            if (nodes[child].next <= child) return 0;
         }
         if (child != node->next || children != node->children || node->kind < 1 || node->kind > 7) return 0;
         if (node->span.start > node->span.end || node->span.end > length || node->key_span.end > length) return 0;

@@ -59,7 +59,8 @@ static int is_front(const outcome *part, const outcome *whole) {
 
 /* Whether nothing was written but, with `fault`, the fault. */
 static int is_kept(const outcome *out, int fault) {
-    return is_blank(out->nodes, (out->room + 1) * sizeof *out->nodes) && is_blank(out->strings, out->strings_room + 1) &&
+    return is_blank(out->nodes, (out->room + 1) * sizeof *out->nodes) &&
+           is_blank(out->strings, out->strings_room + 1) &&
            is_blank(&out->counts, sizeof out->counts) && is_blank(&out->fault, sizeof out->fault) == !fault;
 }
 

@@ -20,7 +20,7 @@ def least(call, text, rounds):
 
 def main():
     slow = 0
-    for path in sorted(glob.glob(os.path.join(sys.argv[1], "*k.toml")) + glob.glob(os.path.join(sys.argv[1], "*m.toml"))):
+    for path in sorted(glob.glob(os.path.join(sys.argv[1], "*[km].toml"))):
         with open(path, encoding="utf-8", newline="") as file:
             text = file.read()
         if toml_span.loads(text) != tomllib.loads(text):
@@ -32,7 +32,8 @@ def main():
             ours, theirs = least(toml_span.loads, text, 2 * rounds), least(tomllib.loads, text, rounds)
             if theirs >= 4 * ours:
                 break
-        print(f"times: {os.path.basename(path)}: {1000 * ours:.2f} ms, tomllib {1000 * theirs:.2f} ms: {theirs / ours:.1f} times")
+        name = os.path.basename(path)
+        print(f"times: {name}: {1000 * ours:.2f} ms, tomllib {1000 * theirs:.2f} ms: {theirs / ours:.1f} times")
         slow += theirs < 4 * ours
     return slow
 
