@@ -243,7 +243,8 @@ fn report(
 /// is moved to the nearest place before it, and a reversed span is empty. An empty one has one mark.
 ///
 /// A tab is shown as four spaces, another control character below U+0080 by its picture, one from U+0080 on, or one
-/// that turns the direction of the text, as U+FFFD. Of a long line 80 bytes before a label and 160 from it on are
+/// that ends a line, turns the direction of the text or takes no column, as U+FFFD. A byte order mark at the start of
+/// the text is not shown. Of a long line 80 bytes before a label and 160 from it on are
 /// shown. Colours, where the style has them, add nothing else. Only want of memory is refused.
 pub fn render<F>(
     alloc: Global,
