@@ -56,10 +56,3 @@ unfoldable pub span_end : List ℕ → Span → ℕ
 span_end text span =
     without_feed text (max (place text span.start) (mark_end text))
     (max (place text (max span.start span.end)) (mark_end text))
-
--- what is shown of a long line: no more than 80 bytes before a place, and 160 from it on
-unfoldable pub window_start : List ℕ → ℕ → ℕ → ℕ
-window_start text start at = if nat_le (at - start) 80 then start else place text (at - 80)
-
-unfoldable pub window_end : List ℕ → ℕ → ℕ → ℕ
-window_end text at end = if nat_le (end - at) 160 then end else place text (at + 160)

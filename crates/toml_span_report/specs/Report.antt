@@ -1,5 +1,5 @@
 -- The text that shows a diagnostic.
-use Rattle.std.specs.Prelude.{ℕ, ◌-◌, max, Bool, true, false, ◌==◌, List, [], ◌∷◌, ◌++◌, codes, length, Option, Some}
+use Rattle.std.specs.Prelude.{ℕ, ◌-◌, max, Bool, true, false, nat_le, List, [], ◌∷◌, ◌++◌, codes, length, Option, Some}
 use Rattle.std.specs.Prelude.{None, if◌then◌else◌, replicate}
 use Rattle.std.specs.Fmt.{decimal}
 use Rattle.std.specs.List.{fold}
@@ -8,10 +8,11 @@ use Rattle.toml_span_tree.specs.Error.{ErrorContent}
 use Rattle.toml_span_tree.specs.Message.{code_of, display_text}
 use Rattle.toml_span_report.specs.Characters.{shown, columns}
 use Rattle.toml_span_report.specs.Colours.{painted}
-use Rattle.toml_span_report.specs.Strips.{MarkedLine, all_marked_lines}
+use Rattle.toml_span_report.specs.Strips.{MarkedLine, all_marked_lines, is_near, window_of, seen_in}
 use Rattle.toml_span_report.specs.declared.colours.Ink.{Ink}
 use Rattle.toml_span_report.specs.declared.colours.Ink.TheVariants.{Red, Blue, Bold}
 use Rattle.toml_span_report.specs.declared.colours.Style.{Style}
+use Rattle.toml_span_report.specs.declared.strips.Window.{Window}
 
 -- a text that is not empty, behind something
 abbrev pub behind : List ℕ → List ℕ → List ℕ
@@ -86,18 +87,21 @@ marks_line style width p =
     gutter style width [] ++ codes " "
     ++ painted style (ink p.is_primary) (marks p ++ behind (codes " ") (shown p.message)) ++ codes "\n"
 
--- The first line has a bar above it. A line that was shown last is not shown again, and dots stand for lines between.
-abbrev pub opening : Style → ℕ → Option ℕ → MarkedLine → List ℕ
+-- The first line has a bar above it. A line is not shown again where the window above shows the part, and dots stand for
+-- lines between.
+abbrev pub opening : Style → ℕ → Option Window → MarkedLine → List ℕ
 opening style width None p = gutter style width [] ++ codes "\n" ++ source_line style width p
 opening style width (Some above) p =
-    if above == p.number then []
-    else if p.number - above == 1 then source_line style width p
+    if is_near above p then []
+    else if nat_le (p.number - above.number) 1 then source_line style width p
     else codes "...\n" ++ source_line style width p
 
-abbrev pub drawn : Style → ℕ → Option ℕ → List MarkedLine → List ℕ
+abbrev pub drawn : Style → ℕ → Option Window → List MarkedLine → List ℕ
 drawn style width above [] = []
 drawn style width above (p ∷ ps) =
-    opening style width above p ++ marks_line style width p ++ drawn style width (Some p.number) ps
+    let window = window_of above p ps in
+    opening style width above (seen_in window p) ++ marks_line style width (seen_in window p)
+    ++ drawn style width (Some window) ps
 
 -- The whole text: the headline, the place of the error, and the lines of the labels with what they say.
 abbrev pub report_of : Style → List ℕ → List ℕ → List ℕ → List MarkedLine → List ℕ

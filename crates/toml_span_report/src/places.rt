@@ -129,39 +129,6 @@ pub(crate) fn span_end(text: &str, span: Span) -> usize
     }
 }
 
-/// Where what is shown of a long line begins, before a place.
-#[tactic(auto, unfolding(crate::specs::Places::window_start))]
-pub(crate) fn window_start(text: &str, start: usize, at: usize) -> usize
-    requires start { IsCharBoundary text.now start }
-    requires forward { start ≤ at }
-    ensures value { result ≡ spec.window_start text.now start at }
-    ensures boundary { IsCharBoundary text.now result }
-    ensures within { result ≤ at }
-{
-    if at - start <= 80 {
-        start
-    } else {
-        place(text, at - 80)
-    }
-}
-
-/// Where what is shown of a long line ends, behind a place.
-#[tactic(auto, unfolding(crate::specs::Places::window_end))]
-pub(crate) fn window_end(text: &str, at: usize, end: usize) -> usize
-    requires at { IsCharBoundary text.now at }
-    requires end { IsCharBoundary text.now end }
-    requires forward { at ≤ end }
-    ensures value { result ≡ spec.window_end text.now at end }
-    ensures boundary { IsCharBoundary text.now result }
-    ensures within { at ≤ result }
-{
-    if end - at <= 160 {
-        end
-    } else {
-        place(text, at + 160)
-    }
-}
-
 /// The line and the column of an offset in a text, both counted from 1, and the column in characters, as editors show
 /// it. An offset within a character or past the text is moved to the nearest place before it.
 ///

@@ -8,7 +8,7 @@ ghost use Rattle.toml_span_report.specs.Strips.{marked_line_of};
 
 use crate::characters::{columns, push_shown, push_times, shown};
 use crate::colours::{Ink, Style, push_painted};
-use crate::strips::{Strip, all_strips};
+use crate::strips::{Strip, Window, all_strips, is_near, seen_in, window_of};
 use std::alloc::{AllocError, Global};
 use std::fmt::Write;
 use toml_span_tree::{Diagnostic, Error};
@@ -163,11 +163,11 @@ fn push_marks_line(frame: Frame, out: &mut String, strip: &Strip<'_>) -> Result<
     out.push_str("\n")
 }
 
-/// Adds the line of a strip where it is not shown yet, and what stands above it.
+/// Adds the line of a strip where the window above does not show it, and what stands above it.
 fn push_opening(
     frame: Frame,
     out: &mut String,
-    above: Option<usize>,
+    above: Option<Window>,
     strip: &Strip<'_>,
 ) -> Result<(), AllocError>
     ensures { OnOk result (string_bytes out.new ≡ string_bytes out.old
@@ -179,10 +179,10 @@ fn push_opening(
             out.push_str("\n")?;
         }
         Some(above) => {
-            if above == strip.number {
+            if is_near(above, strip) {
                 return Ok(());
             }
-            if strip.number.saturating_sub(above) != 1 {
+            if strip.number.saturating_sub(above.number) > 1 {
                 out.push_str("...\n")?;
             }
         }
@@ -196,10 +196,12 @@ fn push_strips(frame: Frame, out: &mut String, strips: &[Strip<'_>]) -> Result<(
         ++ spec.drawn frame.style frame.width None (map marked_line_of strips.now)) }
 {
     let mut above = None;
-    for strip in strips {
-        push_opening(frame, out, above, strip)?;
-        push_marks_line(frame, out, strip)?;
-        above = Some(strip.number);
+    for (i, strip) in strips.iter().enumerate() {
+        let window = window_of(above, strip, &strips[i + 1..]);
+        let seen = seen_in(window, strip);
+        push_opening(frame, out, above, &seen)?;
+        push_marks_line(frame, out, &seen)?;
+        above = Some(window);
     }
     Ok(())
 }
@@ -244,8 +246,11 @@ fn report(
 ///
 /// A tab is shown as four spaces, another control character below U+0080 by its picture, one from U+0080 on, or one
 /// that ends a line, turns the direction of the text or takes no column, as U+FFFD. A byte order mark at the start of
-/// the text is not shown. Of a long line 80 bytes before a label and 160 from it on are
-/// shown. Colours, where the style has them, add nothing else. Only want of memory is refused.
+/// the text is not shown.
+///
+/// Of a long line 80 bytes before its first label are shown, and 160 from the start of the last one on that begins no
+/// more than 240 bytes behind that. For a label further on the line is shown again. Colours, where the style has them,
+/// add nothing else. Only want of memory is refused.
 pub fn render<F>(
     alloc: Global,
     style: Style,
