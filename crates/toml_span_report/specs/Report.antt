@@ -1,14 +1,16 @@
 -- The text that shows a diagnostic.
-use Rattle.std.specs.Prelude.{ℕ, ◌-◌, max, Bool, true, false, nat_le, List, [], ◌∷◌, ◌++◌, codes, length, Option, Some}
+use Rattle.std.specs.Prelude.{◌≡◌, ℕ, ◌-◌, max, Bool, true, false, nat_le, List, [], ◌∷◌, ◌++◌, codes, length, Option, Some}
 use Rattle.std.specs.Prelude.{None, if◌then◌else◌, replicate}
 use Rattle.std.specs.Fmt.{decimal}
 use Rattle.std.specs.List.{fold}
+use Rattle.toml_span_lex.specs.declared.span.Span.{Span}
 use Rattle.toml_span_tree.specs.Diagnostic.{LabelContent, labels_of}
 use Rattle.toml_span_tree.specs.Error.{ErrorContent}
 use Rattle.toml_span_tree.specs.Message.{code_of, display_text}
 use Rattle.toml_span_report.specs.Characters.{shown, columns}
 use Rattle.toml_span_report.specs.Colours.{painted}
 use Rattle.toml_span_report.specs.Strips.{MarkedLine, all_marked_lines, is_near, window_of, seen_in}
+use Rattle.toml_span_report.specs.Tokens.{IsMarked}
 use Rattle.toml_span_report.specs.declared.colours.Ink.{Ink}
 use Rattle.toml_span_report.specs.declared.colours.Ink.TheVariants.{Red, Blue, Bold}
 use Rattle.toml_span_report.specs.declared.colours.Style.{Style}
@@ -113,10 +115,11 @@ report_of style code message name parts =
 abbrev pub report : {F : Type 0} → Style → List ℕ → List ℕ → List (LabelContent F) → List ℕ → List ℕ → List ℕ
 report style code message marks name text = report_of style code message name (all_marked_lines text marks)
 
--- the text that shows an error
-abbrev pub report_of_fault : Style → List ℕ → List ℕ → ErrorContent → List ℕ
-report_of_fault style name text f =
-    report {F = ℕ} style (code_of f.kind) (display_text f.kind) (labels_of 0 f.span f.kind) name text
+-- the text that shows an error: at the token where it stands, or else at its span
+abbrev pub IsReport : Style → List ℕ → List ℕ → ErrorContent → List ℕ → Type 0
+IsReport style name text f out =
+    (span : Span) × IsMarked text f.kind f.span span
+    × (out ≡ report {F = ℕ} style (code_of f.kind) (display_text f.kind) (labels_of 0 span f.kind) name text)
 
 -- one line: `name:line:column: code: message`
 abbrev pub brief_of : List ℕ → List ℕ → List ℕ → List MarkedLine → List ℕ
