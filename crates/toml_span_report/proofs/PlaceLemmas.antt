@@ -1,11 +1,12 @@
 -- Places between two characters, and the line of a place.
-use Rattle.std.proofs.Common.{◌≡◌, ℕ, zero, suc, ◌+◌, ◌-◌, ◌<◌, ◌≤◌, ◌⊎◌, Bool, true, false, List, length, get_or, arith, refl, inl, inr, sym, ◌∙◌}
+use Rattle.std.proofs.Common.{◌≡◌, ℕ, zero, suc, ◌+◌, ◌-◌, ◌<◌, ◌≤◌, ◌⊎◌, Bool, true, false, List, [], ◌∷◌, ◌++◌, length, get_or, arith, refl, inl, inr, sym, ◌∙◌}
 use Rattle.std.specs.Str.{IsUtf8, IsCharBoundary}
 use Rattle.std.proofs.lemmas.Bool.{cases_lt}
 use Rattle.std.proofs.lemmas.Bool.Decides.{nat_tests}
 use Rattle.std.proofs.lemmas.List.{get_or_past}
-use Rattle.std.proofs.lemmas.Str.{IsCharBoundary-after_ascii}
-use Rattle.toml_span_report.specs.Places.{is_between, place, line_start}
+use Rattle.std.proofs.lemmas.Str.{IsCharBoundary-after_ascii, IsCharBoundary-past_char}
+use lib.Utf8.{encode}
+use Rattle.toml_span_report.specs.Places.{is_between, place, line_start, mark_end}
 
 pub between_true : (text : List ℕ) (i : ℕ) → IsCharBoundary text i → is_between text i ≡ true
 between_true text i h =
@@ -54,15 +55,20 @@ place_is text (suc i) r le b none =
     ]
 
 -- one byte back on a line
-pub line_start-back : (text : List ℕ) (n : ℕ) → 0 < n → ¬ (get_or text (n - 1) 0 ≡ 10) → line_start text (n - 1) ≡ line_start text n
+pub line_start-back : (text : List ℕ) (n : ℕ) → 0 < n → ¬ (n ≡ mark_end text) → ¬ (get_or text (n - 1) 0 ≡ 10) → line_start text (n - 1) ≡ line_start text n
 unfolding line_start
-line_start-back text zero some other = absurd (omega arith)
-line_start-back text (suc i) some other = let e : suc i - 1 ≡ i = omega arith in let not_feed = rw e at other in rw e (grind (arith, nat_tests))
+line_start-back text zero some unmarked other = absurd (omega arith)
+line_start-back text (suc i) some unmarked other = let e : suc i - 1 ≡ i = omega arith in let not_feed = rw e at other in rw e (grind (arith, nat_tests))
 
 pub line_start-behind : (text : List ℕ) (n : ℕ) → 0 < n → get_or text (n - 1) 0 ≡ 10 → n ≡ line_start text n
 unfolding line_start
 line_start-behind text zero some feed = absurd (omega arith)
 line_start-behind text (suc i) some feed = let e : suc i - 1 ≡ i = omega arith in let here = rw e at feed in grind (arith, nat_tests)
+
+pub line_start-marked : (text : List ℕ) (n : ℕ) → 0 < n → n ≡ mark_end text → n ≡ line_start text n
+unfolding line_start
+line_start-marked text zero some marked = absurd (omega arith)
+line_start-marked text (suc i) some marked = grind (arith, nat_tests)
 
 pub line_start-zero : (text : List ℕ) → 0 ≡ line_start text 0
 unfolding line_start
@@ -72,3 +78,17 @@ pub behind_feed : (text : List ℕ) (n : ℕ) → IsUtf8 text → 0 < n → n �
 behind_feed text n utf8 some within feed =
     let e : n ≡ n - 1 + 1 = omega arith in
     rw e (IsCharBoundary-after_ascii text (n - 1) utf8 (omega arith) (omega arith))
+
+-- a byte order mark is a character of three bytes
+pub mark_boundary : (text : List ℕ) → IsUtf8 text → get_or text 0 0 ≡ 0xEF → get_or text 1 0 ≡ 0xBB → get_or text 2 0 ≡ 0xBF → IsCharBoundary text 3
+unfolding encode
+mark_boundary [] utf8 one two three = cc
+mark_boundary (a ∷ []) utf8 one two three = cc
+mark_boundary (a ∷ b ∷ []) utf8 one two three = cc
+mark_boundary (a ∷ b ∷ c ∷ rest) utf8 one two three =
+    let first : a ≡ 0xEF = one in
+    let second : b ≡ 0xBB = two in
+    let third : c ≡ 0xBF = three in
+    let mark : 0xEF ∷ 0xBB ∷ 0xBF ∷ rest ≡ encode 0xFEFF ++ rest = refl in
+    let whole : a ∷ b ∷ c ∷ rest ≡ encode 0xFEFF ++ rest = cc in
+    IsCharBoundary-past_char (a ∷ b ∷ c ∷ rest) rest 0 0xFEFF (omega arith) utf8 whole

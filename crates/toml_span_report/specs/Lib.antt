@@ -4,3 +4,4 @@ pub mod Errors
 pub mod Places
 pub mod Report
 pub mod Strips
+pub mod Tokens

@@ -1,6 +1,6 @@
 -- Places in a text, and the line of a place.
-use Rattle.std.specs.Prelude.{ℕ, zero, suc, ◌+◌, ◌-◌, max, Bool, ◌==◌, ◌&&◌, not, nat_lt, nat_le, List, length, take}
-use Rattle.std.specs.Prelude.{drop, slice_index, slice_range, if◌then◌else◌}
+use Rattle.std.specs.Prelude.{ℕ, zero, suc, ◌+◌, ◌-◌, max, Bool, ◌==◌, ◌&&◌, ◌||◌, not, nat_lt, nat_le, List, length}
+use Rattle.std.specs.Prelude.{take, drop, slice_index, slice_range, if◌then◌else◌}
 use Rattle.std.specs.List.{count_by, position_or_len}
 use Rattle.std.specs.Str.{chars}
 use Rattle.toml_span_lex.specs.declared.span.Span.{Span}
@@ -17,14 +17,21 @@ place text (suc i) = if is_between text (suc i) then suc i else place text i
 abbrev pub is_line_feed : ℕ → Bool
 is_line_feed byte = byte == 10
 
--- where the line of a place begins: behind the nearest line feed before it
+-- where a byte order mark at the start of the text ends, or 0
+unfoldable pub mark_end : List ℕ → ℕ
+mark_end text =
+    if slice_index text 0 == 0xEF && (slice_index text 1 == 0xBB && slice_index text 2 == 0xBF) then 3 else 0
+
+-- where the line of a place begins: behind the nearest line feed before it, or behind a byte order mark at the start
+-- of the text
 unfoldable pub line_start : List ℕ → ℕ → ℕ
 line_start text zero = 0
-line_start text (suc i) = if slice_index text i == 10 then suc i else line_start text i
+line_start text (suc i) = if suc i == mark_end text || slice_index text i == 10 then suc i else line_start text i
 
 -- where the line of a place ends: before the line feed, and before the carriage return in front of that
 abbrev pub without_return : List ℕ → ℕ → ℕ → ℕ
-without_return text at end = if nat_lt at end && slice_index text (end - 1) == 13 then end - 1 else end
+without_return text at end =
+    if nat_lt at end && (nat_lt end (length text) && slice_index text (end - 1) == 13) then end - 1 else end
 
 unfoldable pub line_end : List ℕ → ℕ → ℕ
 line_end text at = without_return text at (at + position_or_len is_line_feed (drop at text))
@@ -37,19 +44,15 @@ line_number text at = count_by is_line_feed (take at text) + 1
 unfoldable pub column : List ℕ → ℕ → ℕ
 column text at = length (chars (slice_range text (line_start text at) at)) + 1
 
--- Where a span begins and ends in a text. A line feed at its end is left out, and a reversed span is empty.
+-- Where a span begins and ends in a text. A byte order mark at the start of the text and a line feed at the span's end
+-- are left out, and a reversed span is empty.
 unfoldable pub span_start : List ℕ → Span → ℕ
-span_start text span = place text span.start
+span_start text span = max (place text span.start) (mark_end text)
 
 abbrev pub without_feed : List ℕ → ℕ → ℕ → ℕ
 without_feed text from to = if nat_lt from to && slice_index text (to - 1) == 10 then to - 1 else to
 
 unfoldable pub span_end : List ℕ → Span → ℕ
-span_end text span = without_feed text (place text span.start) (place text (max span.start span.end))
-
--- what is shown of a long line: no more than 80 bytes before a place, and 160 from it on
-unfoldable pub window_start : List ℕ → ℕ → ℕ → ℕ
-window_start text start at = if nat_le (at - start) 80 then start else place text (at - 80)
-
-unfoldable pub window_end : List ℕ → ℕ → ℕ → ℕ
-window_end text at end = if nat_le (end - at) 160 then end else place text (at + 160)
+span_end text span =
+    without_feed text (max (place text span.start) (mark_end text))
+    (max (place text (max span.start span.end)) (mark_end text))

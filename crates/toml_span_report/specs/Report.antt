@@ -1,17 +1,20 @@
 -- The text that shows a diagnostic.
-use Rattle.std.specs.Prelude.{ℕ, ◌-◌, max, Bool, true, false, ◌==◌, List, [], ◌∷◌, ◌++◌, codes, length, Option, Some}
+use Rattle.std.specs.Prelude.{◌≡◌, ℕ, ◌-◌, max, Bool, true, false, nat_le, List, [], ◌∷◌, ◌++◌, codes, length, Option, Some}
 use Rattle.std.specs.Prelude.{None, if◌then◌else◌, replicate}
 use Rattle.std.specs.Fmt.{decimal}
 use Rattle.std.specs.List.{fold}
+use Rattle.toml_span_lex.specs.declared.span.Span.{Span}
 use Rattle.toml_span_tree.specs.Diagnostic.{LabelContent, labels_of}
 use Rattle.toml_span_tree.specs.Error.{ErrorContent}
 use Rattle.toml_span_tree.specs.Message.{code_of, display_text}
 use Rattle.toml_span_report.specs.Characters.{shown, columns}
 use Rattle.toml_span_report.specs.Colours.{painted}
-use Rattle.toml_span_report.specs.Strips.{MarkedLine, all_marked_lines}
+use Rattle.toml_span_report.specs.Strips.{MarkedLine, all_marked_lines, is_near, window_of, seen_in}
+use Rattle.toml_span_report.specs.Tokens.{IsMarked}
 use Rattle.toml_span_report.specs.declared.colours.Ink.{Ink}
 use Rattle.toml_span_report.specs.declared.colours.Ink.TheVariants.{Red, Blue, Bold}
 use Rattle.toml_span_report.specs.declared.colours.Style.{Style}
+use Rattle.toml_span_report.specs.declared.strips.Window.{Window}
 
 -- a text that is not empty, behind something
 abbrev pub behind : List ℕ → List ℕ → List ℕ
@@ -86,18 +89,21 @@ marks_line style width p =
     gutter style width [] ++ codes " "
     ++ painted style (ink p.is_primary) (marks p ++ behind (codes " ") (shown p.message)) ++ codes "\n"
 
--- The first line has a bar above it. A line that was shown last is not shown again, and dots stand for lines between.
-abbrev pub opening : Style → ℕ → Option ℕ → MarkedLine → List ℕ
+-- The first line has a bar above it. A line is not shown again where the window above shows the part, and dots stand for
+-- lines between.
+abbrev pub opening : Style → ℕ → Option Window → MarkedLine → List ℕ
 opening style width None p = gutter style width [] ++ codes "\n" ++ source_line style width p
 opening style width (Some above) p =
-    if above == p.number then []
-    else if p.number - above == 1 then source_line style width p
+    if is_near above p then []
+    else if nat_le (p.number - above.number) 1 then source_line style width p
     else codes "...\n" ++ source_line style width p
 
-abbrev pub drawn : Style → ℕ → Option ℕ → List MarkedLine → List ℕ
+abbrev pub drawn : Style → ℕ → Option Window → List MarkedLine → List ℕ
 drawn style width above [] = []
 drawn style width above (p ∷ ps) =
-    opening style width above p ++ marks_line style width p ++ drawn style width (Some p.number) ps
+    let window = window_of above p ps in
+    opening style width above (seen_in window p) ++ marks_line style width (seen_in window p)
+    ++ drawn style width (Some window) ps
 
 -- The whole text: the headline, the place of the error, and the lines of the labels with what they say.
 abbrev pub report_of : Style → List ℕ → List ℕ → List ℕ → List MarkedLine → List ℕ
@@ -109,10 +115,11 @@ report_of style code message name parts =
 abbrev pub report : {F : Type 0} → Style → List ℕ → List ℕ → List (LabelContent F) → List ℕ → List ℕ → List ℕ
 report style code message marks name text = report_of style code message name (all_marked_lines text marks)
 
--- the text that shows an error
-abbrev pub report_of_fault : Style → List ℕ → List ℕ → ErrorContent → List ℕ
-report_of_fault style name text f =
-    report {F = ℕ} style (code_of f.kind) (display_text f.kind) (labels_of 0 f.span f.kind) name text
+-- the text that shows an error: at the token where it stands, or else at its span
+abbrev pub IsReport : Style → List ℕ → List ℕ → ErrorContent → List ℕ → Type 0
+IsReport style name text f out =
+    (span : Span) × IsMarked text f.kind f.span span
+    × (out ≡ report {F = ℕ} style (code_of f.kind) (display_text f.kind) (labels_of 0 span f.kind) name text)
 
 -- one line: `name:line:column: code: message`
 abbrev pub brief_of : List ℕ → List ℕ → List ℕ → List MarkedLine → List ℕ

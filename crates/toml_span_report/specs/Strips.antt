@@ -1,10 +1,11 @@
 -- What labels mark of a text: strips, each on one line.
-use Rattle.std.specs.Prelude.{ℕ, min, Bool, nat_lt, nat_le, List, [], ◌∷◌, slice_range, if◌then◌else◌}
+use Rattle.std.specs.Prelude.{ℕ, ◌+◌, ◌-◌, min, Bool, false, ◌==◌, ◌&&◌, ◌||◌, nat_lt, nat_le, List, [], ◌∷◌, length}
+use Rattle.std.specs.Prelude.{take, drop, slice_range, Option, Some, None, if◌then◌else◌}
 use Rattle.std.specs.List.{fold, insert, position_or_len}
 use Rattle.toml_span_tree.specs.Diagnostic.{LabelContent}
 use Rattle.toml_span_report.specs.declared.strips.Strip.{Strip}
-use Rattle.toml_span_report.specs.Places.{line_start, line_end, line_number, column, span_start, span_end, window_start}
-use Rattle.toml_span_report.specs.Places.{window_end}
+use Rattle.toml_span_report.specs.declared.strips.Window.{Window}
+use Rattle.toml_span_report.specs.Places.{place, line_start, line_end, line_number, column, span_start, span_end}
 
 -- A part of a line that is marked, with what is shown of the line before and behind it.
 pub record MarkedLine : Type 0 where
@@ -34,25 +35,22 @@ marked_line_of s = record {
   message = s.message.now;
 }
 
--- what is marked from one place up to another, as far as the line of the first is shown
-abbrev pub marked_line_in : List ℕ → ℕ → ℕ → ℕ → ℕ → Bool → List ℕ → MarkedLine
-marked_line_in text left from to right is_primary message = record {
-  at = from;
-  number = line_number text from;
-  column = column text from;
-  is_cut_before = nat_lt (line_start text from) left;
-  before = slice_range text left from;
-  marked = slice_range text from to;
-  behind = slice_range text to right;
-  is_cut_behind = nat_lt right (line_end text from);
-  is_primary = is_primary;
-  message = message;
-}
-
+-- what is marked from one place up to another, as far as the line of the first goes
 unfoldable pub marked_line : List ℕ → ℕ → ℕ → Bool → List ℕ → MarkedLine
 marked_line text from to is_primary message =
-    let right = window_end text from (line_end text from) in
-    marked_line_in text (window_start text (line_start text from) from) from (min to right) right is_primary message
+    let end = line_end text from in
+    record {
+      at = from;
+      number = line_number text from;
+      column = column text from;
+      is_cut_before = false;
+      before = slice_range text (line_start text from) from;
+      marked = slice_range text from (min to end);
+      behind = slice_range text (min to end) end;
+      is_cut_behind = false;
+      is_primary = is_primary;
+      message = message;
+    }
 
 -- what a span marks: on its line, or on the lines on which it begins and ends, where the message stands at the second
 abbrev pub marked_lines_between : List ℕ → ℕ → ℕ → ℕ → Bool → List ℕ → List MarkedLine
@@ -76,3 +74,52 @@ placed parts p = insert parts (earlier parts p.at) p
 -- the parts of all labels, in the order of the text
 unfoldable pub all_marked_lines : {F : Type 0} → List ℕ → List (LabelContent F) → List MarkedLine
 all_marked_lines text marks = fold (λ parts mark. fold placed parts (marked_lines_of text mark)) [] marks
+
+-- ---- what is shown of a long line
+
+-- A line is shown for the first label in it, and with that for those that begin no more than 240 bytes behind it.
+abbrev pub is_near : Window → MarkedLine → Bool
+is_near window p = p.number == window.number && nat_le (p.at - window.first) 240
+
+-- where the last of these begins
+abbrev pub last_near : Window → List MarkedLine → ℕ
+last_near window [] = window.last
+last_near window (p ∷ ps) =
+    if is_near window p then last_near (record { number = window.number; first = window.first; last = p.at }) ps
+    else window.last
+
+abbrev pub window_from : Window → List MarkedLine → Window
+window_from window ps =
+    record { number = window.number; first = window.first; last = last_near window ps }
+
+-- the window of a part: the one above it, or one of its own, of the part and those that follow it
+abbrev pub window_of : Option Window → MarkedLine → List MarkedLine → Window
+window_of None p ps = window_from (record { number = p.number; first = p.at; last = p.at }) ps
+window_of (Some window) p ps =
+    if is_near window p then window
+    else window_from (record { number = p.number; first = p.at; last = p.at }) ps
+
+-- What a window shows of the line of a part: 80 bytes before the first label in it, and 160 from the last one on.
+abbrev pub hidden : Window → MarkedLine → ℕ
+hidden window p = length p.before - (p.at - window.first) - 80
+
+abbrev pub room : Window → MarkedLine → ℕ
+room window p = min (window.last - p.at) 240 + 160
+
+unfoldable pub seen_in : Window → MarkedLine → MarkedLine
+seen_in window p =
+    let left = place p.before (hidden window p) in
+    let marked = place p.marked (room window p) in
+    let behind = place p.behind (room window p - length p.marked) in
+    record {
+      at = p.at;
+      number = p.number;
+      column = p.column;
+      is_cut_before = nat_lt 0 left;
+      before = drop left p.before;
+      marked = take marked p.marked;
+      behind = take behind p.behind;
+      is_cut_behind = nat_lt marked (length p.marked) || nat_lt behind (length p.behind);
+      is_primary = p.is_primary;
+      message = p.message;
+    }

@@ -5,11 +5,21 @@ ghost use Rattle.toml_span_report.specs.Characters as spec;
 use std::alloc::{AllocError, Global};
 use unicode_width::UnicodeWidthStr;
 
-/// Whether this is a control character from U+0080 on, or one that turns the direction of the text.
+/// Whether this is a control character from U+0080 on, or one that ends a line, turns the direction of the text or
+/// takes no column.
 fn is_hidden(c: char) -> bool
     ensures { result ≡ spec.is_hidden c }
 {
-    matches!(c as u32, 0x80..=0x9F | 0x202A..=0x202E | 0x2066..=0x2069)
+    matches!(
+        c as u32,
+        0x80..=0x9F
+            | 0x061C
+            | 0x200B
+            | 0x200D..=0x200F
+            | 0x2028..=0x202E
+            | 0x2066..=0x2069
+            | 0xFEFF
+    )
 }
 
 /// Adds a character as it is shown.

@@ -1,7 +1,7 @@
 //! The text that shows the errors of a read.
-ghost use Rattle.std.specs.Prelude.{◌≡◌, IfOk, string_bytes};
+ghost use Rattle.std.specs.Prelude.{IfOk, string_bytes};
 ghost use Rattle.toml_span_typed.specs.Errors.{all};
-ghost use Rattle.toml_span_report.specs.Errors.{AreShown, reports};
+ghost use Rattle.toml_span_report.specs.Errors.{AreReports, AreShown};
 
 use crate::colours::Style;
 use crate::report::render_error;
@@ -18,7 +18,7 @@ pub fn render_errors(
     name: &str,
     text: &str,
 ) -> Result<String, AllocError>
-    ensures { IfOk result (λ out. string_bytes out ≡ reports style name.now text.now (all errors.now)) }
+    ensures { IfOk result (λ out. AreReports style name.now text.now (all errors.now) (string_bytes out)) }
 {
     let mut out = String::new(alloc);
     for error in errors.iter() {

@@ -7,8 +7,9 @@ mod errors;
 mod places;
 mod report;
 mod strips;
+mod tokens;
 
 pub use colours::Style;
 pub use errors::{render_errors, render_stop};
 pub use places::line_column;
-pub use report::{diagnostic_of, render, render_error, render_line};
+pub use report::{diagnostic_in, diagnostic_of, render, render_error, render_line};

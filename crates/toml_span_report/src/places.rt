@@ -16,6 +16,20 @@ pub(crate) fn place(text: &str, at: usize) -> usize
     text.floor_char_boundary(at)
 }
 
+/// Where a byte order mark at the start of the text ends, or 0.
+#[tactic(auto, using(crate::proofs::PlaceLemmas::mark_boundary), unfolding(crate::specs::Places::mark_end))]
+fn mark_end(text: &str) -> usize
+    ensures value { result ≡ spec.mark_end text.now }
+    ensures boundary { IsCharBoundary text.now result }
+{
+    let bytes = text.as_bytes();
+    if bytes.len() > 2 && bytes[0] == 0xEF && bytes[1] == 0xBB && bytes[2] == 0xBF {
+        3
+    } else {
+        0
+    }
+}
+
 /// Where the line of a place begins.
 pub(crate) fn line_start(text: &str, at: usize) -> usize
     requires { IsCharBoundary text.now at }
@@ -24,8 +38,9 @@ pub(crate) fn line_start(text: &str, at: usize) -> usize
     ensures within { result ≤ at }
 {
     let bytes = text.as_bytes();
+    let first = mark_end(text);
     let mut start = at;
-    while start > 0 && bytes[start - 1] != b'\n' {
+    while start > 0 && start != first && bytes[start - 1] != b'\n' {
         start -= 1;
     }
     start
@@ -45,7 +60,7 @@ fn line_feed(bytes: &[u8]) -> usize
     bytes.len()
 }
 
-/// Where the line of a place ends: before its line feed, and the carriage return in front of that.
+/// Where the line of a place ends: before its line feed and the carriage return in front of that, or with the text.
 pub(crate) fn line_end(text: &str, at: usize) -> usize
     requires { IsCharBoundary text.now at }
     ensures value { result ≡ spec.line_end text.now at }
@@ -55,7 +70,7 @@ pub(crate) fn line_end(text: &str, at: usize) -> usize
     let bytes = text.as_bytes();
     let (_, rest) = bytes.split_at(at);
     let end = bytes.len() - (rest.len() - line_feed(rest));
-    if at < end && bytes[end - 1] == b'\r' {
+    if at < end && end < bytes.len() && bytes[end - 1] == b'\r' {
         end - 1
     } else {
         end
@@ -88,13 +103,13 @@ pub(crate) fn column(text: &str, at: usize) -> usize
     characters(&text[line_start(text, at)..at]) + 1
 }
 
-/// Where a span begins in a text.
+/// Where a span begins in a text, behind a byte order mark at its start.
 #[tactic(auto, unfolding(crate::specs::Places::span_start))]
 pub(crate) fn span_start(text: &str, span: Span) -> usize
     ensures value { result ≡ spec.span_start text.now span }
     ensures boundary { IsCharBoundary text.now result }
 {
-    place(text, span.start)
+    place(text, span.start).max(mark_end(text))
 }
 
 /// Where a span ends in a text. A line feed at its end is left out, and a reversed span is empty.
@@ -104,45 +119,13 @@ pub(crate) fn span_end(text: &str, span: Span) -> usize
     ensures boundary { IsCharBoundary text.now result }
     ensures forward { spec.span_start text.now span ≤ result }
 {
-    let from = place(text, span.start);
-    let to = place(text, span.start.max(span.end));
+    let first = mark_end(text);
+    let from = place(text, span.start).max(first);
+    let to = place(text, span.start.max(span.end)).max(first);
     if from < to && text.as_bytes()[to - 1] == b'\n' {
         to - 1
     } else {
         to
-    }
-}
-
-/// Where what is shown of a long line begins, before a place.
-#[tactic(auto, unfolding(crate::specs::Places::window_start))]
-pub(crate) fn window_start(text: &str, start: usize, at: usize) -> usize
-    requires start { IsCharBoundary text.now start }
-    requires forward { start ≤ at }
-    ensures value { result ≡ spec.window_start text.now start at }
-    ensures boundary { IsCharBoundary text.now result }
-    ensures within { result ≤ at }
-{
-    if at - start <= 80 {
-        start
-    } else {
-        place(text, at - 80)
-    }
-}
-
-/// Where what is shown of a long line ends, behind a place.
-#[tactic(auto, unfolding(crate::specs::Places::window_end))]
-pub(crate) fn window_end(text: &str, at: usize, end: usize) -> usize
-    requires at { IsCharBoundary text.now at }
-    requires end { IsCharBoundary text.now end }
-    requires forward { at ≤ end }
-    ensures value { result ≡ spec.window_end text.now at end }
-    ensures boundary { IsCharBoundary text.now result }
-    ensures within { at ≤ result }
-{
-    if end - at <= 160 {
-        end
-    } else {
-        place(text, at + 160)
     }
 }
 

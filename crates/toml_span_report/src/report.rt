@@ -5,12 +5,16 @@ ghost use Rattle.toml_span_tree.specs.Error.{content_of, kind_of};
 ghost use Rattle.toml_span_tree.specs.Message.{code_of, display_text};
 ghost use Rattle.toml_span_report.specs.Report as spec;
 ghost use Rattle.toml_span_report.specs.Strips.{marked_line_of};
+ghost use Rattle.toml_span_report.specs.Tokens.{IsMarked};
 
 use crate::characters::{columns, push_shown, push_times, shown};
 use crate::colours::{Ink, Style, push_painted};
-use crate::strips::{Strip, all_strips};
+use crate::places::place;
+use crate::strips::{Strip, Window, all_strips, is_near, seen_in, window_of};
+use crate::tokens::{kind_at_token, marks_end};
 use std::alloc::{AllocError, Global};
 use std::fmt::Write;
+use toml_span_lex::span::Span;
 use toml_span_tree::{Diagnostic, Error};
 
 /// Adds a text behind a sign, or nothing where the text is empty.
@@ -163,11 +167,11 @@ fn push_marks_line(frame: Frame, out: &mut String, strip: &Strip<'_>) -> Result<
     out.push_str("\n")
 }
 
-/// Adds the line of a strip where it is not shown yet, and what stands above it.
+/// Adds the line of a strip where the window above does not show it, and what stands above it.
 fn push_opening(
     frame: Frame,
     out: &mut String,
-    above: Option<usize>,
+    above: Option<Window>,
     strip: &Strip<'_>,
 ) -> Result<(), AllocError>
     ensures { OnOk result (string_bytes out.new ≡ string_bytes out.old
@@ -179,10 +183,10 @@ fn push_opening(
             out.push_str("\n")?;
         }
         Some(above) => {
-            if above == strip.number {
+            if is_near(above, strip) {
                 return Ok(());
             }
-            if strip.number.saturating_sub(above) != 1 {
+            if strip.number.saturating_sub(above.number) > 1 {
                 out.push_str("...\n")?;
             }
         }
@@ -196,10 +200,12 @@ fn push_strips(frame: Frame, out: &mut String, strips: &[Strip<'_>]) -> Result<(
         ++ spec.drawn frame.style frame.width None (map marked_line_of strips.now)) }
 {
     let mut above = None;
-    for strip in strips {
-        push_opening(frame, out, above, strip)?;
-        push_marks_line(frame, out, strip)?;
-        above = Some(strip.number);
+    for (i, strip) in strips.iter().enumerate() {
+        let window = window_of(above, strip, &strips[i + 1..]);
+        let seen = seen_in(window, strip);
+        push_opening(frame, out, above, &seen)?;
+        push_marks_line(frame, out, &seen)?;
+        above = Some(window);
     }
     Ok(())
 }
@@ -243,8 +249,12 @@ fn report(
 /// is moved to the nearest place before it, and a reversed span is empty. An empty one has one mark.
 ///
 /// A tab is shown as four spaces, another control character below U+0080 by its picture, one from U+0080 on, or one
-/// that turns the direction of the text, as U+FFFD. Of a long line 80 bytes before a label and 160 from it on are
-/// shown. Colours, where the style has them, add nothing else. Only want of memory is refused.
+/// that ends a line, turns the direction of the text or takes no column, as U+FFFD. A byte order mark at the start of
+/// the text is not shown.
+///
+/// Of a long line 80 bytes before its first label are shown, and 160 from the start of the last one on that begins no
+/// more than 240 bytes behind that. For a label further on the line is shown again. Colours, where the style has them,
+/// add nothing else. Only want of memory is refused.
 pub fn render<F>(
     alloc: Global,
     style: Style,
@@ -327,7 +337,39 @@ pub fn diagnostic_of<F: Copy + PartialEq>(
     Ok(diagnostic)
 }
 
-/// The text that shows an error: `render` of its `diagnostic_of`. Only want of memory is refused.
+/// The diagnostic of an error of this text, as `diagnostic_of` has it, but for the span of its own label where that is no
+/// more than the place of a token, which ends with the words of what was found or with the value of a string: there it
+/// ends with the token, no further than its line, or where it begins if no token stands there. Only want of memory is
+/// refused.
+pub fn diagnostic_in<F: Copy + PartialEq>(
+    alloc: Global,
+    error: &Error<'_>,
+    file: F,
+    text: &str,
+) -> Result<Diagnostic<F>, AllocError>
+    ensures { IfOk result (λ made. (span : Span) × IsMarked text.now (kind_of error.now.kind) error.now.span span
+        × (string_bytes made.code ≡ code_of (kind_of error.now.kind))
+        × (string_bytes made.message ≡ display_text (kind_of error.now.kind))
+        × (map label_content made.labels.items ≡ labels_of file span (kind_of error.now.kind))) }
+{
+    let Some(kind) = kind_at_token(&error.kind, error.span) else {
+        return diagnostic_of(alloc, error, file);
+    };
+    let at = place(text, error.span.start);
+    let span = Span {
+        start: error.span.start,
+        end: marks_end(alloc, text, at)?,
+    };
+    let line_info = error.line_info;
+    let marked = Error {
+        kind,
+        span,
+        line_info,
+    };
+    diagnostic_of(alloc, &marked, file)
+}
+
+/// The text that shows an error: `render` of its `diagnostic_in`. Only want of memory is refused.
 pub fn render_error(
     alloc: Global,
     style: Style,
@@ -336,8 +378,8 @@ pub fn render_error(
     text: &str,
 ) -> Result<String, AllocError>
     ensures { IfOk result
-        (λ out. string_bytes out ≡ spec.report_of_fault style name.now text.now (content_of error.now)) }
+        (λ out. spec.IsReport style name.now text.now (content_of error.now) (string_bytes out)) }
 {
-    let diagnostic = diagnostic_of(alloc, error, 0usize)?;
+    let diagnostic = diagnostic_in(alloc, error, 0usize, text)?;
     render(alloc, style, &diagnostic, name, text)
 }

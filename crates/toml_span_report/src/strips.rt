@@ -6,13 +6,22 @@ ghost use Rattle.toml_span_tree.specs.Diagnostic.{label_content};
 ghost use Rattle.toml_span_report.specs.Strips as spec;
 ghost use Rattle.toml_span_report.specs.Strips.{marked_line_of};
 
-use crate::places::{
-    column, line_end, line_number, line_start, span_end, span_start, window_end, window_start,
-};
+use crate::places::{column, line_end, line_number, line_start, place, span_end, span_start};
 use std::alloc::{AllocError, Global};
 use toml_span_tree::Label;
 
-/// A part of a line that is marked, with what is shown of the line before and behind it.
+/// What is shown of a long line.
+#[derive(Clone, Copy)]
+pub(crate) struct Window {
+    /// The number of the line.
+    pub(crate) number: usize,
+    /// Where the first label that it shows begins.
+    pub(crate) first: usize,
+    /// Where the last one begins.
+    pub(crate) last: usize,
+}
+
+/// A part of a line that is marked, with what stands on the line before and behind it.
 #[derive(Clone, Copy)]
 pub(crate) struct Strip<'a> {
     /// The offset at which it begins.
@@ -31,7 +40,7 @@ pub(crate) struct Strip<'a> {
     pub(crate) message: &'a str,
 }
 
-/// What is marked from one place up to another, as far as the line of the first is shown.
+/// What is marked from one place up to another, as far as the line of the first goes.
 fn strip_at<'a>(
     text: &'a str,
     from: usize,
@@ -46,18 +55,16 @@ fn strip_at<'a>(
 {
     let start = line_start(text, from);
     let end = line_end(text, from);
-    let left = window_start(text, start, from);
-    let right = window_end(text, from, end);
-    let to = to.min(right);
+    let to = to.min(end);
     Strip {
         at: from,
         number: line_number(text, from),
         column: column(text, from),
-        is_cut_before: start < left,
-        before: &text[left..from],
+        is_cut_before: false,
+        before: &text[start..from],
         marked: &text[from..to],
-        behind: &text[to..right],
-        is_cut_behind: right < end,
+        behind: &text[to..end],
+        is_cut_behind: false,
         is_primary,
         message,
     }
@@ -128,4 +135,67 @@ pub(crate) fn all_strips<'a, F>(
         place_label(&mut strips, text, label)?;
     }
     Ok(strips)
+}
+
+/// Whether a window shows a strip.
+pub(crate) fn is_near(window: Window, strip: &Strip<'_>) -> bool
+    ensures { result ≡ spec.is_near window (marked_line_of strip.now) }
+{
+    strip.number == window.number && strip.at.saturating_sub(window.first) <= 240
+}
+
+/// A window that shows the strips that follow as well, as far as they are near.
+fn window_from(window: Window, strips: &[Strip<'_>]) -> Window
+    ensures { result ≡ spec.window_from window (map marked_line_of strips.now) }
+{
+    let mut wide = window;
+    for strip in strips {
+        if !is_near(wide, strip) {
+            return wide;
+        }
+        wide.last = strip.at;
+    }
+    wide
+}
+
+/// The window of a strip: the one above it, or one of its own, for itself and those that follow.
+pub(crate) fn window_of(above: Option<Window>, strip: &Strip<'_>, strips: &[Strip<'_>]) -> Window
+    ensures { result ≡ spec.window_of above (marked_line_of strip.now) (map marked_line_of strips.now) }
+{
+    if let Some(window) = above {
+        if is_near(window, strip) {
+            return window;
+        }
+    }
+    let own = Window {
+        number: strip.number,
+        first: strip.at,
+        last: strip.at,
+    };
+    window_from(own, strips)
+}
+
+/// A strip with what a window shows of its line: 80 bytes before the first label, and 160 from the last one on.
+#[tactic(auto, unfolding(crate::specs::Strips::seen_in))]
+pub(crate) fn seen_in<'a>(window: Window, strip: &Strip<'a>) -> Strip<'a>
+    ensures { marked_line_of result ≡ spec.seen_in window (marked_line_of strip.now) }
+{
+    let shift = strip.at.saturating_sub(window.first);
+    let hidden = strip.before.len().saturating_sub(shift).saturating_sub(80);
+    let room = window.last.saturating_sub(strip.at).min(240) + 160;
+    let left = place(strip.before, hidden);
+    let marked = place(strip.marked, room);
+    let behind = place(strip.behind, room.saturating_sub(strip.marked.len()));
+    Strip {
+        at: strip.at,
+        number: strip.number,
+        column: strip.column,
+        is_cut_before: 0 < left,
+        before: &strip.before[left..],
+        marked: &strip.marked[..marked],
+        behind: &strip.behind[..behind],
+        is_cut_behind: marked < strip.marked.len() || behind < strip.behind.len(),
+        is_primary: strip.is_primary,
+        message: strip.message,
+    }
 }

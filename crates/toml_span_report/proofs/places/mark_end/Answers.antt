@@ -1,0 +1,5 @@
+use Rattle.std.proofs.lemmas.Str.{IsCharBoundary-start}
+use Rattle.toml_span_report.proofs.places.mark_end.Goals as goal
+
+pub returns-else-bytes-gt2-clause-boundary : goal.returns-else-bytes-gt2-clause-boundary
+returns-else-bytes-gt2-clause-boundary c = IsCharBoundary-start c.args.text.now c.utf8.text
