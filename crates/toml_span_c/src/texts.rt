@@ -1,7 +1,7 @@
 //! The calls that tell what is wrong with a document.
-ghost use Rattle.std.specs.Prelude.{◌≡◌, ◌≢◌, IsUtf8};
+ghost use Rattle.std.specs.Prelude.{◌≡◌, ◌≢◌, ℕ, List, IsUtf8};
 ghost use Rattle.toml_span_tree.specs.Message.{display_text};
-ghost use Rattle.toml_span_report.specs.Report.{report_of_fault};
+ghost use Rattle.toml_span_report.specs.Report.{IsReport};
 ghost use Rattle.toml_span_report.specs.declared.colours.Style.TheVariants.{Plain};
 ghost use Rattle.toml_span_c.specs.Calls.{Fills, IsDocument, IsRefused, IsStatus};
 ghost use Rattle.toml_span_c.specs.Faults as spec;
@@ -70,8 +70,8 @@ pub extern "C" fn toml_span_report(
     ensures status { IsUtf8 name.now → IsStatus text.now result }
     ensures name { ¬ IsUtf8 name.now → result ≡ 2 }
     ensures read { result ≡ 0 → IsDocument text.now }
-    ensures refused { result ≡ 1 → IsRefused text.now
-        (λ error. Fills out.old out.new length.new (report_of_fault Plain name.now text.now error)) }
+    ensures refused { result ≡ 1 → IsRefused text.now (λ error. (report : List ℕ)
+        × IsReport Plain name.now text.now error report × Fills out.old out.new length.new report) }
     ensures kept { result ≢ 1 → (out.new ≡ out.old) × (length.new ≡ length.old) }
 {
     let Ok(name) = str::from_utf8(name) else {
