@@ -23,7 +23,7 @@ given-small format (Show form) pointer name n = found-small format form pointer 
 
 read-small : (format : Format) (task : Task) (pointer name text : List ℕ) (answer : ℕ × List ℕ) → IsRead format task pointer name text answer → answer.0 ≤ 1
 read-small format task pointer name text answer (inl (root, tree, is)) = subst (λ (a : ℕ × List ℕ). a.0 ≤ 1) (sym is) (given-small format task pointer name _)
-read-small format task pointer name text answer (inr (error, why, is)) = subst (λ (a : ℕ × List ℕ). a.0 ≤ 1) (sym is) (omega arith)
+read-small format task pointer name text answer (inr (error, out, why, told, is)) = subst (λ (a : ℕ × List ℕ). a.0 ≤ 1) (sym is) (omega arith)
 
 short-small : (format : Format) (task : Task) (pointer name bytes : List ℕ) (answer : ℕ × List ℕ) (is : Bool) → is_utf8 bytes ≡ is → length bytes ≤ bound →
     IsAnswer format task pointer name bytes answer → answer.0 ≤ 1

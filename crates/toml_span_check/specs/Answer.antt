@@ -1,6 +1,7 @@
 -- What is told of the bytes of a file.
 use Rattle.std.specs.Prelude.{◌≡◌, ◌<◌, ◌≤◌, ◌⊎◌, ℕ, true, false, IsUtf8, List, [], ◌++◌, length, codes, Option, Some}
 use Rattle.std.specs.Prelude.{None}
+use Rattle.toml_span_lex.specs.declared.span.Span.{Span}
 use Rattle.toml_span_tree.specs.declared.error.Error.{Error}
 use Rattle.toml_span_tree.specs.declared.value.Value.{Value}
 use Rattle.toml_span_tree.specs.Diagnostic.{labels_of}
@@ -10,6 +11,7 @@ use Rattle.toml_span_tree.specs.Node.{Node}
 use Rattle.toml_span_tree.specs.Pointer.{pointed}
 use Rattle.toml_span_tree.specs.Value.{view}
 use Rattle.toml_span.specs.Parsing.{IsTree, IsFault, IsClash}
+use Rattle.toml_span_report.specs.Tokens.{IsMarked}
 use Rattle.toml_span_check.specs.Faults.{fault_text}
 use Rattle.toml_span_check.specs.Shown.{shown}
 use Rattle.toml_span_check.specs.declared.faults.Format.{Format}
@@ -40,18 +42,19 @@ abbrev pub given : Format → Task → List ℕ → List ℕ → Node → ℕ ×
 given format Check pointer name n = (0, [])
 given format (Show form) pointer name n = found format form pointer name (pointed pointer n)
 
--- the text of an error
-abbrev pub error_text : Format → Error → List ℕ → List ℕ → List ℕ
-error_text format error name text =
-    fault_text format (code_of (kind_of error.kind)) (display_text (kind_of error.kind))
-    (labels_of 0 error.span (kind_of error.kind)) name text
+-- the text of an error: at the token where it stands, or else at its span
+abbrev pub IsFaultText : Format → Error → List ℕ → List ℕ → List ℕ → Type 0
+IsFaultText format error name text out =
+    (span : Span) × IsMarked text (kind_of error.kind) error.span span
+    × (out ≡ fault_text format (code_of (kind_of error.kind)) (display_text (kind_of error.kind))
+    (labels_of 0 span (kind_of error.kind)) name text)
 
 -- a document, and what it gives; or none, and status 1 with the fault or the first clash
 abbrev pub IsRead : Format → Task → List ℕ → List ℕ → List ℕ → ℕ × List ℕ → Type 0
 IsRead format task pointer name text answer =
     ((root : Value) × IsTree text depth_limit root × (answer ≡ given format task pointer name (view root)))
-    ⊎ ((error : Error) × (IsFault text depth_limit error ⊎ IsClash text depth_limit error)
-    × (answer ≡ (1, error_text format error name text)))
+    ⊎ ((error : Error) × (out : List ℕ) × (IsFault text depth_limit error ⊎ IsClash text depth_limit error)
+    × IsFaultText format error name text out × (answer ≡ (1, out)))
 
 abbrev pub too_long : Format → List ℕ → ℕ × List ℕ
 too_long format name = (1, fault_text format (codes "too-long") (codes "the file has more than 16 MiB") [] name [])

@@ -11,7 +11,7 @@ use toml_span::de::parse;
 use toml_span::{Diagnostic, Error, Stop, Value};
 use toml_span_lines::lines::tree_lines;
 use toml_span_lines::run::BOUND;
-use toml_span_report::diagnostic_of;
+use toml_span_report::diagnostic_in;
 
 /// How a document is shown.
 #[derive(Clone, Copy, PartialEq, Eq)]
@@ -59,9 +59,9 @@ fn error_text(
     name: &str,
     text: &str,
 ) -> Result<Vec<u8>, AllocError>
-    ensures { IfOk result (λ out. out.items ≡ spec.error_text format error.now name.now text.now) }
+    ensures { IfOk result (λ out. spec.IsFaultText format error.now name.now text.now out.items) }
 {
-    let diagnostic = diagnostic_of(alloc, error, 0usize)?;
+    let diagnostic = diagnostic_in(alloc, error, 0usize, text)?;
     Ok(fault_text(alloc, format, &diagnostic, name, text)?.into_bytes())
 }
 
