@@ -12,4 +12,4 @@ returns-in-Ok-render_error-clause-refused c e =
     let report = string_bytes c.in-Ok-render_error.report in
     let named = subst (λ n. IsReport Plain n c.in-Fault.text.now (content_of error) report) c.in-Ok.ensures.cases.0 c.in-Ok-render_error.ensures in
     let read = subst (λ t. IsReport Plain c.args.name.now t (content_of error) report) c.in-Fault.ensures.1 named in
-    (error, c.in-Fault.ensures.2, report, read, subst (λ (t : List ℕ). Fills c.args.out.now c.put_front.new.out c.put_front.new.length t) c.as_str.ensures.value c.put_front.ensures)
+    (error, c.in-Fault.ensures.2, (report, read, subst (λ (t : List ℕ). Fills c.args.out.now c.put_front.new.out c.put_front.new.length t) c.as_str.ensures.value c.put_front.ensures))
