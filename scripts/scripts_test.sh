@@ -522,10 +522,13 @@ fi
 
 # ---- what docs/CI.md says, with the checker itself
 
-# block WORDS: the part of the page that stands in a block with these words
+# block WORDS: the part of the page that stands in a block with these words, but for blocks that quote a file
 block() {
     awk -v words="$1" '
-        /^```/ { if (is_in && index(text, words)) printf "%s", text; is_in = !is_in; text = ""; next }
+        /^```/ {
+            if (is_in && !quotes && index(text, words)) printf "%s", text
+            is_in = !is_in; quotes = /^```text in /; text = ""; next
+        }
         is_in { text = text $0 "\n" }' "$top/docs/CI.md"
 }
 
