@@ -1,12 +1,13 @@
 #!/usr/bin/env bash
-# The library for C and its module for Python: bash scripts/c_test.sh [--unproved]
+# The library for C and its module for Python: bash scripts/c_test.sh [--unproved] [--times]
 #
 # It builds the library (scripts/c_library.sh), the proved one where that is there, into a folder of its own, and then:
 # the example with gcc and clang, as C and as C++, against the archive and the shared library, with all warnings as
 # errors; which names can be seen; the example and refused memory under the address sanitizer; each request for memory
 # refused, and each room (hold.c); a million changed texts between guard pages (fuzz.c); threads and stack (threads.c);
-# the tests of the module, with tomllib beside it; and times. Where gcc, clang or python3 is missing it says so, and
-# fails. The last line counts. All but the build takes under a minute of a processor.
+# the tests of the module, with tomllib beside it; and times, which are shown, and count only with --times, since a
+# machine that others share shakes them. Where gcc, clang or python3 is missing it says so, and fails. The last line
+# counts. All but the build takes under a minute of a processor.
 set -uo pipefail
 cd "$(dirname "$0")/.."
 top=$PWD
@@ -14,6 +15,14 @@ work=$(mktemp -d)
 trap 'rm -rf "$work"' EXIT
 passed=0
 failed=0
+times=shown
+words=()
+for word; do
+    case $word in
+    --times) times=told ;;
+    *) words+=("$word") ;;
+    esac
+done
 
 # told NAME COMMAND..: counts a check that passes or fails as a whole
 told() {
@@ -29,6 +38,11 @@ told() {
     fi
 }
 
+# shown NAME COMMAND..: what a check says, which does not count
+shown() {
+    "${@:2}" 2>&1 | grep -E '^(speed|times):'
+}
+
 missing=0
 for tool in gcc g++ clang clang++ python3; do
     if ! command -v "$tool" >/dev/null; then
@@ -36,7 +50,7 @@ for tool in gcc g++ clang clang++ python3; do
         missing=$((missing + 1))
     fi
 done
-if ! bash scripts/c_library.sh "$@" --prefix "$work/lib" >"$work/said"; then
+if ! bash scripts/c_library.sh "${words[@]}" --prefix "$work/lib" >"$work/said"; then
     cat "$work/said"
     echo "c_test: the library can't be built"
     echo "0 passed, 1 failed"
@@ -103,11 +117,11 @@ told "threads and stack" "$work/threads" "${documents[@]}"
 build speed
 if command -v python3 >/dev/null; then
     python3 "$tests/documents.py" "$work"
-    told "times of a fill" "$work/speed" 200 "$work"/*20k.toml
-    told "times of a fill of 1 MB" "$work/speed" 8 "$work"/*1m.toml
+    $times "times of a fill" "$work/speed" 200 "$work"/*20k.toml
+    $times "times of a fill of 1 MB" "$work/speed" 8 "$work"/*1m.toml
     export TOML_SPAN_LIBRARY=$shared PYTHONDONTWRITEBYTECODE=1 PYTHONPATH=$top/python
     told "tests of the module" python3 python/test_toml_span.py crates/toml_span_check
-    told "times of the module" python3 "$tests/times.py" "$work"
+    $times "times of the module" python3 "$tests/times.py" "$work"
 fi
 failed=$((failed + missing))
 echo "$passed passed, $failed failed"
