@@ -1,12 +1,13 @@
 -- What the reader and the assembly give is what `parse` gives.
-use Rattle.std.proofs.Common.{◌≡◌, Some, ℕ, Bool, false, List, [], ◌∷◌, ◌++◌, length, inl, inr, refl, sym, subst, Result, Ok, Err}
-use Rattle.std.specs.Result.{IfErr, IfOk}
+use Rattle.std.proofs.Common.{◌≡◌, Some, ℕ, Bool, true, false, List, [], ◌∷◌, ◌++◌, length, refl, sym, subst, Result, Ok, Err}
+use Rattle.std.specs.Result.{IfOk}
 use Rattle.toml_span_lex.specs.declared.stop.Stop.{Stop}
 use Rattle.toml_span_lex.specs.declared.stop.Stop.TheVariants as stops
 use Rattle.toml_span_tree.specs.declared.error.Error.{Error}
 use Rattle.toml_span_tree.specs.declared.value.Value.{Value}
 use Rattle.toml_span_read.specs.declared.fault.Fault.{Fault}
 use Rattle.toml_span_tree.specs.Error.{content_of}
+use Rattle.toml_span_tree.specs.Value.{is_whole, view}
 use Rattle.toml_span_read.specs.Data.{KeyValue, Block}
 use Rattle.toml_span_read.specs.code.Faults.{IsPlacedStop}
 use Rattle.toml_span_read.specs.Faults.{Tells}
@@ -19,14 +20,16 @@ use Rattle.toml_span.specs.declared.claims.Halt.TheVariants as halts
 use Rattle.toml_span.specs.Claims.{claims}
 use Rattle.toml_span.specs.Clashes.{first_clash}
 use Rattle.toml_span.specs.code.Machine.{clash_told}
-use Rattle.toml_span.specs.code.Growing.{GrownGives, IsClashStop}
-use Rattle.toml_span.specs.Parsing.{IsTreeOf, IsTree, IsRefusal}
+use Rattle.toml_span.specs.code.Growing.{GrownGives}
+use Rattle.toml_span.specs.Parsing.{Answers, HasOutcome, IsTreeOf, resolved, clashed, refused_at}
+use Rattle.toml_span.proofs.Ordered.{one-each}
+use Rattle.toml_span.proofs.ShownWhole.{shown-whole}
 use Rattle.toml_span.specs.code.Placing.{AreSections, Assembles}
 
 -- a fault of reading is told as an error
-pub refusal-fault : (text : List ℕ) (limit : ℕ) (stop : Stop Fault) (fault : Fault) (error : Error) → stop ≡ stops.Fault fault → GrownGives text limit (Err stop) → IsPlacedStop text stop
-    → Tells text fault (content_of error) → IsRefusal text limit (stops.Fault error)
-refusal-fault text limit stop fault error is stuck placed tells = inl (fault, document_due text limit fault (rw is at stuck), (rw is at placed), tells)
+pub answers-fault : (text : List ℕ) (limit : ℕ) (stop : Stop Fault) (fault : Fault) (error : Error) → stop ≡ stops.Fault fault → GrownGives text limit (Err stop) → IsPlacedStop text stop
+    → Tells text fault (content_of error) → Answers text limit (Err (stops.Fault error))
+answers-fault text limit stop fault error is stuck placed tells = (refused_at fault, document_due text limit fault (rw is at stuck), (rw is at placed, tells))
 
 -- ---- the sections that a text spells
 
@@ -50,19 +53,19 @@ spelled-headed bs text limit h =
 
 -- ---- their tree, or their first clash
 
-pub tree-spelled : (text : List ℕ) (limit : ℕ) (bs : List Block) (r : Result Value (Stop Error)) → SpellsDocument bs text limit
-    → IfOk r (IsTreeOf bs (length text)) → IfOk r (IsTree text limit)
-tree-spelled text limit bs (Ok v) spelled h = (bs, spelled, h)
-tree-spelled text limit bs (Err stop) spelled h = tt
+pub answers-tree : (text : List ℕ) (limit : ℕ) (bs : List Block) (root : Value) → SpellsDocument bs text limit → Assembles bs (length text) (Ok root) → Answers text limit (Ok root)
+answers-tree text limit bs root spelled (resolves, shows, ordered) = (resolved bs, (spelled, resolves), record { shows = shows; ordered = ordered })
 
-refusal-clash : (text : List ℕ) (limit : ℕ) (bs : List Block) (stop : Stop Error) → SpellsDocument bs text limit → IsClashStop bs text stop → IsRefusal text limit stop
-refusal-clash text limit bs (stops.Memory e) spelled h = tt
-refusal-clash text limit bs (stops.Fault error) spelled h = inr (bs, spelled, h)
+-- the sections that a tree is of
+pub tree-blocks : (text : List ℕ) (limit : ℕ) (root : Value) → Answers text limit (Ok root) → (bs : List Block) × HasOutcome text limit (resolved bs) × IsTreeOf bs (length text) root
+tree-blocks text limit root (resolved bs, has, tree) = (bs, has, tree)
+tree-blocks text limit root (clashed bs clash, has, none) = absurd none
+tree-blocks text limit root (refused_at fault, has, none) = absurd none
 
-pub refusals-clash : (text : List ℕ) (limit : ℕ) (bs : List Block) (r : Result Value (Stop Error)) → SpellsDocument bs text limit
-    → IfErr r (IsClashStop bs text) → IfErr r (IsRefusal text limit)
-refusals-clash text limit bs (Ok v) spelled h = tt
-refusals-clash text limit bs (Err stop) spelled h = refusal-clash text limit bs stop spelled h
+pub whole-tree : (text : List ℕ) (limit : ℕ) (r : Result Value (Stop Error)) → Answers text limit r → IfOk r (λ root. is_whole (view root) ≡ true)
+whole-tree text limit (Err stop) h = tt
+whole-tree text limit (Ok root) h =
+    let (bs, has, tree) = tree-blocks text limit root h in shown-whole (view root) (length text) bs (one-each (view root) tree.ordered) tree.shows
 
 -- where the assembly ends at a clash it is the first one
 pub first-of-halt : (bs : List Block) (n : ℕ) (halt : Halt) (c : Clash) → halt ≡ halts.Clash c → Assembles bs n (Err halt) → first_clash (claims bs) ≡ Some (clash_told c)

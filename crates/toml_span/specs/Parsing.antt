@@ -1,5 +1,5 @@
--- What `parse` gives, and what it refuses.
-use Rattle.std.specs.Prelude.{◌≡◌, ⊤, ℕ, ◌≤◌, ◌⊎◌, List, Some, map, length}
+-- What `parse` answers.
+use Rattle.std.specs.Prelude.{◌≡◌, ⊤, ℕ, ◌≤◌, List, Some, Result, Ok, Err, map, length}
 use Rattle.toml_span_lex.specs.declared.stop.Stop.{Stop}
 use Rattle.toml_span_lex.specs.declared.stop.Stop.TheVariants as stops
 use Rattle.toml_span_tree.specs.declared.value.Value.{Value}
@@ -21,18 +21,62 @@ use Rattle.toml_span.specs.Flat.{flat, Shows}
 use Rattle.toml_span.specs.Ordered.{IsOrdered}
 use Rattle.toml_span.specs.Borrowed.{AreBorrowedRight, keys_of, value_standing}
 
--- ---- the tree
+-- ---- what becomes of a text
 
--- No two claims of these sections clash, and the tree shows their flat document, which is so many bytes long. In each
--- table the names ascend, so none stands there twice.
+-- the sections that it spells; those and their first clash; or the fault that is told where something is due
+pub data Outcome : Type 0 where
+  resolved : List Block → Outcome
+  clashed : List Block → NamedClash → Outcome
+  refused_at : Fault → Outcome
+
+-- The text spells these sections within the limit, and no two of their claims clash; or it spells them, and this clash
+-- is their first; or something is due at a place of the text, and this is the fault that the table has there.
+abbrev pub HasOutcome : List ℕ → ℕ → Outcome → Type 0
+HasOutcome text limit (resolved blocks) = SpellsDocument blocks text limit × Resolves (claims blocks)
+HasOutcome text limit (clashed blocks clash) =
+    SpellsDocument blocks text limit × (first_clash (claims blocks) ≡ Some clash)
+HasOutcome text limit (refused_at fault) = IsDue text limit fault
+
+-- ---- what is answered
+
+-- The tree shows the flat document of these sections, which is so many bytes long. In each table the names ascend, so
+-- none stands there twice.
 pub record IsTreeOf (blocks : List Block) (size : ℕ) (root : Value) : Type 0 where
-  pub resolves : Resolves (claims blocks)
   pub shows : Shows (view root) (flat size (claims blocks))
   pub ordered : IsOrdered (view root)
 
--- The text spells sections within the limit, and this is their tree.
+-- The error tells this clash, at a place in the text, with its line and its column.
+pub record TellsClash (text : List ℕ) (clash : NamedClash) (error : Error) : Type 0 where
+  pub line : ℕ
+  pub column : ℕ
+  pub tells : content_of error ≡ content_of_clash clash.meeting clash.name (line, column)
+  pub within : clash.meeting.span.start ≤ length text
+  pub forward : clash.meeting.span.start ≤ clash.meeting.span.end
+  pub place : IsLineInfo text clash.meeting.span.start line column
+
+-- The tree of these sections; an error that tells this clash; or one that tells this fault, which has a place in the
+-- text. Where memory was refused nothing is said.
+abbrev pub IsAnswerOf : List ℕ → Outcome → Result Value (Stop Error) → Type 0
+IsAnswerOf text (resolved blocks) (Ok root) = IsTreeOf blocks (length text) root
+IsAnswerOf text (clashed blocks clash) (Err (stops.Fault error)) = TellsClash text clash error
+IsAnswerOf text (refused_at fault) (Err (stops.Fault error)) =
+    StartsInside text fault × Tells text fault (content_of error)
+IsAnswerOf text outcome (Err (stops.Memory e)) = ⊤
+IsAnswerOf text outcome result = ⊥
+
+-- What comes back is the answer of what becomes of the text within the limit, or that memory was refused.
+abbrev pub Answers : List ℕ → ℕ → Result Value (Stop Error) → Type 0
+Answers text limit (Err (stops.Memory e)) = ⊤
+Answers text limit result = (outcome : Outcome) × HasOutcome text limit outcome × IsAnswerOf text outcome result
+
+-- a tree, and what stops its making, as they are answered
 abbrev pub IsTree : List ℕ → ℕ → Value → Type 0
-IsTree text limit root = (blocks : List Block) × SpellsDocument blocks text limit × IsTreeOf blocks (length text) root
+IsTree text limit root = Answers text limit (Ok root)
+
+abbrev pub IsRefusal : List ℕ → ℕ → Stop Error → Type 0
+IsRefusal text limit stop = Answers text limit (Err stop)
+
+-- ---- what else is known of a tree
 
 -- a table that spans the whole document, which is so many bytes long
 abbrev pub IsRoot : ℕ → Value → Type 0
@@ -45,31 +89,3 @@ abbrev pub IsBorrowedTree : List ℕ → ℕ → Value → Type 0
 IsBorrowedTree text limit root =
     (sections : List Section) × SpellsDocument (map block sections) text limit
     × AreBorrowedRight text (keys_of (sections_written sections)) (value_standing root)
-
--- ---- refusals
-
--- Something is due at a place of the text, and the error tells the fault that the table has there. The fault has a
--- place in the text.
-abbrev pub IsFault : List ℕ → ℕ → Error → Type 0
-IsFault text limit error =
-    (fault : Fault) × IsDue text limit fault × StartsInside text fault × Tells text fault (content_of error)
-
--- The error tells the first clash of the sections' claims, at a place in the text, with its line and its column.
-pub record IsClashOf (blocks : List Block) (text : List ℕ) (error : Error) : Type 0 where
-  pub clash : NamedClash
-  pub line : ℕ
-  pub column : ℕ
-  pub first : first_clash (claims blocks) ≡ Some clash
-  pub tells : content_of error ≡ content_of_clash clash.meeting clash.name (line, column)
-  pub within : clash.meeting.span.start ≤ length text
-  pub forward : clash.meeting.span.start ≤ clash.meeting.span.end
-  pub place : IsLineInfo text clash.meeting.span.start line column
-
--- The text spells sections within the limit, and their first clash is told.
-abbrev pub IsClash : List ℕ → ℕ → Error → Type 0
-IsClash text limit error = (blocks : List Block) × SpellsDocument blocks text limit × IsClashOf blocks text error
-
--- Of a text that is not read the fault is told where something is due. Of one that is read the first clash is told.
-abbrev pub IsRefusal : List ℕ → ℕ → Stop Error → Type 0
-IsRefusal text limit (stops.Memory e) = ⊤
-IsRefusal text limit (stops.Fault error) = IsFault text limit error ⊎ IsClash text limit error

@@ -9,8 +9,8 @@ ghost use Rattle.toml_span_read.specs.Limits.{depth_limit};
 ghost use Rattle.toml_span_tree.specs.Value.{is_whole, view};
 ghost use Rattle.toml_span.specs.Borrowed.{AreBorrowedRight, value_standing};
 ghost use Rattle.toml_span.specs.code.Growing.{GrownGives, GrownRight, Grows, IsBare, IsGrownInside};
-ghost use Rattle.toml_span.specs.code.Growing.{IsClashStop};
-ghost use Rattle.toml_span.specs.Parsing.{IsBorrowedTree, IsRefusal, IsTree, IsTreeOf, IsRoot};
+ghost use Rattle.toml_span_read.specs.Grammar.{SpellsDocument};
+ghost use Rattle.toml_span.specs.Parsing.{Answers, IsBorrowedTree, IsRoot};
 
 use crate::claims::Halt;
 use crate::sections::{Grown, begin, finish, grow};
@@ -50,12 +50,11 @@ fn grown_of<'de>(alloc: Global, text: &'de str, limit: usize) -> Result<Grown<'d
 /// The tree of a document, or its first clash.
 fn tree_of<'de>(grown: Grown<'de>, text: &'de str) -> Result<Value<'de>, Stop<Error<'de>>>
     requires inside { IsGrownInside (length text.now) grown }
-    ensures tree { (bs : List Block) → Grows bs grown.entry → IfOk result (IsTreeOf bs (length text.now)) }
+    ensures answers { (bs : List Block) (limit : ℕ) → SpellsDocument bs text.now limit → Grows bs grown.entry
+        → Answers text.now limit result }
     ensures root { IfOk result (IsRoot (length text.now)) }
-    ensures whole { (bs : List Block) → Grows bs grown.entry → IfOk result (λ root. is_whole (view root) ≡ true) }
     ensures borrows { (ps : List SimpleKey) → GrownRight text.now ps grown.entry
         → IfOk result (λ root. AreBorrowedRight text.now ps (value_standing root)) }
-    ensures refused { (bs : List Block) → Grows bs grown.entry → IfErr result (IsClashStop bs text.now) }
     ensures bare { IsBare grown.entry → IsOk result }
 {
     match finish(grown, text.len()) {
@@ -73,11 +72,10 @@ fn tree_of<'de>(grown: Grown<'de>, text: &'de str) -> Result<Value<'de>, Stop<Er
 /// The error is the first fault of reading or, where the text is read, the first clash of two claims on
 /// one path; or `Stop::Memory`, where a request for memory was refused. There is no tree then.
 pub fn parse<'de>(alloc: Global, s: &'de str) -> Result<Value<'de>, Stop<Error<'de>>>
-    ensures tree { IfOk result (IsTree s.now depth_limit) }
+    ensures answers { Answers s.now depth_limit result }
     ensures root { IfOk result (IsRoot (length s.now)) }
     ensures whole { IfOk result (λ root. is_whole (view root) ≡ true) }
     ensures borrows { IfOk result (IsBorrowedTree s.now depth_limit) }
-    ensures refused { IfErr result (IsRefusal s.now depth_limit) }
     // Memory is wanted only where more than comments and blank lines stand in the text.
     ensures memory { (start : ℕ) × FirstPlace s.now start × OnlyFormsTakeMemory s.now start result }
 {
@@ -94,11 +92,10 @@ pub fn parse_with_limit<'de>(
 ) -> Result<Value<'de>, Stop<Error<'de>>>
     requires some { 1 ≤ limit }
     requires small { limit ≤ depth_limit }
-    ensures tree { IfOk result (IsTree s.now limit) }
+    ensures answers { Answers s.now limit result }
     ensures root { IfOk result (IsRoot (length s.now)) }
     ensures whole { IfOk result (λ root. is_whole (view root) ≡ true) }
     ensures borrows { IfOk result (IsBorrowedTree s.now limit) }
-    ensures refused { IfErr result (IsRefusal s.now limit) }
     // Memory is wanted only where more than comments and blank lines stand in the text.
     ensures memory { (start : ℕ) × FirstPlace s.now start × OnlyFormsTakeMemory s.now start result }
 {

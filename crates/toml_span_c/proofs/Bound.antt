@@ -14,6 +14,7 @@ use Rattle.toml_span.specs.Claims.{Claim, Claims, no_claims, claimed, scope, cla
 use Rattle.toml_span.specs.Flat.{flat, all_claims}
 use Rattle.toml_span.specs.Ordered.{IsOrdered, HoldsOrdered, AreOrdered, MembersOrdered}
 use Rattle.toml_span.specs.Parsing.{IsTree}
+use Rattle.toml_span.proofs.Refusals.{tree-blocks}
 use Rattle.toml_span.specs.declared.claims.Sort.TheVariants.{ArrayOfTables, TableElement}
 use Rattle.toml_span.proofs.EachClaim.{Each, flat-decides}
 use Rattle.toml_span.proofs.Ordered.{first-entry, later-entry, one-each, same-name}
@@ -167,14 +168,15 @@ rising-few (c ∷ cs) i j h = omega (arith, (onward-few c cs j h.1).0)
 pub few-records : (bytes : List ℕ) (limit : ℕ) (root : Value) → IsTree bytes limit root → length (tree_records bytes (view root)) ≤ 2 * length bytes + 1
 few-records bytes limit root tree =
     let n = view root in
-    let cs = claims tree.0 in
+    let (bs, has, made) = tree-blocks bytes limit root tree in
+    let cs = claims bs in
     let all = all_claims cs in
     let ps = [] ∷ paths all in
     let each = each-mem cs (paths all) (λ p h. h) in
-    let mem = λ (q : Path) (x : Place) (h : place_at q n ≡ Some x). by_path cs (paths all) each n (length bytes) tree.2.shows q x h in
-    let few = node-few None n tree.2.ordered ps mem in
+    let mem = λ (q : Path) (x : Place) (h : place_at q n ≡ Some x). by_path cs (paths all) each n (length bytes) made.shows q x h in
+    let few = node-few None n made.ordered ps mem in
     let long = length-map all (λ (c : Claim). c.path) in
-    let claims_few = rising-few all 0 (length bytes) (document-rises tree.0 bytes limit tree.1) in
+    let claims_few = rising-few all 0 (length bytes) (document-rises bs bytes limit has.0) in
     omega (arith, length-records bytes 0 (tree_entries n), node-long 0 18446744073709551615 0 None no_span n, few, long, claims_few)
   where
     by_path : (cs : Claims) (ps : List Path) → Each (λ c. IsMem c.path ps) cs → (n : Node) (size : ℕ) → ((p : Path) → place_at p n ≡ flat size cs p)

@@ -10,7 +10,7 @@ use Rattle.toml_span_tree.specs.Message.{code_of, display_text}
 use Rattle.toml_span_tree.specs.Node.{Node}
 use Rattle.toml_span_tree.specs.Pointer.{pointed}
 use Rattle.toml_span_tree.specs.Value.{view}
-use Rattle.toml_span.specs.Parsing.{IsTree, IsFault, IsClash}
+use Rattle.toml_span.specs.Parsing.{IsTree, IsRefusal}
 use Rattle.toml_span_report.specs.Tokens.{IsMarked}
 use Rattle.toml_span_check.specs.Faults.{fault_text}
 use Rattle.toml_span_check.specs.Shown.{shown}
@@ -53,7 +53,7 @@ IsFaultText format error name text out =
 abbrev pub IsRead : Format → Task → List ℕ → List ℕ → List ℕ → ℕ × List ℕ → Type 0
 IsRead format task pointer name text answer =
     ((root : Value) × IsTree text depth_limit root × (answer ≡ given format task pointer name (view root)))
-    ⊎ ((error : Error) × (out : List ℕ) × (IsFault text depth_limit error ⊎ IsClash text depth_limit error)
+    ⊎ ((error : Error) × (out : List ℕ) × IsRefusal text depth_limit (stops.Fault error)
     × IsFaultText format error name text out × (answer ≡ (1, out)))
 
 abbrev pub too_long : Format → List ℕ → ℕ × List ℕ

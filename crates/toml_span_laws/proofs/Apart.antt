@@ -15,6 +15,7 @@ use Rattle.toml_span.specs.Flat.{all_claims, flat}
 use Rattle.toml_span_laws.specs.Clashing.{IsIn}
 use Rattle.toml_span_laws.specs.Order.{claim_start, Follows, key_at, KeysApart}
 use Rattle.toml_span.specs.Parsing.{IsTree}
+use Rattle.toml_span.proofs.Refusals.{tree-blocks}
 use Rattle.toml_span.proofs.EachClaim.{Each, flat-decides}
 use Rattle.toml_span_laws.proofs.Order.{IsKeyed, Onward, Rising, follows-start, document-rises}
 
@@ -114,9 +115,10 @@ flat-apart text limit n bs h p q k l is at e =
     one-key (all_claims (claims bs)) 0 (length text) p q k l (document-rises bs text limit h) (key-claimed n (claims bs) p k is) (key-claimed n (claims bs) q l at) e
 
 pub tree-apart : (text : List ℕ) (limit : ℕ) (root : Value) → IsTree text limit root → KeysApart (λ p. place_at p (view root))
-tree-apart text limit root (bs, spelled, tree) p q k l is at e =
+tree-apart text limit root h p q k l is at e =
+    let (bs, has, tree) = tree-blocks text limit root h in
     let spanned = λ (o : Option Place). option_and_then (λ x. x.key_span) o in
-    flat-apart text limit (length text) bs spelled p q k l (ap spanned (sym (tree.shows p)) ∙ is) (ap spanned (sym (tree.shows q)) ∙ at) e
+    flat-apart text limit (length text) bs has.0 p q k l (ap spanned (sym (tree.shows p)) ∙ is) (ap spanned (sym (tree.shows q)) ∙ at) e
 
 -- ---- in one table
 

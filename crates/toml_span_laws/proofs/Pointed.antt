@@ -16,6 +16,7 @@ use Rattle.toml_span.specs.Claims.{claims}
 use Rattle.toml_span.specs.Flat.{flat, Shows}
 use Rattle.toml_span.specs.Ordered.{IsOrdered, HoldsOrdered, AreOrdered, MembersOrdered}
 use Rattle.toml_span.specs.Parsing.{IsTree}
+use Rattle.toml_span.proofs.Refusals.{tree-blocks}
 use Rattle.toml_span.proofs.ShownWhole.{shown-filled}
 use Rattle.toml_span_laws.specs.Document.{StandsAt, without_key, subtree, IsValueOf, PointsAt}
 use Rattle.toml_span_laws.proofs.Answered.{one-document}
@@ -121,8 +122,9 @@ value-named pointer n m length bs h (names, path, cut, named, value) =
     is ∙ ap Some (one-value (subtree places path) w m (part-value places n path (k, w) h at) value)
 
 pub tree-value : (text : List ℕ) (limit : ℕ) (root : Value) (bs : List Block) → IsTree text limit root → SpellsDocument bs text limit → IsValueOf (flat (length text) (claims bs)) (view root)
-tree-value text limit root bs (cs, others, tree) spelled =
-    (tree.ordered, subst (λ l. Shows (view root) (flat (length text) (claims l))) (one-document text limit cs bs others spelled) tree.shows)
+tree-value text limit root bs h spelled =
+    let (cs, has, tree) = tree-blocks text limit root h in
+    (tree.ordered, subst (λ l. Shows (view root) (flat (length text) (claims l))) (one-document text limit cs bs has.0 spelled) tree.shows)
 
 pub pointer-value : (text : List ℕ) (limit : ℕ) (root : Value) (bs : List Block) (pointer : List ℕ) (m : Node) → IsTree text limit root → SpellsDocument bs text limit
     → (pointed pointer (view root) ≡ Some m) ↔ PointsAt pointer (flat (length text) (claims bs)) m

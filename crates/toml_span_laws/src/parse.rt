@@ -32,32 +32,19 @@ ghost use Rattle.toml_span_laws.specs.Document.{StandsAt, IsValueOf, PointsAt};
 ghost use Rattle.toml_span_laws.specs.Helpers.{EndsWith, HasNoKeyBut, IsOver, RequiresAt, TriesAt, except};
 ghost use Rattle.toml_span_laws.specs.Laws.{AssignsAgain, keys_in, ShowsString};
 ghost use Rattle.toml_span_laws.specs.Order.{Ascends, key_at, KeysApart};
-ghost use Rattle.toml_span_laws.specs.Outcomes.{HasOutcome, IsAlike, IsAnswered, IsAnswerOf, Outcome, resolved};
-ghost use Rattle.toml_span.specs.Parsing.{IsClash, IsFault, IsRefusal, IsTree};
+ghost use Rattle.toml_span_laws.specs.Outcomes.{IsAlike};
+ghost use Rattle.toml_span.specs.Parsing.{Answers, HasOutcome, IsAnswerOf, IsTree, Outcome, resolved};
 
 pub mod clashes;
 
 use crate::judged::document_or_due;
 use toml_span_typed::Deserialize;
 
-/// A text that has a tree is not refused, and one with a clash has no fault of reading. All trees of a text are equal
-/// as data, all errors that tell of its clash are alike, and so are all that tell of its fault: whatever refuses it
-/// tells the same. So all answers to a text are alike, want of memory aside.
+/// All answers to a text are alike, want of memory aside: a text that has a tree is not refused, all its trees are
+/// equal as data, and all errors that refuse it tell the same.
 pub fn one_answer()
-    ensures refused { (text : List ℕ) (limit : ℕ) (root : Value) (error : Error) → IsTree text limit root
-        → IsRefusal text limit (refused error) → ⊥ }
-    ensures apart { (text : List ℕ) (limit : ℕ) (error other : Error) → IsFault text limit error
-        → IsClash text limit other → ⊥ }
-    ensures tree { (text : List ℕ) (limit : ℕ) (root other : Value) → IsTree text limit root → IsTree text limit other
-        → view root ≡ view other }
-    ensures clash { (text : List ℕ) (limit : ℕ) (error other : Error) → IsClash text limit error
-        → IsClash text limit other → content_of error ≡ content_of other }
-    ensures fault { (text : List ℕ) (limit : ℕ) (error other : Error) → IsFault text limit error
-        → IsFault text limit other → content_of error ≡ content_of other }
-    ensures told { (text : List ℕ) (limit : ℕ) (error other : Error) → IsRefusal text limit (refused error)
-        → IsRefusal text limit (refused other) → content_of error ≡ content_of other }
-    ensures alike { (text : List ℕ) (limit : ℕ) (result other : Result Value (Stop Error))
-        → IsAnswered text limit result → IsAnswered text limit other → IsAlike result other }
+    ensures { (text : List ℕ) (limit : ℕ) (result other : Result Value (Stop Error)) → Answers text limit result
+        → Answers text limit other → IsAlike result other }
 {}
 
 /// Each text has one outcome within a limit: sections of which no two claims clash, sections and their first
@@ -74,7 +61,7 @@ pub fn one_outcome(text: &str)
 /// tells the clash or the fault.
 pub fn outcome_decides()
     ensures { (text : List ℕ) (limit : ℕ) (outcome : Outcome) (result : Result Value (Stop Error))
-        → HasOutcome text limit outcome → IsAnswered text limit result → IsAnswerOf text outcome result }
+        → HasOutcome text limit outcome → Answers text limit result → IsAnswerOf text outcome result }
 {}
 
 /// Nothing is taken in a tree that shows the flat document of some sections: no path leads to what is taken,

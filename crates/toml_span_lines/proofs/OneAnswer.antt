@@ -1,18 +1,17 @@
 -- Bytes are a document or are refused, and one text shows it or tells why.
-use Rattle.std.proofs.Common.{◌≡◌, ℕ, ◌+◌, ◌≤◌, ◌⊎◌, Bool, true, false, nat_lt, List, ◌++◌, Option, Some, None, take, refl, sym, ap, subst, ◌∙◌, inl, inr, length}
+use Rattle.std.proofs.Common.{◌≡◌, ℕ, ◌+◌, ◌≤◌, ◌⊎◌, Bool, true, false, nat_lt, List, ◌++◌, Option, Some, None, take, Err, refl, sym, ap, subst, ◌∙◌, inl, inr, length}
 use Rattle.std.proofs.lemmas.Bool.{cases_lt, false≢true}
 use Rattle.std.proofs.lemmas.List.{append-nil, take_all, take_at}
-use Rattle.std.proofs.lemmas.Option.{none-some}
 use Rattle.std.proofs.lemmas.Str.{IsUtf8-from_is_utf8, is_utf8-from_IsUtf8}
 use Rattle.std.specs.Io.KnownBytes.{Appends, Consumes, IsAtEnd}
 use Rattle.std.specs.Str.{IsUtf8, is_utf8}
+use Rattle.toml_span_lex.specs.declared.stop.Stop.TheVariants as stops
 use Rattle.toml_span_tree.specs.Error.{content_of}
 use Rattle.toml_span_tree.specs.declared.error.Error.{Error}
 use Rattle.toml_span.specs.Claims.{claims}
-use Rattle.toml_span.specs.Clashes.{first_clash}
 use Rattle.toml_span.specs.Flat.{flat}
-use Rattle.toml_span.specs.Parsing.{IsClash}
-use Rattle.toml_span_laws.proofs.Answered.{never-due, one-clash, one-document, one-refusal, fault-or-clash}
+use Rattle.toml_span.specs.Parsing.{IsRefusal, resolved}
+use Rattle.toml_span_laws.proofs.Answered.{decides, one-document, one-refusal}
 use Rattle.toml_span_lines.specs.Lines.{error_line}
 use Rattle.toml_span_lines.specs.Run.{bound, IsShown, IsAnswer, Runs}
 use Rattle.toml_span_lines.specs.Shown.{ShowsDocument, ShowsRefusal, ShowsPlaces}
@@ -24,13 +23,10 @@ one-shown bytes limit text other d e =
     one-text (flat (length bytes) (claims d.blocks)) text other d.shown (subst (λ l. ShowsPlaces (flat (length bytes) (claims l)) other) same e.shown)
 
 pub not-refused : (bytes : List ℕ) (limit : ℕ) (text other : List ℕ) → ShowsDocument bytes limit text → ShowsRefusal bytes limit other → ⊥
-not-refused bytes limit text other d (error, inl (fault, due, placed, tells), is) = never-due bytes limit d.blocks fault d.spelled due
-not-refused bytes limit text other d (error, inr (cs, spelled, clash), is) =
-    none-some clash.clash (sym d.resolves ∙ sym (ap (λ l. first_clash (claims l)) (one-document bytes limit cs d.blocks spelled d.spelled)) ∙ clash.first)
+not-refused bytes limit text other d (error, refusal, is) = decides bytes limit (resolved d.blocks) (Err (stops.Fault error)) (d.spelled, d.resolves) refusal
 
-pub one-told : (bytes : List ℕ) (limit : ℕ) (error : Error) (text : List ℕ) → IsClash bytes limit error → ShowsRefusal bytes limit text → text ≡ error_line (content_of error)
-one-told bytes limit error text c (other, inl fault, is) = absurd (fault-or-clash bytes limit other error fault c)
-one-told bytes limit error text c (other, inr clash, is) = is ∙ ap (λ f. error_line f) (one-clash bytes limit other error clash c)
+pub one-told : (bytes : List ℕ) (limit : ℕ) (error : Error) (text : List ℕ) → IsRefusal bytes limit (stops.Fault error) → ShowsRefusal bytes limit text → text ≡ error_line (content_of error)
+one-told bytes limit error text c (other, refusal, is) = is ∙ ap (λ f. error_line f) (one-refusal bytes limit other error refusal c)
 
 pub one-refused : (bytes : List ℕ) (limit : ℕ) (text other : List ℕ) → ShowsRefusal bytes limit text → ShowsRefusal bytes limit other → text ≡ other
 one-refused bytes limit text other (e, a, is) (f, b, at) = is ∙ ap (λ x. error_line x) (one-refusal bytes limit e f a b) ∙ sym at

@@ -13,7 +13,7 @@ use Rattle.toml_span.specs.Claims.{claims}
 use Rattle.toml_span.specs.Clashes.{Resolves}
 use Rattle.toml_span.specs.Flat.{flat}
 use Rattle.toml_span.specs.Ordered.{IsBefore, IsNameBefore}
-use Rattle.toml_span.specs.Parsing.{IsFault, IsClash}
+use Rattle.toml_span.specs.Parsing.{IsRefusal}
 use Rattle.toml_span_lines.specs.Lines.{key_segment, position_segment, line, error_line}
 
 -- ---- the order of paths
@@ -81,4 +81,4 @@ pub record ShowsDocument (bytes : List ℕ) (limit : ℕ) (text : List ℕ) : Ty
 -- of such a fault, or of the first clash.
 abbrev pub ShowsRefusal : List ℕ → ℕ → List ℕ → Type 0
 ShowsRefusal bytes limit text =
-    (error : Error) × (IsFault bytes limit error ⊎ IsClash bytes limit error) × (text ≡ error_line (content_of error))
+    (error : Error) × IsRefusal bytes limit (stops.Fault error) × (text ≡ error_line (content_of error))

@@ -3,7 +3,8 @@ ghost use Rattle.std.specs.Prelude.{◌≡◌, ℕ, Bool, true, nat_lt, List, Op
 ghost use Rattle.toml_span_tree.specs.Error.{content_of};
 ghost use Rattle.toml_span_tree.specs.Path.{Path, Place};
 ghost use Rattle.toml_span_tree.specs.declared.error.Error.{Error};
-ghost use Rattle.toml_span.specs.Parsing.{IsClash};
+ghost use Rattle.toml_span_lex.specs.declared.stop.Stop.TheVariants.{Fault};
+ghost use Rattle.toml_span.specs.Parsing.{IsRefusal};
 ghost use Rattle.toml_span_lines.specs.Lines.{error_line};
 ghost use Rattle.toml_span_lines.specs.Run.{IsAnswer, Runs};
 ghost use Rattle.toml_span_lines.specs.Shown.{ShowsDocument, ShowsRefusal, ShowsPlaces};
@@ -14,14 +15,14 @@ pub fn one_text()
         → text ≡ other }
 {}
 
-/// Bytes that are a document are shown by one text, and are not refused. Where two claims clash, one text
-/// tells it, and so it is with whatever the bytes are refused for.
+/// Bytes that are a document are shown by one text, and are not refused. Whatever they are refused for,
+/// one text tells it, which is the line of the error.
 pub fn one_answer()
     ensures document { (bytes : List ℕ) (limit : ℕ) (text other : List ℕ) → ShowsDocument bytes limit text
         → ShowsDocument bytes limit other → text ≡ other }
     ensures refused { (bytes : List ℕ) (limit : ℕ) (text other : List ℕ) → ShowsDocument bytes limit text
         → ShowsRefusal bytes limit other → ⊥ }
-    ensures clash { (bytes : List ℕ) (limit : ℕ) (error : Error) (text : List ℕ) → IsClash bytes limit error
+    ensures line { (bytes : List ℕ) (limit : ℕ) (error : Error) (text : List ℕ) → IsRefusal bytes limit (Fault error)
         → ShowsRefusal bytes limit text → text ≡ error_line (content_of error) }
     ensures told { (bytes : List ℕ) (limit : ℕ) (text other : List ℕ) → ShowsRefusal bytes limit text
         → ShowsRefusal bytes limit other → text ≡ other }

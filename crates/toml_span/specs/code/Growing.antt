@@ -1,9 +1,8 @@
 -- What the sections that are read so far make, whatever sections follow.
-use Rattle.std.specs.Prelude.{◌≡◌, ⊤, ℕ, List, [], ◌++◌, map, length, Result, Ok, Err, Option, Some, None, IfNone}
+use Rattle.std.specs.Prelude.{◌≡◌, ℕ, List, [], ◌++◌, map, length, Result, Ok, Err, Option, Some, None, IfNone}
 use Rattle.std.specs.Prelude.{IfSome}
 use Rattle.toml_span_lex.specs.declared.stop.Stop.{Stop}
 use Rattle.toml_span_lex.specs.declared.stop.Stop.TheVariants as stops
-use Rattle.toml_span_tree.specs.declared.error.Error.{Error}
 use Rattle.toml_span_read.specs.Data.{Block, block}
 use Rattle.toml_span_read.specs.Places.{IsInside}
 use Rattle.toml_span_read.specs.Keys.{SimpleKey}
@@ -26,7 +25,6 @@ use Rattle.toml_span.specs.Borrowed.{AreBorrowedRight}
 use Rattle.toml_span.specs.code.Borrowed.{standing, AreFrom}
 use Rattle.toml_span.specs.declared.branch.Branch.TheViews.{out-Branch}
 use Rattle.toml_span.specs.declared.sections.Grown.{Grown}
-use Rattle.toml_span.specs.Parsing.{IsClashOf}
 
 -- a section placed from the root on
 abbrev pub Placed : Block → Branch → Branch → Result (Unit {0}) Halt → Type 0
@@ -78,8 +76,3 @@ abbrev pub GrownGives : List ℕ → ℕ → Result Grown (Stop Fault) → Type 
 GrownGives text limit (Ok g) = IsGrown text limit g
 GrownGives text limit (Err (stops.Memory e)) = Unit {0}
 GrownGives text limit (Err (stops.Fault e)) = StuckDocument text limit e
-
--- of sections that were read only a clash is told
-abbrev pub IsClashStop : List Block → List ℕ → Stop Error → Type 0
-IsClashStop blocks text (stops.Memory e) = ⊤
-IsClashStop blocks text (stops.Fault error) = IsClashOf blocks text error

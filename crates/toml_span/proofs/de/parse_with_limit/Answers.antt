@@ -4,20 +4,19 @@ use Rattle.toml_span_read.specs.Data.{block}
 use Rattle.toml_span.specs.Borrowed.{keys_of}
 use Rattle.toml_span.proofs.Borrowing.{all_from, tree_borrows}
 use Rattle.toml_span.proofs.Memory.{keeps-on, keeps-placed}
-use Rattle.toml_span.proofs.Refusals.{refusal-fault, refusals-clash, tree-spelled}
+use Rattle.toml_span.proofs.Refusals.{answers-fault, whole-tree}
 use Rattle.toml_span.proofs.de.parse_with_limit.Goals as goal
 
 pub tree_of-requires : goal.tree_of-requires
 tree_of-requires c = record { inside = c.in-Ok.ensures.gives.inside }
 
-pub returns-in-Ok-clause-tree : goal.returns-in-Ok-clause-tree
-returns-in-Ok-clause-tree c =
-    let g = c.in-Ok.ensures.gives in
-    let bs = map block g.sections in
-    tree-spelled c.args.s.now c.args.limit bs c.tree_of.result g.spelled (c.tree_of.ensures.tree bs g.grows)
+pub returns-in-Ok-clause-answers : goal.returns-in-Ok-clause-answers
+returns-in-Ok-clause-answers c = let g = c.in-Ok.ensures.gives in c.tree_of.ensures.answers (map block g.sections) c.args.limit g.spelled g.grows
 
 pub returns-in-Ok-clause-whole : goal.returns-in-Ok-clause-whole
-returns-in-Ok-clause-whole c = let g = c.in-Ok.ensures.gives in c.tree_of.ensures.whole (map block g.sections) g.grows
+returns-in-Ok-clause-whole c =
+    let g = c.in-Ok.ensures.gives in
+    whole-tree c.args.s.now c.args.limit c.tree_of.result (c.tree_of.ensures.answers (map block g.sections) c.args.limit g.spelled g.grows)
 
 pub returns-in-Ok-clause-borrows : goal.returns-in-Ok-clause-borrows
 returns-in-Ok-clause-borrows c =
@@ -26,14 +25,8 @@ returns-in-Ok-clause-borrows c =
     tree_borrows g.sections c.args.s.now c.args.limit c.tree_of.result g.spelled
     (c.tree_of.ensures.borrows keys (g.borrows keys (all_from c.args.s.now (sections_written g.sections) g.read)))
 
-pub returns-in-Ok-clause-refused : goal.returns-in-Ok-clause-refused
-returns-in-Ok-clause-refused c =
-    let g = c.in-Ok.ensures.gives in
-    let bs = map block g.sections in
-    refusals-clash c.args.s.now c.args.limit bs c.tree_of.result g.spelled (c.tree_of.ensures.refused bs g.grows)
-
-pub returns-in-Err-Fault-clause-refused : goal.returns-in-Err-Fault-clause-refused
-returns-in-Err-Fault-clause-refused c = refusal-fault c.args.s.now c.args.limit _ c.in-Err-Fault.fault _ c.in-Err-Fault.field-0-is c.in-Err-Fault.ensures.gives c.in-Err-Fault.ensures.placed c.error_of.ensures
+pub returns-in-Err-Fault-clause-answers : goal.returns-in-Err-Fault-clause-answers
+returns-in-Err-Fault-clause-answers c = answers-fault c.args.s.now c.args.limit _ c.in-Err-Fault.fault _ c.in-Err-Fault.field-0-is c.in-Err-Fault.ensures.gives c.in-Err-Fault.ensures.placed c.error_of.ensures
 
 pub returns-in-Ok-clause-memory : goal.returns-in-Ok-clause-memory
 returns-in-Ok-clause-memory c =
