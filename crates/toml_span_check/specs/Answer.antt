@@ -10,6 +10,7 @@ use Rattle.toml_span_tree.specs.Message.{code_of, display_text}
 use Rattle.toml_span_tree.specs.Node.{Node}
 use Rattle.toml_span_tree.specs.Pointer.{pointed}
 use Rattle.toml_span_tree.specs.Value.{view}
+use Rattle.toml_span_lex.specs.declared.stop.Stop.TheVariants as stops
 use Rattle.toml_span.specs.Parsing.{IsTree, IsRefusal}
 use Rattle.toml_span_report.specs.Tokens.{IsMarked}
 use Rattle.toml_span_check.specs.Faults.{fault_text}

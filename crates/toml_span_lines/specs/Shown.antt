@@ -13,6 +13,7 @@ use Rattle.toml_span.specs.Claims.{claims}
 use Rattle.toml_span.specs.Clashes.{Resolves}
 use Rattle.toml_span.specs.Flat.{flat}
 use Rattle.toml_span.specs.Ordered.{IsBefore, IsNameBefore}
+use Rattle.toml_span_lex.specs.declared.stop.Stop.TheVariants as stops
 use Rattle.toml_span.specs.Parsing.{IsRefusal}
 use Rattle.toml_span_lines.specs.Lines.{key_segment, position_segment, line, error_line}
 

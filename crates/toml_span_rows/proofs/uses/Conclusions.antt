@@ -17,7 +17,8 @@ use Rattle.toml_span_read.specs.Places.{IsLineInfo}
 use Rattle.toml_span_read.specs.Data.{Block}
 use Rattle.toml_span.specs.Claims.{claims}
 use Rattle.toml_span.specs.Flat.{flat, Shows}
-use Rattle.toml_span.specs.Parsing.{IsTree, IsRefusal}
+use Rattle.toml_span.specs.Parsing.{IsTree, IsRefusal, resolved, clashed, refused_at}
+use Rattle.toml_span.proofs.Refusals.{tree-blocks}
 use Rattle.toml_span_laws.specs.Document.{IsDocument, StandsAt}
 use Rattle.toml_span.proofs.ShownWhole.{shown-filled}
 
@@ -55,24 +56,28 @@ stands-pointed pointer n length bs P shows (names, path, place, cut, named, is, 
 -- An answer that is read of the value that the pointer names is read of what stands there in the flat document.
 pub reads-value : {X : Type 0} (s pointer : List ℕ) (root : Value) (m : Node) (o : Option X) (P : X → Place → Type 0) → IsTree s 128 root → pointed pointer (view root) ≡ Some m
     → ((k : Option Span) (x : X) → (o ≡ Some x) ↔ P x (place_of (k, m))) → IsDocument s (λ places. (x : X) → (o ≡ Some x) ↔ StandsAt pointer places (P x))
-reads-value s pointer root m o P (bs, spelled, tree) is reads = (bs, spelled, tree.resolves, λ x. (stands x, answers x))
+reads-value s pointer root m o P tree is reads =
+    let (bs, has, made) = tree-blocks s 128 root tree in
+    (bs, has.0, has.1, λ x. (stands bs made.shows x, answers bs made.shows x))
   where
-    stands : (x : _) → o ≡ Some x → StandsAt pointer (flat (length s) (claims bs)) (P x)
-    stands x h = pointed-stands pointer (view root) m (flat (length s) (claims bs)) (P x) tree.shows is (λ k. (reads k x).0 h)
+    stands : (bs : List Block) → Shows (view root) (flat (length s) (claims bs)) → (x : _) → o ≡ Some x → StandsAt pointer (flat (length s) (claims bs)) (P x)
+    stands bs shows x h = pointed-stands pointer (view root) m (flat (length s) (claims bs)) (P x) shows is (λ k. (reads k x).0 h)
 
-    answers : (x : _) → StandsAt pointer (flat (length s) (claims bs)) (P x) → o ≡ Some x
-    answers x h =
-        let (k, w, found, holds) = stands-pointed pointer (view root) (length s) bs (P x) tree.shows h in
+    answers : (bs : List Block) → Shows (view root) (flat (length s) (claims bs)) → (x : _) → StandsAt pointer (flat (length s) (claims bs)) (P x) → o ≡ Some x
+    answers bs shows x h =
+        let (k, w, found, holds) = stands-pointed pointer (view root) (length s) bs (P x) shows h in
         (reads k x).1 (subst (λ (w : Node). P x (place_of (k, w))) (same_Some w m (sym found ∙ is)) holds)
 
 -- Where the pointer names nothing, nothing stands.
 pub reads-nothing : {X : Type 0} (s pointer : List ℕ) (root : Value) (P : X → Place → Type 0) → IsTree s 128 root → pointed pointer (view root) ≡ None
     → IsDocument s (λ places. (x : X) → (None ≡ Some x) ↔ StandsAt pointer places (P x))
-reads-nothing s pointer root P (bs, spelled, tree) is = (bs, spelled, tree.resolves, λ x. (λ h. absurd (none-some x h), nowhere x))
+reads-nothing s pointer root P tree is =
+    let (bs, has, made) = tree-blocks s 128 root tree in
+    (bs, has.0, has.1, λ x. (λ h. absurd (none-some x h), nowhere bs made.shows x))
   where
-    nowhere : (x : _) → StandsAt pointer (flat (length s) (claims bs)) (P x) → None ≡ Some x
-    nowhere x h =
-        let (k, w, found, holds) = stands-pointed pointer (view root) (length s) bs (P x) tree.shows h in
+    nowhere : (bs : List Block) → Shows (view root) (flat (length s) (claims bs)) → (x : _) → StandsAt pointer (flat (length s) (claims bs)) (P x) → None ≡ Some x
+    nowhere bs shows x h =
+        let (k, w, found, holds) = stands-pointed pointer (view root) (length s) bs (P x) shows h in
         absurd (none-some w (sym is ∙ found))
 
 pub span-place : (v : Value) (k : Option Span) (span : Span) → (Some v.span ≡ Some span) ↔ (span_of (view v) ≡ span)
@@ -121,9 +126,10 @@ IsPlaceIn s span info = (span.start ≤ length s) × (span.start ≤ span.end) �
 
 -- so it is with each error that tells of a refusal
 pub refusal-place : (s : List ℕ) (limit : ℕ) (error : Error) → IsRefusal s limit (stops.Fault error) → (info : ℕ × ℕ) × (error.line_info ≡ Some info) × IsPlaceIn s error.span info
-refusal-place s limit error (inl (fault, due, placed, (line, column, info, is))) =
+refusal-place s limit error (resolved bs, has, none) = absurd none
+refusal-place s limit error (refused_at fault, due, (placed, (line, column, info, is))) =
     ((line, column), ap (λ x. x.line_info) is, subst (λ span. IsPlaceIn s span (line, column)) (sym (ap (λ x. x.span) is)) (placed.within, placed.forward, info))
-refusal-place s limit error (inr (bs, spelled, clash)) = (
+refusal-place s limit error (clashed bs first, has, clash) = (
   (clash.line, clash.column),
   ap (λ x. x.line_info) clash.tells,
   subst (λ span. IsPlaceIn s span (clash.line, clash.column)) (sym (ap (λ x. x.span) clash.tells)) (clash.within, clash.forward, clash.place),

@@ -2,4 +2,4 @@ use Rattle.toml_span_lines.proofs.OneAnswer.{one-shown, not-refused, one-told, o
 use Rattle.toml_span_lines.proofs.laws.one_answer.Goals as goal
 
 pub returns : goal.returns
-returns c = record { document = one-shown; refused = not-refused; clash = one-told; told = one-refused }
+returns c = record { document = one-shown; refused = not-refused; line = one-told; told = one-refused }

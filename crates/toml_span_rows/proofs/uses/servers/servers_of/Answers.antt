@@ -8,7 +8,7 @@ use Rattle.toml_span_rows.proofs.uses.servers.servers_of.Goals as goal
 pub unwrap-requires : goal.unwrap-requires
 unwrap-requires c =
     let calls : Calls (λ (v : Vec Server Global). v.items) c.args.text.now c.in-Ok.root c.in_ok-servers.servers (state_of c.in-Ok-new.helper) _ c.required.result = record {
-      tree = c.in-Ok.ensures.tree;
+      tree = c.in-Ok.ensures.answers;
       is_root = c.in-Ok.ensures.root;
       opens = c.in-Ok-new.ensures.answer;
       field = c.in_ok-servers.ensures;
@@ -19,7 +19,7 @@ unwrap-requires c =
 pub returns-in-Ok-finalize-clause-servers : goal.returns-in-Ok-finalize-clause-servers
 returns-in-Ok-finalize-clause-servers c =
     let calls : Calls (λ (v : Vec Server Global). v.items) c.args.text.now c.in-Ok.root c.in_ok-servers.servers (state_of c.in-Ok-new.helper) _ c.required.result = record {
-      tree = c.in-Ok.ensures.tree;
+      tree = c.in-Ok.ensures.answers;
       is_root = c.in-Ok.ensures.root;
       opens = c.in-Ok-new.ensures.answer;
       field = c.in_ok-servers.ensures;
@@ -30,7 +30,7 @@ returns-in-Ok-finalize-clause-servers c =
 pub returns-in-Err-clause-refused : goal.returns-in-Err-clause-refused
 returns-in-Err-clause-refused c =
     let calls : Calls (λ (v : Vec Server Global). v.items) c.args.text.now c.in-Ok.root c.in_ok-servers.servers (state_of c.in-Ok-new.helper) _ c.required.result = record {
-      tree = c.in-Ok.ensures.tree;
+      tree = c.in-Ok.ensures.answers;
       is_root = c.in-Ok.ensures.root;
       opens = c.in-Ok-new.ensures.answer;
       field = c.in_ok-servers.ensures;

@@ -7,7 +7,7 @@ use Rattle.toml_span_rows.proofs.uses.settings.settings_of.Goals as goal
 pub unwrap-requires : goal.unwrap-requires
 unwrap-requires c =
     let calls : Calls cow_str_bytes c.args.text.now c.in-Ok.root c.in_ok-host.host c.in_ok-port.port c.in-Ok-optional.secure (state_of c.in-Ok-new.helper) _ _ _ c.required.result c.required-2.result = record {
-      tree = c.in-Ok.ensures.tree;
+      tree = c.in-Ok.ensures.answers;
       is_root = c.in-Ok.ensures.root;
       opens = c.in-Ok-new.ensures.answer;
       first = c.required.ensures.answer;
@@ -22,7 +22,7 @@ unwrap-requires c =
 pub unwrap-requires-in-Ok-finalize : goal.unwrap-requires-in-Ok-finalize
 unwrap-requires-in-Ok-finalize c =
     let calls : Calls cow_str_bytes c.args.text.now c.in-Ok.root c.in_ok-host.host c.in_ok-port.port c.in-Ok-optional.secure (state_of c.in-Ok-new.helper) _ _ _ c.required.result c.required-2.result = record {
-      tree = c.in-Ok.ensures.tree;
+      tree = c.in-Ok.ensures.answers;
       is_root = c.in-Ok.ensures.root;
       opens = c.in-Ok-new.ensures.answer;
       first = c.required.ensures.answer;
@@ -37,7 +37,7 @@ unwrap-requires-in-Ok-finalize c =
 pub returns-in-Ok-finalize-clause-settings : goal.returns-in-Ok-finalize-clause-settings
 returns-in-Ok-finalize-clause-settings c =
     let calls : Calls cow_str_bytes c.args.text.now c.in-Ok.root c.in_ok-host.host c.in_ok-port.port c.in-Ok-optional.secure (state_of c.in-Ok-new.helper) _ _ _ c.required.result c.required-2.result = record {
-      tree = c.in-Ok.ensures.tree;
+      tree = c.in-Ok.ensures.answers;
       is_root = c.in-Ok.ensures.root;
       opens = c.in-Ok-new.ensures.answer;
       first = c.required.ensures.answer;
@@ -51,7 +51,7 @@ returns-in-Ok-finalize-clause-settings c =
 pub returns-clause-refused : goal.returns-clause-refused
 returns-clause-refused c =
     let calls : Calls cow_str_bytes c.args.text.now c.in-Ok.root c.in_ok-host.host c.in_ok-port.port c.in-Ok-optional.secure (state_of c.in-Ok-new.helper) _ _ _ c.required.result c.required-2.result = record {
-      tree = c.in-Ok.ensures.tree;
+      tree = c.in-Ok.ensures.answers;
       is_root = c.in-Ok.ensures.root;
       opens = c.in-Ok-new.ensures.answer;
       first = c.required.ensures.answer;
