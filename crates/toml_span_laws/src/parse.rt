@@ -16,7 +16,6 @@ ghost use Rattle.std.specs.declared.alloc.AllocError.{AllocError};
 ghost use Rattle.toml_span_laws.specs.Again.{ScalarReadsAgain};
 ghost use Rattle.toml_span_read.specs.Data.{Block};
 ghost use Rattle.toml_span_read.specs.Grammar.{SpellsDocument};
-ghost use Rattle.toml_span_tree.specs.Error.{content_of};
 ghost use Rattle.toml_span_tree.specs.Node.{Node, Scalar, text as string};
 ghost use Rattle.toml_span_tree.specs.Path.{Path, Place, shape_scalar, shape_table, key, node_at, place_at};
 ghost use Rattle.toml_span_tree.specs.Pointer.{pointed};
