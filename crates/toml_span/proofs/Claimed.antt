@@ -82,9 +82,6 @@ no_entry-append : (ms : List Mark) (m : Mark) → is_entry_sort m.sort ≡ false
 no_entry-append [] m other h = (other, tt)
 no_entry-append (x ∷ ms) m other h = (h.0, no_entry-append ms m other h.1)
 
-pub no_entry-remember : (ms : List Mark) (m : Mark) → is_entry_sort m.sort ≡ false → NoEntry ms → NoEntry (remember ms m)
-no_entry-remember ms m other h = remember-each NoEntry ms m h (no_entry-append ms m other h)
-
 named-append : (ms : List Mark) (m : Mark) → is_entry_sort m.sort ≡ false → NoEntry ms → IsNamed (ms ++ m ∷ [])
 named-append [] m other h = (other, tt)
 named-append (x ∷ ms) m other h = (h.0, no_entry-append ms m other h.1)

@@ -6,7 +6,7 @@ use Rattle.toml_span_read.specs.declared.value.Assignment.{Assignment}
 use Rattle.toml_span_read.specs.declared.value.Val.{Val}
 use Rattle.toml_span_read.specs.declared.value.ValKind.{Inline}
 use Rattle.toml_span_read.specs.Data.{view, key_value, onto, no_items}
-use Rattle.toml_span_read.specs.Places.{IsInside, PartsInside, KeysInside, ItemKeysInside, KeyValueInside, KeyValuesInside, SectionInside, SectionsInside}
+use Rattle.toml_span_read.specs.Places.{IsInside, PartsInside, KeysInside, ItemKeysInside, KeyValueInside, KeyValuesInside, SectionsInside}
 use Rattle.toml_span_read.specs.Keys.{simple_key}
 use Rattle.toml_span_read.proofs.Views.{key_value_inside, kind_inside, pairs_inside}
 
@@ -42,9 +42,6 @@ items_rest n old new v is h = rw is at h
 
 pub items_again : (n : ℕ) (old new : List Val) → new ≡ old → ItemKeysInside n (onto (map view old) no_items) → ItemKeysInside n (onto (map view new) no_items)
 items_again n old new is h = rw is h
-
-pub sections_rest : (n : ℕ) (old new : List Section) (s : Section) → old ≡ s ∷ new → SectionsInside n old → SectionInside n s × SectionsInside n new
-sections_rest n old new s is h = rw is at h
 
 -- ---- values
 
