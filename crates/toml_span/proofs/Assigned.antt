@@ -1,6 +1,5 @@
 -- A value that is assigned to a name.
-use Rattle.std.proofs.Common.{◌≡◌, ℕ, suc, Bool, true, false, cond, List, [], ◌∷◌, ◌++◌, length, Option, Some, None, option_map, Result, Ok, Err, refl, sym, ap, ◌∙◌, subst}
-use Rattle.std.specs.Prelude.{⊤}
+use Rattle.std.proofs.Common.{◌≡◌, ℕ, Bool, true, false, cond, List, [], ◌∷◌, length, Option, Some, None, option_map, Result, Ok, Err, refl, sym, ap, ◌∙◌, subst}
 use Rattle.std.specs.BTreeMap.{insert_entry}
 use Rattle.std.specs.Map.{lookup_entry}
 use Rattle.std.specs.Str.{bytes_eq}
@@ -10,11 +9,11 @@ use Rattle.std.proofs.lemmas.Bool.{false≢true}
 use Rattle.std.proofs.lemmas.Option.{none-some, same_Some}
 use Rattle.std.proofs.lemmas.Slice.Eq.{bytes_eq-Decides}
 use Rattle.toml_span_lex.specs.declared.key.Key.{Key}
-use Rattle.toml_span_tree.specs.Path.{Path, Step, key, position}
+use Rattle.toml_span_tree.specs.Path.{Path, key, position}
 use Rattle.toml_span_tree.specs.Value.{view}
 use Rattle.toml_span_tree.specs.declared.value.Value.{Value}
-use Rattle.toml_span_read.specs.Data.{ParsedValue as Read, parsed, ParsedInner, scalar, array, inline, ParsedItems, no_items, item as one_item, ParsedPairs, no_pairs, pair, parsed_span}
-use Rattle.toml_span_read.specs.Keys.{SimpleKey, simple_key}
+use Rattle.toml_span_read.specs.Data.{ParsedValue as Read, parsed_span}
+use Rattle.toml_span_read.specs.Keys.{simple_key}
 use Rattle.toml_span.specs.declared.claims.Blame.{Blame}
 use Rattle.toml_span.specs.declared.claims.Halt.{Halt}
 use Rattle.toml_span.specs.declared.claims.Halt.TheVariants.{Memory, Clash}
@@ -25,11 +24,11 @@ use Rattle.toml_span.specs.declared.claims.Sort.TheVariants.{Passed, StandardTab
 use Rattle.toml_span.specs.declared.branch.Branch.{Branch}
 use Rattle.toml_span.specs.declared.branch.Branch.TheViews.{out-Branch, roll-Branch}
 use Rattle.toml_span.specs.declared.branch.Branch.TheOpen.{Branch-F}
-use Rattle.toml_span.specs.Paths.{same_path, with_key, with_position}
-use Rattle.toml_span.specs.Claims.{Claims, no_claims, claimed, scope, followed, assigned, pair_mark, key_claims, value_claims, inner_claims, item_claims, pair_claims}
+use Rattle.toml_span.specs.Paths.{same_path}
+use Rattle.toml_span.specs.Claims.{claimed, assigned, pair_mark, value_claims}
 use Rattle.toml_span.specs.Clashes.{NamedClash, blame, meeting, named, or_else}
 use Rattle.toml_span.specs.code.Marks.{partner}
-use Rattle.toml_span.specs.code.Machine.{Cell, State, nothing, change, with_claim, with_inner, Gives, met, clash_met, show_all, put_all, graft}
+use Rattle.toml_span.specs.code.Machine.{Cell, State, nothing, change, with_claim, Gives, met, clash_met, show_all, put_all, graft}
 use Rattle.toml_span.specs.Ordered.{IsOrdered}
 use Rattle.toml_span.specs.code.Placing.{Places, IsFinished, ValueGives}
 use Rattle.toml_span.specs.code.Relative.{pair_at}
@@ -40,6 +39,7 @@ use Rattle.toml_span.proofs.Placed.{gives-err, held-child, out-roll}
 use Rattle.toml_span.proofs.Closed.{marks-found}
 use Rattle.toml_span.proofs.KeyMaps.{holds-insert}
 use Rattle.toml_span.proofs.Shown.{show_all-marks}
+use Rattle.toml_span.proofs.Values.{put_all-value, show_all-here, show_all-local, told-value, value_below}
 
 -- ---- where it clashes
 
@@ -127,84 +127,13 @@ refused-value n new k earlier x v r ms m name P d missing found is same mark h =
 
 -- ---- what a value claims in a scope that has none of its name
 
-told-value : (st : State) (v : Read) (p : Path) → clash_met st (value_claims v p) ≡ clash_met nothing (value_claims v p)
-unfolding clash_met value_claims inner_claims
-told-value st (parsed (scalar s) span) p = refl
-told-value st (parsed (array vs) span) p = refl
-told-value st (parsed (inline ps) span) p = refl
-
-put-value : (st : State) (v : Read) (p : Path) → put_all st (value_claims v p) ≡ show_all st (value_claims v p)
-unfolding put_all show_all value_claims inner_claims
-put-value st (parsed (scalar s) span) p = refl
-put-value st (parsed (array vs) span) p = refl
-put-value st (parsed (inline ps) span) p = refl
-
--- all stands below the path
-abbrev AreBelow : Claims → Type 0
-AreBelow no_claims = ⊤
-AreBelow (claimed c cs) = (same_path c.path [] ≡ false) × AreBelow cs
-AreBelow (scope inner cs) = AreBelow inner × AreBelow cs
-
-below-followed : (xs ys : Claims) → AreBelow xs → AreBelow ys → AreBelow (followed xs ys)
-unfolding followed
-below-followed no_claims ys h g = g
-below-followed (claimed c cs) ys h g = (h.0, below-followed cs ys h.1 g)
-below-followed (scope inner cs) ys h g = (h.0, below-followed cs ys h.1 g)
-
-below-step : (p : Path) (s : Step) → same_path (p ++ (s ∷ [])) [] ≡ false
-unfolding same_path
-below-step [] s = refl
-below-step (t ∷ p) s = refl
-
-below-key : (p : Path) (parts : List SimpleKey) (v : Read) (inside : Path → Claims) → ((q : Path) → AreBelow (inside q)) → AreBelow (key_claims p parts v inside)
-unfolding key_claims
-below-key p [] v inside h = tt
-below-key p (k ∷ []) v inside h = (below-step p (key k.name), h (with_key p k))
-below-key p (k ∷ l ∷ more) v inside h = (below-step p (key k.name), below-key (with_key p k) (l ∷ more) v inside h)
-
-mutual
-  unfolding value_claims inner_claims item_claims pair_claims
-
-  below-value : (v : Read) (p : Path) → AreBelow (value_claims v p)
-  below-value (parsed k span) p = below-inner k p
-
-  below-inner : (k : ParsedInner) (p : Path) → AreBelow (inner_claims k p)
-  below-inner (scalar x) p = tt
-  below-inner (array vs) p = (below-items vs 0 p, tt)
-  below-inner (inline ps) p = (below-pairs ps p, tt)
-
-  below-items : (vs : ParsedItems) (i : ℕ) (p : Path) → AreBelow (item_claims vs i p)
-  below-items no_items i p = tt
-  below-items (one_item v vs) i p =
-      (below-step p (position i), below-followed (value_claims v (with_position p i)) (item_claims vs (suc i) p) (below-value v (with_position p i)) (below-items vs (suc i) p))
-
-  below-pairs : (ps : ParsedPairs) (p : Path) → AreBelow (pair_claims ps p)
-  below-pairs no_pairs p = tt
-  below-pairs (pair parts v extent rest) p =
-      below-followed (key_claims p parts v (value_claims v)) (pair_claims rest p) (below-key p parts v (value_claims v) (λ q. below-value v q)) (below-pairs rest p)
-
--- so what is shown at the path stays
-show_all-root : (st : State) (cs : Claims) → AreBelow cs → show_all st cs [] ≡ st []
-unfolding show_all change
-show_all-root st no_claims h = refl
-show_all-root st (claimed c cs) h = show_all-root (change st c.path (with_inner c)) cs h.1 ∙ ap (λ b. cond b (with_inner c (st [])) (st [])) h.0
-show_all-root st (scope inner cs) h = show_all-root (show_all st inner) cs h.1 ∙ show_all-root st inner h.0
-
--- what is shown at a path depends on that path alone
-show_all-alike : (st tt' : State) (cs : Claims) (p : Path) → st p ≡ tt' p → show_all st cs p ≡ show_all tt' cs p
-unfolding show_all change
-show_all-alike st tt' no_claims p h = h
-show_all-alike st tt' (claimed c cs) p h =
-    show_all-alike (change st c.path (with_inner c)) (change tt' c.path (with_inner c)) cs p (ap (λ x. cond (same_path c.path p) (with_inner c x) x) h)
-show_all-alike st tt' (scope inner cs) p h = show_all-alike (show_all st inner) (show_all tt' inner) cs p (show_all-alike st tt' inner p h)
-
 cell-is : (a b : Cell) → a.marks ≡ b.marks → a.shown ≡ b.shown → a ≡ b
 cell-is a b m s = λ i. record { marks = m i; shown = s i }
 
 -- a finished value shows what was claimed
 value-cells : (k : Key) (x : Value) (v : Read) → IsFinished v x → value_cell k.span (view x) ≡ put_all (change nothing [] (with_claim (assigned [] (simple_key k) v))) (value_claims v [])
 unfolding change same_path
-value-cells k x v h = fun_ext at ∙ sym (put-value (change nothing [] (with_claim (assigned [] (simple_key k) v))) v [])
+value-cells k x v h = fun_ext at ∙ sym (put_all-value (change nothing [] (with_claim (assigned [] (simple_key k) v))) v [])
   where
     st : State
     st = change nothing [] (with_claim (assigned [] (simple_key k) v))
@@ -212,10 +141,10 @@ value-cells k x v h = fun_ext at ∙ sym (put-value (change nothing [] (with_cla
     at : (p : Path) → value_cell k.span (view x) p ≡ show_all st (value_claims v []) p
     at [] =
         cell-is (value_cell k.span (view x) []) (st []) (ap (λ y. pair_mark Assigned k.span y.span ∷ []) (h.0 (Some k.span))) (ap (λ y. Some (plain y)) (h.0 (Some k.span)))
-        ∙ sym (show_all-root st (value_claims v []) (below-value v []))
+        ∙ sym (show_all-here st (value_claims v []) (value_below v []))
     at (s ∷ q) =
         cell-is (value_cell k.span (view x) (s ∷ q)) (show_all nothing (value_claims v []) (s ∷ q)) (sym (show_all-marks nothing (value_claims v []) (s ∷ q))) (h.1 s q)
-        ∙ show_all-alike nothing st (value_claims v []) (s ∷ q) refl
+        ∙ show_all-local nothing st (value_claims v []) (s ∷ q) refl
 
 -- ---- the node with one more value
 

@@ -185,7 +185,3 @@ module _ (text : List ℕ) (ps : List SimpleKey) where
   made_array v a span k h =
       let e : held v ≡ (false, array_standing a.items) = kept_held v (inners.Array a) span k ∙ held-Array a span in
       (ap (λ x. x.0) e, subst (λ (x : Held). AreBorrowedRight text ps x.1) (sym e) h)
-
--- a fresh branch
-pub fresh_standing : (n : Branch) → (out-Branch n).values.entries ≡ [] → (out-Branch n).tables.entries ≡ [] → (out-Branch n).entries.items ≡ [] → standing n ≡ []
-fresh_standing n values tables entries = standing_is n ∙ rw (values, tables, entries) refl

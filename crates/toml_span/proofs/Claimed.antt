@@ -26,6 +26,7 @@ use Rattle.toml_span.specs.code.Marks.{deciding, first, first_by_header, remembe
 use Rattle.toml_span.specs.code.Machine.{Gives, change, decide, met, put_all, clash_met, with_claim}
 use Rattle.toml_span.specs.code.Placing.{Reaches}
 use Rattle.toml_span.specs.code.Tree.{marks, entries, child, closed, closed_in, closed_cell, is_named, item, or_closed, or_nothing, or_zero, own_cell, cells, cell_at, counts, count_at, by_mark, is_array_sort, is_entry_sort, NoArray, NoEntry, IsNamed, IsEntry, IsTableOrArray, IsScope, AreNamed, AreEntries, HoldsOrderedValues, Sound, sound}
+use Rattle.toml_span_read.proofs.BorrowLemmas.{all_append}
 use Rattle.toml_span.proofs.Grafts.{fun_ext}
 use Rattle.toml_span.proofs.Placed.{reaches-then, out-roll}
 
@@ -71,23 +72,12 @@ remember-each P ms m kept added =
       | inr h ↦ subst P (sym h.1) added
     ]
 
-no_array-append : (ms : List Mark) (m : Mark) → is_array_sort m.sort ≡ false → NoArray ms → NoArray (ms ++ m ∷ [])
-no_array-append [] m other h = (other, tt)
-no_array-append (x ∷ ms) m other h = (h.0, no_array-append ms m other h.1)
-
 pub no_array-remember : (ms : List Mark) (m : Mark) → is_array_sort m.sort ≡ false → NoArray ms → NoArray (remember ms m)
-no_array-remember ms m other h = remember-each NoArray ms m h (no_array-append ms m other h)
-
-no_entry-append : (ms : List Mark) (m : Mark) → is_entry_sort m.sort ≡ false → NoEntry ms → NoEntry (ms ++ m ∷ [])
-no_entry-append [] m other h = (other, tt)
-no_entry-append (x ∷ ms) m other h = (h.0, no_entry-append ms m other h.1)
-
-pub no_entry-remember : (ms : List Mark) (m : Mark) → is_entry_sort m.sort ≡ false → NoEntry ms → NoEntry (remember ms m)
-no_entry-remember ms m other h = remember-each NoEntry ms m h (no_entry-append ms m other h)
+no_array-remember ms m other h = remember-each NoArray ms m h (all_append (λ x. is_array_sort x.sort ≡ false) ms (m ∷ []) h (other, tt))
 
 named-append : (ms : List Mark) (m : Mark) → is_entry_sort m.sort ≡ false → NoEntry ms → IsNamed (ms ++ m ∷ [])
 named-append [] m other h = (other, tt)
-named-append (x ∷ ms) m other h = (h.0, no_entry-append ms m other h.1)
+named-append (x ∷ ms) m other h = all_append (λ y. is_entry_sort y.sort ≡ false) (x ∷ ms) (m ∷ []) h (other, tt)
 
 -- a claimed branch stands at a name
 pub named-fresh : (ms : List Mark) (m : Mark) → is_entry_sort m.sort ≡ false → ms ≡ [] → IsNamed (remember ms m)

@@ -1,13 +1,15 @@
 -- What holds of each claim holds of what decides in the flat document.
-use Rattle.std.proofs.Common.{◌≡◌, ℕ, true, List, [], ◌∷◌, ◌++◌, Option, Some, None, option_map, refl, ap, ◌∙◌, inl, inr}
+use Rattle.std.proofs.Common.{◌≡◌, ℕ, suc, true, List, [], ◌∷◌, ◌++◌, Option, Some, None, option_map, refl, ap, ◌∙◌, inl, inr}
 use Rattle.std.specs.Prelude.{⊤, IfSome}
 use Rattle.std.proofs.lemmas.Bool.{cases_Bool, false≢true, and_parts}
 use Rattle.std.proofs.lemmas.Option.{none-some, same_Some}
 use Rattle.toml_span_tree.specs.Path.{Path, Step, Place}
-use Rattle.toml_span.specs.Claims.{Claim, Claims, no_claims, claimed, scope, followed}
+use Rattle.toml_span_read.specs.Data.{ParsedValue as Read, parsed, ParsedInner, scalar, array, inline, ParsedItems, no_items, item, ParsedPairs, no_pairs, pair, KeyValue}
+use Rattle.toml_span_read.specs.Keys.{SimpleKey}
+use Rattle.toml_span.specs.Claims.{Claim, Claims, no_claims, claimed, scope, followed, dotted, assigned, element, key_claims, value_claims, inner_claims, item_claims, pair_claims, key_value_claims}
 use Rattle.toml_span.specs.Clashes.{or_else}
 use Rattle.toml_span.specs.Flat.{flat, all_claims, claims_at, first_claim_by_header, first_claim, deciding_claim, by_header}
-use Rattle.toml_span.specs.Paths.{same_path, same_step}
+use Rattle.toml_span.specs.Paths.{same_path, same_step, with_key, with_position}
 use Rattle.toml_span.proofs.Grafts.{same_step-eq}
 
 -- ---- paths
@@ -34,6 +36,41 @@ unfolding followed
 each-followed P no_claims ys h g = g
 each-followed P (claimed c xs) ys h g = (h.0, each-followed P xs ys h.1 g)
 each-followed P (scope inner xs) ys h g = (h.0, each-followed P xs ys h.1 g)
+
+-- P holds of all that values and assignments claim, if it does of each part of a key and of each element
+module _ (P : Claim → Type 0) (of_inner : (p : Path) (k : SimpleKey) (v : Read) → P (dotted (with_key p k) k v)) (of_last : (p : Path) (k : SimpleKey) (v : Read) → P (assigned (with_key p k) k v))
+    (of_element : (p : Path) (i : ℕ) (v : Read) → P (element (with_position p i) v)) where
+  key-each : (p : Path) (parts : List SimpleKey) (v : Read) (inside : Path → Claims) → ((q : Path) → Each P (inside q)) → Each P (key_claims p parts v inside)
+  unfolding key_claims
+  key-each p [] v inside h = tt
+  key-each p (k ∷ []) v inside h = (of_last p k v, h (with_key p k))
+  key-each p (k ∷ l ∷ more) v inside h = (of_inner p k v, key-each (with_key p k) (l ∷ more) v inside h)
+
+  mutual
+    unfolding value_claims inner_claims item_claims pair_claims
+
+    pub value-each : (v : Read) (p : Path) → Each P (value_claims v p)
+    value-each (parsed k span) p = inner-each k p
+
+    inner-each : (k : ParsedInner) (p : Path) → Each P (inner_claims k p)
+    inner-each (scalar s) p = tt
+    inner-each (array vs) p = (items-each vs 0 p, tt)
+    inner-each (inline ps) p = (pairs-each ps p, tt)
+
+    pub items-each : (vs : ParsedItems) (i : ℕ) (p : Path) → Each P (item_claims vs i p)
+    items-each no_items i p = tt
+    items-each (item v vs) i p = (of_element p i v, each-followed P (value_claims v (with_position p i)) (item_claims vs (suc i) p) (value-each v (with_position p i)) (items-each vs (suc i) p))
+
+    pub pairs-each : (ps : ParsedPairs) (p : Path) → Each P (pair_claims ps p)
+    pairs-each no_pairs p = tt
+    pairs-each (pair parts v extent rest) p =
+        each-followed P (key_claims p parts v (value_claims v)) (pair_claims rest p) (key-each p parts v (value_claims v) (value-each v)) (pairs-each rest p)
+
+  pub key_values-each : (es : List KeyValue) (p : Path) → Each P (key_value_claims es p)
+  unfolding key_value_claims
+  key_values-each [] p = tt
+  key_values-each (e ∷ es) p =
+      each-followed P (key_claims p e.parts e.value (value_claims e.value)) (key_value_claims es p) (key-each p e.parts e.value (value_claims e.value) (value-each e.value)) (key_values-each es p)
 
 -- and of each claim of a list
 abbrev pub EachIn : (Claim → Type 0) → List Claim → Type 0

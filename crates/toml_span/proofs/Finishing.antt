@@ -34,7 +34,7 @@ use Rattle.toml_span.specs.Flat.{by_header}
 use Rattle.toml_span.specs.code.Marks.{first_by_header, deciding}
 use Rattle.toml_span.specs.code.Placing.{Becomes, BecomesEntry, EachBecomes, Finishes, NamesAscend, ShowsBelow, Table, Array, place_shown}
 use Rattle.toml_span.specs.Ordered.{IsOrdered, HoldsOrdered, AreOrdered}
-use Rattle.toml_span.specs.code.Tree.{is_named, marks, entries, child, item, closed, cells, cell_at, closed_cell, or_closed, or_nothing, plain, is_array_sort, is_entry_sort, NoArray, NoEntry, IsNamed, IsEntry, IsArray, IsTableOrArray, Sound}
+use Rattle.toml_span.specs.code.Tree.{is_named, marks, entries, child, item, closed, cells, cell_at, closed_cell, or_closed, or_nothing, plain, is_array_sort, is_entry_sort, NoArray, IsNamed, IsEntry, IsArray, IsTableOrArray, Sound}
 use Rattle.toml_span.proofs.Claimed.{sound-shape, sound-named, sound-entries, sound-ordered, sound-below, sound-inside}
 use Rattle.toml_span.proofs.KeyMaps.{cases_ordering}
 use Rattle.toml_span.proofs.Ordered.{members-ordered}
@@ -174,15 +174,6 @@ deciding-some x ms = from (first_by_header (x ∷ ms)) refl
     from None none = (x, rw none)
     from (Some y) some = (y, rw some)
 
--- the same facts, mark by mark
-no_array-all : (ms : List Mark) → NoArray ms → AllByRecursion (λ m. is_array_sort m.sort ≡ false) ms
-no_array-all [] h = tt
-no_array-all (m ∷ ms) h = (h.0, no_array-all ms h.1)
-
-no_entry-all : (ms : List Mark) → NoEntry ms → AllByRecursion (λ m. is_entry_sort m.sort ≡ false) ms
-no_entry-all [] h = tt
-no_entry-all (m ∷ ms) h = (h.0, no_entry-all ms h.1)
-
 -- a branch at a name stands at its key
 named_key : (sort : Sort) (at : Span) → is_entry_sort sort ≡ false → key_span_of sort at ≡ Some at
 named_key Passed at h = refl
@@ -206,7 +197,7 @@ named-decides : (ms : List Mark) → IsNamed ms → (m : Mark) × (deciding ms �
 named-decides [] h = absurd h
 named-decides (x ∷ ms) h =
     let d = deciding-some x ms in
-    (d.0, d.1, named_key d.0.sort d.0.key (deciding-all (λ m. is_entry_sort m.sort ≡ false) (x ∷ ms) d.0 (no_entry-all (x ∷ ms) h) d.1))
+    (d.0, d.1, named_key d.0.sort d.0.key (deciding-all (λ m. is_entry_sort m.sort ≡ false) (x ∷ ms) d.0 h d.1))
 
 entry-decides : (ms : List Mark) → IsEntry ms → (m : Mark) × (deciding ms ≡ Some m) × (key_span_of m.sort m.key ≡ None)
 entry-decides [] h = absurd h
@@ -330,7 +321,7 @@ became-table n t spans v placed seen none made = became n (table_inner t) spans 
     shape : Sound n → (m : Mark) → deciding (marks n) ≡ Some m → tree_shape (inner_view (table_inner t)) ≡ shape_claimed m.sort
     shape good m is =
         let plain : NoArray (marks n) = rw none at (sound-shape n good) in
-        rw (inner_view-Table t) (sym (table_shape m.sort (deciding-all (λ m. is_array_sort m.sort ≡ false) (marks n) m (no_array-all (marks n) plain) is)))
+        rw (inner_view-Table t) (sym (table_shape m.sort (deciding-all (λ m. is_array_sort m.sort ≡ false) (marks n) m plain is)))
 
 -- the entries at their positions
 elements-show : (ns : List Branch) (vs : List Value) → AllZip BecomesEntry ns vs → ((i : ℕ) (c : Branch) → item i ns ≡ Some c → IsEntry (marks c) × Sound c) → (i : ℕ) (p : Path)

@@ -124,12 +124,6 @@ under-followed s (scope inner cs) ys = ap (scope (under s inner)) (under-followe
 
 -- ---- claims one after another
 
-pub followed-nil : (cs : Claims) → followed cs no_claims ≡ cs
-unfolding followed
-followed-nil no_claims = refl
-followed-nil (claimed c cs) = ap (claimed c) (followed-nil cs)
-followed-nil (scope inner cs) = ap (scope inner) (followed-nil cs)
-
 pub followed-assoc : (xs ys zs : Claims) → followed (followed xs ys) zs ≡ followed xs (followed ys zs)
 unfolding followed
 followed-assoc no_claims ys zs = refl

@@ -13,7 +13,6 @@ use Rattle.toml_span_lex.specs.declared.stop.Stop.{Stop}
 use Rattle.toml_span_lex.specs.declared.stop.Stop.TheVariants as stops
 use Rattle.toml_span_read.specs.Borrowed.{IsWrittenRight as IsRightRead, AreWrittenRight as AreRightRead, section_written, sections_written}
 use Rattle.toml_span_read.specs.Data.{Block, block}
-use Rattle.toml_span_read.specs.Places.{IsInside, SectionInside}
 use Rattle.toml_span_read.specs.Keys.{SimpleKey}
 use Rattle.toml_span_read.specs.Grammar.{first_block}
 use Rattle.toml_span_read.specs.code.Sections.{first_blocks, FirstGives, IsReadFirst, IsReadSection, SectionGives}
@@ -33,12 +32,11 @@ use Rattle.toml_span.specs.declared.branch.Branch.{Branch}
 use Rattle.toml_span.specs.Claims.{claims}
 use Rattle.toml_span.specs.Clashes.{first_clash}
 use Rattle.toml_span.specs.code.Machine.{clash_told}
-use Rattle.toml_span.specs.code.Marks.{IsHaltInside}
 use Rattle.toml_span.specs.Ordered.{HoldsOrdered}
 use Rattle.toml_span.specs.code.Placing.{AreSections, Assembles, ShowsBelow}
 use Rattle.toml_span.specs.code.Tree.{cells, IsFresh, IsScope}
 use Rattle.toml_span.specs.declared.sections.Grown.{Grown}
-use Rattle.toml_span.specs.code.Growing.{GrownGives, GrownRight, Grows, IsBare, IsGrown, GrowsTo, IsGrownInside, Placed, Remaining}
+use Rattle.toml_span.specs.code.Growing.{GrownGives, GrownRight, Grows, IsBare, IsGrown, GrowsTo, Placed, Remaining}
 use Rattle.toml_span.proofs.Refusals.{first-headed, some_part}
 use Rattle.toml_span.proofs.Assembly.{remaining-first, remaining-next, assembles-err, assembles-ok}
 
@@ -63,9 +61,6 @@ pub right-more : (text : List ℕ) (ps : List SimpleKey) (root new : Branch) (o 
 right-more text ps root new None none right keeps = keeps right
 right-more text ps root new (Some c) none right keeps = tt
 
-pub halt-inside : (n : ℕ) (halt : Halt) (c : Clash) → halt ≡ halts.Clash c → IsHaltInside n halt → IsInside n c.meeting.span
-halt-inside n halt c is inside = rw is at inside
-
 pub finish-tree : (bs : List Block) (length : ℕ) (t : BTreeMap Key Value) (root : Branch) (v : Value) → GrowsTo bs root None
     → (IsScope root → ShowsBelow (inner_view (table_inner t)) (cells root) × HoldsOrdered (inner_view (table_inner t))) → view v ≡ node (inner_view (table_inner t)) (record { start = 0; end = length })
     → Assembles bs length (Ok v)
@@ -82,25 +77,23 @@ pub record Growing (text : List ℕ) (limit at : ℕ) (g : Grown) : Type 0 where
   pub sections : List Section
   pub whole : WholeSections sections text limit at
   pub grows : Grows (map block sections) g
-  pub inside : IsGrownInside (length text) g
   pub bare : sections ≡ [] → IsBare g
   pub read : AreRightRead text (sections_written sections)
   pub borrows : (ps : List SimpleKey) → AreFrom text ps (sections_written sections) → GrownRight text ps g
 
 pub growing-first : (text : List ℕ) (limit at : ℕ) (o : Option Section) (g : Grown) → IsReadFirst text limit o → FirstGives text limit (Ok (o, at))
-    → (AreSections (first_blocks o) → Grows (first_blocks o) g) → ((n : ℕ) → IfSome o (SectionInside n) → IsGrownInside n g)
+    → (AreSections (first_blocks o) → Grows (first_blocks o) g)
     → ((t : List ℕ) (ps : List SimpleKey) → IfSome o (λ s. AreFrom t ps (section_written s)) → GrownRight t ps g) → (o ≡ None → IsBare g)
     → Growing text limit at g × StuckFrom text limit at
-growing-first text limit at None g read (start, evs, begins, lines, same) grows inside borrows bare =
+growing-first text limit at None g read (start, evs, begins, lines, same) grows borrows bare =
     let b = sections_begin [] evs text limit start at same begins lines in
-    (record { sections = []; whole = b.0; grows = grows tt; inside = inside (length text) tt; bare = λ none. bare refl; read = tt; borrows = λ ps h. borrows text ps tt }, b.1)
-growing-first text limit at (Some s) g read (start, evs, begins, lines, same) grows inside borrows bare =
+    (record { sections = []; whole = b.0; grows = grows tt; bare = λ none. bare refl; read = tt; borrows = λ ps h. borrows text ps tt }, b.1)
+growing-first text limit at (Some s) g read (start, evs, begins, lines, same) grows borrows bare =
     let b = sections_begin (s ∷ []) evs text limit start at same begins lines in (
       record {
         sections = s ∷ [];
         whole = b.0;
         grows = grows (subst AreSections (sym same) (subst AreSections (append-nil (first_block evs)) (first-headed evs [] tt)));
-        inside = inside (length text) read.inside;
         bare = λ none. cc;
         read = all_append (IsRightRead text) (section_written s) [] read.borrows tt;
         borrows = λ ps h. borrows text ps (all_front (IsFrom text ps) (section_written s) [] h);
@@ -126,14 +119,13 @@ never-empty [] s none = cc
 never-empty (x ∷ xs) s none = cc
 
 pub growing-more : (text : List ℕ) (limit at next : ℕ) (s : Section) (g new : Grown) → IsReadSection text limit s → SectionGives text limit at (Ok (s, next)) → Growing text limit at g
-    → ((bs : List Block) → AreSections (block s ∷ []) → Grows bs g → Grows (bs ++ (block s ∷ [])) new) → ((n : ℕ) → SectionInside n s → IsGrownInside n g → IsGrownInside n new)
+    → ((bs : List Block) → AreSections (block s ∷ []) → Grows bs g → Grows (bs ++ (block s ∷ [])) new)
     → ((t : List ℕ) (ps : List SimpleKey) → AreFrom t ps (section_written s) → GrownRight t ps g → GrownRight t ps new)
     → Growing text limit next new
-growing-more text limit at next s g new read spelled old grows inside borrows = record {
+growing-more text limit at next s g new read spelled old grows borrows = record {
   sections = old.sections ++ (s ∷ []);
   whole = sections_more old.sections (old.sections ++ (s ∷ [])) s text limit at next refl old.whole spelled;
   grows = subst (λ bs. Grows bs new) (sym (blocks-end old.sections s)) (grows (map block old.sections) (some_part (block s).array text _ _ (block s).header spelled.header.front.key, tt) old.grows);
-  inside = inside (length text) read.inside old.inside;
   bare = λ none. absurd (never-empty old.sections s none);
   read = sections_right text old.sections (old.sections ++ (s ∷ [])) s refl old.read read.borrows;
   borrows = λ ps h. let from = from-end text ps old.sections s h in borrows text ps from.1 (old.borrows ps from.0);
@@ -152,7 +144,6 @@ grown-whole text limit at g h end = record {
   sections = h.sections;
   spelled = sections_end h.sections text limit at h.whole end;
   grows = h.grows;
-  inside = h.inside;
   bare = h.bare;
   read = h.read;
   borrows = h.borrows;

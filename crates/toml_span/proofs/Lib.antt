@@ -8,7 +8,6 @@ pub mod KeyMaps
 pub mod Claimed
 pub mod BorrowLemmas
 pub mod Refusals
-pub mod InsideLemmas
 pub mod Shown
 pub mod Judged
 pub mod Absolute

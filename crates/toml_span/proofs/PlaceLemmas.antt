@@ -1,21 +1,40 @@
--- A clash is told at the later claim.
-use Rattle.std.proofs.Common.{◌≡◌, ℕ, List, [], ◌∷◌, Option, Some, None, option_map, true, false, refl, sym, ◌∙◌}
+-- A clash is told inside the text, at the later of two claims.
+use Rattle.std.proofs.Common.{◌≡◌, ℕ, zero, suc, ◌<◌, ◌≤◌, List, [], ◌∷◌, ◌++◌, map, length, Option, Some, None, option_map, true, false, refl, sym, ap, ◌∙◌, subst, inl, inr, arith, append-nil}
 use Rattle.std.specs.Prelude.{⊤, IfSome}
-use Rattle.std.proofs.lemmas.Bool.{false≢true}
-use Rattle.toml_span_lex.specs.declared.span.Span.{Span}
-use Rattle.toml_span_read.specs.Places.{IsInside}
+use Rattle.std.proofs.lemmas.Bool.{cases_Bool, false≢true, ne_eqb}
+use Rattle.toml_span_tree.specs.Path.{Path}
+use Rattle.toml_span_read.specs.Places.{IsInside, PartsInside, KeysInside, InnerKeysInside, ItemKeysInside, PairKeysInside, KeyValuesInside, SectionsInside}
+use Rattle.toml_span_read.specs.Data.{ParsedValue as Read, parsed, ParsedInner, scalar, array, inline, ParsedItems, no_items, item, ParsedPairs, no_pairs, pair, KeyValue, Block, block}
+use Rattle.toml_span_read.specs.Keys.{SimpleKey}
+use Rattle.toml_span_read.specs.Grammar.{SpellsDocument}
+use Rattle.toml_span_read.specs.declared.section.Section.{Section}
+use Rattle.toml_span_read.proofs.InsideLemmas.{document_inside}
 use Rattle.toml_span.specs.declared.claims.Sort.{Sort}
 use Rattle.toml_span.specs.declared.claims.Sort.TheVariants.{Passed, StandardTable, ArrayOfTables, TableElement, Dotted, Assigned}
 use Rattle.toml_span.specs.declared.claims.Blame.{Blame}
 use Rattle.toml_span.specs.declared.claims.Blame.TheVariants as blames
-use Rattle.toml_span.specs.declared.claims.Mark.{Mark}
-use Rattle.toml_span.specs.declared.claims.Meeting.{Meeting}
 use Rattle.toml_span.specs.declared.claims.Clash.{Clash as ClashFound}
 use Rattle.toml_span.specs.declared.claims.Halt.{Halt}
-use Rattle.toml_span.specs.declared.claims.Halt.TheVariants.{Memory, Clash}
-use Rattle.toml_span.specs.Clashes.{blame, meeting, meets, or_else}
-use Rattle.toml_span.specs.code.Marks.{Halts, IsMarkInside, IsHaltInside, partner}
+use Rattle.toml_span.specs.declared.claims.Halt.TheVariants.{Clash}
+use Rattle.toml_span.specs.declared.claims.Head.{Head}
+use Rattle.toml_span.specs.declared.claims.Mark.{Mark}
+use Rattle.toml_span.specs.declared.claims.Meeting.{Meeting}
+use Rattle.toml_span.specs.declared.sections.Grown.{Grown}
+use Rattle.toml_span.specs.Paths.{same_path, with_key, with_position, enter, elements_added, opened_by, section_path}
+use Rattle.toml_span.specs.Claims.{Claims, no_claims, claimed, scope, followed, element, header_claim, key_claims, value_claims, inner_claims, item_claims, pair_claims, key_value_claims, array_claims, end_claims, header_claims, section_claims, claims_behind, claims, head_of}
+use Rattle.toml_span.specs.Clashes.{NamedClash, blame, meeting, meets, named, or_else}
 use Rattle.toml_span.specs.Flat.{by_header}
+use Rattle.toml_span.specs.code.Growing.{Grows, GrowsTo, IsGrownInside}
+use Rattle.toml_span.specs.code.Machine.{State, change, clash_met, clash_told, met, nothing, put_all, show_all, with_claim}
+use Rattle.toml_span.specs.code.Marks.{IsHaltInside, partner}
+use Rattle.toml_span.proofs.Grafts.{same_step-self, told-followed}
+use Rattle.toml_span.proofs.Judged.{first-met}
+use Rattle.toml_span.proofs.Shown.{show_all-marks}
+use Rattle.toml_span.proofs.Values.{put_all-value}
+
+-- the key of a claim stands inside the first n bytes, and of a header's claim its line too
+abbrev IsMarkInside : ℕ → Mark → Type 0
+IsMarkInside n mark = IsInside n mark.key × (by_header mark.sort ≡ true → IsInside n mark.line)
 
 -- what is told at a line is told of a header
 abbrev IsTold : Sort → Blame → Type 0
@@ -23,31 +42,17 @@ IsTold sort blames.DuplicateTable = by_header sort ≡ true
 IsTold sort blames.DuplicateKey = ⊤
 IsTold sort blames.RedefineAsArray = by_header sort ≡ true
 
-blame_told : (earlier later : Sort) → IfSome (blame earlier later) (IsTold later)
-blame_told Passed Passed = tt
-blame_told Passed StandardTable = tt
-blame_told Passed ArrayOfTables = refl
-blame_told Passed TableElement = tt
-blame_told Passed Dotted = tt
-blame_told Passed Assigned = tt
-blame_told StandardTable Passed = tt
-blame_told StandardTable StandardTable = refl
-blame_told StandardTable ArrayOfTables = refl
-blame_told StandardTable TableElement = tt
-blame_told StandardTable Dotted = tt
-blame_told StandardTable Assigned = tt
-blame_told ArrayOfTables Passed = tt
-blame_told ArrayOfTables StandardTable = refl
-blame_told ArrayOfTables ArrayOfTables = tt
-blame_told ArrayOfTables TableElement = tt
-blame_told ArrayOfTables Dotted = tt
-blame_told ArrayOfTables Assigned = tt
-blame_told TableElement Passed = tt
-blame_told TableElement StandardTable = tt
-blame_told TableElement ArrayOfTables = tt
-blame_told TableElement TableElement = tt
-blame_told TableElement Dotted = tt
-blame_told TableElement Assigned = tt
+told_of_header : (sort : Sort) (o : Option Blame) → by_header sort ≡ true → IfSome o (IsTold sort)
+told_of_header sort None h = tt
+told_of_header sort (Some blames.DuplicateTable) h = h
+told_of_header sort (Some blames.DuplicateKey) h = tt
+told_of_header sort (Some blames.RedefineAsArray) h = h
+
+blame_told : (later earlier : Sort) → IfSome (blame earlier later) (IsTold later)
+blame_told Passed earlier = told_of_header Passed (blame earlier Passed) refl
+blame_told StandardTable earlier = told_of_header StandardTable (blame earlier StandardTable) refl
+blame_told ArrayOfTables earlier = told_of_header ArrayOfTables (blame earlier ArrayOfTables) refl
+blame_told TableElement earlier = told_of_header TableElement (blame earlier TableElement) refl
 blame_told Dotted Passed = tt
 blame_told Dotted StandardTable = tt
 blame_told Dotted ArrayOfTables = tt
@@ -75,27 +80,143 @@ partner_inside : (n : ℕ) (marks : List Mark) (later : Mark) → IsMarkInside n
 partner_inside n [] later inside = tt
 partner_inside n (earlier ∷ marks) later inside =
     or_else_if (λ m. IsInside n m.span) (meets earlier later) (partner marks later)
-    (meeting_inside n earlier later (blame earlier.sort later.sort) (blame_told earlier.sort later.sort) inside)
+    (meeting_inside n earlier later (blame earlier.sort later.sort) (blame_told later.sort earlier.sort) inside)
     (partner_inside n marks later inside)
 
-meeting_is : {A : Type 0} (P : A → Type 0) (o : Option A) (x : A) → o ≡ Some x → IfSome o P → P x
-meeting_is P o x e h = rw e at h
+-- a clash is told there
+abbrev In : ℕ → NamedClash → Type 0
+In n t = IsInside n t.meeting.span
 
-pub halt_inside : (n : ℕ) (marks : List Mark) (mark : Mark) (o : Option Meeting) (m : Meeting) (halt : Halt) (name : List ℕ)
-    → o ≡ Some m → o ≡ partner marks mark → Halts halt m name → IsMarkInside n mark → IsHaltInside n halt
-halt_inside n marks mark o m (Memory e) name some is halts inside = tt
-halt_inside n marks mark o m (Clash c) name some is halts inside =
-    rw halts.0 (meeting_is (λ x. IsInside n x.span) (partner marks mark) m (sym is ∙ some) (partner_inside n marks mark inside))
+named_inside : (n : ℕ) (name : List ℕ) (o : Option Meeting) → IfSome o (λ m. IsInside n m.span) → IfSome (option_map (named name) o) (In n)
+named_inside n name None h = tt
+named_inside n name (Some m) h = h
 
 -- ---- claims
 
-pub pair_inside : (n : ℕ) (mark : Mark) (sort : Sort) (key line extent : Span) → mark ≡ record { sort = sort; key = key; line = line; extent = extent }
-    → by_header sort ≡ false → IsInside n key → IsMarkInside n mark
-pair_inside n mark sort key line extent is pair inside = rw is (inside, λ header. absurd (false≢true (sym pair ∙ header)))
+-- The claims of the scope are inside. What clashes in a scope within is told inside: there the elements of an array have
+-- no keys, and do not clash.
+abbrev Told : ℕ → Claims → Type 0
+Told n no_claims = ⊤
+Told n (claimed c cs) = IsMarkInside n c.mark × Told n cs
+Told n (scope inner cs) = IfSome (clash_met nothing inner) (In n) × Told n cs
 
-pub header_inside : (n : ℕ) (mark : Mark) (sort : Sort) (key line extent : Span) → mark ≡ record { sort = sort; key = key; line = line; extent = extent }
-    → IsInside n key → IsInside n line → IsMarkInside n mark
-header_inside n mark sort key line extent is inside at_line = rw is (inside, λ header. at_line)
+told_inside : (n : ℕ) (st : State) (cs : Claims) → Told n cs → IfSome (clash_met st cs) (In n)
+unfolding clash_met
+told_inside n st no_claims h = tt
+told_inside n st (claimed c cs) h =
+    or_else_if (In n) (met (st c.path).marks c.mark c.name) (clash_met (change st c.path (with_claim c)) cs)
+    (named_inside n c.name (partner (st c.path).marks c.mark) (partner_inside n (st c.path).marks c.mark h.0)) (told_inside n (change st c.path (with_claim c)) cs h.1)
+told_inside n st (scope inner cs) h = or_else_if (In n) (clash_met nothing inner) (clash_met (show_all st inner) cs) h.0 (told_inside n (show_all st inner) cs h.1)
+
+followed_told : (n : ℕ) (xs ys : Claims) → Told n xs → Told n ys → Told n (followed xs ys)
+unfolding followed
+followed_told n no_claims ys h g = g
+followed_told n (claimed c xs) ys h g = (h.0, followed_told n xs ys h.1 g)
+followed_told n (scope inner xs) ys h g = (h.0, followed_told n xs ys h.1 g)
+
+-- ---- values and assignments
+
+key_told : (n : ℕ) (p : Path) (parts : List SimpleKey) (v : Read) (inside : Path → Claims) → PartsInside n parts → ((q : Path) → Told n (inside q)) → Told n (key_claims p parts v inside)
+unfolding key_claims
+key_told n p [] v inside h g = tt
+key_told n p (k ∷ []) v inside h g = ((h.0, λ e. absurd (false≢true e)), g (with_key p k))
+key_told n p (k ∷ l ∷ more) v inside h g = ((h.0, λ e. absurd (false≢true e)), key_told n (with_key p k) (l ∷ more) v inside h.1 g)
+
+-- no claim is on the positions from i on
+abbrev NoneFrom : Path → ℕ → State → Type 0
+NoneFrom p i st = (l : ℕ) → i ≤ l → (st (with_position p l)).marks ≡ []
+
+apart_at : (p : Path) (i l : ℕ) → i < l → same_path (with_position p i) (with_position p l) ≡ false
+unfolding same_path
+apart_at [] i l h = rw (ne_eqb i l (λ same. absurd (omega (arith, same))))
+apart_at (s ∷ p) i l h = rw (same_step-self s) (apart_at p i l h)
+
+none_behind : (p : Path) (i : ℕ) (v : Read) (st : State) → NoneFrom p i st
+    → NoneFrom p (suc i) (put_all (change st (with_position p i) (with_claim (element (with_position p i) v))) (value_claims v (with_position p i)))
+unfolding change
+none_behind p i v st none l past =
+    let next = change st (with_position p i) (with_claim (element (with_position p i) v)) in
+    ap (λ (f : State). (f (with_position p l)).marks) (put_all-value next v (with_position p i))
+    ∙ show_all-marks next (value_claims v (with_position p i)) (with_position p l) ∙ rw (apart_at p i l (omega arith)) (none l (omega arith))
+
+mutual
+  unfolding value_claims inner_claims item_claims pair_claims clash_met
+
+  value_told : (n : ℕ) (v : Read) (p : Path) → KeysInside n v → Told n (value_claims v p)
+  value_told n (parsed k span) p h = inner_told n k p h
+
+  inner_told : (n : ℕ) (k : ParsedInner) (p : Path) → InnerKeysInside n k → Told n (inner_claims k p)
+  inner_told n (scalar s) p h = tt
+  inner_told n (array vs) p h = (items_told n vs 0 p nothing (λ l past. refl) h, tt)
+  inner_told n (inline ps) p h = (told_inside n nothing (pair_claims ps p) (pairs_told n ps p h), tt)
+
+  items_told : (n : ℕ) (vs : ParsedItems) (i : ℕ) (p : Path) (st : State) → NoneFrom p i st → ItemKeysInside n vs → IfSome (clash_met st (item_claims vs i p)) (In n)
+  items_told n no_items i p st none h = tt
+  items_told n (item v vs) i p st none h =
+      let q = with_position p i in
+      let next = change st q (with_claim (element q v)) in
+      let rest = item_claims vs (suc i) p in
+      rw (none i (omega arith), told-followed next (value_claims v q) rest)
+      (or_else_if (In n) (clash_met next (value_claims v q)) (clash_met (put_all next (value_claims v q)) rest)
+      (told_inside n next (value_claims v q) (value_told n v q h.0)) (items_told n vs (suc i) p (put_all next (value_claims v q)) (none_behind p i v st none) h.1))
+
+  pairs_told : (n : ℕ) (ps : ParsedPairs) (p : Path) → PairKeysInside n ps → Told n (pair_claims ps p)
+  pairs_told n no_pairs p h = tt
+  pairs_told n (pair parts v extent rest) p h =
+      followed_told n (key_claims p parts v (value_claims v)) (pair_claims rest p) (key_told n p parts v (value_claims v) h.0 (λ q. value_told n v q h.1)) (pairs_told n rest p h.2)
+
+key_values_told : (n : ℕ) (es : List KeyValue) (p : Path) → KeyValuesInside n es → Told n (key_value_claims es p)
+unfolding key_value_claims
+key_values_told n [] p h = tt
+key_values_told n (e ∷ es) p h =
+    followed_told n (key_claims p e.parts e.value (value_claims e.value)) (key_value_claims es p)
+    (key_told n p e.parts e.value (value_claims e.value) h.0.0 (λ q. value_told n e.value q h.0.1)) (key_values_told n es p h.1)
+
+-- ---- sections
+
+end_told : (n : ℕ) (h : Head) (p : Path) (k : SimpleKey) (i : ℕ) → IsInside n h.line → IsInside n k.span → Told n (end_claims h p k i)
+unfolding end_claims
+end_told n h p k i line key = elim (cases_Bool h.array) [
+  | inl arr ↦ rw arr (added i)
+  | inr tab ↦ rw tab ((key, λ e. line), tt)
+]
+  where
+    added : (i : ℕ) → Told n (array_claims h p k i (claimed (header_claim h TableElement (with_position p i) k) no_claims))
+    added zero = ((key, λ e. line), ((key, λ e. line), tt))
+    added (suc i) = ((key, λ e. line), tt)
+
+header_told : (n : ℕ) (e : Path → ℕ) (h : Head) (p : Path) (parts : List SimpleKey) → IsInside n h.line → PartsInside n parts → Told n (header_claims e h p parts)
+unfolding header_claims
+header_told n e h p [] line inside = tt
+header_told n e h p (k ∷ []) line inside = end_told n h (with_key p k) k (e (with_key p k)) line inside.0
+header_told n e h p (k ∷ l ∷ more) line inside = ((inside.0, λ e. line), header_told n e h (enter (e (with_key p k)) (with_key p k)) (l ∷ more) line inside.1)
+
+behind_told : (n : ℕ) (earlier : List Block) (ss : List Section) → SectionsInside n ss → Told n (claims_behind earlier (map block ss))
+unfolding claims_behind section_claims
+behind_told n earlier [] h = tt
+behind_told n earlier (s ∷ ss) h =
+    let b = block s in
+    let e = elements_added (opened_by earlier) in
+    followed_told n (section_claims e b) (claims_behind (b ∷ earlier) (map block ss))
+    (followed_told n (header_claims e (head_of b) [] b.header) (key_value_claims b.key_values (section_path e b)) (header_told n e (head_of b) [] b.header h.0.0 h.0.1)
+    (key_values_told n b.key_values (section_path e b) h.0.2))
+    (behind_told n (b ∷ earlier) ss h.1)
+
+-- ---- what is told of the sections of a text
+
+is_inside : (n : ℕ) (o : Option NamedClash) (t : NamedClash) → o ≡ Some t → IfSome o (In n) → In n t
+is_inside n o t is h = rw is at h
+
+pub grown_inside : (text : List ℕ) (limit : ℕ) (ss : List Section) (g : Grown) → SpellsDocument (map block ss) text limit → Grows (map block ss) g → IsGrownInside (length text) g
+grown_inside text limit ss g spelled = go g.clash
+  where
+    go : (o : Option ClashFound) → GrowsTo (map block ss) g.root o → IfSome o (λ c. IsInside (length text) c.meeting.span)
+    go None grows = tt
+    go (Some c) grows =
+        let all = claims (map block ss ++ []) in
+        is_inside (length text) (clash_met nothing all) (clash_told c) (sym (first-met all) ∙ grows [] tt)
+        (told_inside (length text) nothing all
+        (subst (λ bs. Told (length text) (claims bs)) (sym (append-nil (map block ss))) (behind_told (length text) [] ss (document_inside ss text limit spelled))))
 
 -- ---- halts
 

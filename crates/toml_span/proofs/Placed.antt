@@ -64,13 +64,6 @@ reaches-then A B C old mid new r xs ys c d h g before =
     (λ u h. (h.0 ∙ ap (λ f. put_all f ys) first.1.0 ∙ sym (put_all-followed (cells old) xs ys), h.1, h.2))
     (g first.1.2)
 
-pub reaches-err : (A B C : Branch → Type 0) (old mid new : Branch) (q : Result (Unit {0}) Halt) (e : Halt) (xs ys : Claims) (c d : Path → ℕ)
-    → q ≡ Err e → Reaches A B old mid (Err e) xs c → Reaches A C old new q (followed xs ys) d
-reaches-err A B C old mid new q e xs ys c d same h before =
-    gives-err q e (clash_met (cells old) xs) (clash_met (cells old) (followed xs ys)) _ _ same
-    (λ t clash. told-followed (cells old) xs ys ∙ ap (λ o. or_else o (clash_met (put_all (cells old) xs) ys)) clash)
-    (h before)
-
 -- ---- another branch at a name
 
 -- the same branch, with w as the branch of the name k

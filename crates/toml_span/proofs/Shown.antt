@@ -1,16 +1,16 @@
 -- What a state shows is what the flat document says.
-use Rattle.std.proofs.Common.{◌≡◌, ℕ, suc, Bool, true, false, List, [], ◌∷◌, ◌++◌, Option, Some, None, option_map, refl, sym, ap, ◌∙◌, inl, inr}
+use Rattle.std.proofs.Common.{◌≡◌, ℕ, Bool, true, false, List, [], ◌∷◌, ◌++◌, Option, Some, None, option_map, refl, sym, ap, ◌∙◌, inl, inr}
 use Rattle.std.specs.Prelude.{⊤}
 use Rattle.std.proofs.lemmas.Bool.{cases_Bool}
 use Rattle.toml_span_tree.specs.Path.{Path, Step, Place}
-use Rattle.toml_span_read.specs.Data.{ParsedValue as Read, parsed, ParsedInner, scalar, array, inline, ParsedItems, no_items, item, ParsedPairs, no_pairs, pair, KeyValue}
-use Rattle.toml_span_read.specs.Keys.{SimpleKey}
-use Rattle.toml_span.specs.Paths.{same_path, with_key, with_position}
-use Rattle.toml_span.specs.Claims.{Claim, Claims, no_claims, claimed, scope, followed, key_claims, value_claims, inner_claims, item_claims, pair_claims, key_value_claims}
+use Rattle.toml_span_read.specs.Data.{KeyValue}
+use Rattle.toml_span.specs.Paths.{same_path}
+use Rattle.toml_span.specs.Claims.{Claim, Claims, no_claims, claimed, scope, key_value_claims}
 use Rattle.toml_span.specs.Clashes.{or_else}
 use Rattle.toml_span.specs.Flat.{all_claims, claims_at, first_claim_by_header, deciding_claim, flat, by_header}
 use Rattle.toml_span.specs.code.Machine.{Cell, State, Decided, nothing, decide, decided, with_claim, with_inner, change, show_all, put_all}
 use Rattle.toml_span.specs.code.Placing.{place_shown}
+use Rattle.toml_span.proofs.EachClaim.{Each, key_values-each}
 
 -- ---- what is shown at a path
 
@@ -90,48 +90,10 @@ show_all-marks st (scope inner cs) p = show_all-marks (show_all st inner) cs p �
 
 -- no header claims anything here
 abbrev pub NoHeader : Claims → Type 0
-NoHeader no_claims = ⊤
-NoHeader (claimed c cs) = (by_header c.mark.sort ≡ false) × NoHeader cs
-NoHeader (scope inner cs) = NoHeader inner × NoHeader cs
-
-no_header-followed : (xs ys : Claims) → NoHeader xs → NoHeader ys → NoHeader (followed xs ys)
-unfolding followed
-no_header-followed no_claims ys h k = k
-no_header-followed (claimed c xs) ys h k = (h.0, no_header-followed xs ys h.1 k)
-no_header-followed (scope inner xs) ys h k = (h.0, no_header-followed xs ys h.1 k)
-
-no_header-keys : (p : Path) (parts : List SimpleKey) (v : Read) (inside : Path → Claims) → ((q : Path) → NoHeader (inside q)) → NoHeader (key_claims p parts v inside)
-unfolding key_claims
-no_header-keys p [] v inside h = tt
-no_header-keys p (k ∷ []) v inside h = (refl, h (with_key p k))
-no_header-keys p (k ∷ l ∷ more) v inside h = (refl, no_header-keys (with_key p k) (l ∷ more) v inside h)
-
-mutual
-  unfolding value_claims inner_claims item_claims pair_claims
-
-  pub value-no_header : (v : Read) (p : Path) → NoHeader (value_claims v p)
-  value-no_header (parsed k span) p = inner-no_header k p
-
-  inner-no_header : (k : ParsedInner) (p : Path) → NoHeader (inner_claims k p)
-  inner-no_header (scalar s) p = tt
-  inner-no_header (array vs) p = (items-no_header vs 0 p, tt)
-  inner-no_header (inline ps) p = (pairs-no_header ps p, tt)
-
-  pub items-no_header : (vs : ParsedItems) (i : ℕ) (p : Path) → NoHeader (item_claims vs i p)
-  items-no_header no_items i p = tt
-  items-no_header (item v vs) i p = (refl, no_header-followed (value_claims v (with_position p i)) _ (value-no_header v (with_position p i)) (items-no_header vs (suc i) p))
-
-  pub pairs-no_header : (ps : ParsedPairs) (p : Path) → NoHeader (pair_claims ps p)
-  pairs-no_header no_pairs p = tt
-  pairs-no_header (pair parts v extent rest) p =
-      no_header-followed (key_claims p parts v (value_claims v)) _ (no_header-keys p parts v (value_claims v) (λ q. value-no_header v q)) (pairs-no_header rest p)
+NoHeader cs = Each (λ c. by_header c.mark.sort ≡ false) cs
 
 pub key_values-no_header : (es : List KeyValue) (p : Path) → NoHeader (key_value_claims es p)
-unfolding key_value_claims
-key_values-no_header [] p = tt
-key_values-no_header (e ∷ es) p =
-    no_header-followed (key_claims p e.parts e.value (value_claims e.value)) _
-    (no_header-keys p e.parts e.value (value_claims e.value) (λ q. value-no_header e.value q)) (key_values-no_header es p)
+key_values-no_header = key_values-each (λ c. by_header c.mark.sort ≡ false) (λ p k v. refl) (λ p k v. refl) (λ p i v. refl)
 
 abbrev IsPlain : Option Decided → Type 0
 IsPlain None = ⊤

@@ -16,8 +16,7 @@ use Rattle.toml_span_tree.specs.declared.value.Value.{Value}
 use Rattle.toml_span_tree.specs.declared.value.ValueInner.{ValueInner, the_lemmas as tree_lemmas}
 use Rattle.toml_span_tree.specs.declared.value.ValueInner.TheVariants as inners
 use Rattle.toml_span_tree.proofs.Values.{inner_view-Array, inner_view-Table}
-use Rattle.toml_span_read.specs.Data.{ParsedValue as Read, parsed, ParsedInner, scalar, array, inline, ParsedItems, no_items, item, ParsedPairs, no_pairs, pair, onto, pairs_onto, view as view_read, kind_view, key_value}
-use Rattle.toml_span_read.specs.Keys.{SimpleKey}
+use Rattle.toml_span_read.specs.Data.{ParsedValue as Read, parsed, ParsedInner, scalar, array, inline, ParsedItems, no_items, item, no_pairs, onto, pairs_onto, view as view_read, kind_view, key_value}
 use Rattle.toml_span_read.specs.declared.value.Assignment.{Assignment}
 use Rattle.toml_span_read.specs.declared.value.Val.{Val}
 use Rattle.toml_span_read.specs.declared.value.ValKind.{the_lemmas as read_lemmas}
@@ -25,8 +24,8 @@ use Rattle.toml_span_read.specs.declared.value.ValKind.TheVariants as kinds
 use Rattle.toml_span_read.proofs.Views.{view_is, kind_view-Array, kind_view-Inline}
 use Rattle.toml_span.specs.declared.claims.Halt.{Halt}
 use Rattle.toml_span.specs.declared.claims.Halt.TheVariants.{Memory, Clash}
-use Rattle.toml_span.specs.Paths.{same_step, same_path, with_key, with_position}
-use Rattle.toml_span.specs.Claims.{Claims, no_claims, claimed, scope, followed, key_claims, value_claims, inner_claims, item_claims, pair_claims, key_value_claims, element, value_shape}
+use Rattle.toml_span.specs.Paths.{same_step, same_path}
+use Rattle.toml_span.specs.Claims.{Claim, Claims, no_claims, claimed, scope, value_claims, inner_claims, item_claims, key_value_claims, element, value_shape}
 use Rattle.toml_span.specs.Clashes.{or_else, NamedClash}
 use Rattle.toml_span.specs.code.Machine.{State, nothing, no_cell, change, with_claim, with_inner, show_all, put_all, clash_met, clash_told, graft}
 use Rattle.toml_span.specs.Ordered.{HoldsOrdered, AreOrdered}
@@ -34,61 +33,30 @@ use Rattle.toml_span.specs.code.Placing.{IsFinished, ValueGives, ShowsPlain, Sco
 use Rattle.toml_span.specs.code.Tree.{value_shows, plain}
 use Rattle.toml_span.proofs.Absolute.{value_claims-under, pairs-key_values}
 use Rattle.toml_span.proofs.Grafts.{same_step-self, sub-graft, show_all-under, show_all-followed, told-followed, told-under, or_else-none}
+use Rattle.toml_span.proofs.EachClaim.{Each, value-each}
 use Rattle.toml_span.proofs.Shown.{show_all-marks}
 
 -- ---- what a value claims stands below it
 
-abbrev pub IsBelow : Claims → Type 0
-IsBelow no_claims = ⊤
-IsBelow (claimed c cs) = (same_path c.path [] ≡ false) × IsBelow cs
-IsBelow (scope inner cs) = IsBelow inner × IsBelow cs
+abbrev pub IsBelow : Claim → Type 0
+IsBelow c = same_path c.path [] ≡ false
 
 not_here : (p : Path) (s : Step) → same_path (p ++ (s ∷ [])) [] ≡ false
 unfolding same_path
 not_here [] s = refl
 not_here (t ∷ p) s = refl
 
-followed_below : (xs ys : Claims) → IsBelow xs → IsBelow ys → IsBelow (followed xs ys)
-unfolding followed
-followed_below no_claims ys h g = g
-followed_below (claimed c cs) ys h g = (h.0, followed_below cs ys h.1 g)
-followed_below (scope inner cs) ys h g = (h.0, followed_below cs ys h.1 g)
+pub value_below : (v : Read) (p : Path) → Each IsBelow (value_claims v p)
+value_below = value-each IsBelow (λ p k v. not_here p (key k.name)) (λ p k v. not_here p (key k.name)) (λ p i v. not_here p (position i))
 
-key_below : (p : Path) (parts : List SimpleKey) (v : Read) (inside : Path → Claims) → ((q : Path) → IsBelow (inside q)) → IsBelow (key_claims p parts v inside)
-unfolding key_claims
-key_below p [] v inside h = tt
-key_below p (k ∷ []) v inside h = (not_here p (key k.name), h (with_key p k))
-key_below p (k ∷ l ∷ more) v inside h = (not_here p (key k.name), key_below (with_key p k) (l ∷ more) v inside h)
-
-mutual
-  unfolding value_claims inner_claims item_claims pair_claims
-
-  value_below : (v : Read) (p : Path) → IsBelow (value_claims v p)
-  value_below (parsed k span) p = inner_below k p
-
-  inner_below : (k : ParsedInner) (p : Path) → IsBelow (inner_claims k p)
-  inner_below (scalar s) p = tt
-  inner_below (array vs) p = (items_below vs 0 p, tt)
-  inner_below (inline ps) p = (pairs_below ps p, tt)
-
-  items_below : (vs : ParsedItems) (i : ℕ) (p : Path) → IsBelow (item_claims vs i p)
-  items_below no_items i p = tt
-  items_below (item v vs) i p =
-      (not_here p (position i), followed_below (value_claims v (with_position p i)) (item_claims vs (suc i) p) (value_below v (with_position p i)) (items_below vs (suc i) p))
-
-  pairs_below : (ps : ParsedPairs) (p : Path) → IsBelow (pair_claims ps p)
-  pairs_below no_pairs p = tt
-  pairs_below (pair parts v extent rest) p =
-      followed_below (key_claims p parts v (value_claims v)) (pair_claims rest p) (key_below p parts v (value_claims v) (value_below v)) (pairs_below rest p)
-
-show_all-here : (st : State) (cs : Claims) → IsBelow cs → show_all st cs [] ≡ st []
+pub show_all-here : (st : State) (cs : Claims) → Each IsBelow cs → show_all st cs [] ≡ st []
 unfolding show_all change
 show_all-here st no_claims h = refl
 show_all-here st (claimed c cs) h = show_all-here (change st c.path (with_inner c)) cs h.1 ∙ rw h.0
 show_all-here st (scope inner cs) h = show_all-here (show_all st inner) cs h.1 ∙ show_all-here st inner h.0
 
 -- what a path shows depends on what that path showed before
-show_all-local : (f g : State) (cs : Claims) (p : Path) → f p ≡ g p → show_all f cs p ≡ show_all g cs p
+pub show_all-local : (f g : State) (cs : Claims) (p : Path) → f p ≡ g p → show_all f cs p ≡ show_all g cs p
 unfolding show_all change
 show_all-local f g no_claims p same = same
 show_all-local f g (claimed c cs) p same =
@@ -98,13 +66,13 @@ show_all-local f g (scope inner cs) p same =
 
 -- ---- a value is a scope of its own, or claims nothing
 
-told-value : (st : State) (v : Read) (p : Path) → clash_met st (value_claims v p) ≡ clash_met nothing (value_claims v p)
+pub told-value : (st : State) (v : Read) (p : Path) → clash_met st (value_claims v p) ≡ clash_met nothing (value_claims v p)
 unfolding clash_met value_claims inner_claims
 told-value st (parsed (scalar s) span) p = refl
 told-value st (parsed (array vs) span) p = refl
 told-value st (parsed (inline ps) span) p = refl
 
-put_all-value : (st : State) (v : Read) (p : Path) → put_all st (value_claims v p) ≡ show_all st (value_claims v p)
+pub put_all-value : (st : State) (v : Read) (p : Path) → put_all st (value_claims v p) ≡ show_all st (value_claims v p)
 unfolding put_all show_all value_claims inner_claims
 put_all-value st (parsed (scalar s) span) p = refl
 put_all-value st (parsed (array vs) span) p = refl

@@ -2,13 +2,13 @@
 use Rattle.std.proofs.Common.{◌≡◌, ℕ, zero, suc, Bool, true, false, List, [], ◌∷◌, refl, inl, inr}
 use Rattle.std.proofs.lemmas.Bool.{cases_Bool}
 use Rattle.toml_span_tree.specs.Path.{Path, Shape, shape_taken, shape_scalar, shape_array, shape_table}
-use Rattle.toml_span_read.specs.Data.{ParsedValue as Read, parsed, ParsedInner, scalar, array, inline, ParsedItems, no_items, item, ParsedPairs, no_pairs, pair, KeyValue, Block}
+use Rattle.toml_span_read.specs.Data.{ParsedInner, scalar, array, inline, KeyValue, Block}
 use Rattle.toml_span_read.specs.Keys.{SimpleKey}
 use Rattle.toml_span.specs.declared.claims.Sort.TheVariants.{TableElement}
 use Rattle.toml_span.specs.declared.claims.Head.{Head}
 use Rattle.toml_span.specs.Paths.{elements_added, opened_by, section_path, enter, with_key, with_position}
-use Rattle.toml_span.specs.Claims.{Claim, Claims, value_shape, parsed_inner, key_claims, value_claims, inner_claims, item_claims, pair_claims, key_value_claims, array_claims, end_claims, header_claims, section_claims, claims_behind, claims, head_of, header_claim, no_claims, claimed}
-use Rattle.toml_span.proofs.EachClaim.{Each, each-followed}
+use Rattle.toml_span.specs.Claims.{Claim, value_shape, parsed_inner, key_value_claims, array_claims, end_claims, header_claims, section_claims, claims_behind, claims, head_of, header_claim, no_claims, claimed}
+use Rattle.toml_span.proofs.EachClaim.{Each, each-followed, key_values-each}
 
 -- the shape is that of a value
 abbrev pub is_held : Shape → Bool
@@ -25,39 +25,8 @@ value-held (scalar s) = refl
 value-held (array vs) = refl
 value-held (inline ps) = refl
 
-key-held : (p : Path) (parts : List SimpleKey) (v : Read) (inside : Path → Claims) → ((q : Path) → Each IsHeldAt (inside q)) → Each IsHeldAt (key_claims p parts v inside)
-unfolding key_claims
-key-held p [] v inside h = tt
-key-held p (k ∷ []) v inside h = (value-held (parsed_inner v), h (with_key p k))
-key-held p (k ∷ l ∷ more) v inside h = (refl, key-held (with_key p k) (l ∷ more) v inside h)
-
-mutual
-  unfolding value_claims inner_claims item_claims pair_claims
-
-  value-claims-held : (v : Read) (p : Path) → Each IsHeldAt (value_claims v p)
-  value-claims-held (parsed k span) p = inner-claims-held k p
-
-  inner-claims-held : (k : ParsedInner) (p : Path) → Each IsHeldAt (inner_claims k p)
-  inner-claims-held (scalar s) p = tt
-  inner-claims-held (array vs) p = (item-claims-held vs 0 p, tt)
-  inner-claims-held (inline ps) p = (pair-claims-held ps p, tt)
-
-  item-claims-held : (vs : ParsedItems) (i : ℕ) (p : Path) → Each IsHeldAt (item_claims vs i p)
-  item-claims-held no_items i p = tt
-  item-claims-held (item v vs) i p =
-      (value-held (parsed_inner v), each-followed IsHeldAt (value_claims v (with_position p i)) (item_claims vs (suc i) p) (value-claims-held v (with_position p i)) (item-claims-held vs (suc i) p))
-
-  pair-claims-held : (ps : ParsedPairs) (p : Path) → Each IsHeldAt (pair_claims ps p)
-  pair-claims-held no_pairs p = tt
-  pair-claims-held (pair parts v extent rest) p =
-      each-followed IsHeldAt (key_claims p parts v (value_claims v)) (pair_claims rest p) (key-held p parts v (value_claims v) (λ q. value-claims-held v q)) (pair-claims-held rest p)
-
 key_values-held : (es : List KeyValue) (p : Path) → Each IsHeldAt (key_value_claims es p)
-unfolding key_value_claims
-key_values-held [] p = tt
-key_values-held (e ∷ es) p =
-    each-followed IsHeldAt (key_claims p e.parts e.value (value_claims e.value)) (key_value_claims es p)
-    (key-held p e.parts e.value (value_claims e.value) (λ q. value-claims-held e.value q)) (key_values-held es p)
+key_values-held = key_values-each IsHeldAt (λ p k v. refl) (λ p k v. value-held (parsed_inner v)) (λ p i v. value-held (parsed_inner v))
 
 end-held : (h : Head) (p : Path) (k : SimpleKey) (n : ℕ) → Each IsHeldAt (end_claims h p k n)
 unfolding end_claims

@@ -1,12 +1,11 @@
 //! What headers and assignments claim of a path, and which claims clash.
-ghost use Rattle.std.specs.Prelude.{◌≡◌, ⊤, ℕ, None, Some, string_bytes, IfOk, IfErr};
+ghost use Rattle.std.specs.Prelude.{◌≡◌, ⊤, None, Some, string_bytes, IfOk, IfErr};
 ghost use Rattle.std.specs.List.{list_any};
 ghost use Rattle.std.specs.Cow.{cow_str_bytes};
 ghost use Rattle.toml_span_tree.specs.Error.{content_of};
 ghost use Rattle.toml_span.specs.Clashes as clashes;
-ghost use Rattle.toml_span.specs.code.Machine.{Gives, met, clash_told};
+ghost use Rattle.toml_span.specs.code.Machine.{Gives, met};
 ghost use Rattle.toml_span.specs.code.Marks as kept;
-ghost use Rattle.toml_span.specs.code.Marks.{IsMarkInside, IsHaltInside};
 
 use smallvec::SmallVec;
 use std::alloc::{AllocError, AllocFailed, Global};
@@ -215,8 +214,7 @@ fn halted(alloc: Global, meeting: Meeting, key: &Key<'_>) -> Halt
 /// Halts where a claim clashes with one of the earlier ones: with the first of these, or for want of memory for
 /// the key's name.
 pub fn admit(alloc: Global, marks: &[Mark], mark: Mark, key: &Key<'_>) -> Result<(), Halt>
-    ensures gives { Gives result (met marks.now mark (cow_str_bytes key.now.name)) (λ _. ⊤) }
-    ensures placed { (n : ℕ) → IsMarkInside n mark → IfErr result (IsHaltInside n) }
+    ensures { Gives result (met marks.now mark (cow_str_bytes key.now.name)) (λ _. ⊤) }
 {
     match knows(marks, mark) {
         Ok(_) => Ok(()),
@@ -227,9 +225,8 @@ pub fn admit(alloc: Global, marks: &[Mark], mark: Mark, key: &Key<'_>) -> Result
 /// Keeps a claim on a branch, unless it clashes with an earlier one. Of each sort the first one is kept. Halts as
 /// `admit` does, or where there is no memory to keep the claim.
 pub fn claim(alloc: Global, marks: &mut Marks, mark: Mark, key: &Key<'_>) -> Result<(), Halt>
-    ensures gives { Gives result (met marks.old.items mark (cow_str_bytes key.now.name))
+    ensures { Gives result (met marks.old.items mark (cow_str_bytes key.now.name))
         (λ _. marks.new.items ≡ kept.remember marks.old.items mark) }
-    ensures placed { (n : ℕ) → IsMarkInside n mark → IfErr result (IsHaltInside n) }
 {
     match knows(marks.as_slice(), mark) {
         Ok(true) => Ok(()),

@@ -1,14 +1,12 @@
 //! Assignments placed below a branch: a section's table, or an inline table.
-ghost use Rattle.std.specs.Prelude.{◌≡◌, ⊤, ℕ, List, map, [], IfOk, IfErr};
+ghost use Rattle.std.specs.Prelude.{◌≡◌, ⊤, ℕ, List, map, [], IfOk};
 ghost use Rattle.std.specs.Cow.{cow_str_bytes};
-ghost use Rattle.toml_span_tree.specs.Value.{items_view, inner_view};
+ghost use Rattle.toml_span_tree.specs.Value.{inner_view};
 ghost use Rattle.toml_span_tree.specs.Node as tree;
 ghost use Rattle.toml_span_tree.specs.declared.value.ValueInner.TheVariants as inners;
 ghost use Rattle.toml_span_read.specs.Borrowed.{assignment_written, assignments_written, joined, key_written};
 ghost use Rattle.toml_span_read.specs.Borrowed.{keys_written, written};
 ghost use Rattle.toml_span_read.specs.Data.{key_value, view, onto, no_items, ParsedValue as Read, parsed_span};
-ghost use Rattle.toml_span_read.specs.Places.{IsInside, PartsInside, KeyValueInside, KeyValuesInside, KeysInside};
-ghost use Rattle.toml_span_read.specs.Places.{ItemKeysInside};
 ghost use Rattle.toml_span_read.specs.Keys.{SimpleKey, simple_key as part_of};
 ghost use Rattle.toml_span.specs.code.Borrowed.{AreFrom, IsFrom, Keeps, ValueRight, array_standing};
 ghost use Rattle.toml_span.specs.code.Borrowed.{table_standing};
@@ -16,7 +14,6 @@ ghost use Rattle.toml_span.specs.Borrowed.{AreBorrowedRight};
 ghost use Rattle.toml_span.specs.Claims.{assignment_claims, key_value_claims, item_claims};
 ghost use Rattle.toml_span.specs.code.Machine.{Gives, met};
 ghost use Rattle.toml_span.specs.code.Placing.{Places, Passes, ValueGives, ScopeGives};
-ghost use Rattle.toml_span.specs.code.Marks.{IsMarkInside, IsHaltInside};
 ghost use Rattle.toml_span.specs.code.Relative.{pair_at, through_pair};
 ghost use Rattle.toml_span.specs.code.Tree.{child_in, closed_in, closed_marks, counts, held_marks};
 
@@ -53,9 +50,8 @@ pub(crate) fn admit_beside_value<'de>(
     mark: Mark,
     key: &Key<'de>,
 ) -> Result<(), Halt>
-    ensures gives { Gives result (met (closed_marks (closed_in (cow_str_bytes key.now.name) values.now)) mark
+    ensures { Gives result (met (closed_marks (closed_in (cow_str_bytes key.now.name) values.now)) mark
         (cow_str_bytes key.now.name)) (λ _. ⊤) }
-    ensures placed { (n : ℕ) → IsMarkInside n mark → IfErr result (IsHaltInside n) }
 {
     match values.get_key_value(key) {
         Some((earlier, value)) => admit(
@@ -75,9 +71,8 @@ fn admit_beside_table<'de>(
     mark: Mark,
     key: &Key<'de>,
 ) -> Result<(), Halt>
-    ensures gives { Gives result (met (held_marks (child_in (cow_str_bytes key.now.name) tables.now)) mark
+    ensures { Gives result (met (held_marks (child_in (cow_str_bytes key.now.name) tables.now)) mark
         (cow_str_bytes key.now.name)) (λ _. ⊤) }
-    ensures placed { (n : ℕ) → IsMarkInside n mark → IfErr result (IsHaltInside n) }
 {
     match tables.get(key) {
         Some(child) => admit(alloc, child.marks.as_slice(), mark, key),
@@ -95,8 +90,6 @@ fn assign<'de>(
 ) -> Result<(), Halt>
     ensures gives { (v : Read) → ValueGives value.entry v → span ≡ parsed_span v
         → Places node.old node.new result (pair_at [] (part_of key.entry) v) (counts node.old) }
-    ensures placed { (n : ℕ) → IsInside n key.entry.span → IfErr value.entry (IsHaltInside n)
-        → IfErr result (IsHaltInside n) }
     ensures borrows { (text : List ℕ) → (ps : List SimpleKey) → IsFrom text ps (key_written key.entry)
         → ValueRight text ps value.entry → Keeps text ps node.old node.new result }
 {
@@ -135,8 +128,6 @@ fn place_pair<'de>(
 ) -> Result<(), Halt>
     ensures gives { (v : Read) → ValueGives value.entry v → span ≡ parsed_span v
         → Places node.old node.new result (pair_at (map part_of inner.now) (part_of last.entry) v) (counts node.old) }
-    ensures placed { (n : ℕ) → PartsInside n (map part_of inner.now) → IsInside n last.entry.span
-        → IfErr value.entry (IsHaltInside n) → IfErr result (IsHaltInside n) }
     ensures borrows { (text : List ℕ) → (ps : List SimpleKey) → AreFrom text ps (keys_written inner.now)
         → IsFrom text ps (key_written last.entry)
         → ValueRight text ps value.entry → Keeps text ps node.old node.new result }
@@ -173,8 +164,6 @@ fn pass_child<'de>(
     ensures gives { (v : Read) → ValueGives value.entry v → span ≡ parsed_span v
         → Passes child.old.value child.new.value result (through_pair (part_of part.now) (map part_of rest.now)
         (part_of last.entry) v) (counts child.old.value) }
-    ensures placed { (n : ℕ) → IsInside n part.now.span → PartsInside n (map part_of rest.now)
-        → IsInside n last.entry.span → IfErr value.entry (IsHaltInside n) → IfErr result (IsHaltInside n) }
     ensures borrows { (text : List ℕ) → (ps : List SimpleKey) → IsFrom text ps (key_written part.now)
         → AreFrom text ps (keys_written rest.now) → IsFrom text ps (key_written last.entry)
         → ValueRight text ps value.entry → Keeps text ps child.old.value child.new.value result }
@@ -196,8 +185,6 @@ fn pass_pair<'de>(
     ensures gives { (v : Read) → ValueGives value.entry v → span ≡ parsed_span v
         → Passes node.old node.new result (through_pair (part_of part.now) (map part_of rest.now)
         (part_of last.entry) v) (counts node.old) }
-    ensures placed { (n : ℕ) → IsInside n part.now.span → PartsInside n (map part_of rest.now)
-        → IsInside n last.entry.span → IfErr value.entry (IsHaltInside n) → IfErr result (IsHaltInside n) }
     ensures borrows { (text : List ℕ) → (ps : List SimpleKey) → IsFrom text ps (key_written part.now)
         → AreFrom text ps (keys_written rest.now) → IsFrom text ps (key_written last.entry)
         → ValueRight text ps value.entry → Keeps text ps node.old node.new result }
@@ -215,7 +202,6 @@ fn pass_pair<'de>(
 #[cycle(value_of)]
 fn place_one<'de>(alloc: Global, pair: Assignment<'de>, node: &mut Branch<'de>) -> Result<(), Halt>
     ensures gives { Places node.old node.new result (assignment_claims (key_value pair.entry) []) (counts node.old) }
-    ensures placed { (n : ℕ) → KeyValueInside n (key_value pair.entry) → IfErr result (IsHaltInside n) }
     ensures borrows { (text : List ℕ) → (ps : List SimpleKey) → AreFrom text ps (assignment_written pair.entry)
         → Keeps text ps node.old node.new result }
 {
@@ -238,7 +224,6 @@ fn place_pairs<'de>(
 ) -> Result<(), Halt>
     ensures gives { Places node.old node.new result (key_value_claims (map key_value pairs.entry.items) [])
         (counts node.old) }
-    ensures placed { (n : ℕ) → KeyValuesInside n (map key_value pairs.entry.items) → IfErr result (IsHaltInside n) }
     ensures borrows { (text : List ℕ) → (ps : List SimpleKey) → AreFrom text ps (assignments_written pairs.entry.items)
         → Keeps text ps node.old node.new result }
 {
@@ -256,7 +241,6 @@ pub(crate) fn place_all<'de>(
 ) -> Result<(), Halt>
     ensures gives { Places node.old node.new result (key_value_claims (map key_value pairs.entry.items) [])
         (counts node.old) }
-    ensures placed { (n : ℕ) → KeyValuesInside n (map key_value pairs.entry.items) → IfErr result (IsHaltInside n) }
     ensures borrows { (text : List ℕ) → (ps : List SimpleKey) → AreFrom text ps (assignments_written pairs.entry.items)
         → Keeps text ps node.old node.new result }
 {
@@ -274,7 +258,6 @@ pub(crate) fn place_all<'de>(
 fn table_of<'de>(alloc: Global, pairs: Vec<Assignment<'de>>) -> Result<Table<'de>, Halt>
     ensures gives { ScopeGives result (λ t. inner_view (inners.Table t))
         (key_value_claims (map key_value pairs.entry.items) []) }
-    ensures placed { (n : ℕ) → KeyValuesInside n (map key_value pairs.entry.items) → IfErr result (IsHaltInside n) }
     ensures borrows { (text : List ℕ) → (ps : List SimpleKey) → AreFrom text ps (assignments_written pairs.entry.items)
         → IfOk result (λ table. AreBorrowedRight text ps (table_standing table.entries)) }
 {
@@ -288,8 +271,6 @@ fn table_of<'de>(alloc: Global, pairs: Vec<Assignment<'de>>) -> Result<Table<'de
 fn array_of<'de>(alloc: Global, elements: Vec<Val<'de>>) -> Result<Array<'de>, Halt>
     ensures gives { ScopeGives result (λ xs. inner_view (inners.Array xs))
         (item_claims (onto (map view elements.entry.items) no_items) 0 []) }
-    ensures placed { (n : ℕ) → ItemKeysInside n (onto (map view elements.entry.items) no_items)
-        → IfErr result (IsHaltInside n) }
     ensures borrows { (text : List ℕ) → (ps : List SimpleKey)
         → AreFrom text ps (joined (map written elements.entry.items))
         → IfOk result (λ array. AreBorrowedRight text ps (array_standing array.items)) }
@@ -305,7 +286,6 @@ fn array_of<'de>(alloc: Global, elements: Vec<Val<'de>>) -> Result<Array<'de>, H
 #[cycle(value_of)]
 fn value_of<'de>(alloc: Global, val: Val<'de>) -> Result<Value<'de>, Halt>
     ensures gives { ValueGives result (view val.entry) }
-    ensures placed { (n : ℕ) → KeysInside n (view val.entry) → IfErr result (IsHaltInside n) }
     ensures borrows { (text : List ℕ) → (ps : List SimpleKey) → AreFrom text ps (written val.entry)
         → ValueRight text ps result }
 {

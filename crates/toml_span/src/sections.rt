@@ -2,7 +2,6 @@
 ghost use Rattle.std.specs.Prelude.{◌≡◌, ℕ, List, map, [], ◌∷◌, ◌++◌, IfOk, IfErr, IfSome, IsOk, IsOkAnd, None, OnOk};
 ghost use Rattle.toml_span_read.specs.Borrowed.{assignments_written, key_written, keys_written, section_written};
 ghost use Rattle.toml_span_read.specs.Data.{key_value, Block, block};
-ghost use Rattle.toml_span_read.specs.Places.{IsInside, PartsInside, KeyValuesInside, SectionInside};
 ghost use Rattle.toml_span_read.specs.Keys.{SimpleKey, simple_key as part_of};
 ghost use Rattle.toml_span_read.specs.code.Sections.{first_blocks};
 ghost use Rattle.toml_span.specs.declared.claims.Sort.TheVariants.{Passed};
@@ -64,8 +63,6 @@ fn place_section<'de>(
     ensures gives { Places node.old node.new result (section_at (counts node.old) head (map part_of parts.now)
         (key_value_claims (map key_value pairs.entry.items) []))
         (grown (counts node.old) head (map part_of parts.now)) }
-    ensures placed { (n : ℕ) → PartsInside n (map part_of parts.now) → IsInside n head.line
-        → KeyValuesInside n (map key_value pairs.entry.items) → IfErr result (IsHaltInside n) }
     ensures borrows { (text : List ℕ) → (ps : List SimpleKey) → AreFrom text ps (keys_written parts.now)
         → AreFrom text ps (assignments_written pairs.entry.items)
         → Keeps text ps node.old node.new result }
@@ -100,8 +97,6 @@ fn pass_child<'de>(
         (through (counts child.old.value) head (part_of part.now) (map part_of rest.now)
         (key_value_claims (map key_value pairs.entry.items) [])) (grown_through (counts child.old.value) head
         (map part_of rest.now)) }
-    ensures placed { (n : ℕ) → IsInside n part.now.span → PartsInside n (map part_of rest.now) → IsInside n head.line
-        → KeyValuesInside n (map key_value pairs.entry.items) → IfErr result (IsHaltInside n) }
     ensures borrows { (text : List ℕ) → (ps : List SimpleKey) → IsFrom text ps (key_written part.now)
         → AreFrom text ps (keys_written rest.now) → AreFrom text ps (assignments_written pairs.entry.items)
         → Keeps text ps child.old.value child.new.value result }
@@ -122,8 +117,6 @@ fn pass_header<'de>(
     ensures gives { Passes node.old node.new result (through (counts node.old) head (part_of part.now)
         (map part_of rest.now) (key_value_claims (map key_value pairs.entry.items) []))
         (grown_through (counts node.old) head (map part_of rest.now)) }
-    ensures placed { (n : ℕ) → IsInside n part.now.span → PartsInside n (map part_of rest.now) → IsInside n head.line
-        → KeyValuesInside n (map key_value pairs.entry.items) → IfErr result (IsHaltInside n) }
     ensures borrows { (text : List ℕ) → (ps : List SimpleKey) → IsFrom text ps (key_written part.now)
         → AreFrom text ps (keys_written rest.now) → AreFrom text ps (assignments_written pairs.entry.items)
         → Keeps text ps node.old node.new result }
@@ -150,8 +143,6 @@ fn descend<'de>(
     ensures gives { Opening IsScope (claims.header_mark head Passed part.now.span) node.old node.new result
         (passing head (part_of part.now) (map part_of rest.now) (key_value_claims (map key_value pairs.entry.items) [])
         (counts node.old)) (grown (counts node.old) head (map part_of rest.now)) }
-    ensures placed { (n : ℕ) → IsInside n part.now.span → PartsInside n (map part_of rest.now) → IsInside n head.line
-        → KeyValuesInside n (map key_value pairs.entry.items) → IfErr result (IsHaltInside n) }
     ensures borrows { (text : List ℕ) → (ps : List SimpleKey) → IsFrom text ps (key_written part.now)
         → AreFrom text ps (keys_written rest.now) → AreFrom text ps (assignments_written pairs.entry.items)
         → Keeps text ps node.old node.new result }
@@ -177,8 +168,6 @@ fn open_table<'de>(
     ensures gives { Opening (Opens sort) (claims.header_mark head sort part.now.span) node.old node.new result
         (opening head sort (part_of part.now) (key_value_claims (map key_value pairs.entry.items) []))
         (counts node.old) }
-    ensures placed { (n : ℕ) → IsInside n part.now.span → IsInside n head.line
-        → KeyValuesInside n (map key_value pairs.entry.items) → IfErr result (IsHaltInside n) }
     ensures borrows { (text : List ℕ) → (ps : List SimpleKey) → AreFrom text ps (assignments_written pairs.entry.items)
         → Keeps text ps node.old node.new result }
 {
@@ -197,8 +186,6 @@ fn add_entry<'de>(
     ensures gives { Reaches IsOpen IsHeld node.old node.new result
         (adding head (part_of part.now) (key_value_claims (map key_value pairs.entry.items) []) (counts node.old []))
         (one_more (counts node.old)) }
-    ensures placed { (n : ℕ) → IsInside n part.now.span → IsInside n head.line
-        → KeyValuesInside n (map key_value pairs.entry.items) → IfErr result (IsHaltInside n) }
     ensures borrows { (text : List ℕ) → (ps : List SimpleKey) → AreFrom text ps (assignments_written pairs.entry.items)
         → Keeps text ps node.old node.new result }
 {
@@ -219,8 +206,6 @@ fn end_header<'de>(
     ensures gives { Passes node.old node.new result (ending head (part_of part.now)
         (key_value_claims (map key_value pairs.entry.items) []) (counts node.old []))
         (grown_here (counts node.old) head) }
-    ensures placed { (n : ℕ) → IsInside n part.now.span → IsInside n head.line
-        → KeyValuesInside n (map key_value pairs.entry.items) → IfErr result (IsHaltInside n) }
     ensures borrows { (text : List ℕ) → (ps : List SimpleKey) → AreFrom text ps (assignments_written pairs.entry.items)
         → Keeps text ps node.old node.new result }
 {
@@ -237,7 +222,6 @@ fn end_header<'de>(
 /// Places a section below the root of a tree.
 fn place<'de>(alloc: Global, root: &mut Branch<'de>, section: Section<'de>) -> Result<(), Halt>
     ensures gives { Placed (block section.entry) root.old root.new result }
-    ensures placed { (n : ℕ) → SectionInside n section.entry → IfErr result (IsHaltInside n) }
     ensures borrows { (text : List ℕ) → (ps : List SimpleKey) → AreFrom text ps (section_written section.entry)
         → Keeps text ps root.old root.new result }
 {
@@ -288,8 +272,6 @@ pub(crate) fn grow<'de>(
 ) -> Result<(), AllocError>
     ensures grows { (bs : List Block) → AreSections (block section.entry ∷ []) → Grows bs grown.old
         → OnOk result (Grows (bs ++ (block section.entry ∷ [])) grown.new) }
-    ensures inside { (n : ℕ) → SectionInside n section.entry → IsGrownInside n grown.old
-        → OnOk result (IsGrownInside n grown.new) }
     ensures borrows { (text : List ℕ) → (ps : List SimpleKey) → AreFrom text ps (section_written section.entry)
         → GrownRight text ps grown.old → OnOk result (GrownRight text ps grown.new) }
 {
@@ -313,7 +295,6 @@ pub(crate) fn begin<'de>(
     first: Option<Section<'de>>,
 ) -> Result<Grown<'de>, AllocError>
     ensures grows { AreSections (first_blocks first.entry) → IfOk result (Grows (first_blocks first.entry)) }
-    ensures inside { (n : ℕ) → IfSome first.entry (SectionInside n) → IfOk result (IsGrownInside n) }
     ensures borrows { (text : List ℕ) → (ps : List SimpleKey)
         → IfSome first.entry (λ section. AreFrom text ps (section_written section))
         → IfOk result (GrownRight text ps) }

@@ -1,5 +1,5 @@
 -- What the sections that are read so far make, whatever sections follow.
-use Rattle.std.specs.Prelude.{◌≡◌, ℕ, List, [], ◌++◌, map, length, Result, Ok, Err, Option, Some, None, IfNone}
+use Rattle.std.specs.Prelude.{◌≡◌, ℕ, List, [], ◌++◌, map, Result, Ok, Err, Option, Some, None, IfNone}
 use Rattle.std.specs.Prelude.{IfSome}
 use Rattle.toml_span_lex.specs.declared.stop.Stop.{Stop}
 use Rattle.toml_span_lex.specs.declared.stop.Stop.TheVariants as stops
@@ -67,7 +67,6 @@ pub record IsGrown (text : List ℕ) (limit : ℕ) (g : Grown) : Type 0 where
   pub sections : List Section
   pub spelled : SpellsDocument (map block sections) text limit
   pub grows : Grows (map block sections) g
-  pub inside : IsGrownInside (length text) g
   pub bare : sections ≡ [] → IsBare g
   pub read : AreRightRead text (sections_written sections)
   pub borrows : (ps : List SimpleKey) → AreFrom text ps (sections_written sections) → GrownRight text ps g

@@ -1,5 +1,5 @@
 -- What a branch of the tree under construction keeps of the claims on it.
-use Rattle.std.specs.Prelude.{◌≡◌, ⊤, ℕ, Bool, true, nat_eq, if◌then◌else◌, List, [], ◌∷◌, ◌++◌, Option, Some, None}
+use Rattle.std.specs.Prelude.{◌≡◌, ⊤, ℕ, Bool, nat_eq, if◌then◌else◌, List, [], ◌∷◌, ◌++◌, Option, Some, None}
 use Rattle.std.specs.Prelude.{string_bytes}
 use Rattle.std.specs.List.{list_any}
 use Rattle.toml_span_read.specs.Places.{IsInside}
@@ -54,10 +54,6 @@ first (mark ∷ marks) = Some mark
 -- the claim that says where a branch stands: that of the first header, or else the first one
 abbrev pub deciding : List Mark → Option Mark
 deciding marks = or_else (first_by_header marks) (first marks)
-
--- the key of a claim, and of a header's claim its line too
-abbrev pub IsMarkInside : ℕ → Mark → Type 0
-IsMarkInside n mark = IsInside n mark.key × (by_header mark.sort ≡ true → IsInside n mark.line)
 
 -- a clash is told inside the first n bytes
 abbrev pub IsHaltInside : ℕ → Halt → Type 0

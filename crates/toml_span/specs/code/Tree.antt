@@ -1,10 +1,11 @@
 -- What a branch of the tree under construction holds, path by path.
-use Rattle.std.specs.Prelude.{◌≡◌, ⊤, ℕ, zero, suc, ◌⊎◌, Bool, true, false, List, [], ◌∷◌, length, Option, Some, None}
+use Rattle.std.specs.Prelude.{◌≡◌, ℕ, zero, suc, ◌⊎◌, Bool, true, false, List, [], ◌∷◌, length, Option, Some, None}
 use Rattle.std.specs.Prelude.{option_map}
 use Rattle.std.specs.Cow.{cow_str_bytes}
 use Rattle.std.specs.Ordering.{nat_cmp, is_eq}
 use Rattle.std.specs.Cmp.Lexicographic.{slice_cmp}
 use Rattle.std.specs.Box.{box_value}
+use Rattle.std.specs.List.{AllByRecursion}
 use Rattle.std.specs.Map.{lookup, lookup_entry}
 use Rattle.std.specs.BTreeMap.{BTreeMap}
 use Rattle.std.specs.Global.{Box}
@@ -129,12 +130,10 @@ is_entry_sort _ = false
 
 -- no claim of an array of tables, and none of an entry, is among them
 abbrev pub NoArray : List Mark → Type 0
-NoArray [] = ⊤
-NoArray (m ∷ ms) = (is_array_sort m.sort ≡ false) × NoArray ms
+NoArray ms = AllByRecursion (λ m. is_array_sort m.sort ≡ false) ms
 
 abbrev pub NoEntry : List Mark → Type 0
-NoEntry [] = ⊤
-NoEntry (m ∷ ms) = (is_entry_sort m.sort ≡ false) × NoEntry ms
+NoEntry ms = AllByRecursion (λ m. is_entry_sort m.sort ≡ false) ms
 
 -- the claims on a branch that stands at a name, and on an entry
 abbrev pub IsNamed : List Mark → Type 0

@@ -12,7 +12,7 @@ pub sections-init : goal.sections-init
 sections-init c =
     let first = c.in_ok-first.ensures in
     let begun = c.in-Ok.ensures in
-    let h = growing-first c.args.text.now c.args.limit _ c.in_ok-first.first c.in-Ok.grown first.reads.0 first.gives begun.grows begun.inside begun.borrows begun.bare in
+    let h = growing-first c.args.text.now c.args.limit _ c.in_ok-first.first c.in-Ok.grown first.reads.0 first.gives begun.grows begun.borrows begun.bare in
     record { boundary = first.reads.1.0; begun = first-begun c.args.text.now c.args.limit _ c.in_ok-first.first first.gives; header = first.reads.1.1; growing = h.0; stuck = h.1 }
 
 pub sections-preserved : goal.sections-preserved
@@ -24,7 +24,7 @@ sections-preserved c =
       boundary = read.reads.2.0;
       begun = begun_on c.args.text.now c.sections.at _ i.begun (omega (arith, read.reads.1.on));
       header = read.reads.2.1;
-      growing = growing-more c.args.text.now c.args.limit c.sections.at _ c.in_ok-section.section c.sections.grown c.grow.new.grown read.reads.0 read.gives i.growing more.grows more.inside more.borrows;
+      growing = growing-more c.args.text.now c.args.limit c.sections.at _ c.in_ok-section.section c.sections.grown c.grow.new.grown read.reads.0 read.gives i.growing more.grows more.borrows;
       stuck = λ e x. i.stuck e (on_section c.args.text.now c.args.limit c.sections.at _ _ e read.gives x);
     }
 

@@ -4,11 +4,12 @@ use Rattle.toml_span_read.specs.Data.{block}
 use Rattle.toml_span.specs.Borrowed.{keys_of}
 use Rattle.toml_span.proofs.Borrowing.{all_from, tree_borrows}
 use Rattle.toml_span.proofs.Memory.{keeps-on, keeps-placed}
+use Rattle.toml_span.proofs.PlaceLemmas.{grown_inside}
 use Rattle.toml_span.proofs.Refusals.{answers-fault, whole-tree}
 use Rattle.toml_span.proofs.de.parse_with_limit.Goals as goal
 
 pub tree_of-requires : goal.tree_of-requires
-tree_of-requires c = record { inside = c.in-Ok.ensures.gives.inside }
+tree_of-requires c = let g = c.in-Ok.ensures.gives in record { inside = grown_inside c.args.s.now c.args.limit g.sections c.in-Ok.grown g.spelled g.grows }
 
 pub returns-in-Ok-clause-answers : goal.returns-in-Ok-clause-answers
 returns-in-Ok-clause-answers c = let g = c.in-Ok.ensures.gives in c.tree_of.ensures.answers (map block g.sections) c.args.limit g.spelled g.grows

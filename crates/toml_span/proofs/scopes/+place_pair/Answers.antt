@@ -13,33 +13,22 @@ use Rattle.toml_span.specs.declared.branch.Branch.TheViews.{out-Branch}
 use Rattle.toml_span.proofs.Claimed.{marked-roll}
 use Rattle.toml_span.proofs.DottedKeys.{passes-dotted, passes-dotted-err, pair-found, pair-new, pair-new-err, pair-beside}
 use Rattle.toml_span.proofs.Placed.{err-of, sets-new}
-use Rattle.toml_span.proofs.PlaceLemmas.{pair_inside}
 use Rattle.toml_span.proofs.Borrowing.{front_from, keeps_entered, keeps_marked, keeps_new, keeps_same}
-use Rattle.toml_span.proofs.InsideLemmas.{front_inside}
 use Rattle.toml_span.specs.code.Tree.{IsFresh}
 use Rattle.toml_span.specs.code.Borrowed.{standing}
 use Rattle.toml_span.proofs.Named.{looked}
 use Rattle.toml_span.proofs.scopes.+place_pair.Goals as goal
 
-pub pass_pair-returns-in_err-claim-clause-placed : goal.pass_pair-returns-in_err-claim-clause-placed
-pass_pair-returns-in_err-claim-clause-placed t c = λ n simple_key rest last value. let h = c.in_err-claim.ensures.placed n (pair_inside n _ _ _ _ _ c.pair_mark.ensures refl simple_key) in search (rules)
-
-pub pass_pair-returns-clause-placed : goal.pass_pair-returns-clause-placed
-pass_pair-returns-clause-placed t c = λ n simple_key rest last value. c.place_pair.ensures.placed n rest last value
-
-pub place_pair-returns-in_default-clause-placed : goal.place_pair-returns-in_default-clause-placed
-place_pair-returns-in_default-clause-placed t c = λ n parts last value. c.assign.ensures.placed n last value
-
 pub pass_pair-returns-in_err-claim-clause-gives : goal.pass_pair-returns-in_err-claim-clause-gives
 pass_pair-returns-in_err-claim-clause-gives t c = λ v value span.
     passes-dotted-err c.args.node.now _ (simple_key c.args.part.now) (map simple_key c.args.rest.now) (simple_key c.args.last) v c.pair_mark.result c.from_residual.result c.in_err-claim.field-0.0 _ _
-    (c.pair_mark.ensures ∙ ap (pair_mark Dotted c.args.part.now.span) span) (err-of c.from_residual.result c.in_err-claim.field-0.0 _ c.from_residual.ensures.1 (λ y p. p)) c.in_err-claim.ensures.gives
+    (c.pair_mark.ensures ∙ ap (pair_mark Dotted c.args.part.now.span) span) (err-of c.from_residual.result c.in_err-claim.field-0.0 _ c.from_residual.ensures.1 (λ y p. p)) c.in_err-claim.ensures
 
 pub pass_pair-returns-clause-gives : goal.pass_pair-returns-clause-gives
 pass_pair-returns-clause-gives t c = λ v value span.
     passes-dotted c.args.node.now _ _ (simple_key c.args.part.now) (map simple_key c.args.rest.now) (simple_key c.args.last) v c.pair_mark.result c.place_pair.result
-    (c.pair_mark.ensures ∙ ap (pair_mark Dotted c.args.part.now.span) span) c.in_ok-claim.ensures.gives.0
-    (marked-roll c.pair_mark.result c.args.node.now _ c.in_ok-claim.ensures.gives.1 refl refl refl) (c.place_pair.ensures.gives v value span)
+    (c.pair_mark.ensures ∙ ap (pair_mark Dotted c.args.part.now.span) span) c.in_ok-claim.ensures.0
+    (marked-roll c.pair_mark.result c.args.node.now _ c.in_ok-claim.ensures.1 refl refl refl) (c.place_pair.ensures.gives v value span)
 
 pub pass_pair-returns-clause-borrows : goal.pass_pair-returns-clause-borrows
 pass_pair-returns-clause-borrows t c = λ text ps simple_key rest last value.
@@ -52,17 +41,6 @@ pass_child-returns-clause-borrows t c = λ text ps simple_key rest last value.
 pub place_pair-returns-in_default-clause-borrows : goal.place_pair-returns-in_default-clause-borrows
 place_pair-returns-in_default-clause-borrows t c = λ text ps parts last value. c.assign.ensures.borrows text ps last value
 
-pub place_pair-returns-in_err-pass_child-in-Vacant-clause-placed : goal.place_pair-returns-in_err-pass_child-in-Vacant-clause-placed
-place_pair-returns-in_err-pass_child-in-Vacant-clause-placed t c = λ n parts last value.
-    let front = front_inside n c.args.inner.now c.part-item.result _ c.in-len1-up.len_at_least c.part-item.is parts in
-    let h = c.in_err-pass_child-in-Vacant.ensures.placed n front.0 front.1 last value in
-    search (rules)
-
-pub place_pair-returns-in-Occupied-clause-placed : goal.place_pair-returns-in-Occupied-clause-placed
-place_pair-returns-in-Occupied-clause-placed t c = λ n parts last value.
-    let front = front_inside n c.args.inner.now c.part-item.result _ c.in-len1-up.len_at_least c.part-item.is parts in
-    c.pass_child.ensures.placed n front.0 front.1 last value
-
 pub place_pair-returns-in_err-admit_beside_value-in-Vacant-clause-gives : goal.place_pair-returns-in_err-admit_beside_value-in-Vacant-clause-gives
 place_pair-returns-in_err-admit_beside_value-in-Vacant-clause-gives t c = λ v value span.
     let n = out-Branch c.args.node.now in
@@ -72,7 +50,7 @@ place_pair-returns-in_err-admit_beside_value-in-Vacant-clause-gives t c = λ v v
     let e = c.in_err-admit_beside_value-in-Vacant.field-0.0 in
     rw front
     (pair-beside c.args.node.now _ (simple_key c.part-item.result) _ (simple_key c.args.last) v c.pair_mark-mark.result q.result e _ _ missing (c.pair_mark-mark.ensures ∙ ap (pair_mark Dotted c.part-item.result.span) span)
-    (err-of q.result e _ q.ensures.1 (λ y p. p)) c.in_err-admit_beside_value-in-Vacant.ensures.gives)
+    (err-of q.result e _ q.ensures.1 (λ y p. p)) c.in_err-admit_beside_value-in-Vacant.ensures)
 
 pub place_pair-returns-in_err-pass_child-in-Vacant-clause-gives : goal.place_pair-returns-in_err-pass_child-in-Vacant-clause-gives
 place_pair-returns-in_err-pass_child-in-Vacant-clause-gives t c = λ v value span.
@@ -83,7 +61,7 @@ place_pair-returns-in_err-pass_child-in-Vacant-clause-gives t c = λ v value spa
     let e = c.in_err-pass_child-in-Vacant.field-0.0 in
     rw front
     (pair-new-err c.args.node.now _ c.in_ok-child-in-Vacant.child.value _ (simple_key c.part-item.result) _ (simple_key c.args.last) v c.pair_mark-mark.result c.pass_child-in-Vacant.result q.result e _ missing (c.pair_mark-mark.ensures ∙ ap (pair_mark Dotted c.part-item.result.span) span)
-    c.in_ok-admit_beside_value-in-Vacant.ensures.gives.0 (subst IsFresh (sym c.in_ok-child-in-Vacant.ensures.ok) c.new.ensures.fresh) c.in_err-pass_child-in-Vacant.was (err-of q.result e _ q.ensures.1 (λ y p. p)) (c.pass_child-in-Vacant.ensures.gives v value span))
+    c.in_ok-admit_beside_value-in-Vacant.ensures.0 (subst IsFresh (sym c.in_ok-child-in-Vacant.ensures.ok) c.new.ensures.fresh) c.in_err-pass_child-in-Vacant.was (err-of q.result e _ q.ensures.1 (λ y p. p)) (c.pass_child-in-Vacant.ensures.gives v value span))
 
 pub place_pair-returns-in-Occupied-clause-gives : goal.place_pair-returns-in-Occupied-clause-gives
 place_pair-returns-in-Occupied-clause-gives t c = λ v value span.
@@ -113,7 +91,7 @@ place_pair-returns-in_ok-pass_child-in-Vacant-clause-gives t c = λ v value span
     let written = update.1 c.insert.result.now ∙ ap (insert_entry key_cmp n.tables.entries clone.field-0) c.insert.ensures.value in
     let places = λ (tables : BTreeMap Key (Box Branch)) (is : tables ≡ map_with_value (Entry.Vacant c.in-Vacant.entry) c.insert.result.now).
     pair-new c.args.node.now _ c.in_ok-child-in-Vacant.child.value box.value (simple_key c.part-item.result) _ (simple_key c.args.last) v c.pair_mark-mark.result missing (c.pair_mark-mark.ensures ∙ ap (pair_mark Dotted c.part-item.result.span) span)
-    c.in_ok-admit_beside_value-in-Vacant.ensures.gives.0 (subst IsFresh (sym c.in_ok-child-in-Vacant.ensures.ok) c.new.ensures.fresh)
+    c.in_ok-admit_beside_value-in-Vacant.ensures.0 (subst IsFresh (sym c.in_ok-child-in-Vacant.ensures.ok) c.new.ensures.fresh)
     (sets-new c.args.node.now (record { marks = n.marks; values = n.values; tables = tables; entries = n.entries }) (simple_key c.part-item.result).name clone.field-0 box clone.ensures.name refl refl refl
     (ap (λ (m : BTreeMap Key (Box Branch)). m.entries) is ∙ written)) (c.in_ok-pass_child-in-Vacant.ensures.gives v value span) in
     rw front (places _ (search (rules, same)))

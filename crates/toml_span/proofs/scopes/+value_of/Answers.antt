@@ -14,7 +14,6 @@ use Rattle.toml_span.proofs.Borrowing as borrowing
 use Rattle.toml_span.proofs.Borrowing.{again_from, assignment_from, first_from}
 use Rattle.toml_span.proofs.Assignments.{none-left, places-one, val_span, remains-first, placing-more, placing-err, placing-none, table-gives, table-err}
 use Rattle.toml_span.proofs.Values.{elements-first, elements-more, elements-err, elements-none, string-gives, integer-gives, float-gives, boolean-gives, datetime-gives, array-gives, array-err, inline-gives, inline-err}
-use Rattle.toml_span.proofs.InsideLemmas.{assignment_inside, key_values_rest, key_values_again, items_rest, items_again, inline_inside}
 use Rattle.toml_span.proofs.scopes.+value_of.Goals as goal
 use Rattle.toml_span.proofs.scopes.+value_of.Goals.{value_of-in-String, value_of-in-Integer, value_of-in-Float, value_of-in-Boolean, value_of-in-Datetime, value_of-in-Array+in_ok-array_of-in-Array, value_of-in-Inline+in_ok-table_of-in-Inline}
 
@@ -24,7 +23,6 @@ pub array_of-loop-element-init : goal.array_of-loop-element-init
 array_of-loop-element-init t c = record {
   can = tt;
   ends = tt;
-  inside = λ n h. items_again n _ _ c.into_iter-element-iterator.ensures.into_iter_gives.0 h;
   borrows = λ text ps h. (again_from text ps written _ _ c.into_iter-element-iterator.ensures.into_iter_gives.0 h, rw c.in_ok-array.ensures.items tt);
   finished = elements-first _ _ _ c.into_iter-element-iterator.ensures.into_iter_gives.0 c.in_ok-array.ensures.items;
 }
@@ -33,7 +31,6 @@ pub array_of-loop-element-preserved : goal.array_of-loop-element-preserved
 array_of-loop-element-preserved t c = record {
   can = tt;
   ends = tt;
-  inside = λ n h. (items_rest n _ _ c.in-Some.element c.in-Some.ensures.steps.0 (c.loop-element.invariant.inside n h)).1;
   borrows = λ text ps h.
       let before = c.loop-element.invariant.borrows text ps h in
       let first = first_from text ps written _ _ c.in-Some.element c.in-Some.ensures.steps.0 before.0 in
@@ -51,12 +48,6 @@ array_of-returns-in_err-value_of-clause-gives t c =
 pub array_of-returns-clause-gives : goal.array_of-returns-clause-gives
 array_of-returns-clause-gives t c = elements-none _ _ c.loop-element.array (none-left _ _ c.loop-element.element-iterator.rest.ok.0 c.in-None.ensures.steps.0) c.loop-element.invariant.finished
 
-pub array_of-returns-in_err-value_of-clause-placed : goal.array_of-returns-in_err-value_of-clause-placed
-array_of-returns-in_err-value_of-clause-placed t c = λ n h.
-    let here = (items_rest n _ _ c.in-Some.element c.in-Some.ensures.steps.0 (c.loop-element.invariant.inside n h)).0 in
-    let placed = c.in_err-value_of.ensures.placed n here in
-    search (rules)
-
 -- ---- assignments
 
 pub place_one-returns-clause-gives : goal.place_one-returns-clause-gives
@@ -64,16 +55,10 @@ place_one-returns-clause-gives t c =
     places-one c.args.pair c.as_slice.result.now c.args.node.now c.place_pair.new.node c.place_pair.result c.as_slice.ensures.value
     (c.place_pair.ensures.gives (view c.args.pair.value) c.value_of-value.ensures.gives (val_span c.args.pair.value))
 
-pub place_one-returns-clause-placed : goal.place_one-returns-clause-placed
-place_one-returns-clause-placed t c = λ n h.
-    let inside = assignment_inside n c.args.pair h in
-    c.place_pair.ensures.placed n (rw c.as_slice.ensures.value inside.0) inside.1 (c.value_of-value.ensures.placed n inside.2)
-
 pub place_pairs-loop-pair-init : goal.place_pairs-loop-pair-init
 place_pairs-loop-pair-init t c = record {
   can = tt;
   ends = tt;
-  inside = λ n h. key_values_again n _ _ c.into_iter-pair-iterator.ensures.into_iter_gives.0 h;
   borrows = λ text ps h before. (again_from text ps assignment_written _ _ c.into_iter-pair-iterator.ensures.into_iter_gives.0 h, before);
   placing = remains-first _ _ _ c.into_iter-pair-iterator.ensures.into_iter_gives.0;
 }
@@ -82,7 +67,6 @@ pub place_pairs-loop-pair-preserved : goal.place_pairs-loop-pair-preserved
 place_pairs-loop-pair-preserved t c = record {
   can = tt;
   ends = tt;
-  inside = λ n h. (key_values_rest n _ _ c.in-Some.pair c.in-Some.ensures.steps.0 (c.loop-pair.invariant.inside n h)).1;
   borrows = λ text ps h node.
       let before = c.loop-pair.invariant.borrows text ps h node in
       let first = first_from text ps assignment_written _ _ c.in-Some.pair c.in-Some.ensures.steps.0 before.0 in
@@ -99,12 +83,6 @@ place_pairs-returns-in_err-place_one-clause-gives t c =
 
 pub place_pairs-returns-clause-gives : goal.place_pairs-returns-clause-gives
 place_pairs-returns-clause-gives t c = placing-none c.loop-pair.node _ _ _ (none-left _ _ c.loop-pair.pair-iterator.rest.ok.0 c.in-None.ensures.steps.0) c.loop-pair.invariant.placing
-
-pub place_pairs-returns-in_err-place_one-clause-placed : goal.place_pairs-returns-in_err-place_one-clause-placed
-place_pairs-returns-in_err-place_one-clause-placed t c = λ n h.
-    let here = (key_values_rest n _ _ c.in-Some.pair c.in-Some.ensures.steps.0 (c.loop-pair.invariant.inside n h)).0 in
-    let placed = c.in_err-place_one.ensures.placed n here in
-    search (rules)
 
 -- ---- inline tables
 
@@ -149,14 +127,6 @@ value_of-returns-clause-gives t c =
       | value_of-in-Array+in_ok-array_of-in-Array w ↦ array-gives v w.in-Array.elements w.in_ok-array_of-in-Array.field-0 inner x w.in-Array.is w.inner-is seen w.in_ok-array_of-in-Array.ensures.gives
       | value_of-in-Inline+in_ok-table_of-in-Inline w ↦ inline-gives v w.in-Inline.pairs w.in_ok-table_of-in-Inline.field-0 inner x w.in-Inline.is w.inner-is seen w.in_ok-table_of-in-Inline.ensures.gives
     ]
-
-pub table_of-returns-in_err-place_pairs-clause-placed : goal.table_of-returns-in_err-place_pairs-clause-placed
-table_of-returns-in_err-place_pairs-clause-placed t c = λ n h. let placed = c.in_err-place_pairs.ensures.placed n h in search (rules)
-
-pub value_of-returns-in_err-table_of-in-Inline-clause-placed : goal.value_of-returns-in_err-table_of-in-Inline-clause-placed
-value_of-returns-in_err-table_of-in-Inline-clause-placed t c = λ n h.
-    let placed = c.in_err-table_of-in-Inline.ensures.placed n (inline_inside n c.args.val c.in-Inline.pairs c.in-Inline.is h) in
-    search (rules)
 
 -- ---- what is borrowed
 

@@ -7,13 +7,13 @@ use Rattle.toml_span.specs.code.Tree.{held_marks, marks}
 use Rattle.toml_span.proofs.Placed.{gives-map}
 use Rattle.toml_span.proofs.scopes.admit_beside_table.Goals as goal
 
-pub returns-in-Some-clause-gives : goal.returns-in-Some-clause-gives
-returns-in-Some-clause-gives c =
+pub returns-in-Some : goal.returns-in-Some
+returns-in-Some c =
     let name = cow_str_bytes c.args.key.now.name in
     let found = sym c.get.ensures.value ∙ ap option_copied c.in-Some.is in
     gives-map c.admit.result _ _ _ _
-    (ap (λ o. met (held_marks (option_map box_value o)) c.args.mark name) found ∙ ap (λ ms. met ms c.args.mark name) (sym (c.as_slice.ensures ∙ ap marks c.deref.ensures))) (λ u h. h) c.admit.ensures.gives
+    (ap (λ o. met (held_marks (option_map box_value o)) c.args.mark name) found ∙ ap (λ ms. met ms c.args.mark name) (sym (c.as_slice.ensures ∙ ap marks c.deref.ensures))) (λ u h. h) c.admit.ensures
 
-pub returns-in-None-clause-gives : goal.returns-in-None-clause-gives
-returns-in-None-clause-gives c =
+pub returns-in-None : goal.returns-in-None
+returns-in-None c =
     (ap (λ o. met (held_marks (option_map box_value o)) c.args.mark (cow_str_bytes c.args.key.now.name)) (sym c.get.ensures.value ∙ ap option_copied c.in-None.is), tt)

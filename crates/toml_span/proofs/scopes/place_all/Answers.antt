@@ -1,23 +1,20 @@
-use Rattle.std.proofs.Common.{rules, ◌∙◌}
+use Rattle.std.proofs.Common.{◌∙◌}
 use Rattle.toml_span_read.specs.Borrowed.{assignment_written}
 use Rattle.toml_span.proofs.Placed.{err-of}
 use Rattle.toml_span.proofs.Borrowing.{again_from, first_from}
 use Rattle.toml_span.proofs.Assignments.{remains-first, placing-more, placing-err, placing-none}
-use Rattle.toml_span.proofs.InsideLemmas.{key_values_rest, key_values_again}
 use Rattle.toml_span.proofs.scopes.place_all.Goals as goal
 
 pub loop-pair-init : goal.loop-pair-init
 loop-pair-init c =
     let all = c.into_iter-pair-iterator.ensures.into_iter_gives ∙ c.new-pair-items.ensures in
     record {
-      inside = λ n h. key_values_again n _ _ all h;
       borrows = λ text ps h before. (again_from text ps assignment_written _ _ all h, before);
       placing = remains-first _ _ _ all;
     }
 
 pub loop-pair-preserved : goal.loop-pair-preserved
 loop-pair-preserved c = record {
-  inside = λ n h. (key_values_rest n _ _ c.in-Some.pair c.in-Some.ensures.steps (c.loop-pair.invariant.inside n h)).1;
   borrows = λ text ps h node.
       let before = c.loop-pair.invariant.borrows text ps h node in
       let first = first_from text ps assignment_written _ _ c.in-Some.pair c.in-Some.ensures.steps before.0 in
@@ -31,12 +28,6 @@ returns-in_err-place_one-clause-gives c =
     let e = c.in_err-place_one.field-0.0 in
     placing-err c.loop-pair.node c.place_one.new.node c.args.node.now c.place_one.new.node _ _ _ c.in-Some.pair q e c.in-Some.ensures.steps c.loop-pair.invariant.placing
     (err-of q e _ c.from_residual.ensures.1 (λ y p. p)) c.in_err-place_one.ensures.gives
-
-pub returns-in_err-place_one-clause-placed : goal.returns-in_err-place_one-clause-placed
-returns-in_err-place_one-clause-placed c = λ n h.
-    let here = (key_values_rest n _ _ c.in-Some.pair c.in-Some.ensures.steps (c.loop-pair.invariant.inside n h)).0 in
-    let placed = c.in_err-place_one.ensures.placed n here in
-    search (rules)
 
 pub returns-clause-gives : goal.returns-clause-gives
 returns-clause-gives c = placing-none c.loop-pair.node _ _ _ c.in-None.ensures.steps.0 c.loop-pair.invariant.placing

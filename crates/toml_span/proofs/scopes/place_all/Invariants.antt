@@ -1,16 +1,13 @@
-use Rattle.std.proofs.Common.{ℕ, List, map}
+use Rattle.std.proofs.Common.{ℕ, List}
 use Rattle.toml_span_read.specs.Borrowed.{assignments_written}
 use Rattle.toml_span_read.specs.Keys.{SimpleKey}
 use Rattle.toml_span.specs.code.Borrowed.{AreFrom, standing}
 use Rattle.toml_span.specs.Borrowed.{AreBorrowedRight}
-use Rattle.toml_span_read.specs.Data.{key_value}
-use Rattle.toml_span_read.specs.Places.{KeyValuesInside}
 use Rattle.toml_span.proofs.Assignments.{Placing}
 use Rattle.toml_span.proofs.scopes.place_all.Given as goal
 
 abbrev pub invariant-loop-pair : goal.invariant-loop-pair
 invariant-loop-pair l = record {
-  inside : (n : ℕ) → KeyValuesInside n (map key_value l.fn.pairs.items) → KeyValuesInside n (map key_value l.pair-iterator);
   borrows : (text : List ℕ) (ps : List SimpleKey) → AreFrom text ps (assignments_written l.fn.pairs.items) → AreBorrowedRight text ps (standing l.fn.node)
       → AreFrom text ps (assignments_written l.pair-iterator) × AreBorrowedRight text ps (standing l.node);
   placing : Placing l.node l.pair-iterator l.fn.node l.fn.pairs.items;

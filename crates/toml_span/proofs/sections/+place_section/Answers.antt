@@ -18,49 +18,18 @@ use Rattle.toml_span.proofs.Claimed.{marked-roll}
 use Rattle.toml_span.proofs.Placed.{roll-out}
 use Rattle.toml_span.proofs.Headers.{descended, descended-err, no-latest, parts-below, parts-front, parts-none, parts-some, pass-again, pass-end, pass-lent, pass-vec, section-beside, section-end, section-found, section-free, section-new, section-new-err}
 use Rattle.toml_span.proofs.Borrowing.{front_from, keeps_entered, keeps_entry, keeps_marked, keeps_new, keeps_same}
-use Rattle.toml_span.proofs.InsideLemmas.{front_inside}
-use Rattle.toml_span.proofs.PlaceLemmas.{header_inside}
 use Rattle.toml_span.proofs.Placed.{err-of, sets-new}
 use Rattle.toml_span.proofs.Named.{looked}
 use Rattle.toml_span.proofs.sections.+place_section.Goals as goal
 
-pub descend-returns-in_err-claim-clause-placed : goal.descend-returns-in_err-claim-clause-placed
-descend-returns-in_err-claim-clause-placed t c = λ n simple_key rest line pairs. let placed = c.in_err-claim.ensures.placed n (header_inside n _ _ _ _ _ c.header_mark.ensures simple_key line) in search (rules)
-
-pub descend-returns-clause-placed : goal.descend-returns-clause-placed
-descend-returns-clause-placed t c = λ n simple_key rest line pairs. c.place_section.ensures.placed n rest line pairs
-
-pub pass_header-returns-then-is_empty-clause-placed : goal.pass_header-returns-then-is_empty-clause-placed
-pass_header-returns-then-is_empty-clause-placed t c = λ n simple_key rest line pairs. c.end_header.ensures.placed n simple_key line pairs
-
-pub place_section-returns-in_default-clause-placed : goal.place_section-returns-in_default-clause-placed
-place_section-returns-in_default-clause-placed t c = λ n parts line pairs. c.place_all.ensures.placed n pairs
-
-pub place_section-returns-in_err-admit_beside_value-in-Vacant-clause-placed : goal.place_section-returns-in_err-admit_beside_value-in-Vacant-clause-placed
-place_section-returns-in_err-admit_beside_value-in-Vacant-clause-placed t c = λ n parts line pairs.
-    let front = front_inside n c.args.parts.now c.part-item.result _ c.in-len1-up.len_at_least c.part-item.is parts in
-    let placed = c.in_err-admit_beside_value-in-Vacant.ensures.placed n (header_inside n _ _ _ _ _ c.header_mark-mark.ensures front.0 line) in
-    search (rules)
-
-pub place_section-returns-in_err-pass_child-in-Vacant-clause-placed : goal.place_section-returns-in_err-pass_child-in-Vacant-clause-placed
-place_section-returns-in_err-pass_child-in-Vacant-clause-placed t c = λ n parts line pairs.
-    let front = front_inside n c.args.parts.now c.part-item.result _ c.in-len1-up.len_at_least c.part-item.is parts in
-    let placed = c.in_err-pass_child-in-Vacant.ensures.placed n front.0 front.1 line pairs in
-    search (rules)
-
-pub place_section-returns-in-Occupied-clause-placed : goal.place_section-returns-in-Occupied-clause-placed
-place_section-returns-in-Occupied-clause-placed t c = λ n parts line pairs.
-    let front = front_inside n c.args.parts.now c.part-item.result _ c.in-len1-up.len_at_least c.part-item.is parts in
-    c.pass_child.ensures.placed n front.0 front.1 line pairs
-
 pub descend-returns-in_err-claim-clause-gives : goal.descend-returns-in_err-claim-clause-gives
 descend-returns-in_err-claim-clause-gives t c =
     descended-err c.args.head (simple_key c.args.part.now) (key_value_claims (map key_value c.args.pairs.items) []) (map simple_key c.args.rest.now) c.args.node.now _ c.from_residual.result c.in_err-claim.field-0.0 _ _ _
-    (err-of c.from_residual.result c.in_err-claim.field-0.0 _ c.from_residual.ensures.1 (λ y p. p)) (rw c.header_mark.ensures at c.in_err-claim.ensures.gives)
+    (err-of c.from_residual.result c.in_err-claim.field-0.0 _ c.from_residual.ensures.1 (λ y p. p)) (rw c.header_mark.ensures at c.in_err-claim.ensures)
 
 pub descend-returns-clause-gives : goal.descend-returns-clause-gives
 descend-returns-clause-gives t c =
-    let claimed = rw c.header_mark.ensures at c.in_ok-claim.ensures.gives in
+    let claimed = rw c.header_mark.ensures at c.in_ok-claim.ensures in
     descended c.args.head (simple_key c.args.part.now) (key_value_claims (map key_value c.args.pairs.items) []) (map simple_key c.args.rest.now) c.args.node.now _ c.place_section.new.node c.place_section.result claimed.0
     (marked-roll (header_mark c.args.head Passed c.args.part.now.span) c.args.node.now _ claimed.1 refl refl refl) c.place_section.ensures.gives
 
@@ -89,7 +58,7 @@ place_section-returns-in_err-admit_beside_value-in-Vacant-clause-gives t c =
     let n = out-Branch c.args.node.now in
     let front = parts-front c.args.parts.now c.part-item.result _ c.in-len1-up.len_at_least c.part-item.is in
     let missing = looked (simple_key c.part-item.result).name c.in_ok-clone.field-0 n.tables _ c.in_ok-clone.ensures.name (rw c.in-Vacant.is at c.in_ok-entry.ensures.found) in
-    let clash = rw (c.header_mark-mark.ensures, c.sort_of.ensures) at c.in_err-admit_beside_value-in-Vacant.ensures.gives in
+    let clash = rw (c.header_mark-mark.ensures, c.sort_of.ensures) at c.in_err-admit_beside_value-in-Vacant.ensures in
     let q = c.from_residual-in_err-admit_beside_value-in-Vacant in
     let e = c.in_err-admit_beside_value-in-Vacant.field-0.0 in
     rw front (section-beside c.args.head (simple_key c.part-item.result) (key_value_claims (map key_value c.args.pairs.items) []) _ c.args.node.now _ q.result e _ _ missing (err-of q.result e _ q.ensures.1 (λ y p. p)) clash)
@@ -99,7 +68,7 @@ place_section-returns-in_err-pass_child-in-Vacant-clause-gives t c =
     let n = out-Branch c.args.node.now in
     let front = parts-front c.args.parts.now c.part-item.result _ c.in-len1-up.len_at_least c.part-item.is in
     let missing = looked (simple_key c.part-item.result).name c.in_ok-clone.field-0 n.tables _ c.in_ok-clone.ensures.name (rw c.in-Vacant.is at c.in_ok-entry.ensures.found) in
-    let free = rw (c.header_mark-mark.ensures, c.sort_of.ensures) at c.in_ok-admit_beside_value-in-Vacant.ensures.gives in
+    let free = rw (c.header_mark-mark.ensures, c.sort_of.ensures) at c.in_ok-admit_beside_value-in-Vacant.ensures in
     let q = c.from_residual-in_err-pass_child-in-Vacant in
     let e = c.in_err-pass_child-in-Vacant.field-0.0 in
     rw front
@@ -127,7 +96,7 @@ place_section-returns-in_ok-pass_child-in-Vacant-clause-gives t c =
     let n = out-Branch c.args.node.now in
     let front = parts-front c.args.parts.now c.part-item.result _ c.in-len1-up.len_at_least c.part-item.is in
     let missing = looked (simple_key c.part-item.result).name c.in_ok-clone.field-0 n.tables _ c.in_ok-clone.ensures.name (rw c.in-Vacant.is at c.in_ok-entry.ensures.found) in
-    let free = rw (c.header_mark-mark.ensures, c.sort_of.ensures) at c.in_ok-admit_beside_value-in-Vacant.ensures.gives in
+    let free = rw (c.header_mark-mark.ensures, c.sort_of.ensures) at c.in_ok-admit_beside_value-in-Vacant.ensures in
     let clone = c.in_ok-clone in
     let update = rw c.in-Vacant.is at c.in_ok-entry.ensures.update in
     let same = rw c.in-Vacant.is at c.in_ok-entry.ensures.same_map in

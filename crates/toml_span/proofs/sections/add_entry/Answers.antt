@@ -1,4 +1,4 @@
-use Rattle.std.proofs.Common.{map, [], refl, rules}
+use Rattle.std.proofs.Common.{map, [], refl}
 use Rattle.toml_span_read.specs.Data.{key_value}
 use Rattle.toml_span_read.specs.Keys.{simple_key}
 use Rattle.toml_span.specs.declared.claims.Sort.TheVariants.{TableElement}
@@ -14,9 +14,6 @@ returns-in_err-open_table-clause-gives c =
     reaches-added-err (header_mark c.args.head TableElement c.args.part.now.span) c.args.node.now _ c.new-entry.result c.open_table.new.node c.open_table.result c.from_residual.result c.in_err-open_table.field-0.0
     (opening c.args.head TableElement (simple_key c.args.part.now) (key_value_claims (map key_value c.args.pairs.items) [])) _ _ c.new-entry.ensures.fresh c.in_err-open_table.was
     (err-of c.from_residual.result c.in_err-open_table.field-0.0 _ c.from_residual.ensures.1 (λ y p. p)) c.open_table.ensures.gives
-
-pub returns-in_err-open_table-clause-placed : goal.returns-in_err-open_table-clause-placed
-returns-in_err-open_table-clause-placed c = λ n simple_key line pairs. let placed = c.in_err-open_table.ensures.placed n simple_key line pairs in search (rules)
 
 pub returns-clause-gives : goal.returns-clause-gives
 returns-clause-gives c =

@@ -1,4 +1,4 @@
-use Rattle.std.proofs.Common.{[], map, refl, rules, subst, sym, ◌∙◌}
+use Rattle.std.proofs.Common.{[], map, refl, subst, sym, ◌∙◌}
 use Rattle.std.proofs.lemmas.Bool.{not-false, not-true}
 use Rattle.toml_span_read.specs.Data.{key_value}
 use Rattle.toml_span_read.specs.Keys.{simple_key}
@@ -11,7 +11,6 @@ use Rattle.toml_span.proofs.Claimed.{Marked, marked-roll}
 use Rattle.toml_span.proofs.Placed.{err-of}
 use Rattle.toml_span.proofs.Borrowing.{keeps_marked, keeps_same}
 use Rattle.toml_span.proofs.Headers.{end-first, end-first-err, end-further, end-table, no-entries, some-entries}
-use Rattle.toml_span.proofs.PlaceLemmas.{header_inside}
 use Rattle.toml_span.proofs.sections.end_header.Goals as goal
 use Rattle.toml_span.proofs.sections.end_header.Goals.{then-is_empty+in_ok-claim, else-is_empty}
 
@@ -24,10 +23,7 @@ pub returns-in_err-claim-clause-gives : goal.returns-in_err-claim-clause-gives
 returns-in_err-claim-clause-gives c =
     end-first-err c.args.head (simple_key c.args.part.now) (key_value_claims (map key_value c.args.pairs.items) []) c.args.node.now _ c.from_residual.result c.in_err-claim.field-0.0 _ _
     (not-false c.args.head.array c.if-not-head.false) (no-entries c.args.node.now (sym c.is_empty.ensures ∙ c.if-is_empty.true))
-    (err-of c.from_residual.result c.in_err-claim.field-0.0 _ c.from_residual.ensures.1 (λ y p. p)) (rw c.header_mark-mark.ensures at c.in_err-claim.ensures.gives)
-
-pub returns-in_err-claim-clause-placed : goal.returns-in_err-claim-clause-placed
-returns-in_err-claim-clause-placed c = λ n simple_key line pairs. let placed = c.in_err-claim.ensures.placed n (header_inside n _ _ _ _ _ c.header_mark-mark.ensures simple_key line) in search (rules)
+    (err-of c.from_residual.result c.in_err-claim.field-0.0 _ c.from_residual.ensures.1 (λ y p. p)) (rw c.header_mark-mark.ensures at c.in_err-claim.ensures)
 
 pub returns-clause-gives : goal.returns-clause-gives
 returns-clause-gives c =
@@ -37,7 +33,7 @@ returns-clause-gives c =
     let array = not-false c.args.head.array c.if-not-head.false in
     elim c.if-is_empty.branch [
       | then-is_empty+in_ok-claim w ↦
-          let claimed = rw w.header_mark-mark.ensures at w.in_ok-claim.ensures.gives in
+          let claimed = rw w.header_mark-mark.ensures at w.in_ok-claim.ensures in
           end-first c.args.head k tail c.args.node.now c.if-is_empty.node c.add_entry.new.node c.add_entry.result array
           (no-entries c.args.node.now (sym c.is_empty.ensures ∙ w.if-is_empty.true)) claimed.0
           (subst (Marked m c.args.node.now) (sym w.node-is) (marked-roll m c.args.node.now _ claimed.1 refl refl refl)) c.add_entry.ensures.gives

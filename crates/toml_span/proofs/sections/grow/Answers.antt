@@ -1,7 +1,7 @@
 use Rattle.std.proofs.Common.{◌≡◌, false, sym, ◌∙◌}
 use Rattle.std.specs.Prelude.{is_some}
 use Rattle.toml_span_read.specs.Data.{block}
-use Rattle.toml_span.proofs.Growth.{grows-clash, grows-more, halt-inside, right-more}
+use Rattle.toml_span.proofs.Growth.{grows-clash, grows-more, right-more}
 use Rattle.toml_span.proofs.sections.grow.Goals as goal
 
 pub returns-in-Ok-clause-grows : goal.returns-in-Ok-clause-grows
@@ -18,6 +18,3 @@ pub returns-in-Err-Clash-clause-grows : goal.returns-in-Err-Clash-clause-grows
 returns-in-Err-Clash-clause-grows c = λ bs headed grows.
     let none : is_some c.args.grown.now.clash ≡ false = sym c.is_some.ensures ∙ c.if-is_some.false in
     grows-clash bs (block c.args.section) c.args.grown.now.root c.place.new.root c.args.grown.now.clash _ c.in-Err-Clash.clash none c.in-Err-Clash.field-0-is headed grows c.in-Err-Clash.ensures.gives
-
-pub returns-in-Err-Clash-clause-inside : goal.returns-in-Err-Clash-clause-inside
-returns-in-Err-Clash-clause-inside c = λ n inside grown. halt-inside n _ c.in-Err-Clash.clash c.in-Err-Clash.field-0-is (c.in-Err-Clash.ensures.placed n inside)

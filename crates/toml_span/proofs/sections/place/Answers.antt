@@ -1,13 +1,9 @@
 use Rattle.toml_span.proofs.Assembly.{placed-block}
 use Rattle.toml_span.proofs.Borrowing.{keys_again, section_from}
-use Rattle.toml_span.proofs.InsideLemmas.{parts_again}
 use Rattle.toml_span.proofs.sections.place.Goals as goal
 
 pub returns-clause-gives : goal.returns-clause-gives
 returns-clause-gives c = placed-block c.args.section _ c.args.root.now c.place_section.new.node c.place_section.result c.as_slice.ensures c.place_section.ensures.gives
-
-pub returns-clause-placed : goal.returns-clause-placed
-returns-clause-placed c = λ n inside. c.place_section.ensures.placed n (parts_again n _ _ c.as_slice.ensures inside.1) inside.0 inside.2
 
 pub returns-clause-borrows : goal.returns-clause-borrows
 returns-clause-borrows c = λ text ps h.
