@@ -7,8 +7,10 @@
 # to be shown with types as NAME.json has it, and a document runs/refused/NAME.toml as NAME.items and NAME.tagged
 # have it, also with each request for memory refused in turn. PROGRAM is the proved build unless another is named.
 set -uo pipefail
-if [ $# -gt 0 ]; then named=$(realpath "$1"); fi
-cd "$(dirname "$0")/../crates/toml_span_check"
+unset CDPATH
+script=$(readlink -f -- "${BASH_SOURCE[0]}")
+if [ $# -gt 0 ]; then named=$(realpath -- "$1"); fi
+cd -- "${script%/scripts/*}/crates/toml_span_check" || exit
 program=${named-$PWD/out/toml_span_check}
 if [ ! -x "$program" ]; then
     echo "check runs: there is no program $program"
