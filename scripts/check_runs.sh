@@ -7,13 +7,16 @@
 # to be shown with types as NAME.json has it, and a document runs/refused/NAME.toml as NAME.items and NAME.tagged
 # have it, also with each request for memory refused in turn. PROGRAM is the proved build unless another is named.
 set -uo pipefail
-if [ $# -gt 0 ]; then named=$(realpath "$1"); fi
-cd "$(dirname "$0")/../crates/toml_span_check"
+unset CDPATH
+script=$(readlink -f -- "${BASH_SOURCE[0]}")
+if [ $# -gt 0 ]; then named=$(realpath -- "$1"); fi
+cd -- "${script%/scripts/*}/crates/toml_span_check" || exit
 program=${named-$PWD/out/toml_span_check}
 if [ ! -x "$program" ]; then
     echo "check runs: there is no program $program"
     exit 1
 fi
+unset NO_COLOR CLICOLOR_FORCE
 work=$(mktemp -d)
 trap 'rm -rf "$work"' EXIT
 count=0
@@ -58,7 +61,7 @@ for document in runs/tagged/*.toml data/*.toml; do
         head -c "$at" "$document" >"$work/cut"
         for format in text short json; do
             count=$((count + 1))
-            timeout 60 "$program" --format "$format" "$work/cut" >"$work/written"
+            timeout 60 "$program" --format "$format" "$work/cut" >"$work/written" 2>"$work/complaint"
             status=$?
             if [ "$status" -gt 1 ]; then
                 wrong=$((wrong + 1))
@@ -86,10 +89,53 @@ timeout 60 "$program" --format >"$work/written" 2>/dev/full
 status=$?
 ended "what is wrong"
 
+# coloured WANTED VARIABLE..: with these variables of the environment a report has colours, or has none
+coloured() {
+    env "${@:2}" timeout 60 "$program" data/settings.toml >"$work/written" 2>"$work/complaint"
+    status=$?
+    if grep -q $'\e' "$work/written"; then seen=yes; else seen=no; fi
+    count=$((count + 1))
+    if [ "$status" -ne 1 ] || [ "$seen" != "$1" ]; then
+        wrong=$((wrong + 1))
+        echo "check runs: with ${*:2} colours: $seen (wanted: $1), status $status"
+    fi
+}
+coloured no TERM=xterm
+coloured yes CLICOLOR_FORCE=1
+coloured yes CLICOLOR_FORCE=1 TERM=dumb
+coloured no CLICOLOR_FORCE=0
+coloured no CLICOLOR_FORCE=
+coloured no CLICOLOR_FORCE=1 NO_COLOR=1
+coloured yes CLICOLOR_FORCE=1 NO_COLOR=
+coloured no CLICOLOR_FORCE=1 NO_COLOR=$'\xff'
+
+# the same on a terminal, and on one that is dumb
+if ! python3 - "$program" <<'PYTHON'; then wrong=$((wrong + 1)); fi
+import os
+import pty
+import sys
+
+RUNS = [({"TERM": "xterm"}, True), ({"TERM": "dumb"}, False), ({"TERM": "xterm", "NO_COLOR": "1"}, False), ({}, True)]
+for variables, wanted in RUNS:
+    child, terminal = pty.fork()
+    if child == 0:
+        os.execve(sys.argv[1], ["toml_span_check", "data/settings.toml"], variables)
+    told = b""
+    try:
+        while part := os.read(terminal, 4096):
+            told += part
+    except OSError:
+        pass
+    os.waitpid(child, 0)
+    if (b"\x1b" in told) != wanted:
+        sys.exit(f"check runs: on a terminal with {variables} colours: {not wanted} (wanted: {wanted})")
+PYTHON
+count=$((count + 1))
+
 # a name with a line feed makes no second line
 count=$((count + 1))
 timeout 60 "$program" $'nothing\n::error file=data/settings.toml' >"$work/written" 2>"$work/complaint"
-if [ "$(wc -l <"$work/complaint")" -ne 1 ]; then
+if [ "$(wc -l <"$work/complaint")" -ne 2 ] || grep -q '^::' "$work/complaint"; then
     wrong=$((wrong + 1))
     echo "check runs: a name with a line feed is told in more than a line"
 fi
@@ -131,6 +177,7 @@ refuse() {
 refuse settings.toml
 refuse --color always latin.toml settings.toml
 refuse --format short settings.toml
+refuse settings.toml nothing.toml
 refuse --format json settings.toml nothing.toml
 refuse --tagged tree.toml
 refuse --items tree.toml

@@ -18,7 +18,9 @@
 #
 # ROWS, SHOW, DERIVED (toml_span_serde_rows) and EXAMPLE are the proved builds unless others are named.
 set -uo pipefail
-cd "$(dirname "$0")/.."
+unset CDPATH
+script=$(readlink -f -- "${BASH_SOURCE[0]}")
+cd -- "${script%/scripts/*}" || exit
 source scripts/refuse.sh
 rows=${1-crates/toml_span_rows/out/toml_span_rows}
 show=${2-crates/toml_span_show/out/toml_span_show}

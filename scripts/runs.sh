@@ -5,8 +5,11 @@
 # write, and NAME.status, how it has to end where that is not 0. PROGRAM is the proved build unless another is named.
 # Where none is named, the runs of the example follow (crates/toml_span_example).
 set -uo pipefail
-cd "$(dirname "$0")/../crates/toml_span_show"
-program=${1-out/toml_span_show}
+unset CDPATH
+script=$(readlink -f -- "${BASH_SOURCE[0]}")
+if [ $# -gt 0 ]; then named=$(realpath -- "$1"); fi
+cd -- "${script%/scripts/*}/crates/toml_span_show" || exit
+program=${named-out/toml_span_show}
 if [ ! -x "$program" ]; then
     echo "runs: there is no program $program"
     exit 1

@@ -13,6 +13,7 @@
 #   without control, escape or bidi characters, whatever the name.
 # - scripts/quick.sh without the toolchain: one line.
 # - scripts/install.sh: what it puts where; where something fails, what was there before is there still, and whole.
+# - docs/report.svg is the picture of the stored report in colours.
 # - docs/CI.md and the man page, where the checker is built: each command of the page, and each word of the usage.
 # And once with the toolchain that is here: a build of a program of five lines (two thirds of what this takes).
 set -uo pipefail
@@ -519,6 +520,11 @@ if unshare -rm true 2>/dev/null; then
     is "leaves there what was there" same_files "$work/out" "$work/wanted"
     is "and says so" grep -q "toml_span_show can't be written: is there room left?" "$work/err"
 fi
+
+# ---- the picture of a report
+
+run python3 "$top/scripts/picture.py" --check
+is "the picture is what the checker writes" ended 0
 
 # ---- what docs/CI.md says, with the checker itself
 

@@ -39,13 +39,13 @@ answer-small format task pointer name bytes answer a = elim (cases_lt bound (len
   | inr short ↦ short-small format task pointer name bytes answer (is_utf8 bytes) refl short a
 ]
 
-pub told-small : (format : Format) (task : Task) (pointer : List ℕ) (rs : List Reading) (out errors : List ℕ) (status : ℕ) → Gathered format task pointer rs out errors status → status ≤ 2
-told-small format task pointer rs out errors status nothing = omega arith
-told-small format task pointer rs out errors status (answered before said warned earlier name bytes answer told is) =
-    let old = told-small format task pointer before said warned earlier told in
+pub told-small : (format : Format) (task : Task) (pointer : List ℕ) (rs : List Reading) (out errors : List ℕ) (status wrong : ℕ) → Gathered format task pointer rs out errors status wrong → status ≤ 2
+told-small format task pointer rs out errors status wrong nothing = omega arith
+told-small format task pointer rs out errors status wrong (answered before said warned earlier some name bytes answer told is) =
+    let old = told-small format task pointer before said warned earlier some told in
     let more = answer-small format task pointer name bytes answer is in
     omega arith
-told-small format task pointer rs out errors status (unread before said warned earlier name reason told) = omega arith
+told-small format task pointer rs out errors status wrong (unread before said warned earlier some name reason told) = omega arith
 
 -- where neither write failed, the status is not that of a failed one
 pub neither-failed : (untold unwarned : Bool) (status : ℕ) → ¬ (status ≡ 3) → untold ≡ false → unwarned ≡ false → (status ≡ 3) ↔ IsTrue (untold || unwarned)
@@ -59,7 +59,8 @@ says-small old new false text said status small s = let same = (s.whole refl).1 
 
 pub starts-small : (words : List (List ℕ)) (t : Bool) (old new : Option (List Reading)) (told told' : Option (List ℕ)) (untold : Bool) (warned warned' : Option (List ℕ)) (unwarned : Bool) (status : ℕ) →
     Starts words t old new told told' untold warned warned' unwarned status → status ≤ 4
-starts-small words t old new told told' untold warned warned' unwarned status (inl (format, task, pointer, names, fine, asks, runs)) = runs.known
+starts-small words t old new told told' untold warned warned' unwarned status (inl (format, task, pointer, names, is_quiet, fine, asks, runs)) = runs.known
 starts-small words t old new told told' untold warned warned' unwarned status (inr (kind, among, same, inl (is, says, keeps))) = says-small _ _ _ _ _ _ (omega arith) says
-starts-small words t old new told told' untold warned warned' unwarned status (inr (kind, among, same, inr (inl (other, keeps, (message, says))))) = says-small _ _ _ _ _ _ (omega arith) says
-starts-small words t old new told told' untold warned warned' unwarned status (inr (kind, among, same, inr (inr (four, kept, silent)))) = omega (arith, four)
+starts-small words t old new told told' untold warned warned' unwarned status (inr (kind, among, same, inr (inl (is, says, keeps)))) = says-small _ _ _ _ _ _ (omega arith) says
+starts-small words t old new told told' untold warned warned' unwarned status (inr (kind, among, same, inr (inr (inl (other, more, keeps, (message, says)))))) = says-small _ _ _ _ _ _ (omega arith) says
+starts-small words t old new told told' untold warned warned' unwarned status (inr (kind, among, same, inr (inr (inr (four, kept, silent))))) = omega (arith, four)

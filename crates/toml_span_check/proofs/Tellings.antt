@@ -18,27 +18,27 @@ logs-more (Some xs) (Some ys) c rs r h k =
     k ∙ ap Some (ap (λ zs. zs ++ r ∷ []) whole ∙ append_assoc xs rs (r ∷ []))
 
 pub tells-start : (format : Format) (task : Task) (pointer : List ℕ) (log : Option (List Reading)) (out errors : List ℕ) → out ≡ [] → errors ≡ [] →
-    Tells format task pointer [] log log out errors 0
+    Tells format task pointer [] log log out errors 0 0
 tells-start format task pointer log out errors none silent =
     record { readings = []; asked = refl; logged = logs-none log; told = rw (none, silent) nothing }
 
-pub tells-more : (format : Format) (task : Task) (pointer : List ℕ) (names more : List (List ℕ)) (name : List ℕ) (old mid new : Option (List Reading)) (reading : Result (List ℕ) Unread) (out errors : List ℕ) (status : ℕ) (out' errors' : List ℕ) (status' : ℕ) →
-    Tells format task pointer names old mid out errors status → more ≡ names ++ name ∷ [] → Logs mid new ((name, reading) ∷ []) →
-    Adds format task pointer name reading (out, errors, status) (out', errors', status') →
-    Tells format task pointer more old new out' errors' status'
-tells-more format task pointer names more name old mid new (Ok bytes) out errors status out' errors' status' t n l a =
+pub tells-more : (format : Format) (task : Task) (pointer : List ℕ) (names more : List (List ℕ)) (name : List ℕ) (old mid new : Option (List Reading)) (reading : Result (List ℕ) Unread) (out errors : List ℕ) (status wrong : ℕ) (out' errors' : List ℕ) (status' wrong' : ℕ) →
+    Tells format task pointer names old mid out errors status wrong → more ≡ names ++ name ∷ [] → Logs mid new ((name, reading) ∷ []) →
+    Adds format task pointer name reading (out, errors, status, wrong) (out', errors', status', wrong') →
+    Tells format task pointer more old new out' errors' status' wrong'
+tells-more format task pointer names more name old mid new (Ok bytes) out errors status wrong out' errors' status' wrong' t n l a =
     record {
       readings = t.readings ++ (name, Ok bytes) ∷ [];
       asked = map-append (λ r. r.0) t.readings ((name, Ok bytes) ∷ []) ∙ ap (λ ns. ns ++ name ∷ []) t.asked ∙ sym n;
       logged = logs-more old mid new t.readings (name, Ok bytes) t.logged l;
-      told = rw (a.2, a.3, a.4) (answered t.readings out errors status name bytes a.0 t.told a.1);
+      told = rw (a.2, a.3, a.4, a.5) (answered t.readings out errors status wrong name bytes a.0 t.told a.1);
     }
-tells-more format task pointer names more name old mid new (Err reason) out errors status out' errors' status' t n l a =
+tells-more format task pointer names more name old mid new (Err reason) out errors status wrong out' errors' status' wrong' t n l a =
     record {
       readings = t.readings ++ (name, Err reason) ∷ [];
       asked = map-append (λ r. r.0) t.readings ((name, Err reason) ∷ []) ∙ ap (λ ns. ns ++ name ∷ []) t.asked ∙ sym n;
       logged = logs-more old mid new t.readings (name, Err reason) t.logged l;
-      told = rw (a.0, a.1, a.2) (unread t.readings out errors status name reason t.told);
+      told = rw (a.0, a.1, a.2, a.3) (unread t.readings out errors status wrong name reason t.told);
     }
 
 pub names-more : (names : List (Bor (List ℕ))) (i : ℕ) (d : Bor (List ℕ)) → i < length names →

@@ -1,4 +1,5 @@
 pub mod Answer
+pub mod Colours
 pub mod Dates
 pub mod Faults
 pub mod Options

@@ -1,6 +1,6 @@
 -- Which options come of which words. The words are cut into options by the kit's `clap`, whose `matches_of` and
 -- `fault_of` are functions of them.
-use Rattle.std.specs.Prelude.{◌≡◌, ◌&&◌, ℕ, Bool, List, [], ◌∷◌, Option, Some, None, codes, is_some}
+use Rattle.std.specs.Prelude.{◌≡◌, ◌&&◌, ℕ, Bool, true, List, [], ◌∷◌, Option, Some, None, codes, is_some}
 use Rattle.std.specs.Prelude.{unwrap_or, if◌then◌else◌, Result, Ok, Err}
 use Rattle.std.specs.Str.{bytes_eq}
 use Rattle.clap.specs.Lexer.{usize_max}
@@ -41,12 +41,17 @@ files = record (new_rule (codes "FILE")) {
   defaults = codes "-" ∷ [];
 }
 
--- `toml_span_check [--format FORMAT] [--color WHEN] [--get POINTER] [--tagged] [--items] [FILE..]`
+-- a program that has a version, and so `--version`
+abbrev pub with_version : App → App
+with_version app = record app { top = record app.top { has_version = true } }
+
+-- `toml_span_check [--format FORMAT] [--color WHEN] [--get POINTER] [--tagged] [--items] [--quiet] [FILE..]`
 unfoldable pub program : App
 program =
-    with_rule (with_rule (with_rule (with_rule (with_rule (with_rule (new_app (codes "toml_span_check"))
+    with_rule (with_rule (with_rule (with_rule (with_rule (with_rule (with_rule
+    (with_version (new_app (codes "toml_span_check")))
     (choice (codes "format") (codes "text"))) (choice (codes "color") (codes "auto"))) (option (codes "get")))
-    (flag (codes "tagged"))) (flag (codes "items"))) files
+    (flag (codes "tagged"))) (flag (codes "items"))) (flag (codes "quiet"))) files
 
 -- ---- what they ask for
 
@@ -100,13 +105,14 @@ asked rows is_terminal = with_style (style_named (value_of rows (codes "color"))
 unfoldable pub options : List (List ℕ) → List Row
 options words = matches_of program words
 
--- What words ask for that are taken: the format and the task, where the value stands that is shown, and the names of
--- the files.
+-- What words ask for that are taken: the format and the task, where the value stands that is shown, the names of
+-- the files, and whether nothing is written.
 pub record Asks (words : List (List ℕ)) (is_terminal : Bool) (format : Format) (task : Task) (pointer : List ℕ)
-    (names : List (List ℕ)) : Type 0 where
+    (names : List (List ℕ)) (is_quiet : Bool) : Type 0 where
   pub what : asked (options words) is_terminal ≡ Ok (format, task)
   pub place : pointer ≡ value_of (options words) (codes "get")
   pub files : names ≡ unwrap_or (all_of (codes "FILE") (options words)) []
+  pub quiet : is_quiet ≡ is_given (options words) (codes "quiet")
 
 -- ---- what is wrong with them
 

@@ -14,7 +14,7 @@ use toml_span_report::Style;
 /// How the program is used.
 pub(crate) const USAGE: &str = "\
 usage: toml_span_check [--format text|json|short] [--color auto|always|never]
-                       [--get POINTER] [--tagged | --items] [FILE..]
+                       [--get POINTER] [--tagged | --items] [--quiet] [FILE..]
 
 Tells the fault of each FILE that is no TOML document. With no FILE, and for `-`, standard input is read.
 
@@ -22,13 +22,19 @@ Tells the fault of each FILE that is no TOML document. With no FILE, and for `-`
   --format short   each fault in one line, as FILE:LINE:COLUMN: CODE: MESSAGE
   --format json    each fault as one line of JSON
   --color WHEN     whether marks have colours: always, never, or auto (the default), on a terminal
+                   whose TERM is not dumb; NO_COLOR=1 is for none, CLICOLOR_FORCE=1 for some everywhere
   --get POINTER    shows the value at POINTER, as /a/b/0, as JSON
   --tagged         shows the document, or what --get names, with the type of each scalar, as toml-test reads it
   --items          shows the document, or what --get names, as a line for each node, with the bytes where it stands
+  --quiet          writes nothing: the status tells
+  --version        writes the version
   --               takes each further word as a FILE
 
 Status: 0 all are read, 1 one has a fault, 2 one can't be read or the words are wrong, 3 a write fails, 4 no memory.
 ";
+
+/// The version: of the Rust crate that has the same names, and of the language.
+pub(crate) const VERSION: &str = "toml_span_check 0.7.2, for TOML 1.1\n";
 
 /// What the words ask for.
 #[derive(Drop)]
@@ -38,6 +44,8 @@ pub(crate) struct Options<'w> {
     /// Where the value stands that is shown: nothing for the whole document.
     pub(crate) pointer: &'w str,
     pub(crate) names: Vec<&'w str>,
+    /// Nothing is written.
+    pub(crate) is_quiet: bool,
 }
 
 /// What is wrong with words that clap takes.
@@ -90,11 +98,13 @@ fn command<'w>(alloc: Global) -> Result<Command<'w>, AllocError>
     Command::new(alloc, "toml_span_check")
         .bin_name("toml_span_check")?
         .override_help(USAGE)
+        .version(VERSION)
         .arg(choice(alloc, "format", "text"))?
         .arg(choice(alloc, "color", "auto"))?
         .arg(option(alloc, "get"))?
         .arg(flag(alloc, "tagged"))?
         .arg(flag(alloc, "items"))?
+        .arg(flag(alloc, "quiet"))?
         .arg(files(alloc))
 }
 
@@ -203,7 +213,7 @@ pub(crate) fn options_of<'w>(
     is_terminal: bool,
 ) -> Result<Options<'w>, Error>
     ensures ok { IfOk result (λ o. spec.Asks (map (λ w. string_bytes w) words.entry.now) is_terminal
-        o.format o.task o.pointer.now (map (λ name. name.now) o.names.items)) }
+        o.format o.task o.pointer.now (map (λ name. name.now) o.names.items) o.is_quiet) }
     ensures fails { FailsBy (spec.faults (map (λ w. string_bytes w) words.entry.now) is_terminal) result }
 {
     let mut command = command(alloc)?;
@@ -214,6 +224,7 @@ pub(crate) fn options_of<'w>(
             task,
             pointer: value_of(&matches, "get"),
             names: Vec::from_slice(alloc, matches.get_strs("FILE").unwrap_or(&[]))?,
+            is_quiet: is_given(&matches, "quiet"),
         }),
         Err(mistake) => Err(command.error(kind_of(mistake), message_of(mistake))?),
     }

@@ -1,5 +1,5 @@
 //! The run of the program.
-ghost use Rattle.std.specs.Prelude.{◌≡◌, ◌++◌, IfOk, OnOk, false, map, string_bytes};
+ghost use Rattle.std.specs.Prelude.{◌≡◌, ◌+◌, ◌++◌, ℕ, List, length, IfOk, OnOk, false, map, string_bytes};
 ghost use Rattle.toml_span_check.specs.Run as spec;
 ghost use Rattle.toml_span_check.specs.Run.{Runs, Tells, complaint};
 
@@ -8,6 +8,7 @@ use crate::faults::Format;
 use crate::input::{Inputs, Unread};
 use crate::visible::push_visible;
 use std::alloc::{AllocError, Global};
+use std::fmt::Write;
 use toml_span_lines::run::write_bytes;
 use toml_span_lines::sink::Sink;
 
@@ -19,6 +20,21 @@ struct Telling {
     /// What is said of those that can't be read.
     errors: String,
     status: u8,
+    /// How many have a fault or can't be read.
+    wrong: usize,
+}
+
+impl Telling {
+    /// Counts a file that has a fault or can't be read, or more than one.
+    fn count(&mut self, more: u8) -> Result<(), AllocError>
+        ensures { OnOk result (self.new ≡ record self.old { wrong = self.old.wrong + more }) }
+    {
+        let Some(wrong) = self.wrong.checked_add(more as usize) else {
+            return Err(AllocError);
+        };
+        self.wrong = wrong;
+        Ok(())
+    }
 }
 
 /// Why a file can't be read, in words.
@@ -55,20 +71,20 @@ fn tell_one(
     telling: &mut Telling,
 ) -> Result<(), AllocError>
     ensures { OnOk result (spec.Adds format task pointer.now name.now (spec.read_of reading)
-        (telling.old.out.items, string_bytes telling.old.errors, telling.old.status)
-        (telling.new.out.items, string_bytes telling.new.errors, telling.new.status)) }
+        (telling.old.out.items, string_bytes telling.old.errors, telling.old.status, telling.old.wrong)
+        (telling.new.out.items, string_bytes telling.new.errors, telling.new.status, telling.new.wrong)) }
 {
     match reading {
         Ok(bytes) => {
             let told = answer(alloc, format, task, pointer, name, bytes.as_slice())?;
             telling.out.extend_from_slice(told.1.as_slice())?;
             telling.status = telling.status.max(told.0);
-            Ok(())
+            telling.count(told.0)
         }
         Err(reason) => {
             push_complaint(&mut telling.errors, name, reason)?;
             telling.status = 2;
-            Ok(())
+            telling.count(1)
         }
     }
 }
@@ -84,12 +100,13 @@ fn tell<I: Inputs>(
 ) -> Result<Telling, AllocError>
     ensures { IfOk result (λ t. Tells format task pointer.now (map (λ name. name.now) names.now)
         (I.log inputs.old) (I.log inputs.new)
-        t.out.items (string_bytes t.errors) t.status) }
+        t.out.items (string_bytes t.errors) t.status t.wrong) }
 {
     let mut telling = Telling {
         out: Vec::new(alloc),
         errors: String::new(alloc),
         status: 0,
+        wrong: 0,
     };
     for name in names {
         let reading = inputs.read(alloc, *name)?;
@@ -98,28 +115,92 @@ fn tell<I: Inputs>(
     Ok(telling)
 }
 
-/// Reads the files of these names, and writes what is told of them. Answers the status with which the program ends:
-/// 0 where all are read, 1 where one has a fault, 2 where one can't be read, 3 where a write fails, 4 without memory.
-pub(crate) fn run<I: Inputs, O: Sink, E: Sink>(
+/// What stands behind a number of files.
+fn file_word(files: usize) -> &'static str
+    ensures { result.now ≡ spec.file_word files }
+{
+    if files == 1 { " file, " } else { " files, " }
+}
+
+/// Adds a line with the number of files and of those with errors.
+#[tactic(auto, unfolding(crate::specs::Run::counts))]
+fn push_counts(out: &mut String, files: usize, wrong: usize) -> Result<(), AllocError>
+    ensures { OnOk result (string_bytes out.new ≡ string_bytes out.old ++ spec.counts files wrong) }
+{
+    write!(out, "{files}")?;
+    out.push_str(file_word(files))?;
+    write!(out, "{wrong}")?;
+    out.push_str(" with errors\n")
+}
+
+/// Adds how many files there are and how many of them have errors, where some have and faults are told in lines.
+fn push_summary(
+    out: &mut String,
+    format: Format,
+    files: usize,
+    wrong: usize,
+) -> Result<(), AllocError>
+    ensures { OnOk result (string_bytes out.new ≡ string_bytes out.old ++ spec.summary format files wrong) }
+{
+    match format {
+        Format::Text(_) => {
+            if wrong > 0 {
+                push_counts(out, files, wrong)
+            } else {
+                Ok(())
+            }
+        }
+        Format::Short | Format::Json => Ok(()),
+    }
+}
+
+/// What is told of the files of these names, and at its end how many of them have errors.
+fn tell_all<I: Inputs>(
     alloc: Global,
     format: Format,
     task: Task,
     pointer: &str,
     names: &[&str],
     inputs: &mut I,
+) -> Result<Telling, AllocError>
+    ensures { IfOk result (λ t. (errors : List ℕ)
+        × Tells format task pointer.now (map (λ name. name.now) names.now) (I.log inputs.old) (I.log inputs.new)
+        t.out.items errors t.status t.wrong
+        × (string_bytes t.errors ≡ errors ++ spec.summary format (length names.now) t.wrong)) }
+{
+    let mut telling = tell(alloc, format, task, pointer, names, inputs)?;
+    push_summary(&mut telling.errors, format, names.len(), telling.wrong)?;
+    Ok(telling)
+}
+
+/// Reads the files of these names, and writes what is told of them. Answers the status with which the program ends:
+/// 0 where all are read, 1 where one has a fault, 2 where one can't be read, 3 where a write fails, 4 without memory.
+/// A quiet run writes nothing.
+pub(crate) fn run<I: Inputs, O: Sink, E: Sink>(
+    alloc: Global,
+    format: Format,
+    task: Task,
+    pointer: &str,
+    names: &[&str],
+    is_quiet: bool,
+    inputs: &mut I,
     out: &mut O,
     errors: &mut E,
 ) -> u8
     requires out { O.failed out.old ≡ false }
     requires errors { E.failed errors.old ≡ false }
-    ensures { Runs format task pointer.now (map (λ name. name.now) names.now) (I.log inputs.old) (I.log inputs.new)
+    ensures { Runs format task pointer.now (map (λ name. name.now) names.now) is_quiet
+        (I.log inputs.old) (I.log inputs.new)
         (O.contents out.old) (O.contents out.new) (O.failed out.new)
         (E.contents errors.old) (E.contents errors.new) (E.failed errors.new) result }
 {
-    let Ok(telling) = tell(alloc, format, task, pointer, names, inputs) else {
+    let Ok(telling) = tell_all(alloc, format, task, pointer, names, inputs) else {
         return 4;
     };
-    if write_bytes(errors, telling.errors.as_bytes()) && write_bytes(out, telling.out.as_slice()) {
+    if is_quiet {
+        return telling.status;
+    }
+    if write_bytes(out, telling.out.as_slice()) && write_bytes(errors, telling.errors.as_bytes()) {
         telling.status
     } else {
         3

@@ -5,7 +5,7 @@ ghost use Rattle.toml_span_check.specs.Visible.{visible_lines};
 ghost use Rattle.toml_span_check.specs.Start.{Refuses, Says, Starts};
 
 use crate::input::Inputs;
-use crate::options::{USAGE, options_of};
+use crate::options::{USAGE, VERSION, options_of};
 use crate::run::run;
 use crate::visible::{visible, visible_lines};
 use clap::Error;
@@ -51,7 +51,7 @@ fn mistake(alloc: Global, words: &[String]) -> Result<String, AllocError>
     visible_lines(alloc, message.as_str())
 }
 
-/// Writes the usage, where the words ask for it, and else what is wrong with them.
+/// Writes the usage or the version, where the words ask for it, and else what is wrong with them.
 fn refuse<O: Sink, E: Sink>(
     alloc: Global,
     words: &[String],
@@ -67,6 +67,7 @@ fn refuse<O: Sink, E: Sink>(
     match error.kind() {
         ErrorKind::OutOfMemory => 4,
         ErrorKind::DisplayHelp => say(out, USAGE, 0),
+        ErrorKind::DisplayVersion => say(out, VERSION, 0),
         _ => match mistake(alloc, words) {
             Ok(message) => say(errors, message.as_str(), 2),
             Err(_) => 4,
@@ -75,7 +76,7 @@ fn refuse<O: Sink, E: Sink>(
 }
 
 /// Does what the words ask for, of which the first is the program's name: runs on files (see `run`), or tells the
-/// usage, with status 0, or what is wrong with the words, with status 2. Status 3: a write fails, 4: no memory.
+/// usage or the version, with status 0, or what is wrong with the words, with status 2. Status 3: a write fails, 4: no memory.
 pub(crate) fn start<I: Inputs, O: Sink, E: Sink>(
     alloc: Global,
     words: &[String],
@@ -97,6 +98,7 @@ pub(crate) fn start<I: Inputs, O: Sink, E: Sink>(
             options.task,
             options.pointer,
             options.names.as_slice(),
+            options.is_quiet,
             inputs,
             out,
             errors,

@@ -6,7 +6,7 @@ use Rattle.clap.specs.Values as clap
 use Rattle.clap.specs.Words.{App, HasMatchesOf, all_of, fault_of, found_of, is_simple, is_simple_and_free, matches_of, rows_of}
 use Rattle.clap.specs.declared.error.Error.{Error}
 use Rattle.clap.specs.declared.parser.matches.ArgMatches.{ArgMatches}
-use Rattle.toml_span_check.specs.Options.{asked, faults, kind_of, options, program, refusals, value_of}
+use Rattle.toml_span_check.specs.Options.{asked, faults, is_given, kind_of, options, program, refusals, value_of}
 use Rattle.toml_span_check.specs.declared.options.Mistake.{Mistake}
 use Rattle.toml_span_check.proofs.Rows.{all-row, or-none}
 use Rattle.toml_span_check.proofs.options.options_of.Goals as goal
@@ -63,6 +63,7 @@ returns-in-Ok-clause-ok c =
           ap (map (λ name. name.now)) (c.in_ok-from_slice-in-Ok.ensures.items ∙ ap (λ s. s.now) c.unwrap_or.ensures)
           ∙ or-none c.get_strs.result _ refl
           ∙ ap (λ (o : Option (List (List ℕ))). unwrap_or o []) (c.get_strs.ensures ∙ all-row c.in_ok-matches.matches _ ∙ ap (all_of (70 ∷ 73 ∷ 76 ∷ 69 ∷ [])) these);
+      quiet = c.is_given.ensures ∙ ap (λ rs. is_given rs (113 ∷ 117 ∷ 105 ∷ 101 ∷ 116 ∷ [])) these;
     }
 
 pub returns-in-Ok-clause-fails : goal.returns-in-Ok-clause-fails

@@ -12,5 +12,5 @@ loop-name-preserved g c =
     let none : Bor (List ℕ) = record { ref_ptr = (0, 0); now = [] } in
     tells-more c.args.format c.args.task c.args.pointer.now _ _ (get_or c.args.names.now l.name-index none).now
     (g.I.Inputs.log c.args.inputs.now) (g.I.Inputs.log l.inputs) (g.I.Inputs.log c.read.new.self) (read_of c.in_ok-reading.reading)
-    l.telling.out.items (string_bytes l.telling.errors) l.telling.status _ _ _ l.invariant
+    l.telling.out.items (string_bytes l.telling.errors) l.telling.status l.telling.wrong _ _ _ _ l.invariant
     (names-more c.args.names.now l.name-index none c.loop-name-test.true) c.in_ok-reading.ensures c.in_ok-tell_one.ensures
