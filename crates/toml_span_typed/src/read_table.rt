@@ -26,7 +26,9 @@ macro_rules! read_table {
     };
 
     // a string with its bytes
-    (@fields $read:tt [$($done:tt)*] $field:ident: Option<Spanned<$ty:ty>> $(= $key:literal)?, parsed; $($rest:tt)*) => {
+    (@fields $read:tt [$($done:tt)*]
+        $field:ident: Option<Spanned<$ty:ty>> $(= $key:literal)?, parsed; $($rest:tt)*
+    ) => {
         $crate::read_table!(@fields $read [$($done)* $field: $ty $(= $key)?, placed, optional;] $($rest)*)
     };
     (@fields $read:tt [$($done:tt)*] $field:ident: Spanned<$ty:ty> $(= $key:literal)?, parsed; $($rest:tt)*) => {

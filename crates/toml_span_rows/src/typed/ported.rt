@@ -71,7 +71,14 @@ fn twice<'s>(alloc: Global, name: &str, span: Span, first: Span) -> Result<Error
     places.push((String::from_str(alloc, "first here")?, first))?;
     let message = CowStr::Owned(format!(in alloc; "the name `{name}` stands twice")?);
     let code = "name-twice";
-    Ok(Error::from((ErrorKind::Marked { code, message, places }, span)))
+    Ok(Error::from((
+        ErrorKind::Marked {
+            code,
+            message,
+            places,
+        },
+        span,
+    )))
 }
 
 /// Two bounds, the lower one first.
@@ -94,7 +101,11 @@ impl<'de> Deserialize<'de> for Range {
 }
 
 /// The range of two bounds.
-fn range_of<'s>(low: Option<u8>, high: Option<u8>, span: Span) -> Result<Range, Stop<DeserError<'s>>> {
+fn range_of<'s>(
+    low: Option<u8>,
+    high: Option<u8>,
+    span: Span,
+) -> Result<Range, Stop<DeserError<'s>>> {
     let (low, high) = (low.unwrap_or(0), high.unwrap_or(255));
     if low > high {
         let kind = ErrorKind::Custom(CowStr::Borrowed("low above high"));
@@ -133,7 +144,10 @@ impl<'de> Deserialize<'de> for Port {
 pub struct Length(usize);
 
 impl<'de> Deserialize<'de> for Length {
-    fn deserialize(_alloc: Global, value: &mut Value<'de>) -> Result<Length, Stop<DeserError<'de>>> {
+    fn deserialize(
+        _alloc: Global,
+        value: &mut Value<'de>,
+    ) -> Result<Length, Stop<DeserError<'de>>> {
         let text = value.take_string(None).map_err(DeserError::from)?;
         Ok(Length(text.as_str().len()))
     }
