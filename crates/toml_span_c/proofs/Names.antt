@@ -1,6 +1,6 @@
 -- Numbers of kinds have the names of the kinds.
 use Rattle.std.proofs.Common.{◌≡◌, ◌≢◌, refl}
-use Rattle.toml_span_tree.specs.Error.{Kind, unexpected_eof, exceeded_depth_limit, invalid_char_in_string, invalid_escape, invalid_hex_escape, invalid_escape_value, unexpected, unterminated_string, invalid_number, invalid_datetime, wanted, duplicate_table, duplicate_key, redefine_as_array, multiline_string_key, dotted_key_invalid_type, unquoted_string, out_of_range, custom, unexpected_keys, missing_field, deprecated, unexpected_value}
+use Rattle.toml_span_tree.specs.Error.{Kind, unexpected_eof, exceeded_depth_limit, invalid_char_in_string, invalid_escape, invalid_hex_escape, invalid_escape_value, unexpected, unterminated_string, invalid_number, invalid_datetime, wanted, duplicate_table, duplicate_key, redefine_as_array, multiline_string_key, dotted_key_invalid_type, unquoted_string, out_of_range, custom, unexpected_keys, missing_field, deprecated, unexpected_value, marked}
 use Rattle.toml_span_tree.specs.Message.{code_of}
 use Rattle.toml_span_c.specs.Faults.{code_name, code_number}
 
@@ -28,3 +28,4 @@ code-named (unexpected_keys a b) h = absurd (h refl)
 code-named (missing_field a) h = absurd (h refl)
 code-named (deprecated a b) h = absurd (h refl)
 code-named (unexpected_value a b) h = absurd (h refl)
+code-named (marked a b c) h = absurd (h refl)

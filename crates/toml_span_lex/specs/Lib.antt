@@ -7,3 +7,4 @@ pub mod Tokens
 pub mod Tokenizer
 pub mod Laws
 pub mod code
+pub mod Stop

@@ -1,5 +1,7 @@
 //! Why a call gave no value.
-use std::alloc::AllocError;
+use std::alloc::{AllocError, AllocFailed};
+use std::fmt;
+use std::fmt::{Display, Formatter, Write};
 
 /// Why a call gave no value: memory ran out, or the call has a fault to tell.
 ///
@@ -9,6 +11,21 @@ use std::alloc::AllocError;
 pub enum Stop<E> {
     Memory(AllocError),
     Fault(E),
+}
+
+impl<E> Stop<E> {
+    ghost use Rattle.toml_span_lex.specs.Stop.{Converts};
+
+    /// The same reason, its fault converted by `From`: `read.map_err(Stop::convert)?` passes the one error of a
+    /// read on where a list of errors is answered.
+    pub fn convert<F: From<E>>(self) -> Stop<F>
+        ensures { Converts F.from_gives self result }
+    {
+        match self {
+            Stop::Memory(error) => Stop::Memory(error),
+            Stop::Fault(fault) => Stop::Fault(F::from(fault)),
+        }
+    }
 }
 
 impl<E> From<AllocError> for Stop<E> {
@@ -21,3 +38,31 @@ impl<E> From<AllocError> for Stop<E> {
         Stop::Memory(error)
     }
 }
+
+/// What could not be stored is dropped.
+impl<T: Drop, E> From<AllocFailed<T>> for Stop<E> {
+    ghost use Rattle.std.specs.Prelude.{◌≡◌, alloc_error};
+    ghost use Rattle.toml_span_lex.specs.declared.stop.Stop.TheVariants.{Memory};
+
+    ghost from_gives = { λ refused stop. stop ≡ Memory alloc_error };
+
+    fn from(_refused: AllocFailed<T>) -> Stop<E> {
+        Stop::Memory(AllocError)
+    }
+}
+
+/// The fault's text, or that memory ran out.
+impl<E: Display> Display for Stop<E> {
+    ghost use Rattle.toml_span_lex.specs.Stop.{told};
+
+    ghost output = { told E.output };
+
+    fn fmt<W: Write>(&self, f: &mut Formatter<W>) -> fmt::Result {
+        match self {
+            Stop::Memory(_) => f.write_str("memory allocation failed"),
+            Stop::Fault(fault) => write!(f, "{fault}"),
+        }
+    }
+}
+
+impl<E: std::error::Error> std::error::Error for Stop<E> {}

@@ -2,6 +2,7 @@ mod DateRows
 pub mod DateTexts
 pub mod Lent
 pub mod ListedNames
+pub mod Labels
 pub mod Loans
 pub mod Objects
 pub mod Paths

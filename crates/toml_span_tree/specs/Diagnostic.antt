@@ -8,7 +8,7 @@ use Rattle.toml_span_tree.specs.Error.{invalid_escape, invalid_hex_escape, inval
 use Rattle.toml_span_tree.specs.Error.{unterminated_string, invalid_number, invalid_datetime, out_of_range, wanted}
 use Rattle.toml_span_tree.specs.Error.{duplicate_table, duplicate_key, redefine_as_array, multiline_string_key, custom}
 use Rattle.toml_span_tree.specs.Error.{dotted_key_invalid_type, unexpected_keys, unquoted_string, missing_field}
-use Rattle.toml_span_tree.specs.Error.{deprecated, unexpected_value}
+use Rattle.toml_span_tree.specs.Error.{deprecated, unexpected_value, marked}
 use Rattle.toml_span_tree.specs.Listed.{listed, quoted}
 use Rattle.toml_span_tree.specs.Message.{told_char}
 
@@ -40,6 +40,7 @@ message_of (missing_field field) = codes "missing field '" ++ field ++ codes "'"
 message_of (deprecated old new) =
     codes "deprecated field enountered, '" ++ new ++ codes "' should be used instead"
 message_of (unexpected_value expected value) = codes "expected '" ++ listed quoted expected ++ codes "'"
+message_of (marked code message places) = message
 message_of _ = []
 
 -- the text of the label at the error's own span
@@ -83,4 +84,6 @@ labels_of file span (duplicate_key key first) =
 labels_of file span (dotted_key_invalid_type first) =
     own_label file span (dotted_key_invalid_type first) ∷ secondary file first (codes "non-table") ∷ []
 labels_of file span (unexpected_keys keys expected) = map (λ key. secondary file key.1 []) keys
+labels_of file span (marked code message places) =
+    own_label file span (marked code message places) ∷ map (λ place. secondary file place.1 place.0) places
 labels_of file span kind = own_label file span kind ∷ []

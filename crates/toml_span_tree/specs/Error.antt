@@ -41,6 +41,8 @@ pub data Kind : Type 0 where
   deprecated : List ℕ → List ℕ → Kind
   -- the values that were expected, and the one that was found
   unexpected_value : List (List ℕ) → Option (List ℕ) → Kind
+  -- the code, the message, and what is said of other places
+  marked : List ℕ → List ℕ → List (List ℕ × Span) → Kind
 
 -- what is wrong, and where
 pub record ErrorContent : Type 0 where
@@ -79,6 +81,7 @@ kind_of (kinds.MissingField field) = missing_field field.now
 kind_of (kinds.Deprecated old new) = deprecated old.now new.now
 kind_of (kinds.UnexpectedValue expected value) =
     unexpected_value (map (λ name. name.now) expected.now) (option_map string_bytes value)
+kind_of (kinds.Marked code message places) = marked code.now (cow_str_bytes message) (marked_keys places.items)
 
 -- what an error tells
 abbrev pub content_of : Error → ErrorContent

@@ -9,7 +9,7 @@ use Rattle.toml_span_tree.specs.Error.{invalid_escape, invalid_hex_escape, inval
 use Rattle.toml_span_tree.specs.Error.{unterminated_string, invalid_number, invalid_datetime, out_of_range, wanted}
 use Rattle.toml_span_tree.specs.Error.{duplicate_table, duplicate_key, redefine_as_array, multiline_string_key, custom}
 use Rattle.toml_span_tree.specs.Error.{dotted_key_invalid_type, unexpected_keys, unquoted_string, missing_field}
-use Rattle.toml_span_tree.specs.Error.{deprecated, unexpected_value}
+use Rattle.toml_span_tree.specs.Error.{deprecated, unexpected_value, marked}
 
 -- the code of a kind
 abbrev pub code_of : Kind → List ℕ
@@ -36,6 +36,7 @@ code_of unquoted_string = codes "unquoted-string"
 code_of (missing_field field) = codes "missing-field"
 code_of (deprecated old new) = codes "deprecated"
 code_of (unexpected_value expected value) = codes "unexpected-value"
+code_of (marked code message places) = code
 
 -- a character in a message
 abbrev pub told_char : ℕ → List ℕ
@@ -78,3 +79,4 @@ display_text unquoted_string = codes "invalid TOML value, did you mean to use a 
 display_text (missing_field field) = codes "missing field '" ++ field ++ codes "' in table"
 display_text (deprecated old new) = deprecated_text old new
 display_text (unexpected_value expected value) = unexpected_value_text expected
+display_text (marked code message places) = message

@@ -2,8 +2,8 @@
 ghost use Rattle.std.specs.Prelude.{◌≡◌, [], ◌∷◌, ◌++◌, IfOk, map, string_bytes};
 ghost use Rattle.toml_span_tree.specs.Error.{kind_of, marked_keys};
 ghost use Rattle.toml_span_tree.specs.Message.{code_of, told_char};
-ghost use Rattle.toml_span_tree.specs.Diagnostic.{label_text_of, labels_of, label_content, message_of, secondary};
-ghost use Rattle.toml_span_tree.specs.Diagnostic.{unexpected_keys_message};
+ghost use Rattle.toml_span_tree.specs.Diagnostic.{label_text_of, labels_of, label_content, message_of, primary};
+ghost use Rattle.toml_span_tree.specs.Diagnostic.{secondary, unexpected_keys_message};
 
 use crate::error::{Error, ErrorKind};
 use crate::listed::{LentNames, Names};
@@ -62,6 +62,7 @@ impl ErrorKind<'_> {
                 let expected = LentNames(*expected);
                 format!(in alloc; "expected '{expected}'")
             }
+            ErrorKind::Marked { message, .. } => String::from_str(alloc, message.as_str()),
             _ => Ok(String::new(alloc)),
         }
     }
@@ -142,6 +143,29 @@ fn key_labels<F: Copy>(
     Ok(labels)
 }
 
+/// The error's own label, and one beside it for each of these places, with what is said of it.
+fn marked_labels<F: Copy>(
+    alloc: Global,
+    file: F,
+    span: Span,
+    places: &[(String, Span)],
+) -> Result<Vec<Label<F>>, AllocError>
+    ensures { IfOk result (λ labels. map label_content labels.items
+        ≡ primary file span [] ∷ map (λ place. secondary file place.1 place.0) (marked_keys places.now)) }
+{
+    let own = Label {
+        primary: true,
+        file,
+        span,
+        message: String::new(alloc),
+    };
+    let mut labels = one(alloc, own)?;
+    for place in places {
+        labels.push(secondary(alloc, file, place.1, place.0.as_str())?)?;
+    }
+    Ok(labels)
+}
+
 impl Error<'_> {
     /// The error with its places, for an editor or a terminal to show. `fid` names the file.
     ///
@@ -172,6 +196,9 @@ impl Error<'_> {
     {
         if let ErrorKind::UnexpectedKeys { keys, .. } = &self.kind {
             return key_labels(alloc, file, keys.as_slice());
+        }
+        if let ErrorKind::Marked { places, .. } = &self.kind {
+            return marked_labels(alloc, file, self.span, places.as_slice());
         }
         let primary = Label {
             primary: true,

@@ -76,6 +76,13 @@ pub enum ErrorKind<'s> {
         expected: &'s [&'s str],
         value: Option<String>,
     },
+    /// An error with a code and a message of the caller's, and with other places, each with what is said of it.
+    /// Of a read; no call of the library tells it.
+    Marked {
+        code: &'s str,
+        message: CowStr<'s>,
+        places: Vec<(String, Span)>,
+    },
 }
 
 /// What is wrong, and where.
@@ -172,6 +179,15 @@ impl<'s> ErrorKind<'s> {
                     Some(value) => Some(String::from_str(alloc, value.as_str())?),
                     None => None,
                 },
+            },
+            ErrorKind::Marked {
+                code,
+                message,
+                places,
+            } => ErrorKind::Marked {
+                code: *code,
+                message: message.clone()?,
+                places: clone_keys(places)?,
             },
         })
     }

@@ -11,9 +11,9 @@ use std::fmt;
 use std::fmt::{Display, Formatter, Write};
 use toml_span_lex::span::Span;
 
-impl ErrorKind<'_> {
+impl<'s> ErrorKind<'s> {
     /// The code of the kind, such as `duplicate-key`.
-    pub(crate) fn code(&self) -> &'static str
+    pub(crate) fn code(&self) -> &'s str
         ensures { result.now ≡ code_of (kind_of self.now) }
     {
         match self {
@@ -40,6 +40,7 @@ impl ErrorKind<'_> {
             ErrorKind::MissingField(_) => "missing-field",
             ErrorKind::Deprecated { .. } => "deprecated",
             ErrorKind::UnexpectedValue { .. } => "unexpected-value",
+            ErrorKind::Marked { code, .. } => *code,
         }
     }
 }
@@ -155,6 +156,7 @@ impl Display for Error<'_> {
             ErrorKind::MissingField(field) => write!(f, "missing field '{field}' in table"),
             ErrorKind::Deprecated { old, new } => deprecated(f, old, new),
             ErrorKind::UnexpectedValue { expected, .. } => unexpected_value(f, *expected),
+            ErrorKind::Marked { message, .. } => f.write_str(message.as_str()),
         }
     }
 }

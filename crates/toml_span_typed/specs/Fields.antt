@@ -31,6 +31,12 @@ Asks reads name before (Ok None) after = MatchOption (found name before)
     × (after ≡ keeping (all faults) (noted name before)))
 Asks reads name before (Err error) after = Starved name before after
 
+-- `kept`: what was read; or None, and the errors are kept
+abbrev pub Keeps : {T : Type 0} → Result T (Stop Errors) → State → Option T → State → Type 0
+Keeps (Ok x) before answer after = (answer ≡ Some x) × (after ≡ before)
+Keeps (Err (stop.Fault faults)) before answer after = (answer ≡ None) × (after ≡ keeping (all faults) before)
+Keeps (Err (stop.Memory error)) before answer after = ⊥
+
 -- how many errors are kept
 abbrev pub kept : State → ℕ
 kept s = length s.errors

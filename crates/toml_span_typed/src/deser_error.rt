@@ -1,5 +1,5 @@
 //! The errors of a typed read.
-ghost use Rattle.std.specs.Prelude.{◌≡◌, ◌++◌, length, slice_get, option_map, OnOk, OnErr, IfErr, Some, map};
+ghost use Rattle.std.specs.Prelude.{◌≡◌, ◌++◌, length, slice_get, option_map, OnOk, OnErr, IfErr, IfOk, Some, map};
 ghost use Rattle.std.specs.Iterator.{YieldsFirstBy, item_count};
 ghost use Rattle.toml_span_tree.specs.Error.{content_of};
 ghost use Rattle.toml_span_typed.specs.Errors.{all};
@@ -149,8 +149,17 @@ impl<'s> DeserError<'s> {
         Ok(())
     }
 
-    /// Puts the errors behind those of a list. On want of memory the list is as before.
-    pub(crate) fn append_to(self, list: &mut Vec<Error<'s>>) -> Result<(), AllocError>
+    /// The errors in order, as a list.
+    pub fn into_errors(self, alloc: Global) -> Result<Vec<Error<'s>>, AllocError>
+        ensures { IfOk result (λ list. map content_of list.items ≡ all self.entry) }
+    {
+        let mut list = Vec::new(alloc);
+        self.append_to(&mut list)?;
+        Ok(list)
+    }
+
+    /// Puts the errors behind those of a list. On want of memory the list is as before, and these are dropped.
+    pub fn append_to(self, list: &mut Vec<Error<'s>>) -> Result<(), AllocError>
         ensures ok { OnOk result (map content_of list.new.items ≡ map content_of list.old.items ++ all self.entry) }
         ensures err { OnErr result (list.new.items ≡ list.old.items) }
     {
@@ -166,8 +175,8 @@ impl<'s> DeserError<'s> {
         Ok(())
     }
 
-    /// The errors of a list, if it has any.
-    pub(crate) fn from_list(mut list: Vec<Error<'s>>) -> Option<DeserError<'s>>
+    /// The errors of a list in their order, or None of an empty one. Takes no memory.
+    pub fn from_list(mut list: Vec<Error<'s>>) -> Option<DeserError<'s>>
         ensures { all_of_option result ≡ map content_of list.entry.items }
     {
         let last = list.pop()?;

@@ -8,3 +8,5 @@ mod read_table;
 
 pub use deser_error::{DeserError, ErrorIter, Unmerged};
 pub use deserialize::{Deserialize, Parsed};
+#[doc(hidden)]
+pub use toml_span_lex::spanned::Spanned;

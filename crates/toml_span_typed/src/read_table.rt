@@ -12,8 +12,10 @@
 /// - `port: u16, or(80);` is the value in parentheses where the key is not there, which is evaluated only
 ///   then;
 /// - `port: u16 = "listen-port", or(80);` is both;
-/// - `level: Level, parsed;` is what `FromStr` makes of a string; the type may be an `Option`, and `or(..)`
-///   may stand behind it.
+/// - `level: Level, parsed;` is what `FromStr` makes of a string; the type may be an `Option`, a `Spanned` or an
+///   `Option` of a `Spanned`, and `or(..)` may stand behind it;
+/// - `max_body: u64 = "max-body", alias("max_body");` may stand under an old name (`TableHelper::read_either`);
+///   `alias` comes first, and the others may stand behind it.
 ///
 /// Other keys are an error; with `..` behind the last field they are put back into the value. All errors
 /// are told, in the order of the fields.
@@ -21,6 +23,30 @@
 macro_rules! read_table {
     ($alloc:expr, $value:expr, $table:ident { $($fields:tt)* }) => {
         $crate::read_table!(@fields [$alloc, $value, $table] [] $($fields)*)
+    };
+
+    // a string with its bytes
+    (@fields $read:tt [$($done:tt)*]
+        $field:ident: Option<Spanned<$ty:ty>> $(= $key:literal)?, parsed; $($rest:tt)*
+    ) => {
+        $crate::read_table!(@fields $read [$($done)* $field: $ty $(= $key)?, placed, optional;] $($rest)*)
+    };
+    (@fields $read:tt [$($done:tt)*] $field:ident: Spanned<$ty:ty> $(= $key:literal)?, parsed; $($rest:tt)*) => {
+        $crate::read_table!(@fields $read [$($done)* $field: $ty $(= $key)?, placed;] $($rest)*)
+    };
+
+    // a field with an old name, which becomes a second key
+    (@fields $read:tt [$($done:tt)*]
+        $field:ident: Option<$ty:ty> = $key:literal, alias($old:literal); $($rest:tt)*
+    ) => {
+        $crate::read_table!(@fields $read [$($done)* $field: $ty = $key $old, optional;] $($rest)*)
+    };
+    (@fields $read:tt [$($done:tt)*]
+        $field:ident: $ty:ty = $key:literal, alias($old:literal) $(, $how:ident $(($default:expr))?)*; $($rest:tt)*
+    ) => {
+        $crate::read_table!(
+            @fields $read [$($done)* $field: $ty = $key $old $(, $how $(($default))?)*;] $($rest)*
+        )
     };
 
     // each field in turn, where one of the type `Option` becomes optional
@@ -37,17 +63,23 @@ macro_rules! read_table {
             @fields $read [$($done)* $field: $ty $(= $key)? $(, $how $(($default))?)*;] $($rest)*
         )
     };
+    (@fields $read:tt [$($done:tt)*] $field:ident: $ty:ty $(= $key:literal)?, $($rest:tt)*) => {
+        compile_error!("`read_table!`: fields end with `;`")
+    };
+    (@fields $read:tt [$($done:tt)*] $field:ident: $ty:ty $(= $key:literal)?) => {
+        compile_error!("`read_table!`: fields end with `;`")
+    };
     (@fields $read:tt $fields:tt) => { $crate::read_table!(@table $read finish() $fields) };
     (@fields [$alloc:expr, $value:expr, $table:ident] $fields:tt ..) => {
         $crate::read_table!(@table [$alloc, $value, $table] finish_into($value) $fields)
     };
 
     (@table [$alloc:expr, $value:expr, $table:ident] $finish:ident($($rest:expr)?) [
-        $($field:ident: $ty:ty $(= $key:literal)? $(, $how:ident $(($default:expr))?)*;)*
+        $($field:ident: $ty:ty $(= $key:literal $($old:literal)?)? $(, $how:ident $(($default:expr))?)*;)*
     ]) => {{
         let mut helper = $crate::de_helpers::TableHelper::new($alloc, $value)?;
         $(let $field = $crate::read_table!(
-            @read helper, $ty, $crate::read_table!(@key $field $($key)?) $(, $how $($default)?)*
+            @read helper, $ty, [$crate::read_table!(@key $field $($key)?) $($(, $old)?)?] $(, $how $($default)?)*
         );)*
         helper.$finish($($rest)?)?;
         Ok($table {
@@ -58,20 +90,25 @@ macro_rules! read_table {
     (@key $field:ident) => { stringify!($field) };
     (@key $field:ident $key:literal) => { $key };
 
-    (@read $helper:ident, $ty:ty, $key:expr) => { $helper.read::<$ty>($key)? };
-    (@read $helper:ident, $ty:ty, $key:expr, optional) => { $helper.read_optional::<$ty>($key)? };
-    (@read $helper:ident, $ty:ty, $key:expr, or $default:expr) => {
-        match $helper.read_optional::<$ty>($key)? {
+    (@one $helper:ident, $ty:ty, [$key:expr]) => { $helper.read::<$ty>($key)? };
+    (@one $helper:ident, $ty:ty, [$key:expr, $old:expr]) => { $helper.read_either::<$ty>($key, $old)? };
+    (@some $helper:ident, $ty:ty, [$key:expr]) => { $helper.read_optional::<$ty>($key)? };
+    (@some $helper:ident, $ty:ty, [$key:expr, $old:expr]) => { $helper.read_optional_either::<$ty>($key, $old)? };
+
+    (@read $helper:ident, $ty:ty, $keys:tt) => { $crate::read_table!(@one $helper, $ty, $keys) };
+    (@read $helper:ident, $ty:ty, $keys:tt, optional) => { $crate::read_table!(@some $helper, $ty, $keys) };
+    (@read $helper:ident, $ty:ty, $keys:tt, or $default:expr) => {
+        match $crate::read_table!(@some $helper, $ty, $keys) {
             Some(field) => field,
             None => $default,
         }
     };
 
-    (@read $helper:ident, $ty:ty, $key:expr, parsed) => {
-        $helper.read::<$crate::Parsed<$ty>>($key)?
+    (@read $helper:ident, $ty:ty, $keys:tt, parsed) => {
+        $crate::read_table!(@one $helper, $crate::Parsed<$ty>, $keys)
     };
-    (@read $helper:ident, $ty:ty, $key:expr, parsed, optional) => {
-        match $helper.read_optional::<$crate::Parsed<$ty>>($key)? {
+    (@read $helper:ident, $ty:ty, $keys:tt, parsed, optional) => {
+        match $crate::read_table!(@some $helper, $crate::Parsed<$ty>, $keys) {
             Some(field) => {
                 let value = field.value;
                 Some(value)
@@ -79,10 +116,24 @@ macro_rules! read_table {
             None => None,
         }
     };
-    (@read $helper:ident, $ty:ty, $key:expr, parsed, or $default:expr) => {
-        match $helper.read_optional::<$crate::Parsed<$ty>>($key)? {
+    (@read $helper:ident, $ty:ty, $keys:tt, parsed, or $default:expr) => {
+        match $crate::read_table!(@some $helper, $crate::Parsed<$ty>, $keys) {
             Some(field) => field.value,
             None => $default,
+        }
+    };
+
+    (@read $helper:ident, $ty:ty, $keys:tt, placed) => {
+        $crate::read_table!(@one $helper, $crate::Spanned<$crate::Parsed<$ty>>, $keys)
+    };
+    (@read $helper:ident, $ty:ty, $keys:tt, placed, optional) => {
+        match $crate::read_table!(@some $helper, $crate::Spanned<$crate::Parsed<$ty>>, $keys) {
+            Some(field) => {
+                let span = field.span;
+                let value = field.value.value;
+                Some($crate::Spanned::with_span(value, span))
+            }
+            None => None,
         }
     };
 
@@ -90,6 +141,12 @@ macro_rules! read_table {
     (@field $field:ident parsed) => {{
         let value = $field.unwrap().value;
         value
+    }};
+    (@field $field:ident placed) => {{
+        let field = $field.unwrap();
+        let span = field.span;
+        let value = field.value.value;
+        $crate::Spanned::with_span(value, span)
     }};
     (@field $field:ident $($how:ident)+) => { $field };
 }

@@ -2,6 +2,7 @@
 use crate::told::push_told;
 use crate::typed::marked::{Held, Placed};
 use crate::typed::odd::{Half, Odd, Untouched};
+use crate::typed::ported::push_ported;
 use crate::typed::structs::{Config, Server};
 use std::alloc::{AllocError, Global};
 use std::collections::BTreeMap;
@@ -103,7 +104,7 @@ fn push_own<'de>(
         "Half" => push_as::<Half>(alloc, value, out),
         "Server" => push_as::<Server<'de>>(alloc, value, out),
         "Config" => push_as::<Config<'de>>(alloc, value, out),
-        _ => Ok(false),
+        _ => push_ported(alloc, name, value, out),
     }
 }
 

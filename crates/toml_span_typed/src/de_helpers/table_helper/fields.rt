@@ -1,7 +1,7 @@
 //! Reads of fields whose errors stay in the helper.
-ghost use Rattle.std.specs.Prelude.{◌≡◌, ◌+◌, ◌≤◌, IfOk, IfSome, IsTrue, OnOk};
+ghost use Rattle.std.specs.Prelude.{◌≡◌, ◌+◌, ◌≤◌, IfOk, IfSome, IsTrue, OnErr, OnOk};
 ghost use Rattle.toml_span_tree.specs.Value.{is_whole};
-ghost use Rattle.toml_span_typed.specs.Fields.{Asks, Finishes, FinishesInto, kept, lacking};
+ghost use Rattle.toml_span_typed.specs.Fields.{Asks, Finishes, FinishesInto, Keeps, kept, lacking};
 ghost use Rattle.toml_span_typed.specs.TableHelper.{AllWhole, HoldsRest, Tries, found, state_of};
 
 use crate::de_helpers::table_helper::{TableHelper, missing_field};
@@ -39,6 +39,27 @@ impl<'de> TableHelper<'de> {
         ensures whole { AllWhole (state_of self.new) }
     {
         self.optional(name)
+    }
+
+    /// What a read gave that the caller made by itself, as of an entry that it took. Where it failed, its errors
+    /// are kept, and the answer is None; on want of memory the errors are as before.
+    pub fn kept<T: Drop>(
+        &mut self,
+        read: Result<T, Stop<DeserError<'de>>>,
+    ) -> Result<Option<T>, AllocError>
+        ensures answer { IfOk result (λ field. Keeps read.entry (state_of self.old) field (state_of self.new)) }
+        ensures told { IfOk result (λ field. kept (state_of self.old) + lacking field ≤ kept (state_of self.new)) }
+        ensures err { OnErr result (state_of self.new ≡ state_of self.old) }
+        ensures whole { AllWhole (state_of self.old) → AllWhole (state_of self.new) }
+    {
+        match read {
+            Ok(field) => Ok(Some(field)),
+            Err(Stop::Fault(faults)) => {
+                faults.append_to(&mut self.errors)?;
+                Ok(None)
+            }
+            Err(Stop::Memory(error)) => Err(error),
+        }
     }
 
     /// Ends the reads, as `finalize(None)` does: Ok exactly where no error was kept and no key remains.
