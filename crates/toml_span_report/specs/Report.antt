@@ -1,6 +1,6 @@
 -- The text that shows a diagnostic.
-use Rattle.std.specs.Prelude.{◌≡◌, ℕ, ◌-◌, max, Bool, true, false, nat_le, List, [], ◌∷◌, ◌++◌, codes, length, Option, Some}
-use Rattle.std.specs.Prelude.{None, if◌then◌else◌, replicate}
+use Rattle.std.specs.Prelude.{◌≡◌, ℕ, ◌-◌, max, Bool, true, false, nat_lt, nat_le, List, [], ◌∷◌, ◌++◌, codes, length}
+use Rattle.std.specs.Prelude.{Option, Some, None, if◌then◌else◌, replicate, take}
 use Rattle.std.specs.Fmt.{decimal}
 use Rattle.std.specs.List.{fold}
 use Rattle.toml_span_lex.specs.declared.span.Span.{Span}
@@ -9,6 +9,7 @@ use Rattle.toml_span_tree.specs.Error.{ErrorContent}
 use Rattle.toml_span_tree.specs.Message.{code_of, display_text}
 use Rattle.toml_span_report.specs.Characters.{shown, columns}
 use Rattle.toml_span_report.specs.Colours.{painted}
+use Rattle.toml_span_report.specs.Places.{place}
 use Rattle.toml_span_report.specs.Strips.{MarkedLine, all_marked_lines, is_near, window_of, seen_in}
 use Rattle.toml_span_report.specs.Tokens.{IsMarked}
 use Rattle.toml_span_report.specs.declared.colours.Ink.{Ink}
@@ -21,11 +22,20 @@ abbrev pub behind : List ℕ → List ℕ → List ℕ
 behind sign [] = []
 behind sign (x ∷ xs) = sign ++ x ∷ xs
 
+-- a text is cut where dots stand
+abbrev pub dots : Bool → List ℕ
+dots true = codes "..."
+dots false = []
+
+-- a code, a message or a name as it is shown, cut behind 1,000 bytes
+unfoldable pub told : List ℕ → List ℕ
+told text = let end = place text 1000 in shown (take end text) ++ dots (nat_lt end (length text))
+
 -- `error[code]: message`
 abbrev pub headline : Style → List ℕ → List ℕ → List ℕ
 headline style code message =
-    painted style Red (codes "error[" ++ shown code ++ codes "]")
-    ++ painted style Bold (behind (codes ": ") (shown message)) ++ codes "\n"
+    painted style Red (codes "error[" ++ told code ++ codes "]")
+    ++ painted style Bold (behind (codes ": ") (told message)) ++ codes "\n"
 
 -- the first line that a primary label marks
 abbrev pub first_primary : List MarkedLine → Option MarkedLine
@@ -59,11 +69,6 @@ width_of parts = length (decimal (greatest parts))
 abbrev pub gutter : Style → ℕ → List ℕ → List ℕ
 gutter style width number = painted style Blue (replicate (width - length number) 32 ++ number ++ codes " |")
 
--- a line is cut where dots stand
-abbrev pub dots : Bool → List ℕ
-dots true = codes "..."
-dots false = []
-
 -- what is shown of the line
 abbrev pub source : MarkedLine → List ℕ
 source p = dots p.is_cut_before ++ shown p.before ++ shown p.marked ++ shown p.behind ++ dots p.is_cut_behind
@@ -87,10 +92,10 @@ ink false = Blue
 abbrev pub marks_line : Style → ℕ → MarkedLine → List ℕ
 marks_line style width p =
     gutter style width [] ++ codes " "
-    ++ painted style (ink p.is_primary) (marks p ++ behind (codes " ") (shown p.message)) ++ codes "\n"
+    ++ painted style (ink p.is_primary) (marks p ++ behind (codes " ") (told p.message)) ++ codes "\n"
 
--- The first line has a bar above it. A line is not shown again where the window above shows the part, and dots stand for
--- lines between.
+-- The first line has a bar above it. A line is not shown again where the window above shows the part, and dots stand
+-- for lines between.
 abbrev pub opening : Style → ℕ → Option Window → MarkedLine → List ℕ
 opening style width None p = gutter style width [] ++ codes "\n" ++ source_line style width p
 opening style width (Some above) p =
@@ -109,7 +114,7 @@ drawn style width above (p ∷ ps) =
 abbrev pub report_of : Style → List ℕ → List ℕ → List ℕ → List MarkedLine → List ℕ
 report_of style code message name parts =
     headline style code message
-    ++ painted style Blue (replicate (width_of parts) 32 ++ codes "--> ") ++ shown name
+    ++ painted style Blue (replicate (width_of parts) 32 ++ codes "--> ") ++ told name
     ++ place_told (main_part parts) ++ codes "\n" ++ drawn style (width_of parts) None parts
 
 abbrev pub report : {F : Type 0} → Style → List ℕ → List ℕ → List (LabelContent F) → List ℕ → List ℕ → List ℕ
@@ -124,7 +129,7 @@ IsReport style name text f out =
 -- one line: `name:line:column: code: message`
 abbrev pub brief_of : List ℕ → List ℕ → List ℕ → List MarkedLine → List ℕ
 brief_of code message name parts =
-    shown name ++ place_told (main_part parts) ++ codes ": " ++ shown code ++ codes ": " ++ shown message ++ codes "\n"
+    told name ++ place_told (main_part parts) ++ codes ": " ++ told code ++ codes ": " ++ told message ++ codes "\n"
 
 abbrev pub brief : {F : Type 0} → List ℕ → List ℕ → List (LabelContent F) → List ℕ → List ℕ → List ℕ
 brief code message marks name text = brief_of code message name (all_marked_lines text marks)

@@ -1,6 +1,7 @@
 -- The token at which an error stands.
-use Rattle.std.specs.Prelude.{◌≡◌, ℕ, ◌-◌, ◌⊎◌, min, Bool, true, false, ◌==◌, ◌&&◌, ◌||◌, nat_lt, List, length, slice_index}
+use Rattle.std.specs.Prelude.{◌≡◌, ℕ, ◌-◌, ◌⊎◌, min, Bool, true, false, ◌==◌, ◌&&◌, ◌||◌, nat_eq, List, codes, length}
 use Rattle.std.specs.Prelude.{Option, Some, None}
+use Rattle.std.specs.List.{starts_with}
 use Rattle.toml_span_lex.specs.declared.span.Span.{Span}
 use Rattle.toml_span_lex.specs.Tokens.{Lexeme, Stands}
 use Rattle.toml_span_tree.specs.Error.{Kind, ErrorContent, wanted, multiline_string_key}
@@ -20,8 +21,9 @@ MarksToken text at end =
 -- What was found is a token or the end of the text, and told as `a comma`, `an equals`, `eof` or `whitespace`. The kind
 -- of a value is told as one word, such as `string`.
 abbrev pub names_token : List ℕ → Bool
-names_token found = nat_lt 2 (length found)
-    && (slice_index found 1 == 32 || slice_index found 2 == 32 || slice_index found 0 == 101 || slice_index found 0 == 119)
+names_token found =
+    starts_with nat_eq found (codes "a ") || starts_with nat_eq found (codes "an ")
+    || starts_with nat_eq found (codes "eof") || starts_with nat_eq found (codes "whitespace")
 
 -- The span of an error is no more than the place of a token: it is as long as the words of what was found, or as the
 -- value of a string of several lines, which may be longer than what stands there.

@@ -28,6 +28,34 @@ fn push_behind(out: &mut String, sign: &str, text: &str) -> Result<(), AllocErro
     out.push_str(text)
 }
 
+fn push_dots(out: &mut String, is_cut: bool) -> Result<(), AllocError>
+    ensures { OnOk result (string_bytes out.new ≡ string_bytes out.old ++ spec.dots is_cut) }
+{
+    if is_cut {
+        out.push_str("...")?;
+    }
+    Ok(())
+}
+
+/// Adds a text as it is shown, cut behind 1,000 bytes.
+#[tactic(auto, unfolding(crate::specs::Report::told))]
+fn push_told(out: &mut String, text: &str) -> Result<(), AllocError>
+    ensures { OnOk result (string_bytes out.new ≡ string_bytes out.old ++ spec.told text.now) }
+{
+    let end = place(text, 1000);
+    push_shown(out, &text[..end])?;
+    push_dots(out, end < text.len())
+}
+
+/// A text as it is shown, cut behind 1,000 bytes.
+fn told(alloc: Global, text: &str) -> Result<String, AllocError>
+    ensures { IfOk result (λ out. string_bytes out ≡ spec.told text.now) }
+{
+    let mut out = String::new(alloc);
+    push_told(&mut out, text)?;
+    Ok(out)
+}
+
 /// Adds the code and the message.
 fn push_headline(
     alloc: Global,
@@ -39,10 +67,10 @@ fn push_headline(
     ensures { OnOk result (string_bytes out.new ≡ string_bytes out.old ++ spec.headline style code.now message.now) }
 {
     let mut front = String::from_str(alloc, "error[")?;
-    push_shown(&mut front, code)?;
+    push_told(&mut front, code)?;
     front.push_str("]")?;
     push_painted(out, style, Ink::Red, front.as_str())?;
-    let message = shown(alloc, message)?;
+    let message = told(alloc, message)?;
     let mut back = String::new(alloc);
     push_behind(&mut back, ": ", message.as_str())?;
     push_painted(out, style, Ink::Bold, back.as_str())?;
@@ -106,15 +134,6 @@ fn push_gutter(frame: Frame, out: &mut String, number: &str) -> Result<(), Alloc
     push_painted(out, frame.style, Ink::Blue, left.as_str())
 }
 
-fn push_dots(out: &mut String, is_cut: bool) -> Result<(), AllocError>
-    ensures { OnOk result (string_bytes out.new ≡ string_bytes out.old ++ spec.dots is_cut) }
-{
-    if is_cut {
-        out.push_str("...")?;
-    }
-    Ok(())
-}
-
 /// Adds the line of a strip.
 fn push_source_line(frame: Frame, out: &mut String, strip: &Strip<'_>) -> Result<(), AllocError>
     ensures { OnOk result (string_bytes out.new ≡ string_bytes out.old
@@ -161,7 +180,7 @@ fn push_marks_line(frame: Frame, out: &mut String, strip: &Strip<'_>) -> Result<
     out.push_str(" ")?;
     let mut marks = String::new(frame.alloc);
     push_marks(frame.alloc, &mut marks, strip)?;
-    let message = shown(frame.alloc, strip.message)?;
+    let message = told(frame.alloc, strip.message)?;
     push_behind(&mut marks, " ", message.as_str())?;
     push_painted(out, frame.style, ink(strip.is_primary), marks.as_str())?;
     out.push_str("\n")
@@ -229,7 +248,7 @@ fn report(
     push_times(&mut arrow, width, ' ')?;
     arrow.push_str("--> ")?;
     push_painted(&mut out, style, Ink::Blue, arrow.as_str())?;
-    push_shown(&mut out, name)?;
+    push_told(&mut out, name)?;
     push_place(&mut out, main_strip(strips))?;
     out.push_str("\n")?;
     let frame = Frame {
@@ -253,8 +272,8 @@ fn report(
 /// the text is not shown.
 ///
 /// Of a long line 80 bytes before its first label are shown, and 160 from the start of the last one on that begins no
-/// more than 240 bytes behind that. For a label further on the line is shown again. Colours, where the style has them,
-/// add nothing else. Only want of memory is refused.
+/// more than 240 bytes behind that. For a label further on the line is shown again. A code, a message or a name is cut
+/// behind 1,000 bytes. Colours, where the style has them, add nothing else. Only want of memory is refused.
 pub fn render<F>(
     alloc: Global,
     style: Style,
@@ -289,12 +308,12 @@ fn brief(
         ≡ spec.brief_of code.now message.now name.now (map marked_line_of strips.now)) }
 {
     let mut out = String::new(alloc);
-    push_shown(&mut out, name)?;
+    push_told(&mut out, name)?;
     push_place(&mut out, main_strip(strips))?;
     out.push_str(": ")?;
-    push_shown(&mut out, code)?;
+    push_told(&mut out, code)?;
     out.push_str(": ")?;
-    push_shown(&mut out, message)?;
+    push_told(&mut out, message)?;
     out.push_str("\n")?;
     Ok(out)
 }
@@ -337,10 +356,10 @@ pub fn diagnostic_of<F: Copy + PartialEq>(
     Ok(diagnostic)
 }
 
-/// The diagnostic of an error of this text, as `diagnostic_of` has it, but for the span of its own label where that is no
-/// more than the place of a token, which ends with the words of what was found or with the value of a string: there it
-/// ends with the token, no further than its line, or where it begins if no token stands there. Only want of memory is
-/// refused.
+/// The diagnostic of an error of this text, as `diagnostic_of` has it, but for the span of its own label where that is
+/// no more than the place of a token, which ends with the words of what was found or with the value of a string: there
+/// it ends with the token, no further than its line, or where it begins if no token stands there. Only want of memory
+/// is refused.
 pub fn diagnostic_in<F: Copy + PartialEq>(
     alloc: Global,
     error: &Error<'_>,

@@ -50,9 +50,11 @@ pub(crate) fn marks_end(alloc: Global, text: &str, at: usize) -> Result<usize, A
 fn names_token(found: &str) -> bool
     ensures { result ≡ spec.names_token found.now }
 {
-    let bytes = found.as_bytes();
-    bytes.len() > 2
-        && (bytes[1] == b' ' || bytes[2] == b' ' || bytes[0] == b'e' || bytes[0] == b'w')
+    let found = found.as_bytes();
+    found.starts_with(b"a ")
+        || found.starts_with(b"an ")
+        || found.starts_with(b"eof")
+        || found.starts_with(b"whitespace")
 }
 
 /// The kind of an error whose span is no more than the place of a token.
