@@ -692,6 +692,7 @@ class Sources:
             self.names |= {it.split(".")[0] for it in [*inner, *files]}
             stored = [os.path.relpath(f"{folder}/{it}", TOP) for it in files if it.endswith("stdout")]
             self.outputs += [text_of(path).split("\n") for path in stored]
+        self.outputs.append([line.removeprefix("    ") for line in self.row_lines])
         for path in glob.glob("crates/*/src/**/*.rt", root_dir=TOP, recursive=True):
             self.code(text_of(path))
         for path in glob.glob("crates/*/[sp][pr]*/**/*.antt", root_dir=TOP, recursive=True):

@@ -1,5 +1,5 @@
 #!/usr/bin/env bash
-# Programs with each request for memory refused in turn: bash scripts/refused_runs.sh [ROWS SHOW DERIVED EXAMPLE]
+# Programs with each request for memory refused in turn: bash scripts/refused_runs.sh [ROWS SHOW EXAMPLE]
 #
 # toml_span_rows makes the calls of the libraries that take memory: the rows of its file `refused`, one a run. Where a
 # request of the program's own is refused it has to end with status 1, to write nothing and to complain of it. Where one
@@ -8,15 +8,11 @@
 # requests whose refusal gives it: `refused: 3`. So a refusal that nobody tells of, a request more or less, and another
 # state behind a refusal are seen. Calls that promise to take no memory are rows with no such answer.
 #
-# toml_span_serde_rows reads by derive. It gets each of its stored rows twice, so that the second shows what a refusal
-# of the first has left. With a request refused it has to say of one of the two that there is no memory, and to answer
-# the other; the requests of the two reads of a line end it with status 1, before the line is written.
-#
 # toml_span_show reads documents, parses them and shows their lines; toml_span_example reads its stored input, and shows
 # what is wrong there; toml_span_rows walks trees and looks pointers up. With a request refused these have to write
 # nothing: the first ends with status 4, the others with status 1 and a complaint.
 #
-# ROWS, SHOW, DERIVED (toml_span_serde_rows) and EXAMPLE are the proved builds unless others are named.
+# ROWS, SHOW and EXAMPLE are the proved builds unless others are named.
 set -uo pipefail
 unset CDPATH
 script=$(readlink -f -- "${BASH_SOURCE[0]}")
@@ -24,9 +20,8 @@ cd -- "${script%/scripts/*}" || exit
 source scripts/refuse.sh
 rows=${1-crates/toml_span_rows/out/toml_span_rows}
 show=${2-crates/toml_span_show/out/toml_span_show}
-derived=${3-crates/toml_span_serde_rows/out/toml_span_serde_rows}
-example=${4-crates/toml_span_example/out/toml_span_example}
-for program in "$rows" "$show" "$derived" "$example"; do
+example=${3-crates/toml_span_example/out/toml_span_example}
+for program in "$rows" "$show" "$example"; do
     if [ ! -x "$program" ]; then
         echo "refused runs: there is no program $program"
         exit 1
@@ -94,27 +89,6 @@ all_rows() {
     done <crates/toml_span_rows/refused
 }
 
-# twice ROW: the row, given twice
-twice() {
-    local made request ended=0 answer missed
-    printf '%s\n%s\n' "$1" "$1" >"$work/rows"
-    ask 0 "$derived" "$work/rows"
-    made=$(<"$work/made")
-    answer=${written%.0}
-    answer=${answer:0:${#answer}/2}
-    missed=$1$'\n  no memory\n'
-    for ((request = 1; request <= made; request++)); do
-        count=$((count + 1))
-        ask "$request" "$derived" "$work/rows"
-        case $written in
-        "$missed$answer.0" | "$answer$missed.0") ;;
-        ".1" | "$answer.1") ended=$((ended + 1)) ;;
-        *) told "$1: with request $request of $made refused it wrote $written" ;;
-        esac
-    done
-    if [ "$made" -le 2 ] || [ "$ended" -ne 2 ]; then told "$1: of $made requests $ended ended the program"; fi
-}
-
 # silent STATUS PROGRAM INPUT: the program on this input, which a refused request ends with this status
 silent() {
     local made request
@@ -133,8 +107,6 @@ calls=0
 all_rows >"$work/answers"
 diff crates/toml_span_rows/refused "$work/answers" || told "rows answer otherwise (<: as stored, >: now)"
 if [ "$calls" -lt 200 ]; then told "calls told of $calls refusals"; fi
-
-while IFS= read -r line; do twice "$line"; done <crates/toml_span_serde_rows/stdin
 
 silenced=0
 tree='[[a]]\n[a.b]\nx = 1\n[[a]]\n[a.b]\nx = 2\n'

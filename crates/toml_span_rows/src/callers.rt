@@ -11,55 +11,64 @@
 //! - `holders`: fields of the document that are an `Option`, what `FromStr` makes of a string, and an array of two.
 use crate::Row;
 use crate::holders::Holders;
-use crate::told::{push_told, push_told_line};
+use crate::told::{known, push_told, push_told_line};
 use crate::trees::shown::push_lines;
 use crate::uses::first::port_told;
-use crate::uses::servers::servers_of;
-use crate::uses::settings::settings_of;
+use crate::uses::servers::{Server, servers_of};
+use crate::uses::settings::{Settings, settings_of};
 use crate::uses::writes::{with_value, write_second};
 use crate::uses::{integer_at, port_of, refused_at, span_at};
 use std::alloc::{AllocError, Global};
 use toml_span::value::ValueInner;
-use toml_span::{Value, from_str, parse};
+use toml_span::{DeserError, Stop, Value, from_str, parse};
 
 /// Writes the answer of a row, one line each, or says that there is no such call.
 pub fn answer(alloc: Global, row: Row<'_>, out: &mut String) -> Result<bool, AllocError> {
     let Row { call, text, .. } = row;
-    match call {
+    let pushed = match call {
         "span_at" => push_told(span_at(alloc, text, row.word(0)), out),
         "integer_at" => push_told(integer_at(alloc, text, row.word(0)), out),
         "refused_at" => push_told(refused_at(alloc, text), out),
         "port_of" => push_told(port_of(alloc, text), out),
         "port_told" => push_told(port_told(alloc, text), out),
-        "settings_of" => push_settings(alloc, text, out),
-        "servers_of" => push_servers(alloc, text, out),
+        "settings_of" => push_settings(settings_of(alloc, text), out),
+        "servers_of" => push_servers(servers_of(alloc, text), out),
         "with_value" => push_changed(alloc, row, out),
         "write_second" => push_second(alloc, text, out),
         "holders" => push_told(from_str::<Holders>(alloc, text), out),
         _ => return Ok(false),
-    }?;
-    Ok(true)
+    };
+    known(pushed)
 }
 
 /// Answers `settings_of`: the settings, or the errors.
-fn push_settings(alloc: Global, text: &str, out: &mut String) -> Result<(), AllocError> {
-    match settings_of(alloc, text) {
+fn push_settings(
+    read: Result<Settings<'_>, Stop<DeserError<'_>>>,
+    out: &mut String,
+) -> Result<(), AllocError> {
+    match read {
         Ok(read) => push_told((read.host.as_ref(), read.port, read.secure), out),
         Err(stop) => push_told(stop, out),
     }
 }
 
 /// Answers `servers_of`: a port each, or the errors.
-fn push_servers(alloc: Global, text: &str, out: &mut String) -> Result<(), AllocError> {
-    match servers_of(alloc, text) {
-        Ok(servers) => {
-            for server in &servers {
-                push_told_line(server.port, out)?;
-            }
-            Ok(())
-        }
+fn push_servers(
+    read: Result<Vec<Server>, Stop<DeserError<'_>>>,
+    out: &mut String,
+) -> Result<(), AllocError> {
+    match read {
+        Ok(servers) => push_ports(servers, out),
         Err(stop) => push_told(stop, out),
     }
+}
+
+/// Adds the port of each server.
+fn push_ports(servers: Vec<Server>, out: &mut String) -> Result<(), AllocError> {
+    for server in &servers {
+        push_told_line(server.port, out)?;
+    }
+    Ok(())
 }
 
 /// Answers `with_value`.

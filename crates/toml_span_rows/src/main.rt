@@ -6,6 +6,7 @@
 #![tactic(auto)]
 
 mod callers;
+mod derived;
 mod escapes;
 mod faults;
 mod holders;
@@ -19,7 +20,7 @@ mod trees;
 mod typed;
 mod uses;
 
-use escapes::{Unread, text_of, words_of};
+use escapes::{push_text, push_words};
 use std::alloc::{AllocError, Global};
 use std::io;
 use std::process::ExitCode;
@@ -66,23 +67,23 @@ fn push_answer(alloc: Global, row: Row<'_>, out: &mut String) -> Result<bool, Al
             || texts::answer(alloc, row, out)?
             || runs::answer(alloc, row, out)?
             || callers::answer(alloc, row, out)?
+            || derived::answer(alloc, row, out)?
             || trees::answer(alloc, row, out)?,
     )
 }
 
-/// Adds the answer to a row.
-fn push_answered(alloc: Global, line: &str, out: &mut String) -> Result<(), Unread> {
-    let Some((call, words, text)) = parts_of(line) else {
-        return Err(Unread::Escape);
+/// Adds the answer to a row. Whether it can be read.
+fn push_answered(alloc: Global, line: &str, out: &mut String) -> Result<bool, AllocError> {
+    let Some((call, front, source)) = parts_of(line) else {
+        return Ok(false);
     };
-    let words = words_of(alloc, words)?;
-    let text = text_of(alloc, text)?;
-    let (words, text) = (words.as_slice(), text.as_str());
-    match push_answer(alloc, Row { call, words, text }, out) {
-        Ok(true) => Ok(()),
-        Ok(false) => Err(Unread::Escape),
-        Err(refused) => Err(Unread::Memory(refused)),
+    let mut words = Vec::new(alloc);
+    let mut text = String::new(alloc);
+    if !push_words(alloc, front, &mut words)? || !push_text(alloc, source, &mut text)? {
+        return Ok(false);
     }
+    let (words, text) = (words.as_slice(), text.as_str());
+    push_answer(alloc, Row { call, words, text }, out)
 }
 
 /// Adds each line of a text, behind four spaces.
@@ -96,17 +97,9 @@ fn push_indented(out: &mut String, text: &str) -> Result<(), AllocError> {
 /// Adds what is said to a row. Whether it can be read.
 fn push_row(alloc: Global, line: &str, out: &mut String) -> Result<bool, AllocError> {
     let mut answer = String::new(alloc);
-    match push_answered(alloc, line, &mut answer) {
-        Ok(()) => {
-            push_indented(out, answer.as_str())?;
-            Ok(true)
-        }
-        Err(Unread::Escape) => {
-            push_indented(out, NO_SUCH_ROW)?;
-            Ok(false)
-        }
-        Err(Unread::Memory(refused)) => Err(refused),
-    }
+    let known = push_answered(alloc, line, &mut answer)?;
+    push_indented(out, if known { answer.as_str() } else { NO_SUCH_ROW })?;
+    Ok(known)
 }
 
 /// Adds all lines with what is said to them. Whether each row of them can be read.

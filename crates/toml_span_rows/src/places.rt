@@ -12,7 +12,7 @@
 //! - `float OTHER: TEXT` tells the text of a float, and whether the other is equal to it. `inf`, `-inf`, `nan` and
 //!   `-nan` are themselves, every other text is finite.
 use crate::Row;
-use crate::told::{push_told, push_told_line};
+use crate::told::{known, push_told, push_told_line};
 use std::alloc::{AllocError, Global};
 use std::borrow::CowStr;
 use std::ops::Range;
@@ -22,13 +22,13 @@ use toml_span::{Span, Spanned};
 
 /// Writes the answer of a row, or says that there is no such call.
 pub fn answer(alloc: Global, row: Row<'_>, out: &mut String) -> Result<bool, AllocError> {
-    match row.call {
+    let pushed = match row.call {
         "date" => push_date(row.text, out),
         "float" => push_float(alloc, row, out),
         "span" | "spanned" | "key" | "copies" => return push_placed(alloc, row, out),
         _ => return Ok(false),
-    }?;
-    Ok(true)
+    };
+    known(pushed)
 }
 
 /// Writes the answer to a call with a span. Whether there is one.
@@ -36,13 +36,13 @@ fn push_placed(alloc: Global, row: Row<'_>, out: &mut String) -> Result<bool, Al
     let Some(span) = span_of(row) else {
         return Ok(false);
     };
-    match row.call {
+    let pushed = match row.call {
         "span" => push_span_told(span, row.text, out),
         "spanned" => return push_spanned(alloc, span, row, out),
         "copies" => push_copies(alloc, span, row.text, out),
         _ => push_key(alloc, span, row, out),
-    }?;
-    Ok(true)
+    };
+    known(pushed)
 }
 
 /// The span of the first two words.

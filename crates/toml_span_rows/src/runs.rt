@@ -171,6 +171,22 @@ struct Ended<'b> {
     writer: Taken,
 }
 
+/// The status of the program's run over a reader and a writer.
+fn status_of(
+    alloc: Global,
+    limit: usize,
+    reader: &mut Told<Given<'_>>,
+    writer: &mut Told<Taken>,
+) -> u8
+    requires some { 1 ≤ limit }
+    requires small { limit ≤ 128 }
+{
+    if limit == 128 {
+        return run(alloc, reader, writer);
+    }
+    run_with_limit(alloc, limit, reader, writer)
+}
+
 /// Runs the program on bytes.
 fn run_on(alloc: Global, limit: usize, bytes: &[u8], ends: Ends) -> Ended<'_>
     requires some { 1 ≤ limit }
@@ -178,11 +194,7 @@ fn run_on(alloc: Global, limit: usize, bytes: &[u8], ends: Ends) -> Ended<'_>
 {
     let mut reader = Told::new(Given::new(bytes, ends));
     let mut writer = Told::new(Taken::new(alloc, ends));
-    let status = if limit == 128 {
-        run(alloc, &mut reader, &mut writer)
-    } else {
-        run_with_limit(alloc, limit, &mut reader, &mut writer)
-    };
+    let status = status_of(alloc, limit, &mut reader, &mut writer);
     Ended {
         status,
         reader: reader.into_inner(),
@@ -215,6 +227,25 @@ fn push_front(ended: &Ended<'_>, whole: &[u8], out: &mut String) -> Result<(), A
     )
 }
 
+/// Adds a line for a run in which the call of a number fails. Whether there is such a call.
+fn push_cut(
+    alloc: Global,
+    limit: usize,
+    ends: Ends,
+    whole: &Ended<'_>,
+    out: &mut String,
+) -> Result<bool, AllocError>
+    requires some { 1 ≤ limit }
+    requires small { limit ≤ 128 }
+{
+    let cut = run_on(alloc, limit, whole.reader.bytes, ends);
+    let status = cut.status;
+    let pushed = push_front(&cut, whole.writer.bytes.as_slice(), out);
+    drop(cut);
+    pushed?;
+    Ok(status == 3)
+}
+
 /// Adds a line for each call that can fail, and one for a call that is not made.
 fn push_each(
     alloc: Global,
@@ -230,12 +261,7 @@ fn push_each(
         let Some(ends) = ends_of(words, call) else {
             return Ok(());
         };
-        let cut = run_on(alloc, limit, whole.reader.bytes, ends);
-        let status = cut.status;
-        let pushed = push_front(&cut, whole.writer.bytes.as_slice(), out);
-        drop(cut);
-        pushed?;
-        if status != 3 {
+        if !push_cut(alloc, limit, ends, whole, out)? {
             return Ok(());
         }
     }

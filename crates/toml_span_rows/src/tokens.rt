@@ -5,7 +5,7 @@
 //! with its content, `Keylike(a)`. In an operation escapes may stand. `describe` is the words for the next
 //! token, `clone` keeps a copy of the tokenizer, and `swap` goes on with the copy.
 use crate::Row;
-use crate::told::push_told;
+use crate::told::{known, push_told};
 use std::alloc::{AllocError, Global};
 use std::borrow::CowStr;
 use std::mem;
@@ -137,14 +137,14 @@ fn push_expecting<'t>(
     token: Token<'t>,
     out: &mut String,
 ) -> Result<bool, AllocError> {
-    match name {
+    let pushed = match name {
         "eat" => push_told(tokenizer.eat(alloc, token), out),
         "eat_spanned" => push_told(tokenizer.eat_spanned(alloc, token), out),
         "expect" => push_told(tokenizer.expect(alloc, token), out),
         "expect_spanned" => push_told(tokenizer.expect_spanned(alloc, token), out),
         _ => return Ok(false),
-    }?;
-    Ok(true)
+    };
+    known(pushed)
 }
 
 /// A tokenizer, and a copy of it.
@@ -162,7 +162,7 @@ fn push_call<'t>(
     out: &mut String,
 ) -> Result<bool, AllocError> {
     let tokenizer = &mut tokenizers.used;
-    match name {
+    let pushed = match name {
         "step" => push_step(out, tokenizer.step(alloc)),
         "peek" => push_step(out, tokenizer.peek(alloc)),
         "describe" => push_words(out, tokenizer.step(alloc)),
@@ -172,8 +172,8 @@ fn push_call<'t>(
         "one" => push_told(tokenizer.one(), out),
         "current" => push_told(tokenizer.current(), out),
         _ => return push_quiet_call(tokenizers, name, out),
-    }?;
-    Ok(true)
+    };
+    known(pushed)
 }
 
 /// The same for a call that answers nothing.

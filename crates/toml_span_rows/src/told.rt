@@ -11,3 +11,9 @@ pub fn push_told<T: Debug + Drop>(told: T, out: &mut String) -> Result<(), Alloc
 pub fn push_told_line<T: Debug + Drop>(told: T, out: &mut String) -> Result<(), AllocError> {
     writeln!(out, "{told:?}")
 }
+
+/// That there is an answer, if it could be added.
+pub fn known(pushed: Result<(), AllocError>) -> Result<bool, AllocError> {
+    pushed?;
+    Ok(true)
+}

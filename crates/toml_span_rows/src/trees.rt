@@ -4,7 +4,7 @@
 ghost use Rattle.std.specs.Prelude.{◌≤◌, IfSome};
 
 use crate::faults::push_twice;
-use crate::told::push_told_line;
+use crate::told::{known, push_told_line};
 use crate::{Row, typed};
 use shown::{push_fault, push_lines};
 use std::alloc::{AllocError, Global};
@@ -58,7 +58,7 @@ fn push_call<'t>(
     root: &mut Value<'t>,
     out: &mut String,
 ) -> Result<bool, AllocError> {
-    match row.call {
+    let pushed = match row.call {
         "parse" | "twice" => push_lines(alloc, root, 0, out),
         "json" => push_json(alloc, root, out),
         "kinds" => kinds::push_kinds(alloc, root, out),
@@ -68,8 +68,8 @@ fn push_call<'t>(
         "diagnostics" => out.push_str("no fault"),
         "write" => return writes::push_writes(alloc, row.words, root, out),
         _ => return typed::answer(alloc, row, root, out),
-    }?;
-    Ok(true)
+    };
+    known(pushed)
 }
 
 /// Adds what is told of a fault.

@@ -17,7 +17,7 @@ mod reads;
 mod structs;
 
 use crate::Row;
-use crate::told::{push_told, push_told_line};
+use crate::told::{known, push_told, push_told_line};
 use crate::trees::shown::push_lines;
 use crate::typed::lists::{push_lists, push_told_lists};
 use crate::typed::odd::Never;
@@ -56,7 +56,7 @@ fn push_at<'de>(
         return Ok(false);
     };
     let word = row.word(0);
-    match row.call {
+    let pushed = match row.call {
         "typed" => return push_read(alloc, word, value, out),
         "errors" => return push_errors(alloc, word, value, out),
         "parse_string" => return push_parsed(alloc, word, value, out),
@@ -64,8 +64,8 @@ fn push_at<'de>(
         "open" => push_opened(alloc, value, out),
         "from_table" => push_from_table(alloc, word, value, out),
         _ => return Ok(false),
-    }?;
-    Ok(true)
+    };
+    known(pushed)
 }
 
 /// Answers `errors`.
@@ -150,12 +150,12 @@ fn push_parsed(
     if value.is_taken() {
         return Ok(false);
     }
-    match name {
+    let pushed = match name {
         "u8" => push_told(parse::<u8, _>(alloc, value), out),
         "Never" => push_told(parse::<Never, _>(alloc, value), out),
         _ => return Ok(false),
-    }?;
-    Ok(true)
+    };
+    known(pushed)
 }
 
 /// Answers `open`.

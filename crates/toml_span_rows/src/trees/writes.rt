@@ -13,7 +13,7 @@
 //! | `taken=POINTER` | `is_taken` at what `pointer` names |
 //! | `debug=POINTER` | what `{:?}` writes of it |
 //! | `has_key=NAME`, `has_keys`, `whole` | `has_key`, `has_keys` and `is_whole` of the root |
-use crate::told::push_told;
+use crate::told::{known, push_told};
 use crate::trees::shown::{push_lines, push_named, push_string, push_told_back};
 use std::alloc::{AllocError, Global};
 use toml_span::value::{Pointer, Value, ValueInner};
@@ -142,7 +142,7 @@ fn push_operation<'t>(
     out: &mut String,
 ) -> Result<bool, AllocError> {
     let place = operation.place;
-    match operation.name {
+    let pushed = match operation.name {
         "find" => push_named(root.pointer(place), out),
         "look" => push_named(root.look_up(place), out),
         "at" => push_at(alloc, root, place, out),
@@ -152,8 +152,8 @@ fn push_operation<'t>(
         "has_keys" => push_told(root.has_keys(), out),
         "whole" => push_told(root.is_whole(), out),
         _ => return push_write(root, operation, out),
-    }?;
-    Ok(true)
+    };
+    known(pushed)
 }
 
 /// Adds what the calls of words answer, and then the lines of the tree. Whether there are such calls.

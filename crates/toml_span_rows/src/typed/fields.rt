@@ -6,7 +6,7 @@
 ghost use Rattle.std.specs.Prelude.{IfSome};
 ghost use Rattle.toml_span_typed.specs.TableHelper.{AllWhole, state_of};
 
-use crate::told::{push_told, push_told_line};
+use crate::told::{known, push_told, push_told_line};
 use crate::trees::shown::push_back;
 use crate::typed::lists::push_told_lists;
 use std::alloc::{AllocError, Global};
@@ -74,7 +74,7 @@ fn push_call<'de>(
     let Some((name, arguments)) = call.split_once('=') else {
         return Ok(false);
     };
-    match name {
+    let pushed = match name {
         "contains" => push_told(helper.contains(arguments), out),
         "take" => {
             let entry = helper.take(arguments);
@@ -83,8 +83,8 @@ fn push_call<'de>(
             pushed
         }
         _ => return push_field(helper, name, arguments, out),
-    }?;
-    Ok(true)
+    };
+    known(pushed)
 }
 
 /// Adds an entry that was taken, if there was one.
@@ -135,14 +135,14 @@ fn push_as<'de, T: Deserialize<'de> + Debug>(
     requires { AllWhole (state_of helper.old) }
     ensures { AllWhole (state_of helper.new) }
 {
-    match how {
+    let pushed = match how {
         "required" => push_told(helper.required::<T>(name), out),
         "required_s" => push_spanned(helper.required_s::<T>(name), out),
         "optional" => push_told(helper.optional::<T>(name), out),
         "optional_s" => push_told(helper.optional_s::<T>(name), out),
         _ => return Ok(false),
-    }?;
-    Ok(true)
+    };
+    known(pushed)
 }
 
 /// Adds what was read with its place.
@@ -166,17 +166,21 @@ fn push_last<'de>(
     root: &mut Value<'de>,
     out: &mut String,
 ) -> Result<bool, AllocError> {
-    let ended = match call {
-        "finalize" => helper.finalize(None),
-        "finalize_back" => helper.finalize(Some(root)),
+    let original = match call {
+        "finalize" => None,
+        "finalize_back" => Some(root),
         _ => return Ok(false),
     };
+    known(push_ended(helper.finalize(original), out))
+}
+
+/// Adds the errors of the last call.
+fn push_ended(ended: Result<(), Unfinished<'_>>, out: &mut String) -> Result<(), AllocError> {
     match ended {
-        Ok(()) => out.push_str("no error")?,
-        Err(Unfinished::Faults(errors)) => push_told_lists(errors, out)?,
-        Err(Unfinished::Memory(helper)) => push_again(helper, out)?,
+        Ok(()) => out.push_str("no error"),
+        Err(Unfinished::Faults(errors)) => push_told_lists(errors, out),
+        Err(Unfinished::Memory(helper)) => push_again(helper, out),
     }
-    Ok(true)
 }
 
 /// Adds that there was no memory for the last call, and what it answers now.

@@ -13,6 +13,15 @@ fn custom<'de>(message: &'de str, span: Span) -> DeserError<'de> {
     Error::from((kind, span)).into()
 }
 
+/// Two errors.
+fn two_faults<'de>(alloc: Global, span: Span) -> Stop<DeserError<'de>> {
+    let mut faults = custom("one", span);
+    match faults.merge(alloc, custom("two", span)) {
+        Ok(()) => Stop::Fault(faults),
+        Err(unmerged) => Stop::Memory(unmerged.error),
+    }
+}
+
 /// What takes its value and fails with two errors.
 #[derive(Debug, Drop)]
 pub struct Odd;
@@ -24,11 +33,7 @@ impl<'de> Deserialize<'de> for Odd {
 
     fn deserialize(alloc: Global, value: &mut Value<'de>) -> Result<Odd, Stop<DeserError<'de>>> {
         let _inner = value.take();
-        let mut faults = custom("one", value.span);
-        match faults.merge(alloc, custom("two", value.span)) {
-            Ok(()) => Err(Stop::Fault(faults)),
-            Err(unmerged) => Err(Stop::Memory(unmerged.error)),
-        }
+        Err(two_faults(alloc, value.span))
     }
 }
 
@@ -46,6 +51,15 @@ impl<'de> Deserialize<'de> for Untouched {
         _value: &mut Value<'de>,
     ) -> Result<Untouched, Stop<DeserError<'de>>> {
         Ok(Untouched)
+    }
+}
+
+/// Why a read of half a table stops.
+fn stopped<'de>(ended: Result<(), Unfinished<'de>>, span: Span) -> Stop<DeserError<'de>> {
+    match ended {
+        Ok(()) => Stop::Fault(custom("half", span)),
+        Err(Unfinished::Faults(faults)) => Stop::Fault(faults),
+        Err(Unfinished::Memory(_)) => Stop::Memory(AllocError),
     }
 }
 
@@ -67,11 +81,7 @@ impl<'de> Deserialize<'de> for Half {
         if let Err(e) = helper.take("a") {
             return Err(Stop::Memory(e));
         }
-        match helper.finalize(Some(value)) {
-            Ok(()) => Err(Stop::Fault(custom("half", span))),
-            Err(Unfinished::Faults(faults)) => Err(Stop::Fault(faults)),
-            Err(Unfinished::Memory(_)) => Err(Stop::Memory(AllocError)),
-        }
+        Err(stopped(helper.finalize(Some(value)), span))
     }
 }
 

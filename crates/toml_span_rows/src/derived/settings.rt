@@ -1,7 +1,6 @@
-//! Settings that are read by derive, and shown.
+//! Settings that are read by derive.
 use serde::Deserialize;
-use std::alloc::Global;
-use std::io;
+use std::alloc::{AllocError, Global};
 use toml_span_serde::{Spanned, Style, from_str, render_stop};
 
 #[derive(Debug, Drop, Deserialize)]
@@ -28,13 +27,10 @@ pub struct Settings<'a> {
     pub servers: Vec<Server<'a>>,
 }
 
-/// Writes the settings, or shows why there are none.
-pub fn show(rt: &impl Print, alloc: Global, text: &str) -> io::Result<()> {
+/// The settings, or why there are none.
+pub fn shown(alloc: Global, text: &str) -> Result<String, AllocError> {
     match from_str::<Settings<'_>>(alloc, text) {
-        Ok(settings) => println!(rt; "{settings:?}"),
-        Err(stop) => {
-            let shown = render_stop(alloc, Style::Plain, stop, "settings.toml", text)?;
-            print!(rt; "{shown}")
-        }
+        Ok(settings) => format!(in alloc; "{settings:?}"),
+        Err(stop) => render_stop(alloc, Style::Plain, stop, "settings.toml", text),
     }
 }

@@ -1,4 +1,4 @@
-//! A device, with a field for each way in which a type is read.
+//! A field for each way in which a type is read.
 use serde::Deserialize;
 use std::fmt;
 use std::fmt::{Display, Formatter, Write};
@@ -62,16 +62,22 @@ impl TryFrom<u8> for Even {
     }
 }
 
+/// Values of single kinds.
 #[derive(Debug, Drop, Deserialize)]
-pub struct Device<'a> {
+pub struct Device {
     pub flag: Option<bool>,
     pub letter: Option<char>,
     pub pair: Option<(i8, i8)>,
     #[serde(alias = "max-body")]
     pub max_body: Option<u64>,
+    pub even: Option<Even>,
+}
+
+/// Values of several shapes.
+#[derive(Debug, Drop, Deserialize)]
+pub struct Tagged<'a> {
     pub transport: Option<Transport<'a>>,
     pub reading: Option<Reading<'a>>,
     pub link: Option<Link<'a>>,
     pub either: Option<Either<'a>>,
-    pub even: Option<Even>,
 }
