@@ -410,6 +410,14 @@ caf\0351.toml|caf\xe9.toml
 END_OF_NAMES
 run bash "$show" "$work"
 is "show.sh: a folder" says "show: $work: this is a folder"
+ln -s loop "$work/loop"
+run bash "$show" "$work/loop"
+is "show.sh: a loop of links" says "show: $work/loop: Too many levels of symbolic links"
+run bash "$show" "$show/x"
+is "show.sh: a file as a folder" says "show: $show/x: Not a directory"
+long=$(printf '%0300d' 0)
+run bash "$show" "$long"
+is "show.sh: a long name" says "show: $long: File name too long"
 run bash "$show" one two
 is "show.sh: two files" says "usage: bash scripts/show.sh [FILE]"
 mkfifo "$work/fifo"

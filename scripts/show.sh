@@ -29,7 +29,13 @@ refuse() {
 }
 
 if [ "$file" != - ] && [ "$file" != /dev/stdin ]; then
-    if [ ! -e "$file" ]; then refuse "there is no such file"; fi
+    if [ ! -e "$file" ]; then
+        reason=$(LC_ALL=C cat -- "$file" 2>&1 >/dev/null)
+        case ${reason##*: } in
+        "No such file or directory" | "") refuse "there is no such file" ;;
+        *) refuse "${reason##*: }" ;;
+        esac
+    fi
     if [ -d "$file" ]; then refuse "this is a folder"; fi
     if [ -S "$file" ]; then refuse "this is a socket"; fi
     if [ ! -r "$file" ]; then refuse "this file may not be read"; fi

@@ -88,6 +88,16 @@ summary Json files wrong = []
 abbrev pub said : Bool → List ℕ → List ℕ
 said is_quiet text = if is_quiet then [] else text
 
+-- what is told of them in a run: nothing where it is quiet
+pub record Told (format : Format) (task : Task) (pointer : List ℕ) (names : List (List ℕ)) (is_quiet : Bool)
+    (old new : Option (List Reading)) (out errors : List ℕ) (status : ℕ) : Type 0 where
+  pub all : List ℕ
+  pub complaints : List ℕ
+  pub wrong : ℕ
+  pub tells : Tells format task pointer names old new all complaints status wrong
+  pub shown : out ≡ said is_quiet all
+  pub warned : errors ≡ said is_quiet (complaints ++ summary format (length names) wrong)
+
 -- A run: standard output before and after and whether writing it failed, the same of standard error, and the status.
 pub record Runs (format : Format) (task : Task) (pointer : List ℕ) (names : List (List ℕ)) (is_quiet : Bool)
     (old new : Option (List Reading)) (told told' : Option (List ℕ)) (untold : Bool) (warned warned' : Option (List ℕ))
@@ -97,15 +107,13 @@ pub record Runs (format : Format) (task : Task) (pointer : List ℕ) (names : Li
   -- without memory nothing is written
   pub silent : status ≡ 4 → Keeps told told' × Keeps warned warned'
   -- after a failed write the first bytes of what is told are written
-  pub cut : status ≡ 3 → (out errors : List ℕ) × (answered wrong : ℕ)
-      × Tells format task pointer names old new out errors answered wrong
-      × HasWritten told told' (said is_quiet out)
-      × HasWritten warned warned' (said is_quiet (errors ++ summary format (length names) wrong))
+  pub cut : status ≡ 3 → (out errors : List ℕ) × (answered : ℕ)
+      × Told format task pointer names is_quiet old new out errors answered × HasWritten told told' out
+      × HasWritten warned warned' errors
   -- else all files are looked at, and what is told is written
-  pub tells : ¬ (status ≡ 3) → ¬ (status ≡ 4) → (out errors : List ℕ) × (wrong : ℕ)
-      × Tells format task pointer names old new out errors status wrong
-      × Appends told told' (said is_quiet out)
-      × Appends warned warned' (said is_quiet (errors ++ summary format (length names) wrong))
+  pub tells : ¬ (status ≡ 3) → ¬ (status ≡ 4) → (out errors : List ℕ)
+      × Told format task pointer names is_quiet old new out errors status × Appends told told' out
+      × Appends warned warned' errors
   pub known : status ≤ 4
 
 -- for a private clause: what one more reading adds

@@ -1,7 +1,7 @@
 //! The run of the program.
-ghost use Rattle.std.specs.Prelude.{◌≡◌, ◌+◌, ◌++◌, ℕ, List, length, IfOk, OnOk, false, map, string_bytes};
+ghost use Rattle.std.specs.Prelude.{◌≡◌, ◌+◌, ◌++◌, IfOk, OnOk, false, map, string_bytes};
 ghost use Rattle.toml_span_check.specs.Run as spec;
-ghost use Rattle.toml_span_check.specs.Run.{Runs, Tells, complaint};
+ghost use Rattle.toml_span_check.specs.Run.{Runs, Tells, Told, complaint};
 
 use crate::answer::{Task, answer};
 use crate::faults::Format;
@@ -154,21 +154,25 @@ fn push_summary(
     }
 }
 
-/// What is told of the files of these names, and at its end how many of them have errors.
+/// What is told of the files of these names, and at its end how many of them have errors: nothing where it is quiet.
 fn tell_all<I: Inputs>(
     alloc: Global,
     format: Format,
     task: Task,
     pointer: &str,
     names: &[&str],
+    is_quiet: bool,
     inputs: &mut I,
 ) -> Result<Telling, AllocError>
-    ensures { IfOk result (λ t. (errors : List ℕ)
-        × Tells format task pointer.now (map (λ name. name.now) names.now) (I.log inputs.old) (I.log inputs.new)
-        t.out.items errors t.status t.wrong
-        × (string_bytes t.errors ≡ errors ++ spec.summary format (length names.now) t.wrong)) }
+    ensures { IfOk result (λ t. Told format task pointer.now (map (λ name. name.now) names.now) is_quiet
+        (I.log inputs.old) (I.log inputs.new) t.out.items (string_bytes t.errors) t.status) }
 {
     let mut telling = tell(alloc, format, task, pointer, names, inputs)?;
+    if is_quiet {
+        telling.out = Vec::new(alloc);
+        telling.errors = String::new(alloc);
+        return Ok(telling);
+    }
     push_summary(&mut telling.errors, format, names.len(), telling.wrong)?;
     Ok(telling)
 }
@@ -194,12 +198,9 @@ pub(crate) fn run<I: Inputs, O: Sink, E: Sink>(
         (O.contents out.old) (O.contents out.new) (O.failed out.new)
         (E.contents errors.old) (E.contents errors.new) (E.failed errors.new) result }
 {
-    let Ok(telling) = tell_all(alloc, format, task, pointer, names, inputs) else {
+    let Ok(telling) = tell_all(alloc, format, task, pointer, names, is_quiet, inputs) else {
         return 4;
     };
-    if is_quiet {
-        return telling.status;
-    }
     if write_bytes(out, telling.out.as_slice()) && write_bytes(errors, telling.errors.as_bytes()) {
         telling.status
     } else {
