@@ -85,7 +85,7 @@ impl<'de> TableHelper<'de> {
     }
 
     /// Records the name, and moves its entry out: the span of its key, and its value.
-    #[tactic(auto, using(crate::proofs::Whole::found_whole))]
+    #[tactic(auto, using(crate::proofs::Whole::placed_whole))]
     fn take_placed(&mut self, name: &'de str) -> Result<Option<(Span, Value<'de>)>, AllocError>
         requires { AllWhole (state_of self.old) }
         ensures entry { IfOk result (λ entry. option_map (λ e. (Some e.0, view e.1)) entry
