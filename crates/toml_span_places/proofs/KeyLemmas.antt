@@ -1,11 +1,11 @@
 -- The keys of headers, of assignments and of sections, a key at a time.
-use Rattle.std.proofs.Common.{◌≡◌, ℕ, ◌+◌, ◌<◌, List, [], ◌∷◌, ◌++◌, Vec, Global, map, drop, length, get_or, refl, ap, sym, append_assoc, ◌∙◌, arith}
-use Rattle.std.proofs.Common.{◌≤◌, ◌==◌, true, false, Result, Ok, Err, OnOk}
+use Rattle.std.proofs.Common.{◌≡◌, ℕ, ◌+◌, ◌<◌, List, [], ◌∷◌, ◌++◌, map, drop, length, get_or, refl, ap, sym, append_assoc, ◌∙◌, arith}
+use Rattle.std.proofs.Common.{◌≤◌, ◌==◌, false, Result, Ok, Err, OnOk}
 use Rattle.std.proofs.lemmas.List.{drop_more}
 use Rattle.toml_span_lex.specs.declared.key.Key.{Key}
 use Rattle.toml_span_tree.specs.Path.{Path}
 use Rattle.toml_span_read.specs.Keys.{SimpleKey, simple_key}
-use Rattle.toml_span_read.specs.Data.{Block, block}
+use Rattle.toml_span_read.specs.Data.{block}
 use Rattle.toml_span_read.specs.declared.section.Section.{Section}
 use Rattle.toml_span.specs.Paths.{enter, with_key}
 use Rattle.toml_span_places.specs.declared.keys.Role.TheVariants as roles

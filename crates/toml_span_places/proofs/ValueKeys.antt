@@ -2,7 +2,7 @@
 use Rattle.std.proofs.Common.{◌≡◌, ◌<◌, ℕ, ◌+◌, List, [], ◌∷◌, ◌++◌, Vec, Global, add-one, append_assoc, sym, map, drop, length, get_or, ap, ◌∙◌}
 use Rattle.std.proofs.lemmas.List.{drop_more}
 use Rattle.toml_span_tree.specs.Path.{Path, position}
-use Rattle.toml_span_read.specs.Data.{inline, array, key_value, kind_view, no_items, no_pairs, onto, pairs_onto, view}
+use Rattle.toml_span_read.specs.Data.{key_value, kind_view, no_items, no_pairs, onto, pairs_onto, view}
 use Rattle.toml_span_read.specs.declared.value.Assignment.{Assignment}
 use Rattle.toml_span_read.specs.declared.value.Val.{Val}
 use Rattle.toml_span_read.specs.declared.value.ValKind.TheVariants as kinds

@@ -2,7 +2,7 @@
 use Rattle.std.proofs.Common.{◌≡◌, ◌≤◌, ◌<◌, ℕ, suc, ◌+◌, List, ◌∷◌, Vec, Global, map, drop, length, get_or, ap, ◌∙◌, arith}
 use Rattle.std.proofs.lemmas.List.{drop_more}
 use Rattle.toml_span_read.specs.Data.{ParsedValue, parsed, ParsedInner, scalar, array, inline, ParsedItems, no_items, item}
-use Rattle.toml_span_read.specs.Data.{ParsedPairs, no_pairs, pair, KeyValue, key_value, kind_view, onto, pairs_onto, view}
+use Rattle.toml_span_read.specs.Data.{ParsedPairs, no_pairs, pair, key_value, kind_view, onto, pairs_onto, view}
 use Rattle.toml_span_read.specs.declared.value.Assignment.{Assignment}
 use Rattle.toml_span_read.specs.declared.value.Val.{Val}
 use Rattle.toml_span_read.specs.declared.value.ValKind.TheVariants as kinds

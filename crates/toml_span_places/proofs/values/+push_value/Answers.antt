@@ -3,8 +3,8 @@ use Rattle.toml_span_read.specs.Data.{view}
 use Rattle.toml_span_tree.specs.Nodes.{step_of}
 use Rattle.toml_span_tree.specs.Path.{position}
 use Rattle.toml_span_places.specs.Keys.{standing, value_keys}
-use Rattle.toml_span_places.proofs.ValueKeys.{assigned_next, elements_next}
-use Rattle.toml_span_places.proofs.ValueSizes.{assigned_small, elements_small}
+use Rattle.toml_span_places.proofs.ValueKeys.{elements_next}
+use Rattle.toml_span_places.proofs.ValueSizes.{elements_small}
 use Rattle.toml_span_places.proofs.values.+push_value.Goals as goal
 
 pub push_items-loop-position-preserved : goal.push_items-loop-position-preserved
