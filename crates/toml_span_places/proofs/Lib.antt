@@ -1,0 +1,4 @@
+pub mod PathLemmas
+pub mod KeyLemmas
+pub mod ValueSizes
+pub mod ValueKeys

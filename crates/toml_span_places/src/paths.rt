@@ -1,0 +1,98 @@
+//! Paths, and the elements of arrays of tables.
+ghost use Rattle.std.specs.Prelude.{◌≡◌, ◌++◌, ◌∷◌, [], IfOk, map};
+ghost use Rattle.toml_span_tree.specs.Nodes.{step_of};
+ghost use Rattle.toml_span.specs.Paths as spec;
+ghost use Rattle.toml_span.specs.Paths.{elements_added};
+ghost use Rattle.toml_span_places.specs.Keys.{steps_of};
+
+use std::alloc::{AllocError, Global};
+use toml_span_tree::nodes::Step;
+
+/// The path with one more step.
+pub(crate) fn extended<'t>(
+    mut path: Vec<Step<'t>>,
+    step: Step<'t>,
+) -> Result<Vec<Step<'t>>, AllocError>
+    ensures { IfOk result (λ below. steps_of below ≡ steps_of path.entry ++ (step_of step.entry ∷ [])) }
+{
+    path.push(step)?;
+    Ok(path)
+}
+
+/// A copy of the steps.
+pub(crate) fn copied<'t>(alloc: Global, path: &[Step<'t>]) -> Result<Vec<Step<'t>>, AllocError>
+    ensures { IfOk result (λ steps. steps_of steps ≡ map step_of path.now) }
+{
+    let steps = Vec::from_slice(alloc, path)?;
+    Ok(steps)
+}
+
+/// The path of an array's element, of the array's.
+pub(crate) fn element_path<'t>(
+    alloc: Global,
+    path: &[Step<'t>],
+    position: usize,
+) -> Result<Vec<Step<'t>>, AllocError>
+    ensures { IfOk result (λ below. steps_of below ≡ spec.with_position (map step_of path.now) position) }
+{
+    let mut steps = Vec::from_slice(alloc, path)?;
+    steps.push(Step::Position(position))?;
+    Ok(steps)
+}
+
+fn same_step(step: &Step<'_>, other: &Step<'_>) -> bool
+    ensures { result ≡ spec.same_step (step_of step.now) (step_of other.now) }
+{
+    match step {
+        Step::Key(name) => match other {
+            Step::Key(name_too) => *name == *name_too,
+            Step::Position(_) => false,
+        },
+        Step::Position(position) => match other {
+            Step::Key(_) => false,
+            Step::Position(position_too) => *position == *position_too,
+        },
+    }
+}
+
+#[tactic(auto, unfolding(toml_span::specs::Paths::same_path))]
+fn same_path(path: &[Step<'_>], other: &[Step<'_>]) -> bool
+    ensures { result ≡ spec.same_path (map step_of path.now) (map step_of other.now) }
+{
+    let [step, path_rest @ ..] = path else {
+        return other.is_empty();
+    };
+    let [other_step, other_rest @ ..] = other else {
+        return false;
+    };
+    same_step(step, other_step) && same_path(path_rest, other_rest)
+}
+
+/// How many elements of the array of tables at a path were added so far.
+pub(crate) fn elements_of(opened: &[Vec<Step<'_>>], path: &[Step<'_>]) -> usize
+    ensures { result ≡ elements_added (map steps_of opened.now) (map step_of path.now) }
+{
+    let mut added = 0;
+    for array in opened {
+        if same_path(array.as_slice(), path) {
+            added += 1;
+        }
+    }
+    added
+}
+
+#[tactic(auto, using(crate::proofs::PathLemmas::enter_latest, crate::proofs::PathLemmas::enter_none))]
+/// The path into the latest element of an array of tables, where one stands there.
+pub(crate) fn enter<'t>(
+    opened: &[Vec<Step<'t>>],
+    path: Vec<Step<'t>>,
+) -> Result<Vec<Step<'t>>, AllocError>
+    ensures { IfOk result (λ inside. steps_of inside ≡ spec.enter (elements_added (map steps_of opened.now)
+        (steps_of path.entry)) (steps_of path.entry)) }
+{
+    let added = elements_of(opened, path.as_slice());
+    if added == 0 {
+        return Ok(path);
+    }
+    extended(path, Step::Position(added - 1))
+}
