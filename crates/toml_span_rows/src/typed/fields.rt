@@ -166,12 +166,12 @@ fn push_last<'de>(
     root: &mut Value<'de>,
     out: &mut String,
 ) -> Result<bool, AllocError> {
-    let original = match call {
-        "finalize" => None,
-        "finalize_back" => Some(root),
+    let ended = match call {
+        "finalize" => helper.finalize(None),
+        "finalize_back" => helper.finalize(Some(root)),
         _ => return Ok(false),
     };
-    known(push_ended(helper.finalize(original), out))
+    known(push_ended(ended, out))
 }
 
 /// Adds the errors of the last call.
