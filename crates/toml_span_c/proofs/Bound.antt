@@ -15,7 +15,9 @@ use Rattle.toml_span.specs.declared.claims.Sort.TheVariants.{ArrayOfTables, Tabl
 use Rattle.toml_span_laws.specs.Order.{claim_start}
 use Rattle.toml_span_laws.proofs.Order.{Onward, Rising, document-rises}
 use Rattle.toml_span_c.specs.declared.records.TheConstants.{NONE}
-use Rattle.toml_span_c.specs.Records.{Entry, capped, no_span, stands, aside, entry_strings, text_of, strings_of, node_entries, held_entries, items_entries, members_entries, tree_entries, tree_records, tree_strings}
+use Rattle.toml_span_c.specs.Records.{Entry, no_span, stands, aside, entry_strings, text_of, strings_of, node_entries, held_entries, items_entries, members_entries, tree_entries, tree_records, tree_strings}
+use Rattle.toml_span_c.specs.Calls.{IsText}
+use Rattle.toml_span_c.specs.code.Filling.{Fits}
 use Rattle.toml_span_c.proofs.Paths.{total}
 use Rattle.toml_span_c.proofs.Costs.{Cost, node_cost, items_cost, members_cost, place_cost, prices, tree-few}
 use Rattle.toml_span_c.proofs.Fits.{bytes_cost, scalar_long, shape_long, claims-fit}
@@ -63,7 +65,7 @@ entry_of at parent i name span n = record {
   position = i;
   name = name;
   key_span = span;
-  next = capped (suc at + length (held_entries at (inner_of n)));
+  next = suc at + length (held_entries at (inner_of n));
   value = n;
 }
 
@@ -73,11 +75,11 @@ mutual
   node-bounded document at parent i name span (node taken s) = record { few = omega arith; short = omega arith }
   node-bounded document at parent i name span (node (scalar x) s) = bounded-own document _ [] 0 0 (record { few = omega arith; short = omega arith })
   node-bounded document at parent i name span (node (array ns) s) =
-      let held = items-bounded document (suc at) (capped at) 0 ns in
+      let held = items-bounded document (suc at) at 0 ns in
       let own = bounded-own document (entry_of at parent i name span (node (array ns) s)) _ _ _ held in
       record { few = omega (arith, own.few); short = omega (arith, own.short) }
   node-bounded document at parent i name span (node (table ms) s) =
-      let held = members-bounded document (suc at) (capped at) 0 ms in
+      let held = members-bounded document (suc at) at 0 ms in
       let own = bounded-own document (entry_of at parent i name span (node (table ms) s)) _ _ _ held in
       record { few = omega (arith, own.few); short = omega (arith, own.short) }
 
@@ -137,3 +139,10 @@ few-records bytes limit root tree =
 pub short-strings : (bytes : List ℕ) (limit : ℕ) (root : Value) → IsTree bytes limit root → length (tree_strings bytes (view root)) ≤ length bytes
 short-strings bytes limit root tree =
     omega (arith, (tree-bounded bytes (view root)).short, tree-few bytes_cost bytes limit root tree, claims-fit tree.0 bytes limit tree.1)
+
+-- what the calls read can be counted
+pub tree-fits : (bytes : List ℕ) (limit : ℕ) (root : Value) → IsText bytes → IsTree bytes limit root → Fits bytes 0 0 (tree_entries (view root))
+tree-fits bytes limit root text tree = record {
+  few = omega (arith, text.0, length-records bytes 0 (tree_entries (view root)), few-records bytes limit root tree);
+  short = omega (arith, text.0, short-strings bytes limit root tree);
+}

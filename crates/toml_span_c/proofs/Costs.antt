@@ -142,9 +142,10 @@ each-priced : (c : Cost) (cs : Claims) (ps : List (Path × ℕ)) → IsWithin (p
 unfolding all_claims
 each-priced c no_claims ps f = tt
 each-priced c (claimed x cs) ps f = (f x.path (place_cost c 0 x.path x.place) (inl (refl, omega arith)), each-priced c cs ps (λ p w h. f p w (inr h)))
-each-priced c (scope inner cs) ps f =
-    (each-priced c inner ps (λ p w h. f p w (has-left c p w (all_claims inner) (all_claims cs) h)),
-     each-priced c cs ps (λ p w h. f p w (has-right c p w (all_claims inner) (all_claims cs) h)))
+each-priced c (scope inner cs) ps f = (
+  each-priced c inner ps (λ p w h. f p w (has-left c p w (all_claims inner) (all_claims cs) h)),
+  each-priced c cs ps (λ p w h. f p w (has-right c p w (all_claims inner) (all_claims cs) h)),
+)
 
 -- a document's tree costs no more than its root and its claims
 pub tree-few : (c : Cost) (bytes : List ℕ) (limit : ℕ) (root : Value) (tree : IsTree bytes limit root) → node_cost c (view root) ≤ c.shape shape_table + claims_cost c (claims tree.0)

@@ -198,21 +198,46 @@ mutual
       let none = ap (λ l. long (item_claims l (suc n) q)) e ∙ long-none in
       omega (arith, element-short v n q (item_claims vs (suc n) q), value-fits v (with_position q n) text limit d i m h, none, close.before.forward, close.ends)
   items-fit (item v vs) n q text limit d i j (m, h, inr (p, sign, rest)) =
-      omega (arith, element-short v n q (item_claims vs (suc n) q), value-fits v (with_position q n) text limit d i m h,
-      sign.before.forward, sign.behind.forward, items-fit vs (suc n) q text limit d p j rest)
+      omega (
+        arith,
+        element-short v n q (item_claims vs (suc n) q),
+        value-fits v (with_position q n) text limit d i m h,
+        sign.before.forward,
+        sign.behind.forward,
+        items-fit vs (suc n) q text limit d p j rest,
+      )
 
   pairs-fit : (ps : ParsedPairs) (es : List KeyValue) (q : Path) (text : List ℕ) (limit d i j : ℕ) → SpellsPairs ps es text limit d i j → i + long (pair_claims ps q) ≤ j
   pairs-fit no_pairs es q text limit d i j h = omega (arith, h.1, long-none)
   pairs-fit (pair ss v x ps) es q text limit d i j (m, (a, b, own_key, few, sign, h, extent), clear, inl (e, close)) =
       let none = ap (λ l. long (pair_claims l q)) e ∙ long-none in
       let own = key-short q ss v (value_claims v) (m - b - value_long v) (λ r. omega (arith, value-fits v r text limit (d + length ss) b m h)) in
-      omega (arith, long-followed (key_claims q ss v (value_claims v)) (pair_claims ps q), own, key-fits ss text i a own_key, value-fits v q text limit (d + length ss) b m h,
-      sign.before.forward, sign.behind.forward, none, close.before.forward, close.ends)
+      omega (
+        arith,
+        long-followed (key_claims q ss v (value_claims v)) (pair_claims ps q),
+        own,
+        key-fits ss text i a own_key,
+        value-fits v q text limit (d + length ss) b m h,
+        sign.before.forward,
+        sign.behind.forward,
+        none,
+        close.before.forward,
+        close.ends,
+      )
   pairs-fit (pair ss v x ps) es q text limit d i j (m, (a, b, own_key, few, sign, h, extent), clear, inr (p, comma, rest)) =
       let own = key-short q ss v (value_claims v) (m - b - value_long v) (λ r. omega (arith, value-fits v r text limit (d + length ss) b m h)) in
-      omega (arith, long-followed (key_claims q ss v (value_claims v)) (pair_claims ps q), own, key-fits ss text i a own_key, value-fits v q text limit (d + length ss) b m h,
-      sign.before.forward, sign.behind.forward, comma.before.forward, comma.behind.forward,
-      pairs-fit ps (es ++ (record { parts = ss; value = v; extent = x } ∷ [])) q text limit d p j rest)
+      omega (
+        arith,
+        long-followed (key_claims q ss v (value_claims v)) (pair_claims ps q),
+        own,
+        key-fits ss text i a own_key,
+        value-fits v q text limit (d + length ss) b m h,
+        sign.before.forward,
+        sign.behind.forward,
+        comma.before.forward,
+        comma.behind.forward,
+        pairs-fit ps (es ++ (record { parts = ss; value = v; extent = x } ∷ [])) q text limit d p j rest,
+      )
 
 -- ---- lines
 
@@ -223,8 +248,18 @@ key_values-fit (e ∷ es) before q text limit i j (m, n, k, h, tail, clear, gap,
     let v = e.value in
     let fits = λ (r : Path). value-fits v r text limit (length e.parts) h.from m h.spelled in
     let own = key-short q e.parts v (value_claims v) (m - h.from - value_long v) (λ r. omega (arith, fits r)) in
-    omega (arith, long-followed (key_claims q e.parts v (value_claims v)) (key_value_claims es q), own, key-fits e.parts text i h.key_end h.key, fits q,
-    h.sign.before.forward, h.sign.behind.forward, tail_inside text m n tail, gap.forward, key_values-fit es (before ++ (e ∷ [])) q text limit k j rest)
+    omega (
+      arith,
+      long-followed (key_claims q e.parts v (value_claims v)) (key_value_claims es q),
+      own,
+      key-fits e.parts text i h.key_end h.key,
+      fits q,
+      h.sign.before.forward,
+      h.sign.behind.forward,
+      tail_inside text m n tail,
+      gap.forward,
+      key_values-fit es (before ++ (e ∷ [])) q text limit k j rest,
+    )
 
 -- ---- sections
 
@@ -270,23 +305,40 @@ closes-forward true text i j h = omega (arith, h.2)
 header-fits : (ks : List SimpleKey) (a : Bool) (text : List ℕ) (limit i j : ℕ) → SpellsHeader ks a text limit i j → i + names ks ≤ j
 header-fits ks a text limit i j h =
     let f = h.front in
-    omega (arith, opens-forward a text i f.inside f.opens, f.before.forward, key-fits ks text f.start f.end f.key, f.behind.forward,
-    closes-forward a text h.close h.end h.shuts, tail_inside text h.end j h.rest)
+    omega (
+      arith,
+      opens-forward a text i f.inside f.opens,
+      f.before.forward,
+      key-fits ks text f.start f.end f.key,
+      f.behind.forward,
+      closes-forward a text h.close h.end h.shuts,
+      tail_inside text h.end j h.rest,
+    )
 
 section-fits : (e : Path → ℕ) (b : Block) (text : List ℕ) (limit k j : ℕ) → SpellsKeyValues b.key_values [] text limit k j → k + long (section_claims e b) ≤ j + names b.header
 unfolding section_claims
 section-fits e b text limit k j h =
     let q = section_path e b in
-    omega (arith, long-followed (header_claims e (head_of b) [] b.header) (key_value_claims b.key_values q),
-    header-short e (head_of b) [] b.header, key_values-fit b.key_values [] q text limit k j h)
+    omega (
+      arith,
+      long-followed (header_claims e (head_of b) [] b.header) (key_value_claims b.key_values q),
+      header-short e (head_of b) [] b.header,
+      key_values-fit b.key_values [] q text limit k j h,
+    )
 
 sections-fit : (earlier bs : List Block) (text : List ℕ) (limit i : ℕ) → SpellsSections bs text limit i → i + long (claims_behind earlier bs) ≤ length text
 unfolding claims_behind
 sections-fit earlier [] text limit i h = omega (arith, h, long-none)
 sections-fit earlier (b ∷ bs) text limit i (j, s, rest) =
     let e = elements_added (opened_by earlier) in
-    omega (arith, long-followed (section_claims e b) (claims_behind (b ∷ earlier) bs), header-fits b.header b.array text limit i s.end s.header,
-    s.lines.1.forward, section-fits e b text limit s.lines.0 j s.lines.2, sections-fit (b ∷ earlier) bs text limit j rest)
+    omega (
+      arith,
+      long-followed (section_claims e b) (claims_behind (b ∷ earlier) bs),
+      header-fits b.header b.array text limit i s.end s.header,
+      s.lines.1.forward,
+      section-fits e b text limit s.lines.0 j s.lines.2,
+      sections-fit (b ∷ earlier) bs text limit j rest,
+    )
 
 first-fits : (es : List KeyValue) (bs : List Block) (text : List ℕ) (limit i j : ℕ) → SpellsKeyValues es [] text limit i j → SpellsSections bs text limit j
     → long (claims (first_block es ++ bs)) ≤ length text
