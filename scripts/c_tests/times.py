@@ -29,7 +29,7 @@ def main():
             text = file.read()
         if toml_span.loads(text) != tomllib.loads(text):
             sys.exit(f"times: {path} is read otherwise")
-        ours, theirs = least(text, 100 if len(text) < 100_000 else 4)
+        ours, theirs = least(text, 100 if len(text) < 100_000 else 8)
         name = os.path.basename(path)
         print(f"times: {name}: {1000 * ours:.2f} ms, tomllib {1000 * theirs:.2f} ms: {theirs / ours:.1f} times")
         slow += theirs < 4 * ours
