@@ -100,7 +100,8 @@ typedef struct {
 /* Reads a text. The arrays are filled as far as there is room, as snprintf does: `nodes` with the front of the records,
  * `strings` with the front of the strings, and `counts` says how many there are, whatever room there was. So where
  * counts->nodes <= room and counts->strings <= strings_room all is there; else a second call with room for the counts
- * has all. A text has no more than 2 * length + 1 records. What is behind the filled part of an array is left alone.
+ * has all. It is proved that a text has no more than 2 * length + 1 records and no more than `length` bytes of strings, so
+ * one call with arrays of that size always has all. What is behind the filled part of an array is left alone.
  *
  * READ: nodes, strings and counts. REFUSED: fault. Nothing else is written, and on any other answer nothing at all. */
 uint32_t toml_span_parse(const char *text, size_t length, toml_span_node *nodes, size_t room, char *strings,

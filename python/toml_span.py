@@ -117,6 +117,7 @@ def _records(text: str, name: str) -> Tuple[bytes, memoryview, bytes]:
     """The text's bytes, the records of its values, and its strings."""
     data = text.encode()
     size = len(data)
+    # (the strings never have more bytes than the text)
     room, strings_room = size // 12 + 16, size + 1
     counts, fault = (ctypes.c_size_t * 2)(), (ctypes.c_char * _FAULT.size)()
     while True:
@@ -129,9 +130,9 @@ def _records(text: str, name: str) -> Tuple[bytes, memoryview, bytes]:
             raise MemoryError
         if status != _READ:
             raise TOMLDecodeError(f"Longer than {_LONGEST} bytes", text, len(text))
-        if counts[0] <= room and counts[1] <= strings_room:
+        if counts[0] <= room:
             return data, memoryview(nodes)[: counts[0] * _NODE.size], strings.raw[: counts[1]]
-        room, strings_room = max(room, counts[0]), max(strings_room, counts[1])
+        room = counts[0]
 
 
 _CLOCK = r"(\d\d):(\d\d)(?::(\d\d)(?:\.(\d+))?)?"

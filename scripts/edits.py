@@ -59,7 +59,7 @@ def clauses(crate):
                 impl = path_of(line)
             elif line == "}":
                 impl = ""
-            elif named := re.match(r"\s*(?:pub(?:\(\w+\))? )?(?:const )?fn (\w+)", line):
+            elif named := re.match(r'\s*(?:pub(?:\(\w+\))? )?(?:const )?(?:extern "C" )?fn (\w+)', line):
                 function = f"{impl}::{named[1]}" if impl and line.startswith(" ") else named[1]
             elif clause := re.match(r"\s+ensures\*? (?:(\w+) )?\{", line):
                 found.add((function, clause[1] or "ensures"))

@@ -15,6 +15,7 @@ import sys
 TOP = os.path.dirname(os.path.dirname(os.path.abspath(__file__)))
 KEPT = f"{TOP}/docs/public_items.txt"
 HEAD = re.compile(r"(?s)(.*?)(?=\s*(?:[{;]|\Z|\n\s*(?:requires|ensures|follows|where)\b))")
+HEADED = re.compile(r'(pub )?(?:pub\(\w+\) )?(?:const (?=fn))?(?:extern "C" (?=fn))?(\w+)!?\W*(\w+)?')
 TYPES = ("struct", "enum", "trait")
 
 
@@ -62,7 +63,7 @@ class Crate:
             if item.startswith("#"):
                 held += item
                 continue
-            is_public, kind, name = re.match(r"(pub )?(?:pub\(\w+\) )?(?:const (?=fn))?(\w+)!?\W*(\w+)?", item).groups()
+            is_public, kind, name = HEADED.match(item).groups()
             if kind == "impl":
                 self.impls.append((path, item))
             elif kind == "mod" and name != "laws":
@@ -103,7 +104,7 @@ class Crate:
 
 
 def main(words):
-    named = re.findall(r"(?m)^(\w+):", text_of(f"{TOP}/crates.txt"))
+    named = re.findall(r"(?m)^(\w+)(?: \w+)*:", text_of(f"{TOP}/crates.txt"))
     libraries = [it for it in named if os.path.isfile(f"{TOP}/crates/{it}/src/lib.rt") and not it.endswith("_laws")]
     found = sorted(line for library in libraries for line in Crate(library).lines)
     if "--check" not in words:

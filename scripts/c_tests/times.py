@@ -9,13 +9,17 @@ import tomllib
 import toml_span
 
 
-def least(call, text, rounds):
-    times = []
+def least(text, rounds):
+    """The least times of both, called in turn, since a machine that others share changes its speed."""
+    ours, theirs = [], []
     for _ in range(rounds):
         start = time.process_time()
-        call(text)
-        times.append(time.process_time() - start)
-    return min(times)
+        toml_span.loads(text)
+        between = time.process_time()
+        tomllib.loads(text)
+        ours.append(between - start)
+        theirs.append(time.process_time() - between)
+    return min(ours), min(theirs)
 
 
 def main():
@@ -25,13 +29,7 @@ def main():
             text = file.read()
         if toml_span.loads(text) != tomllib.loads(text):
             sys.exit(f"times: {path} is read otherwise")
-        ours, theirs = 1.0, 0.0
-        # (on a busy machine the first try may be far off)
-        for _ in range(5):
-            rounds = 40 if len(text) < 100_000 else 3
-            ours, theirs = least(toml_span.loads, text, 2 * rounds), least(tomllib.loads, text, rounds)
-            if theirs >= 4 * ours:
-                break
+        ours, theirs = least(text, 100 if len(text) < 100_000 else 8)
         name = os.path.basename(path)
         print(f"times: {name}: {1000 * ours:.2f} ms, tomllib {1000 * theirs:.2f} ms: {theirs / ours:.1f} times")
         slow += theirs < 4 * ours

@@ -6,7 +6,7 @@ use Rattle.toml_span_tree.specs.Node.{Node, node, Inner, taken, scalar, array, t
 use Rattle.toml_span_tree.specs.Value.{inner_of, span_of, items_in, members_in, items_view, members_view}
 use Rattle.toml_span_tree.specs.declared.value.Value.{Value}
 use Rattle.toml_span_tree.proofs.Sizes.{node_size, inner_size, items_size, members_size}
-use Rattle.toml_span_c.specs.Records.{capped, items_count, members_count, held_entries, items_entries, members_entries}
+use Rattle.toml_span_c.specs.Records.{items_count, members_count, held_entries, items_entries, members_entries}
 
 -- how many values are held
 pub count-elements : (es : List Value) → items_count (items_view es) ≡ length es
@@ -18,17 +18,17 @@ count-entries [] = refl
 count-entries (e ∷ es) = ap (λ n. suc n) (count-entries es)
 
 -- the elements, the entries, or nothing
-pub held-items : (k : ℕ) (i : Inner) (ns : Items) → items_in i ≡ Some ns → held_entries k i ≡ items_entries (suc k) (capped k) 0 ns
+pub held-items : (k : ℕ) (i : Inner) (ns : Items) → items_in i ≡ Some ns → held_entries k i ≡ items_entries (suc k) k 0 ns
 held-items k taken ns h = absurd (none-some ns h)
 held-items k (scalar s) ns h = absurd (none-some ns h)
-held-items k (array ms) ns h = ap (λ l. items_entries (suc k) (capped k) 0 l) (same_Some ms ns h)
+held-items k (array ms) ns h = ap (λ l. items_entries (suc k) k 0 l) (same_Some ms ns h)
 held-items k (table ms) ns h = absurd (none-some ns h)
 
-pub held-members : (k : ℕ) (i : Inner) (ms : Members) → members_in i ≡ Some ms → held_entries k i ≡ members_entries (suc k) (capped k) 0 ms
+pub held-members : (k : ℕ) (i : Inner) (ms : Members) → members_in i ≡ Some ms → held_entries k i ≡ members_entries (suc k) k 0 ms
 held-members k taken ms h = absurd (none-some ms h)
 held-members k (scalar s) ms h = absurd (none-some ms h)
 held-members k (array ns) ms h = absurd (none-some ms h)
-held-members k (table ns) ms h = ap (λ l. members_entries (suc k) (capped k) 0 l) (same_Some ns ms h)
+held-members k (table ns) ms h = ap (λ l. members_entries (suc k) k 0 l) (same_Some ns ms h)
 
 pub held-nothing : (k : ℕ) (i : Inner) → items_in i ≡ None → members_in i ≡ None → held_entries k i ≡ []
 held-nothing k taken h g = refl

@@ -1,5 +1,7 @@
 pub mod Arrays
 pub mod Bound
+pub mod Costs
+pub mod Fits
 pub mod Held
 pub mod Names
 pub mod Paths

@@ -1,43 +1,48 @@
--- Lists of paths, taken apart by their first steps.
-use Rattle.std.proofs.Common.{◌≡◌, ◌≤◌, ◌+◌, ◌⊎◌, ℕ, suc, false, List, [], ◌∷◌, length, refl, sym, ap, ◌∙◌, inl, inr, arith, if◌then◌else◌}
+-- Lists of paths with prices, taken apart by the first steps of the paths.
+use Rattle.std.proofs.Common.{◌≡◌, ◌≤◌, ◌+◌, ◌⊎◌, ℕ, false, List, [], ◌∷◌, refl, sym, ap, ◌∙◌, inl, inr, arith, if◌then◌else◌}
 use Rattle.std.proofs.lemmas.Bool.{cases_Bool, false≢true}
 use Rattle.toml_span_tree.specs.Path.{Path, Step}
 use Rattle.toml_span.specs.Paths.{same_step}
 use Rattle.toml_span.proofs.Grafts.{same_step-self}
 
-abbrev pub IsMem : Path → List Path → Type 0
-IsMem p [] = ⊥
-IsMem p (q ∷ qs) = (p ≡ q) ⊎ IsMem p qs
+-- the path is there at this price or a higher one
+abbrev pub Has : Path → ℕ → List (Path × ℕ) → Type 0
+Has p w [] = ⊥
+Has p w (c ∷ cs) = ((p ≡ c.0) × (w ≤ c.1)) ⊎ Has p w cs
 
 -- the paths that begin with a step, without it, and those that begin with another one
-abbrev pub after : Step → List Path → List Path
+abbrev pub after : Step → List (Path × ℕ) → List (Path × ℕ)
 after s [] = []
-after s ([] ∷ ps) = after s ps
-after s ((t ∷ p) ∷ ps) = if same_step s t then p ∷ after s ps else after s ps
+after s (([], w) ∷ ps) = after s ps
+after s ((t ∷ p, w) ∷ ps) = if same_step s t then (p, w) ∷ after s ps else after s ps
 
-abbrev pub without : Step → List Path → List Path
+abbrev pub without : Step → List (Path × ℕ) → List (Path × ℕ)
 without s [] = []
-without s ([] ∷ ps) = without s ps
-without s ((t ∷ p) ∷ ps) = if same_step s t then without s ps else (t ∷ p) ∷ without s ps
+without s (([], w) ∷ ps) = without s ps
+without s ((t ∷ p, w) ∷ ps) = if same_step s t then without s ps else (t ∷ p, w) ∷ without s ps
 
--- how many have a step
-abbrev pub stepping : List Path → ℕ
+-- the prices of all, and of those that have a step
+abbrev pub total : List (Path × ℕ) → ℕ
+total [] = 0
+total ((p, w) ∷ ps) = w + total ps
+
+abbrev pub stepping : List (Path × ℕ) → ℕ
 stepping [] = 0
-stepping ([] ∷ ps) = stepping ps
-stepping ((t ∷ p) ∷ ps) = suc (stepping ps)
+stepping (([], w) ∷ ps) = stepping ps
+stepping ((t ∷ p, w) ∷ ps) = w + stepping ps
 
-pub stepping-parts : (s : Step) (ps : List Path) → length (after s ps) + stepping (without s ps) ≡ stepping ps
+pub stepping-parts : (s : Step) (ps : List (Path × ℕ)) → total (after s ps) + stepping (without s ps) ≡ stepping ps
 stepping-parts s [] = refl
-stepping-parts s ([] ∷ ps) = stepping-parts s ps
-stepping-parts s ((t ∷ p) ∷ ps) = elim (cases_Bool (same_step s t)) [
+stepping-parts s (([], w) ∷ ps) = stepping-parts s ps
+stepping-parts s ((t ∷ p, w) ∷ ps) = elim (cases_Bool (same_step s t)) [
   | inl same ↦ rw same (omega (arith, stepping-parts s ps))
   | inr off ↦ rw off (omega (arith, stepping-parts s ps))
 ]
 
-pub stepping-length : (ps : List Path) → stepping ps ≤ length ps
-stepping-length [] = omega arith
-stepping-length ([] ∷ ps) = omega (arith, stepping-length ps)
-stepping-length ((t ∷ p) ∷ ps) = omega (arith, stepping-length ps)
+stepping-total : (ps : List (Path × ℕ)) → stepping ps ≤ total ps
+stepping-total [] = omega arith
+stepping-total (([], w) ∷ ps) = omega (arith, stepping-total ps)
+stepping-total ((t ∷ p, w) ∷ ps) = omega (arith, stepping-total ps)
 
 rest_of : Path → Path
 rest_of [] = []
@@ -55,34 +60,35 @@ same-first : (s t : Step) (p q : Path) → s ∷ p ≡ t ∷ q → s ≡ t
 unfolding first_or
 same-first s t p q e = ap (first_or s) e
 
--- where the empty path is one of them, one more than have a step
-pub stepping-fewer : (ps : List Path) → IsMem [] ps → suc (stepping ps) ≤ length ps
-stepping-fewer [] h = absurd h
-stepping-fewer ([] ∷ ps) h = omega (arith, stepping-length ps)
-stepping-fewer ((t ∷ p) ∷ ps) (inl e) = cc
-stepping-fewer ((t ∷ p) ∷ ps) (inr h) = omega (arith, stepping-fewer ps h)
+-- the empty path's price and the prices of those that have a step
+pub stepping-fewer : (w : ℕ) (ps : List (Path × ℕ)) → Has [] w ps → w + stepping ps ≤ total ps
+stepping-fewer w [] h = absurd h
+stepping-fewer w (([], v) ∷ ps) (inl e) = omega (arith, e.1, stepping-total ps)
+stepping-fewer w (([], v) ∷ ps) (inr h) = omega (arith, stepping-fewer w ps h)
+stepping-fewer w ((t ∷ p, v) ∷ ps) (inl e) = let off : [] ≡ t ∷ p = e.0 in cc
+stepping-fewer w ((t ∷ p, v) ∷ ps) (inr h) = omega (arith, stepping-fewer w ps h)
 
 off-step : (s t : Step) → s ≡ t → same_step s t ≡ false → ⊥
 off-step s t e off = false≢true (sym off ∙ ap (λ u. same_step s u) (sym e) ∙ same_step-self s)
 
-pub after-mem : (s : Step) (q : Path) (ps : List Path) → IsMem (s ∷ q) ps → IsMem q (after s ps)
-after-mem s q [] h = h
-after-mem s q ([] ∷ ps) (inl e) = cc
-after-mem s q ([] ∷ ps) (inr h) = after-mem s q ps h
-after-mem s q ((t ∷ p) ∷ ps) h = elim (cases_Bool (same_step s t)) [
-  | inl same ↦ rw same (elim h [ inl e ↦ inl (same-rest s t q p e) | inr g ↦ inr (after-mem s q ps g) ])
-  | inr off ↦ rw off (elim h [ inl e ↦ absurd (off-step s t (same-first s t q p e) off) | inr g ↦ after-mem s q ps g ])
+pub after-mem : (s : Step) (q : Path) (w : ℕ) (ps : List (Path × ℕ)) → Has (s ∷ q) w ps → Has q w (after s ps)
+after-mem s q w [] h = h
+after-mem s q w (([], v) ∷ ps) (inl e) = let off : s ∷ q ≡ [] = e.0 in cc
+after-mem s q w (([], v) ∷ ps) (inr h) = after-mem s q w ps h
+after-mem s q w ((t ∷ p, v) ∷ ps) h = elim (cases_Bool (same_step s t)) [
+  | inl same ↦ rw same (elim h [ inl e ↦ inl (same-rest s t q p e.0, e.1) | inr g ↦ inr (after-mem s q w ps g) ])
+  | inr off ↦ rw off (elim h [ inl e ↦ absurd (off-step s t (same-first s t q p e.0) off) | inr g ↦ after-mem s q w ps g ])
 ]
 
-pub without-mem : (s t : Step) (q : Path) (ps : List Path) → same_step s t ≡ false → IsMem (t ∷ q) ps → IsMem (t ∷ q) (without s ps)
-without-mem s t q [] apart h = h
-without-mem s t q ([] ∷ ps) apart (inl e) = cc
-without-mem s t q ([] ∷ ps) apart (inr h) = without-mem s t q ps apart h
-without-mem s t q ((u ∷ p) ∷ ps) apart h = elim (cases_Bool (same_step s u)) [
+pub without-mem : (s t : Step) (q : Path) (w : ℕ) (ps : List (Path × ℕ)) → same_step s t ≡ false → Has (t ∷ q) w ps → Has (t ∷ q) w (without s ps)
+without-mem s t q w [] apart h = h
+without-mem s t q w (([], v) ∷ ps) apart (inl e) = let off : t ∷ q ≡ [] = e.0 in cc
+without-mem s t q w (([], v) ∷ ps) apart (inr h) = without-mem s t q w ps apart h
+without-mem s t q w ((u ∷ p, v) ∷ ps) apart h = elim (cases_Bool (same_step s u)) [
   | inl same ↦
       rw same (elim h [
-        | inl e ↦ absurd (false≢true (sym apart ∙ ap (λ v. same_step s v) (same-first t u q p e) ∙ same))
-        | inr g ↦ without-mem s t q ps apart g
+        | inl e ↦ absurd (false≢true (sym apart ∙ ap (λ x. same_step s x) (same-first t u q p e.0) ∙ same))
+        | inr g ↦ without-mem s t q w ps apart g
       ])
-  | inr off ↦ rw off (elim h [ inl e ↦ inl e | inr g ↦ inr (without-mem s t q ps apart g) ])
+  | inr off ↦ rw off (elim h [ inl e ↦ inl e | inr g ↦ inr (without-mem s t q w ps apart g) ])
 ]

@@ -1,9 +1,10 @@
 -- Entries that are put, one behind the other.
-use Rattle.std.proofs.Common.{◌≡◌, ℕ, suc, ◌+◌, List, [], ◌∷◌, ◌++◌, length, refl, sym, ap, ◌∙◌, arith, append_assoc, length-append}
+use Rattle.std.proofs.Common.{◌≡◌, ◌≤◌, ℕ, suc, ◌+◌, List, [], ◌∷◌, ◌++◌, length, refl, sym, ap, subst, ◌∙◌, arith, append_assoc, length-append}
 use Rattle.toml_span_c.specs.declared.records.Counts.{Counts}
 use Rattle.toml_span_c.specs.declared.records.Record.{Record}
-use Rattle.toml_span_c.specs.Records.{Entry, capped, entry_strings, record_of, records_of, strings_of}
-use Rattle.toml_span_c.specs.code.Filling.{laid, IsAt, Puts, PutsBytes}
+use Rattle.toml_span_c.specs.declared.records.TheConstants.{NONE}
+use Rattle.toml_span_c.specs.Records.{Entry, entry_strings, record_of, records_of, strings_of}
+use Rattle.toml_span_c.specs.code.Filling.{laid, Fits, IsAt, Puts, PutsBytes}
 use Rattle.toml_span_c.proofs.Arrays.{laid-none, laid-append, laid-before}
 
 pub strings-append : (document : List ℕ) (es fs : List Entry) → strings_of document (es ++ fs) ≡ strings_of document es ++ strings_of document fs
@@ -24,7 +25,7 @@ length-records document m [] = refl
 length-records document m (e ∷ es) = ap (λ n. suc n) (length-records document (m + length (entry_strings document e)) es)
 
 pub at-moved : (k l m n : ℕ) (counts : Counts) → k ≡ l → m ≡ n → IsAt k m counts → IsAt l n counts
-at-moved k l m n counts e f at = record { nodes = at.nodes ∙ ap capped e; strings = at.strings ∙ ap capped f }
+at-moved k l m n counts e f at = record { nodes = at.nodes ∙ e; strings = at.strings ∙ f }
 
 pub puts-none : (document : List ℕ) (k m : ℕ) (ns : List Record) (bytes : List ℕ) (counts : Counts) → IsAt k m counts → Puts document k m [] ns ns bytes bytes counts
 puts-none document k m ns bytes counts at = record {
@@ -53,13 +54,13 @@ puts-append document k m es fs a b c x y z t u p q =
     }
 
 -- the entry of a value whose record is written last, and those of what it holds
-pub puts-own : (document : List ℕ) (k m n : ℕ) (e : Entry) (es : List Entry) (r : Record) (a b c : List Record) (x y z : List ℕ) (t : Counts)
+pub puts-own : (document : List ℕ) (j k m n : ℕ) (e : Entry) (es : List Entry) (r : Record) (a b c : List Record) (x y z : List ℕ) (t : Counts)
     → n ≡ m + length (entry_strings document e) → r ≡ record_of document m e → y ≡ laid m (entry_strings document e) x
-    → Puts document (suc k) n es a b y z t → c ≡ laid k (r ∷ []) b → Puts document k m (e ∷ es) a c x z t
-puts-own document k m n e es r a b c x y z t at own first p last =
+    → Puts document (suc k) n es a b y z t → c ≡ laid j (r ∷ []) b → j ≡ k → Puts document k m (e ∷ es) a c x z t
+puts-own document j k m n e es r a b c x y z t at own first p last same =
     let wide = length-append (entry_strings document e) (strings_of document es) in
     record {
-      nodes = last ∙ ap (λ l. laid k (r ∷ []) l) p.nodes ∙ laid-before k r (records_of document n es) a
+      nodes = last ∙ ap (λ i. laid i (r ∷ []) b) same ∙ ap (λ l. laid k (r ∷ []) l) p.nodes ∙ laid-before k r (records_of document n es) a
           ∙ ap (λ s. laid k (s ∷ records_of document n es) a) own
           ∙ ap (λ i. laid k (record_of document m e ∷ records_of document i es) a) at;
       strings = p.strings ∙ ap (λ l. laid n (strings_of document es) l) first
@@ -73,5 +74,29 @@ bytes-append m xs ys a b c t u p q =
     let same : m + length xs + length ys ≡ m + length (xs ++ ys) = omega (arith, long) in
     record {
       bytes = q.bytes ∙ ap (λ l. laid (m + length xs) ys l) p.bytes ∙ laid-append m (m + length xs) xs ys a refl;
-      count = q.count ∙ ap capped same;
+      count = q.count ∙ same;
     }
+
+-- ---- what can be counted
+
+-- an entry and those behind it
+pub fits-own : (document : List ℕ) (k m : ℕ) (e : Entry) (es : List Entry) → Fits document k m (e ∷ es)
+    → (m + length (entry_strings document e) ≤ NONE) × Fits document (suc k) (m + length (entry_strings document e)) es
+fits-own document k m e es h =
+    let long = length-append (entry_strings document e) (strings_of document es) in
+    (omega (arith, h.short, long), record { few = omega (arith, h.few); short = omega (arith, h.short, long) })
+
+-- a part
+pub fits-part : (document : List ℕ) (k m : ℕ) (es fs gs : List Entry) → Fits document k m (es ++ (fs ++ gs))
+    → Fits document (k + length es) (m + length (strings_of document es)) fs
+fits-part document k m es fs gs h =
+    let count = length-append es (fs ++ gs) in
+    let inner = length-append fs gs in
+    let size = ap (λ l. length l) (strings-append document es (fs ++ gs)) in
+    let long = length-append (strings_of document es) (strings_of document (fs ++ gs)) in
+    let more = ap (λ l. length l) (strings-append document fs gs) in
+    let wide = length-append (strings_of document fs) (strings_of document gs) in
+    record { few = omega (arith, h.few, count, inner); short = omega (arith, h.short, size, long, more, wide) }
+
+pub fits-same : (document : List ℕ) (k m : ℕ) (es fs : List Entry) → es ≡ fs → Fits document k m es → Fits document k m fs
+fits-same document k m es fs e h = subst (λ (l : List Entry). Fits document k m l) e h

@@ -9,9 +9,9 @@ use Rattle.toml_span_tree.specs.Node.{Node, node, Inner, taken, scalar, array, t
 use Rattle.toml_span_tree.specs.Value.{view, items_view, members_view, is_taken, holds_nothing}
 use Rattle.toml_span_c.specs.declared.records.Counts.{Counts}
 use Rattle.toml_span_c.specs.declared.records.Record.{Record}
-use Rattle.toml_span_c.specs.Records.{Entry, capped, no_span, node_entries, held_entries, items_entries, members_entries, strings_of}
-use Rattle.toml_span_c.specs.code.Filling.{IsAt, Puts}
-use Rattle.toml_span_c.proofs.Puts.{puts-none, puts-append}
+use Rattle.toml_span_c.specs.Records.{Entry, no_span, node_entries, held_entries, items_entries, members_entries, strings_of}
+use Rattle.toml_span_c.specs.code.Filling.{Fits, IsAt, Puts}
+use Rattle.toml_span_c.proofs.Puts.{puts-none, puts-append, fits-part, fits-same}
 
 -- the entry of a value that holds something
 abbrev pub own_entry : ℕ → ℕ → ℕ → Option (List ℕ) → Span → Node → Inner → Entry
@@ -20,7 +20,7 @@ own_entry at parent i name key n inner = record {
   position = i;
   name = name;
   key_span = key;
-  next = capped (suc at + length (held_entries at inner));
+  next = suc at + length (held_entries at inner);
   value = n;
 }
 
@@ -57,17 +57,20 @@ members_left parent i es at = members_entries at parent i (members_view es)
 
 pub upto-more : (document : List ℕ) (k m : ℕ) (left rest : ℕ → List Entry) (mine : ℕ → List Entry) (all : List Entry) (a b c : List Record) (x y z : List ℕ) (t u : Counts)
     → ((at : ℕ) → left at ≡ mine at ++ rest (at + length (mine at)))
-    → ((i j : ℕ) → IsAt i j t → Puts document i j (mine i) b c y z u)
+    → ((i j : ℕ) → IsAt i j t → Fits document i j (mine i) → Puts document i j (mine i) b c y z u)
+    → Fits document k m all
     → Upto document k m left all a b x y t → Upto document k m rest all a c x z u
-upto-more document k m left rest mine all a b c x y z t u split step so =
+upto-more document k m left rest mine all a b c x y z t u split step fits so =
     let at = k + length so.done in
     let n = m + length (strings_of document so.done) in
     let added = mine at in
     let long = length-append so.done added in
     let next : at + length added ≡ k + length (so.done ++ added) = omega (arith, long) in
+    let parts : all ≡ so.done ++ (added ++ rest (at + length added)) = sym so.whole ∙ ap (λ l. so.done ++ l) (split at) in
+    let part = fits-part document k m so.done added (rest (at + length added)) (fits-same document k m all _ parts fits) in
     record {
       done = so.done ++ added;
-      puts = puts-append document k m so.done added a b c x y z t u so.puts (step at n so.puts.counts);
+      puts = puts-append document k m so.done added a b c x y z t u so.puts (step at n so.puts.counts part);
       whole = append_assoc so.done added (rest (k + length (so.done ++ added)))
           ∙ ap (λ i. so.done ++ (added ++ rest i)) (sym next)
           ∙ ap (λ l. so.done ++ l) (sym (split at)) ∙ so.whole;

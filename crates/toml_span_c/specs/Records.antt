@@ -1,5 +1,5 @@
 -- The records of a tree: one for each value, before those of what it holds.
-use Rattle.std.specs.Prelude.{ℕ, suc, ◌+◌, ℤ, pos, Bool, true, ◌&&◌, nat_le, min, List, [], ◌∷◌, ◌++◌, length}
+use Rattle.std.specs.Prelude.{ℕ, suc, ◌+◌, ℤ, pos, Bool, true, ◌&&◌, nat_le, List, [], ◌∷◌, ◌++◌, length}
 use Rattle.std.specs.Prelude.{take, drop, slice_range, Option, Some, None, unwrap_or, if◌then◌else◌}
 use Rattle.std.specs.Float.{Float, binary64}
 use Rattle.std.specs.List.{flat_map}
@@ -86,10 +86,6 @@ children_of _ = 0
 
 -- ---- the order of the values
 
--- a number of a record or of a byte; of one that does not fit the greatest that does
-abbrev pub capped : ℕ → ℕ
-capped n = min n NONE
-
 -- A value with its name and the span of its key, if it has one. The numbers are those of the records: of what holds it,
 -- and of the first one behind all that it holds.
 pub record Entry : Type 0 where
@@ -114,15 +110,15 @@ abbrev mutual
         position = i;
         name = name;
         key_span = key;
-        next = capped (suc at + length (held_entries at inner));
+        next = suc at + length (held_entries at inner);
         value = node inner span;
       } ∷ held_entries at inner
 
   pub held_entries : ℕ → Inner → List Entry
   held_entries at taken = []
   held_entries at (scalar s) = []
-  held_entries at (array ns) = items_entries (suc at) (capped at) 0 ns
-  held_entries at (table ms) = members_entries (suc at) (capped at) 0 ms
+  held_entries at (array ns) = items_entries (suc at) at 0 ns
+  held_entries at (table ms) = members_entries (suc at) at 0 ms
 
   pub items_entries : ℕ → ℕ → ℕ → Items → List Entry
   items_entries at parent i no_items = []
@@ -154,7 +150,7 @@ place_of document behind span None = record { source = 0; at = 0; length = 0 }
 place_of document behind span (Some s) =
     if stands document span s
     then record { source = 0; at = span.start; length = length s }
-    else record { source = 1; at = capped behind; length = length s }
+    else record { source = 1; at = behind; length = length s }
 
 -- what of a text is in the strings
 abbrev pub aside : List ℕ → Span → Option (List ℕ) → List ℕ
@@ -207,8 +203,8 @@ tree_strings document n = strings_of document (tree_entries n)
 
 abbrev pub tree_counts : List ℕ → Node → Counts
 tree_counts document n = record {
-  nodes = capped (length (tree_records document n));
-  strings = capped (length (tree_strings document n));
+  nodes = length (tree_records document n);
+  strings = length (tree_strings document n);
 }
 
 -- ---- arrays

@@ -1,9 +1,9 @@
 //! Fills the caller's arrays, a value at a time.
-ghost use Rattle.std.specs.Prelude.{◌≡◌, ◌++◌, ◌∷◌, [], ℕ, suc, false, length, option_map};
+ghost use Rattle.std.specs.Prelude.{◌≡◌, ◌≤◌, ◌+◌, ◌++◌, ◌∷◌, [], ℕ, suc, false, length, option_map};
 ghost use Rattle.toml_span_lex.specs.declared.span.Span.{Span};
 ghost use Rattle.toml_span_tree.specs.Value.{view, inner_of, items_view, members_view, is_taken};
 ghost use Rattle.toml_span_c.specs.Records as spec;
-ghost use Rattle.toml_span_c.specs.code.Filling.{laid, IsAt, Puts, PutsBytes};
+ghost use Rattle.toml_span_c.specs.code.Filling.{laid, Fits, IsAt, Puts, PutsBytes};
 ghost use Rattle.toml_span_c.specs.code.Sites.{begun, entries_at};
 
 use crate::records::{
@@ -40,7 +40,8 @@ fn room_of<T>(array: &[T]) -> usize
 
 /// Puts bytes into the strings, as far as there is room, and counts them.
 fn put_bytes(strings: &mut [u8], count: &mut usize, bytes: &[u8])
-    ensures { (m : ℕ) → count.old ≡ spec.capped m → PutsBytes m bytes.now strings.old strings.new count.new }
+    ensures { (m : ℕ) → count.old ≡ m → m + length bytes.now ≤ NONE
+        → PutsBytes m bytes.now strings.old strings.new count.new }
 {
     let at = *count;
     let room = room_of(strings);
@@ -59,9 +60,10 @@ fn put_text(
     strings: &mut [u8],
     count: &mut usize,
 ) -> Text
-    ensures place { (m : ℕ) → count.old ≡ spec.capped m
+    ensures place { (m : ℕ) → count.old ≡ m
         → result ≡ spec.place_of document.now m span (option_map (λ s. s.now) text.entry) }
-    ensures put { (m : ℕ) → count.old ≡ spec.capped m
+    ensures put { (m : ℕ) → count.old ≡ m
+        → m + length (spec.aside document.now span (option_map (λ s. s.now) text.entry)) ≤ NONE
         → PutsBytes m (spec.aside document.now span (option_map (λ s. s.now) text.entry))
         strings.old strings.new count.new }
 {
@@ -90,7 +92,7 @@ fn put_text(
 
 /// Puts a record, if there is room for it.
 fn put_record(nodes: &mut [Record], at: usize, added: Record)
-    ensures { (k : ℕ) → at ≡ spec.capped k → nodes.new ≡ laid k (added ∷ []) nodes.old }
+    ensures { nodes.new ≡ laid at (added ∷ []) nodes.old }
 {
     let room = room_of(nodes);
     if at < room {
@@ -107,9 +109,11 @@ fn begin_record(
     count: &mut usize,
 ) -> Record
     requires { is_taken (view value.now) ≡ false }
-    ensures begins { (m : ℕ) → count.old ≡ spec.capped m
+    ensures begins { (m : ℕ) → count.old ≡ m
+        → m + length (spec.entry_strings document.now (begun site.entry value.now)) ≤ NONE
         → result ≡ spec.record_of document.now m (begun site.entry value.now) }
-    ensures put { (m : ℕ) → count.old ≡ spec.capped m
+    ensures put { (m : ℕ) → count.old ≡ m
+        → m + length (spec.entry_strings document.now (begun site.entry value.now)) ≤ NONE
         → PutsBytes m (spec.entry_strings document.now (begun site.entry value.now))
         strings.old strings.new count.new }
 {
@@ -148,7 +152,8 @@ fn put_value(
     strings: &mut [u8],
     counts: &mut Counts,
 )
-    ensures { (k m : ℕ) → IsAt k m counts.old → Puts document.now k m (entries_at k site.entry value.now)
+    ensures { (k m : ℕ) → IsAt k m counts.old → Fits document.now k m (entries_at k site.entry value.now)
+        → Puts document.now k m (entries_at k site.entry value.now)
         nodes.old nodes.new strings.old strings.new counts.new }
 {
     if value.is_taken() {
@@ -172,7 +177,8 @@ fn put_held(
     strings: &mut [u8],
     counts: &mut Counts,
 )
-    ensures { (k m : ℕ) → at ≡ spec.capped k → IsAt (suc k) m counts.old
+    ensures { (k m : ℕ) → at ≡ k → IsAt (suc k) m counts.old
+        → Fits document.now (suc k) m (spec.held_entries k (inner_of (view value.now)))
         → Puts document.now (suc k) m (spec.held_entries k (inner_of (view value.now)))
         nodes.old nodes.new strings.old strings.new counts.new }
 {
@@ -194,6 +200,7 @@ fn put_elements(
     counts: &mut Counts,
 )
     ensures { (k m : ℕ) → IsAt k m counts.old
+        → Fits document.now k m (spec.items_entries k parent 0 (items_view elements.now))
         → Puts document.now k m (spec.items_entries k parent 0 (items_view elements.now))
         nodes.old nodes.new strings.old strings.new counts.new }
 {
@@ -221,6 +228,7 @@ fn put_entries(
     counts: &mut Counts,
 )
     ensures { (k m : ℕ) → IsAt k m counts.old
+        → Fits document.now k m (spec.members_entries k parent 0 (members_view table.now.entries))
         → Puts document.now k m (spec.members_entries k parent 0 (members_view table.now.entries))
         nodes.old nodes.new strings.old strings.new counts.new }
 {
@@ -244,6 +252,7 @@ pub(crate) fn put_tree(
     nodes: &mut [Record],
     strings: &mut [u8],
 ) -> Counts
+    requires { Fits document.now 0 0 (spec.tree_entries (view root.now)) }
     ensures nodes { nodes.new ≡ spec.filled (spec.tree_records document.now (view root.now)) nodes.old }
     ensures strings { strings.new ≡ spec.filled (spec.tree_strings document.now (view root.now)) strings.old }
     ensures counts { result ≡ spec.tree_counts document.now (view root.now) }

@@ -2,7 +2,7 @@
 ghost use Rattle.std.specs.Prelude.{◌≡◌, ◌≢◌, ◌≤◌, ◌+◌, ◌*◌, ℕ, List, length};
 ghost use Rattle.toml_span.specs.Parsing.{IsTree};
 ghost use Rattle.toml_span_c.specs.Faults.{code_name, code_number};
-ghost use Rattle.toml_span_c.specs.Records.{tree_records};
+ghost use Rattle.toml_span_c.specs.Records.{tree_records, tree_strings};
 ghost use Rattle.toml_span_tree.specs.Error.{Kind};
 ghost use Rattle.toml_span_tree.specs.Message.{code_of};
 ghost use Rattle.toml_span_tree.specs.Value.{view};
@@ -17,4 +17,10 @@ pub fn numbers_are_named()
 pub fn records_are_few()
     ensures { (bytes : List ℕ) (limit : ℕ) (root : Value) → IsTree bytes limit root
         → length (tree_records bytes (view root)) ≤ 2 * length bytes + 1 }
+{}
+
+/// The strings of a document have no more bytes than it has.
+pub fn strings_fit()
+    ensures { (bytes : List ℕ) (limit : ℕ) (root : Value) → IsTree bytes limit root
+        → length (tree_strings bytes (view root)) ≤ length bytes }
 {}

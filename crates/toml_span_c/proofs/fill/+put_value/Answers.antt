@@ -6,11 +6,11 @@ use Rattle.toml_span_tree.specs.Value.{view, inner_of, span_of, items_in, member
 use Rattle.toml_span_tree.proofs.Sizes.{items_size-next, members_size-next}
 use Rattle.toml_span_tree.proofs.Values.{view_is}
 use Rattle.toml_span_tree.specs.Node.{node}
-use Rattle.toml_span_c.specs.Records.{capped, no_span, record_of, entry_strings, node_entries, held_entries, items_entries, members_entries}
+use Rattle.toml_span_c.specs.Records.{no_span, record_of, entry_strings, node_entries, held_entries, items_entries, members_entries}
 use Rattle.toml_span_c.specs.code.Sites.{begun}
 use Rattle.toml_span_c.specs.declared.records.Record.{Record}
 use Rattle.toml_span_c.proofs.Held.{held-items, held-members, held-nothing, node-whole}
-use Rattle.toml_span_c.proofs.Puts.{puts-none, puts-own}
+use Rattle.toml_span_c.proofs.Puts.{puts-none, puts-own, fits-own, fits-same}
 use Rattle.toml_span_c.proofs.Walks.{items_left, members_left, upto-begin, upto-more, upto-all, items-split, members-split, entries-taken, entries-held, own_entry, puts-named, puts-same}
 use Rattle.toml_span_c.proofs.fill.+put_value.Goals as goal
 
@@ -24,16 +24,16 @@ put_elements-loop-position-preserved t c =
     let below = c.loop-position-test.true in
     record {
       small = items_size-next i es element _ below here c.loop-position.invariant.small;
-      so = λ k m at.
+      so = λ k m at fits.
           upto-more _ k m (items_left parent i (drop i es)) (items_left parent (i + 1) (drop (i + 1) es)) (λ n. node_entries n parent i None no_span (view element)) _ _ _ _ _ _ _ _ _
-          (λ n. items-split parent i n es element below here) c.put_value.ensures (c.loop-position.invariant.so k m at);
+          (λ n. items-split parent i n es element below here) c.put_value.ensures fits (c.loop-position.invariant.so k m at fits);
     }
 
 pub put_elements-returns : goal.put_elements-returns
-put_elements-returns t c k m at =
+put_elements-returns t c k m at fits =
     let i = c.loop-position.position in
     let es = c.args.elements.now in
-    upto-all _ k m (items_left c.args.parent i (drop i es)) _ _ _ _ _ _ (λ n. ap (λ l. items_left c.args.parent i l n) (drop_all i es c.loop-position-test.false)) (c.loop-position.invariant.so k m at)
+    upto-all _ k m (items_left c.args.parent i (drop i es)) _ _ _ _ _ _ (λ n. ap (λ l. items_left c.args.parent i l n) (drop_all i es c.loop-position-test.false)) (c.loop-position.invariant.so k m at fits)
 
 pub put_entries-loop-key-preserved : goal.put_entries-loop-key-preserved
 put_entries-loop-key-preserved t c =
@@ -46,16 +46,17 @@ put_entries-loop-key-preserved t c =
     record {
       place = omega (arith, c.loop-key.invariant.place, one);
       small = members_size-next c.loop-key.key-iterator c.next.new.self key value _ split c.loop-key.invariant.small;
-      so = λ k m at.
+      so = λ k m at fits.
           upto-more _ k m (members_left parent i c.loop-key.key-iterator) (members_left parent (i + 1) c.next.new.self) (λ n. node_entries n parent i (Some (cow_str_bytes key.name)) key.span (view value)) _ _ _ _ _ _ _ _ _
           (λ n. members-split parent i n c.loop-key.key-iterator c.next.new.self key value split)
-          (λ n j here. puts-named _ n j parent i _ (cow_str_bytes key.name) key.span (view value) _ _ _ _ _ c.as_ref.ensures.value (c.put_value.ensures n j here))
-          (c.loop-key.invariant.so k m at);
+          (λ n j here fit. puts-named _ n j parent i _ (cow_str_bytes key.name) key.span (view value) _ _ _ _ _ c.as_ref.ensures.value
+          (c.put_value.ensures n j here (fits-same _ n j _ _ (ap (λ s. node_entries n parent i (Some s) key.span (view value)) (sym c.as_ref.ensures.value)) fit)))
+          fits (c.loop-key.invariant.so k m at fits);
     }
 
 pub put_entries-returns : goal.put_entries-returns
-put_entries-returns t c k m at =
-    upto-all _ k m (members_left c.args.parent c.loop-key.position c.loop-key.key-iterator) _ _ _ _ _ _ (λ n. ap (λ l. members_left c.args.parent c.loop-key.position l n) c.in-None.ensures.steps.0) (c.loop-key.invariant.so k m at)
+put_entries-returns t c k m at fits =
+    upto-all _ k m (members_left c.args.parent c.loop-key.position c.loop-key.key-iterator) _ _ _ _ _ _ (λ n. ap (λ l. members_left c.args.parent c.loop-key.position l n) c.in-None.ensures.steps.0) (c.loop-key.invariant.so k m at fits)
 
 pub put_entries-overflow_add-position : goal.put_entries-overflow_add-position
 put_entries-overflow_add-position t c = omega (arith, c.loop-key.invariant.place, ap (λ l. length l) c.in-Some.ensures.steps, c.iter-key-items.ensures.fits)
@@ -63,7 +64,7 @@ put_entries-overflow_add-position t c = omega (arith, c.loop-key.invariant.place
 pub put_elements-loop-position-init : goal.put_elements-loop-position-init
 put_elements-loop-position-init t c = record {
   small = omega arith;
-  so = λ k m at. upto-begin _ k m (items_left c.args.parent 0 c.args.elements.now) _ _ _ at;
+  so = λ k m at fits. upto-begin _ k m (items_left c.args.parent 0 c.args.elements.now) _ _ _ at;
 }
 
 pub put_entries-loop-key-init : goal.put_entries-loop-key-init
@@ -72,40 +73,42 @@ put_entries-loop-key-init t c =
     rw all (record {
       place = zero-add _;
       small = omega arith;
-      so = λ k m at. upto-begin _ k m (members_left c.args.parent 0 c.args.table.now.entries) _ _ _ at;
+      so = λ k m at fits. upto-begin _ k m (members_left c.args.parent 0 c.args.table.now.entries) _ _ _ at;
     })
 
 pub put_held-returns-in-Some : goal.put_held-returns-in-Some
-put_held-returns-in-Some t c k m own at =
+put_held-returns-in-Some t c k m own at fits =
     let inner = inner_of (view c.args.value.now) in
     let items = c.in-Some.elements.now.items in
     let some : items_in inner ≡ Some (items_view items) = sym c.as_array.ensures ∙ ap (λ o. option_map (λ a. items_view a.now.items) o) c.in-Some.is in
     let named = ap (λ p. items_entries (suc k) p 0 (items_view c.as_slice.result.now)) own in
-    let same = ap (λ l. items_entries (suc k) (capped k) 0 (items_view l)) c.as_slice.ensures.value in
-    puts-same _ (suc k) m _ _ _ _ _ _ _ (named ∙ same ∙ sym (held-items k inner (items_view items) some)) (c.put_elements.ensures (suc k) m at)
+    let same = ap (λ l. items_entries (suc k) k 0 (items_view l)) c.as_slice.ensures.value in
+    let all = named ∙ same ∙ sym (held-items k inner (items_view items) some) in
+    puts-same _ (suc k) m _ _ _ _ _ _ _ all (c.put_elements.ensures (suc k) m at (fits-same _ (suc k) m _ _ (sym all) fits))
 
 pub put_held-returns-in-Some-as_table : goal.put_held-returns-in-Some-as_table
-put_held-returns-in-Some-as_table t c k m own at =
+put_held-returns-in-Some-as_table t c k m own at fits =
     let inner = inner_of (view c.args.value.now) in
     let entries = c.in-Some-as_table.table.now.entries in
     let some : members_in inner ≡ Some (members_view entries) = sym c.as_table.ensures ∙ ap (λ o. option_map (λ a. members_view a.now.entries) o) c.in-Some-as_table.is in
     let named = ap (λ p. members_entries (suc k) p 0 (members_view entries)) own in
-    puts-same _ (suc k) m _ _ _ _ _ _ _ (named ∙ sym (held-members k inner (members_view entries) some)) (c.put_entries.ensures (suc k) m at)
+    let all = named ∙ sym (held-members k inner (members_view entries) some) in
+    puts-same _ (suc k) m _ _ _ _ _ _ _ all (c.put_entries.ensures (suc k) m at (fits-same _ (suc k) m _ _ (sym all) fits))
 
 pub put_held-returns-in_default-as_table : goal.put_held-returns-in_default-as_table
-put_held-returns-in_default-as_table t c k m own at =
+put_held-returns-in_default-as_table t c k m own at fits =
     let inner = inner_of (view c.args.value.now) in
     let no_items : items_in inner ≡ None = sym c.as_array.ensures ∙ ap (λ o. option_map (λ a. items_view a.now.items) o) c.in_default.is in
     let no_members : members_in inner ≡ None = sym c.as_table.ensures ∙ ap (λ o. option_map (λ a. members_view a.now.entries) o) c.in_default-as_table.is in
     puts-same _ (suc k) m _ _ _ _ _ _ _ (sym (held-nothing k inner no_items no_members)) (puts-none _ (suc k) m _ _ _ at)
 
 pub put_value-returns-then-is_taken : goal.put_value-returns-then-is_taken
-put_value-returns-then-is_taken t c k m at =
+put_value-returns-then-is_taken t c k m at fits =
     let none = entries-taken k c.args.site.parent c.args.site.position _ c.args.site.key_span (view c.args.value.now) (sym c.is_taken.ensures ∙ c.if-is_taken.true) in
     puts-same _ k m _ _ _ _ _ _ _ (sym none) (puts-none _ k m _ _ _ at)
 
 pub put_value-returns : goal.put_value-returns
-put_value-returns t c k m at =
+put_value-returns t c k m at fits =
     let document = c.args.document.now in
     let value = c.args.value.now in
     let inner = inner_of (view value) in
@@ -114,12 +117,13 @@ put_value-returns t c k m at =
     let name = option_map (λ s. s.now) site.name in
     let kept = entries-held k site.parent site.position name site.key_span (view value) inner value.span (node-whole (view value) ∙ ap (λ s. node inner s) span) (sym c.is_taken.ensures ∙ c.if-is_taken.false) in
     let own = own_entry k site.parent site.position name site.key_span (view value) inner in
-    let first = c.begin_record-record.ensures.put m at.strings in
+    let (own_fits, held_fits) = fits-own document k m own (held_entries k inner) (fits-same document k m _ _ kept fits) in
+    let first = c.begin_record-record.ensures.put m at.strings own_fits in
     let behind = m + length (entry_strings document (begun site value)) in
-    let next : c.saturating_add-counts.result ≡ capped (suc k) = omega (arith, at.nodes, c.saturating_add-counts.ensures) in
-    let below = c.put_held.ensures k behind at.nodes (record { nodes = next; strings = first.count }) in
-    let begins = c.begin_record-record.ensures.begins m at.strings in
+    let next : c.saturating_add-counts.result ≡ suc k = omega (arith, at.nodes, held_fits.few, c.saturating_add-counts.ensures) in
+    let below = c.put_held.ensures k behind at.nodes (record { nodes = next; strings = first.count }) held_fits in
+    let begins = c.begin_record-record.ensures.begins m at.strings own_fits in
     let made = ap (λ (r : Record). record r { next = c.put_held.new.counts.nodes }) begins
     ∙ ap (λ (n : ℕ). record (record_of document m (begun site value)) { next = n }) below.counts.nodes in
     puts-same document k m _ _ _ _ _ _ _ (sym kept)
-    (puts-own document k m behind own (held_entries k inner) _ _ _ _ _ _ _ _ refl made first.bytes below (c.put_record.ensures k at.nodes))
+    (puts-own document _ k m behind own (held_entries k inner) _ _ _ _ _ _ _ _ refl made first.bytes below c.put_record.ensures at.nodes)

@@ -1,13 +1,12 @@
 use Rattle.std.proofs.Common.{◌≡◌, ◌+◌, ◌-◌, length, take, sym, ◌∙◌, ap, arith}
-use Rattle.toml_span_c.specs.Records.{capped}
 use Rattle.toml_span_c.specs.code.Filling.{laid}
 use Rattle.toml_span_c.proofs.Arrays.{laid-mid, laid-past}
 use Rattle.toml_span_c.proofs.fill.put_bytes.Goals.{then-at-room, else-at-room}
 use Rattle.toml_span_c.proofs.fill.put_bytes.Goals as goal
 
 pub returns : goal.returns
-returns c m e =
-    let total : c.saturating_add.result ≡ capped (m + length c.args.bytes.now) = omega (arith, e, c.saturating_add.ensures) in
+returns c m e fits =
+    let total : c.saturating_add.result ≡ m + length c.args.bytes.now = omega (arith, e, fits, c.saturating_add.ensures) in
     let old = c.args.strings.now in
     let at = c.args.count.now in
     elim c.if-at-room.branch [

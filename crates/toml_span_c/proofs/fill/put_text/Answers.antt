@@ -1,13 +1,17 @@
 use Rattle.std.proofs.Common.{sym, ◌∙◌, ap, add-zero}
-use Rattle.toml_span_c.specs.Records.{capped}
 use Rattle.toml_span_c.proofs.Arrays.{laid-none}
 use Rattle.toml_span_c.proofs.fill.put_text.Goals as goal
 
 pub returns-in_default-clause-put : goal.returns-in_default-clause-put
-returns-in_default-clause-put c m e =
-    rw c.in_default.is (record { bytes = sym (laid-none m c.args.strings.now); count = e ∙ ap capped (sym (add-zero m)) })
+returns-in_default-clause-put c m e fits =
+    rw c.in_default.is (record { bytes = sym (laid-none m c.args.strings.now); count = e ∙ sym (add-zero m) })
 
 pub returns-then-stands-clause-put : goal.returns-then-stands-clause-put
-returns-then-stands-clause-put c m e =
+returns-then-stands-clause-put c m e fits =
     let there = sym c.stands.ensures ∙ c.if-stands.true in
-    rw (c.in-Some.is, there) (record { bytes = sym (laid-none m c.args.strings.now); count = e ∙ ap capped (sym (add-zero m)) })
+    rw (c.in-Some.is, there) (record { bytes = sym (laid-none m c.args.strings.now); count = e ∙ sym (add-zero m) })
+
+pub returns-clause-put : goal.returns-clause-put
+returns-clause-put c m e =
+    let other = sym c.stands.ensures ∙ c.if-stands.false in
+    rw (c.in-Some.is, other, sym c.as_bytes.ensures.value) (λ fits. c.put_bytes.ensures m e fits)
