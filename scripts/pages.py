@@ -25,15 +25,11 @@ What is looked at is marked:
                        of one of its lines or, in a column with the name of a field (first, expected, found, key,
                        name), as that field. Of a fault one cell has the code and the span. A column without a
                        heading has remarks.
-    <!-- rules -->    before a table: each line is a rule, and has a cell for each of these. Names stand in code before
-                       the path that has them, which may leave out `crates/`.
+    <!-- rules -->    before a list: each item is a rule, and has three items: its definition, its code and a row. Names
+                       stand in code before the path that has them, which may leave out `crates/`.
                        Definition: a file of specs/ has the names. Code: a file of src/ has the functions, constants,
-                       types or macros. Without a name either says `none` and why. Proof: each folder in proofs/ that
-                       answers for one of these functions (its own or, with `+` before the name, that of its cycle),
-                       and `found by the prover` where one has none; other paths are there (`none` where no code is
-                       named). A row: each text is a line of the stdin of toml_span_rows, or of the crate in code
-                       behind it, with an answer; a path is there. Edit: each turns a function of the code cell, but
-                       for those behind `nearest:`
+                       types or macros. Without a name either says `none` and why. Row: each text is a line of the
+                       stdin of toml_span_rows, or of the crate in code behind it, with an answer; a path is there
     <!-- calls -->    before a table: each name under `Clauses` stands in a contract of a function that the first cell
                        names, in an `impl` or a type of that name, or is a definition that such a contract cites
     <!-- cases: FILE FUNCTION -->    before a table: the cell in the line of `A` and the column of `B` has in code what
@@ -274,8 +270,15 @@ class Page:
                 at = end
             elif comment := re.match(r"<!-- (rows: [^>]*|rules|calls|cases: [^>]*|reading order: [^>]*) -->$", line):
                 mark = comment[1]
-                if not any(it.startswith("|") for it in self.lines[at + 1 : at + 3]):
-                    self.fault(at, "no table stands behind this mark: write it right behind, or take the mark away")
+                begins = "- " if mark == "rules" else "|"
+                if not any(it.startswith(begins) for it in self.lines[at + 1 : at + 3]):
+                    self.fault(at, "nothing stands behind this mark: write it right behind, or take the mark away")
+            elif line.startswith("- ") and mark == "rules":
+                behind = (k for k in range(at, len(self.lines)) if not re.match(r"(?:  )?- ", self.lines[k]))
+                end = next(behind, len(self.lines))
+                self.rules(at, end)
+                self.paths(at, "\n".join(self.lines[at:end]))
+                mark, at = None, end - 1
             elif line.startswith("|"):
                 behind = (k for k in range(at, len(self.lines)) if not self.lines[k].startswith("|"))
                 end = next(behind, len(self.lines))
@@ -481,8 +484,6 @@ class Page:
             cells = self.cells(self.lines[k])
             if mark == "calls":
                 self.calls(k, dict(zip(heads, cells)), cells[0])
-            elif mark == "rules":
-                self.rule(k, dict(zip(heads, cells)))
             else:
                 self.example(k, mark[len("rows: ") :], heads, cells)
 
@@ -571,25 +572,30 @@ class Page:
 
     # ---- rules
 
-    def rule(self, at, cells):
-        """What the cells of a rule name is there, and belongs together."""
+    def rules(self, at, end):
+        """Each item of a list has its definition, its code and a row below it."""
+        while at < end:
+            below = next((k for k in range(at + 1, end) if self.lines[k].startswith("- ")), end)
+            told = [line.removeprefix("  - ") for line in self.lines[at + 1 : below]]
+            if self.lines[at].startswith("  ") or len(told) != 3:
+                self.fault(at, "this rule has not three items: write its definition, its code and a row below it")
+            else:
+                self.rule(at, *told)
+            at = below
+
+    def rule(self, at, definition, code, row):
+        """What the items of a rule name is there."""
         self.count("rules")
-        for head in ("Definition", "Code", "Proof", "A row", "Edit"):
-            if head not in cells:
-                return self.fault(at, f"this line has no cell under `{head}`: give it one")
-        for path, name in self.named(at, cells["Definition"], r"[\w/]+\.(?:antt|rt)", "definition"):
+        for path, name in self.named(at, definition, r"[\w/]+\.(?:antt|rt)", "definition"):
             if not defines(path, name):
                 self.fault(at, f"{path} has no definition {name}: name the file that has it")
-        code = self.named(at, cells["Code"], r"[\w/]+/src/[\w/]+\.rt", "function")
-        for head in ("Definition", "Code"):
-            if "`" not in cells[head] and not cells[head].startswith("none"):
-                self.fault(at, f"no name stands under `{head}`: write one, or say `none` and why")
-        for path, name in code:
+        for path, name in self.named(at, code, r"[\w/]+/src/[\w/]+\.rt", "function"):
             if not re.search(rf"(?m)^ *{ITEM} {re.escape(name)}\b", text_of(path)):
                 self.fault(at, f"{path} has no function {name}: name the file that has it")
-        self.proved(at, cells["Proof"], code)
-        self.rows_of_rule(at, cells["A row"])
-        self.edits_of_rule(at, cells["Edit"], code)
+        for told in (definition, code):
+            if "`" not in told and not told.startswith("none"):
+                self.fault(at, "no name stands here: write one, or say `none` and why")
+        self.rows_of_rule(at, row)
 
     def named(self, at, cell, form, what):
         """The paths and names of a cell, where each path is there."""
@@ -610,29 +616,6 @@ class Page:
             self.fault(at, f"no path stands behind {', '.join(names)}: name the file")
         return found
 
-    def proved(self, at, cell, code):
-        """The cell names the folder of each function that has one, and says where one has none."""
-        told = {f"crates/{it.removeprefix('crates/')}" for it in re.findall(r"`([^`]+)`", cell)}
-        for path in sorted(told):
-            if not os.path.exists(f"{TOP}/{path}"):
-                self.fault(at, f"there is no {path}: name what is there now")
-        if not code and cell.startswith("none"):
-            return
-        found_alone = wanted = 0
-        for path, name in code:
-            folders = self.sources.folders(path, name)
-            if folders is None:
-                continue
-            wanted += 1
-            found_alone += not folders
-            for folder in folders - told:
-                self.fault(at, f"{folder} answers for {name}: name it among the proofs")
-        is_told = "found by the prover" in cell
-        if is_told and wanted and not found_alone:
-            self.fault(at, "each of these functions has a folder: take `found by the prover` away")
-        elif not is_told and (found_alone or not told):
-            self.fault(at, "one of these functions has no folder in proofs/: say `found by the prover`")
-
     def rows_of_rule(self, at, cell):
         """Each text is a row with an answer; a path is there."""
         codes = re.findall(r"`([^`]+)`", cell)
@@ -648,20 +631,6 @@ class Page:
             crate = next((it for it in codes[k + 1 :] if re.fullmatch(r"toml_span\w*", it)), "toml_span_rows")
             if code not in self.sources.rows(crate):
                 self.fault(at, f"no row `{code}` in crates/{crate}/stdin and stdout: name one that is there")
-
-    def edits_of_rule(self, at, cell, code):
-        """Each edit is there, and turns one of these functions where it is not only the nearest."""
-        own, _, near = cell.partition("nearest:")
-        if not re.search(r"`[^`]+`", cell) and not cell.startswith("none"):
-            self.fault(at, "no edit stands here: name one, or say `none`")
-        for path in re.findall(r"`([^`]+)`", cell):
-            if not re.fullmatch(r"\w+/must-fail/\w+\.edit", path) or not os.path.isfile(f"{TOP}/crates/{path}"):
-                self.fault(at, f"there is no edit {path}: name one that is there now")
-            elif f"`{path}`" in own:
-                turned = self.sources.turned(path)
-                if not turned & {*code}:
-                    what = ", ".join(f"{name} of {file}" for file, name in sorted(turned))
-                    self.fault(at, f"{path} turns {what}: name that as code, or write `nearest:` before the edit")
 
 
 ITEM = r"(?:pub(?:\(crate\))? )?(?:const )?(?:fn|const|static|struct|enum|trait|macro_rules!)"
@@ -726,48 +695,6 @@ class Sources:
             lines = [{*text_of(f"crates/{crate}/{end}").split("\n")} for end in ("stdin", "stdout")]
             self.known[crate] = lines[0] & lines[1]
         return self.known[crate]
-
-    @staticmethod
-    def folders(path, name):
-        """The folders that answer for a function, or None of what is none."""
-        _, crate, _, *modules = path.removesuffix(".rt").split("/")
-        lines = text_of(path).split("\n")
-        head = re.compile(rf" *(?:pub(?:\(crate\))? )?(?:const )?fn {name}\b")
-        places = [k for k, line in enumerate(lines) if head.match(line)]
-        if not places:
-            return None
-        top = f"crates/{crate}/proofs"
-        module = "/".join([top, *(modules if modules not in (["lib"], ["main"]) else [])])
-        found = set()
-        for place in places:
-            above = place
-            while re.match(r" *(?:#\[|///)", lines[above - 1]):
-                above -= 1
-            for cycle in re.findall(r"#\[cycle\((\w+)\)\]", "\n".join(lines[above:place])):
-                found |= {*glob.glob(f"{top}/**/+{cycle}", root_dir=TOP, recursive=True)}
-            where = module
-            before = next((line for line in reversed(lines[:place]) if re.match(r"impl\b|\}", line)), "")
-            if lines[place].startswith(" ") and before.startswith("impl"):
-                bare_head = re.sub(r"<[^<>]*(?:<[^<>]*>[^<>]*)*>", "", before[len("impl") :]).strip(" {")
-                *of_trait, of_type = (it.strip() for it in bare_head.split(" for "))
-                where = f"{top}/**/{of_type}{''.join(of_trait)}"
-            for sign in ("", "+"):
-                found |= {*glob.glob(f"{where}/{sign}{name}", root_dir=TOP, recursive=True)}
-        return found
-
-    @staticmethod
-    def turned(path):
-        """The files and the functions, or what else stands there, that an edit turns."""
-        crate, file, found = path.split("/")[0], None, set()
-        for line in text_of(f"crates/{path}").split("\n"):
-            if line.startswith("file: "):
-                file = f"crates/{crate}/{line[len('file: ') :].strip()}"
-            elif line.startswith("old: "):
-                text, old = text_of(file), line[len("old: ") :].strip("\n")
-                at = text.find(old) if old in text else text.find(old.strip())
-                items = re.findall(rf"(?m)^ *{ITEM} (\w+)", text[: at + len(old)])
-                found |= {(file, items[-1])} if items else set()
-        return found
 
 
 def untold(page, sources):
