@@ -6,4 +6,3 @@ pub mod Fields
 pub mod Maps
 pub mod code
 pub mod Tuples
-pub mod Aliases
