@@ -3,8 +3,7 @@ use Rattle.std.proofs.Common.{◌≡◌, ◌≤◌, ◌+◌, ◌*◌, ℕ, suc, 
 use Rattle.std.specs.Prelude.{unwrap_or}
 use Rattle.std.proofs.lemmas.Bool.{cases_Bool}
 use Rattle.toml_span_lex.specs.declared.span.Span.{Span}
-use Rattle.toml_span_tree.specs.Node.{Node, node, Inner, taken, scalar, array, table, Items, no_items, item, Members, no_members, member}
-use Rattle.toml_span_tree.specs.Node.{text as text_scalar, integer, float, boolean, datetime}
+use Rattle.toml_span_tree.specs.Node.{Node, node, taken, scalar, array, table, Items, no_items, item, Members, no_members, member}
 use Rattle.toml_span_tree.specs.Path.{Path, key, position, Place}
 use Rattle.toml_span_tree.specs.Value.{view, inner_of, span_of}
 use Rattle.toml_span_tree.specs.declared.value.Value.{Value}
@@ -21,7 +20,7 @@ use Rattle.toml_span_c.specs.Calls.{IsText}
 use Rattle.toml_span_c.specs.code.Filling.{Fits}
 use Rattle.toml_span_c.proofs.Paths.{total}
 use Rattle.toml_span_c.proofs.Costs.{Cost, node_cost, items_cost, members_cost, place_cost, prices, tree-few}
-use Rattle.toml_span_c.proofs.Fits.{bytes_cost, scalar_long, shape_long, claims-fit}
+use Rattle.toml_span_c.proofs.Fits.{bytes_cost, claims-fit}
 use Rattle.toml_span_c.proofs.Puts.{length-records, strings-append}
 
 -- ---- the records of a tree cost one each, and its strings what its names and texts do

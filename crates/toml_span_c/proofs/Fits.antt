@@ -1,5 +1,5 @@
 -- The names and texts of a document's claims fit into it.
-use Rattle.std.proofs.Common.{◌≡◌, ◌≤◌, ◌<◌, ◌+◌, ◌-◌, ℕ, zero, suc, Bool, true, false, List, [], ◌∷◌, ◌++◌, length, map, Some, refl, sym, ap, subst, ◌∙◌, inl, inr, arith, if◌then◌else◌, drop}
+use Rattle.std.proofs.Common.{◌≡◌, ◌≤◌, ◌+◌, ◌-◌, ℕ, zero, suc, Bool, true, false, List, [], ◌∷◌, ◌++◌, length, refl, sym, ap, ◌∙◌, inl, inr, arith, if◌then◌else◌, drop}
 use Rattle.std.specs.Prelude.{codes, not, slice_range, slice_index, unwrap_or, ◌==◌, ◌||◌}
 use Rattle.std.specs.List.{filter}
 use Rattle.std.proofs.lemmas.Bool.{cases_Bool, false≢true}
@@ -11,8 +11,8 @@ use Rattle.toml_span_lex.specs.Bytes.{plus, dash, underscore, small_e}
 use Rattle.toml_span_read.specs.Numbers.{capital_e}
 use Rattle.toml_span_lex.specs.Strings.{IsString}
 use Rattle.toml_span_tree.specs.Node.{Scalar, text as text_scalar, integer, float, boolean, datetime, finite, infinite, not_a_number}
-use Rattle.toml_span_tree.specs.Path.{Path, Step, key, position, Shape, shape_taken, shape_scalar, shape_array, shape_table, Place}
-use Rattle.toml_span_read.specs.Data.{ParsedValue, parsed, ParsedInner, scalar, array, inline, ParsedItems, no_items, item, ParsedPairs, no_pairs, pair, KeyValue, Block}
+use Rattle.toml_span_tree.specs.Path.{Path, key, position, Shape, shape_scalar, Place}
+use Rattle.toml_span_read.specs.Data.{ParsedValue, parsed, scalar, array, inline, ParsedItems, no_items, item, ParsedPairs, no_pairs, pair, KeyValue, Block}
 use Rattle.toml_span_read.specs.Grammar.{SpellsScalar, Spells, SpellsItems, SpellsPairs, SpellsKeyValues, first_block, last_end, OpensHeader, ClosesHeader, SpellsHeader, SpellsSections, SpellsDocument}
 use Rattle.toml_span_read.specs.Keys.{SimpleKey, SpellsSimpleKey, Onward, SpellsKey}
 use Rattle.toml_span_read.specs.Numbers.{cleaned, behind_sign, is_negative, SpecialFloat}

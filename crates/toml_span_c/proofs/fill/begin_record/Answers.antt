@@ -1,4 +1,4 @@
-use Rattle.std.proofs.Common.{◌≡◌, ◌≤◌, ◌+◌, ◌++◌, sym, ap, ◌∙◌, refl, rules, length, option_map, arith, length-append}
+use Rattle.std.proofs.Common.{◌≤◌, ◌+◌, ◌++◌, sym, ap, ◌∙◌, refl, rules, length, option_map, arith, length-append}
 use Rattle.std.proofs.lemmas.Int.{to_z-of_z}
 use mir.Syntax.{w64}
 use mir.Val.{SFits}

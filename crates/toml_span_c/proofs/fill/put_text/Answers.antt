@@ -1,4 +1,4 @@
-use Rattle.std.proofs.Common.{sym, ◌∙◌, ap, add-zero}
+use Rattle.std.proofs.Common.{sym, ◌∙◌, add-zero}
 use Rattle.toml_span_c.proofs.Arrays.{laid-none}
 use Rattle.toml_span_c.proofs.fill.put_text.Goals as goal
 
