@@ -11,7 +11,7 @@ returns-then-is_quiet g c =
       wrong = c.in_ok-telling.telling.wrong;
       tells = c.in_ok-telling.ensures;
       shown = rw c.if-is_quiet.true c.new.ensures.items;
-      warned = rw c.if-is_quiet.true c.new-2.ensures.bytes;
+      warned = rw c.if-is_quiet.true c.new-then-is_quiet.ensures.bytes;
     }
 
 pub returns : goal.returns
