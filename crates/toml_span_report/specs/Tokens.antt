@@ -4,7 +4,7 @@ use Rattle.std.specs.Prelude.{Option, Some, None}
 use Rattle.std.specs.List.{starts_with}
 use Rattle.toml_span_lex.specs.declared.span.Span.{Span}
 use Rattle.toml_span_lex.specs.Tokens.{Lexeme, Stands}
-use Rattle.toml_span_tree.specs.Error.{Kind, ErrorContent, wanted, multiline_string_key}
+use Rattle.toml_span_tree.specs.Error.{Kind, wanted, multiline_string_key}
 use Rattle.toml_span_report.specs.Places.{place, line_end}
 
 -- where the token at a place ends, or that none stands there, as at the end of the text

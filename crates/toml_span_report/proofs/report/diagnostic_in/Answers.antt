@@ -17,6 +17,17 @@ marked_where : (text : List ℕ) (b : Bool) (told span : Span) → b ≡ true �
 marked_where text true told span test start ends = (start, ends)
 marked_where text false told span test start ends = absurd cc
 
+none_marked : (text : List ℕ) (b : Bool) (k : Kind) (told : Span) → None ≡ (if b then Some k else None) → IsMarkedWhere text b told told
+none_marked text true k told h = absurd cc
+none_marked text false k told h = refl
+
+pub returns-in_default : goal.returns-in_default
+returns-in_default g c =
+    let kind = kind_of c.args.error.now.kind in
+    let told = c.args.error.now.span in
+    let is_marked : IsMarked c.args.text.now kind told told = none_marked c.args.text.now (is_at_token kind told) kind told c.in_default.ensures in
+    IfOk-weaker c.diagnostic_of.result _ _ (λ made h. (told, is_marked, h.0, h.1, h.2)) c.diagnostic_of.ensures
+
 pub returns : goal.returns
 returns g c =
     let text = c.args.text.now in
