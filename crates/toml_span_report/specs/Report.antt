@@ -111,11 +111,6 @@ drawn style width above (p ∷ ps) =
     opening style width above (seen_in window p) ++ marks_line style width (seen_in window p)
     ++ drawn style width (Some window) ps
 
--- what the main label marks
-abbrev pub text_of : Option MarkedLine → List ℕ
-text_of None = []
-text_of (Some p) = p.marked
-
 -- the help line below the lines, with a bar above it
 abbrev pub help_line : Style → ℕ → Option (List ℕ) → List ℕ
 help_line style width None = []
@@ -134,7 +129,7 @@ front style code message name parts =
 abbrev pub report_of : Style → List ℕ → List ℕ → List ℕ → List MarkedLine → List ℕ
 report_of style code message name parts =
     front style code message name parts ++ drawn style (width_of parts) None parts
-    ++ help_line style (width_of parts) (help_of code message (text_of (main_part parts)))
+    ++ help_line style (width_of parts) (help_of code message)
 
 abbrev pub report : {F : Type 0} → Style → List ℕ → List ℕ → List (LabelContent F) → List ℕ → List ℕ → List ℕ
 report style code message marks name text = report_of style code message name (all_marked_lines text marks)

@@ -230,37 +230,28 @@ fn push_strips(frame: Frame, out: &mut String, strips: &[Strip<'_>]) -> Result<(
     Ok(())
 }
 
-/// Adds the headline and the place.
-fn push_front(
+/// The headline and the place.
+fn front(
     frame: Frame,
-    out: &mut String,
     code: &str,
     message: &str,
     name: &str,
     strips: &[Strip<'_>],
-) -> Result<(), AllocError>
+) -> Result<String, AllocError>
     requires { frame.width ≡ spec.width_of (map marked_line_of strips.now) }
-    ensures { OnOk result (string_bytes out.new ≡ string_bytes out.old
-        ++ spec.front frame.style code.now message.now name.now (map marked_line_of strips.now)) }
+    ensures { IfOk result (λ out. string_bytes out
+        ≡ spec.front frame.style code.now message.now name.now (map marked_line_of strips.now)) }
 {
-    push_headline(frame.alloc, frame.style, out, code, message)?;
+    let mut out = String::new(frame.alloc);
+    push_headline(frame.alloc, frame.style, &mut out, code, message)?;
     let mut arrow = String::new(frame.alloc);
     push_times(&mut arrow, frame.width, ' ')?;
     arrow.push_str("--> ")?;
-    push_painted(out, frame.style, Ink::Blue, arrow.as_str())?;
-    push_told(out, name)?;
-    push_place(out, main_strip(strips))?;
-    out.push_str("\n")
-}
-
-/// What a strip marks, or nothing.
-fn text_of<'a>(strip: Option<Strip<'a>>) -> &'a str
-    ensures { result.now ≡ spec.text_of (option_map marked_line_of strip.entry) }
-{
-    match strip {
-        Some(strip) => strip.marked,
-        None => "",
-    }
+    push_painted(&mut out, frame.style, Ink::Blue, arrow.as_str())?;
+    push_told(&mut out, name)?;
+    push_place(&mut out, main_strip(strips))?;
+    out.push_str("\n")?;
+    Ok(out)
 }
 
 /// Adds the help line, with a bar above it, where there is one.
@@ -300,10 +291,9 @@ fn report(
         style,
         width,
     };
-    let mut out = String::new(alloc);
-    push_front(frame, &mut out, code, message, name, strips)?;
+    let mut out = front(frame, code, message, name, strips)?;
     push_strips(frame, &mut out, strips)?;
-    push_help(frame, &mut out, help_of(code, message, text_of(main_strip(strips))))?;
+    push_help(frame, &mut out, help_of(code, message))?;
     Ok(out)
 }
 
