@@ -9,6 +9,7 @@ use Rattle.toml_span_tree.specs.Error.{ErrorContent}
 use Rattle.toml_span_tree.specs.Message.{code_of, display_text}
 use Rattle.toml_span_report.specs.Characters.{shown, columns}
 use Rattle.toml_span_report.specs.Colours.{painted}
+use Rattle.toml_span_report.specs.Help.{help_of}
 use Rattle.toml_span_report.specs.Places.{place}
 use Rattle.toml_span_report.specs.Strips.{MarkedLine, all_marked_lines, is_near, window_of, seen_in}
 use Rattle.toml_span_report.specs.Tokens.{IsMarked}
@@ -110,12 +111,25 @@ drawn style width above (p ∷ ps) =
     opening style width above (seen_in window p) ++ marks_line style width (seen_in window p)
     ++ drawn style width (Some window) ps
 
--- The whole text: the headline, the place of the error, and the lines of the labels with what they say.
-abbrev pub report_of : Style → List ℕ → List ℕ → List ℕ → List MarkedLine → List ℕ
-report_of style code message name parts =
+-- the help line below the lines, with a bar above it
+abbrev pub help_line : Style → ℕ → Option (List ℕ) → List ℕ
+help_line style width None = []
+help_line style width (Some help) =
+    gutter style width [] ++ codes "\n" ++ painted style Blue (replicate width 32 ++ codes " = ")
+    ++ painted style Bold (codes "help: ") ++ help ++ codes "\n"
+
+-- the headline and the place of the error
+abbrev pub front : Style → List ℕ → List ℕ → List ℕ → List MarkedLine → List ℕ
+front style code message name parts =
     headline style code message
     ++ painted style Blue (replicate (width_of parts) 32 ++ codes "--> ") ++ told name
-    ++ place_told (main_part parts) ++ codes "\n" ++ drawn style (width_of parts) None parts
+    ++ place_told (main_part parts) ++ codes "\n"
+
+-- The whole text: these, the lines of the labels with what they say, and a help line where there is one.
+abbrev pub report_of : Style → List ℕ → List ℕ → List ℕ → List MarkedLine → List ℕ
+report_of style code message name parts =
+    front style code message name parts ++ drawn style (width_of parts) None parts
+    ++ help_line style (width_of parts) (help_of code message)
 
 abbrev pub report : {F : Type 0} → Style → List ℕ → List ℕ → List (LabelContent F) → List ℕ → List ℕ → List ℕ
 report style code message marks name text = report_of style code message name (all_marked_lines text marks)

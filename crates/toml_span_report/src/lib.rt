@@ -4,6 +4,7 @@
 mod characters;
 mod colours;
 mod errors;
+mod help;
 mod places;
 mod report;
 mod strips;

@@ -9,6 +9,7 @@ ghost use Rattle.toml_span_report.specs.Tokens.{IsMarked};
 
 use crate::characters::{columns, push_shown, push_times, shown};
 use crate::colours::{Ink, Style, push_painted};
+use crate::help::help_of;
 use crate::places::place;
 use crate::strips::{Strip, Window, all_strips, is_near, seen_in, window_of};
 use crate::tokens::{kind_at_token, marks_end};
@@ -229,6 +230,49 @@ fn push_strips(frame: Frame, out: &mut String, strips: &[Strip<'_>]) -> Result<(
     Ok(())
 }
 
+/// The headline and the place.
+fn front(
+    frame: Frame,
+    code: &str,
+    message: &str,
+    name: &str,
+    strips: &[Strip<'_>],
+) -> Result<String, AllocError>
+    requires { frame.width ≡ spec.width_of (map marked_line_of strips.now) }
+    ensures { IfOk result (λ out. string_bytes out
+        ≡ spec.front frame.style code.now message.now name.now (map marked_line_of strips.now)) }
+{
+    let mut out = String::new(frame.alloc);
+    push_headline(frame.alloc, frame.style, &mut out, code, message)?;
+    let mut arrow = String::new(frame.alloc);
+    push_times(&mut arrow, frame.width, ' ')?;
+    arrow.push_str("--> ")?;
+    push_painted(&mut out, frame.style, Ink::Blue, arrow.as_str())?;
+    push_told(&mut out, name)?;
+    push_place(&mut out, main_strip(strips))?;
+    out.push_str("\n")?;
+    Ok(out)
+}
+
+/// Adds the help line, with a bar above it, where there is one.
+fn push_help(frame: Frame, out: &mut String, help: Option<&str>) -> Result<(), AllocError>
+    ensures { OnOk result (string_bytes out.new ≡ string_bytes out.old
+        ++ spec.help_line frame.style frame.width (option_map (λ text. text.now) help.entry)) }
+{
+    let Some(help) = help else {
+        return Ok(());
+    };
+    push_gutter(frame, out, "")?;
+    out.push_str("\n")?;
+    let mut left = String::new(frame.alloc);
+    push_times(&mut left, frame.width, ' ')?;
+    left.push_str(" = ")?;
+    push_painted(out, frame.style, Ink::Blue, left.as_str())?;
+    push_painted(out, frame.style, Ink::Bold, "help: ")?;
+    out.push_str(help)?;
+    out.push_str("\n")
+}
+
 /// The text for a code, a message and strips.
 fn report(
     alloc: Global,
@@ -242,21 +286,14 @@ fn report(
         ≡ spec.report_of style code.now message.now name.now (map marked_line_of strips.now)) }
 {
     let width = width_of(alloc, strips)?;
-    let mut out = String::new(alloc);
-    push_headline(alloc, style, &mut out, code, message)?;
-    let mut arrow = String::new(alloc);
-    push_times(&mut arrow, width, ' ')?;
-    arrow.push_str("--> ")?;
-    push_painted(&mut out, style, Ink::Blue, arrow.as_str())?;
-    push_told(&mut out, name)?;
-    push_place(&mut out, main_strip(strips))?;
-    out.push_str("\n")?;
     let frame = Frame {
         alloc,
         style,
         width,
     };
+    let mut out = front(frame, code, message, name, strips)?;
     push_strips(frame, &mut out, strips)?;
+    push_help(frame, &mut out, help_of(code, message))?;
     Ok(out)
 }
 
