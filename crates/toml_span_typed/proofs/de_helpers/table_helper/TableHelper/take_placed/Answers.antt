@@ -1,5 +1,4 @@
-use Rattle.std.proofs.Common.{Some, ℕ, List, Option, Result, Ok, Err, IsTrue, subst, ◌≡◌}
-use Rattle.std.specs.declared.alloc.AllocError.{AllocError}
+use Rattle.std.proofs.Common.{Some, ℕ, List, Option, Ok, IsTrue, subst, ◌≡◌}
 use Rattle.toml_span_lex.specs.declared.key.Key.{Key}
 use Rattle.toml_span_tree.specs.declared.value.Value.{Value}
 use Rattle.toml_span_tree.specs.Value.{all_members_whole, is_whole, view}
