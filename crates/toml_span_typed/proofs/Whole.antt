@@ -1,6 +1,6 @@
 -- Parts of is_whole values are whole.
 use Rattle.std.proofs.lemmas.Bool.{false≢true}
-use Rattle.std.proofs.Common.{ℕ, List, Bool, true, false, Option, Some, option_map, IfSome, IsTrue, cond, refl, ◌&&◌}
+use Rattle.std.proofs.Common.{ℕ, List, Bool, true, false, Option, Some, option_map, IfSome, IsTrue, cond, refl, subst, ◌&&◌, ◌≡◌}
 use Rattle.std.specs.Str.{bytes_eq}
 use Rattle.toml_span_lex.specs.declared.span.Span.{Span}
 use Rattle.toml_span_tree.specs.Node.{Items, Members, Node, entry_at, item, member, no_members}
@@ -47,3 +47,8 @@ without_whole name (member other span value rest) h =
     without_or (bytes_eq name other) other span value rest (without name rest) (left (is_whole value) (all_members_whole rest) h)
     (right (is_whole value) (all_members_whole rest) h)
     (without_whole name rest (right (is_whole value) (all_members_whole rest) h))
+
+-- an entry under a name in a table of whole values is whole
+pub placed_whole : (name : List ℕ) (ms : Members) (entry : Option Span × Node) → IsTrue (all_members_whole ms) → entry_at name ms ≡ Some entry → IsTrue (is_whole entry.1)
+placed_whole name ms entry h is =
+    subst (λ (o : Option (Option Span × Node)). IfSome (option_map {T = Option Span × Node} (λ e. e.1) o) (λ v. IsTrue (is_whole v))) is (found_whole name ms h)

@@ -6,3 +6,4 @@ pub mod Fields
 pub mod Maps
 pub mod code
 pub mod Tuples
+pub mod Aliases

@@ -13,7 +13,9 @@
 ///   then;
 /// - `port: u16 = "listen-port", or(80);` is both;
 /// - `level: Level, parsed;` is what `FromStr` makes of a string; the type may be an `Option`, a `Spanned` or an
-///   `Option` of a `Spanned`, and `or(..)` may stand behind it.
+///   `Option` of a `Spanned`, and `or(..)` may stand behind it;
+/// - `max_body: u64 = "max-body", alias("max_body");` may stand under an old name (`TableHelper::read_either`);
+///   `alias` comes first, and the others may stand behind it.
 ///
 /// Other keys are an error; with `..` behind the last field they are put back into the value. All errors
 /// are told, in the order of the fields.
@@ -31,6 +33,20 @@ macro_rules! read_table {
     };
     (@fields $read:tt [$($done:tt)*] $field:ident: Spanned<$ty:ty> $(= $key:literal)?, parsed; $($rest:tt)*) => {
         $crate::read_table!(@fields $read [$($done)* $field: $ty $(= $key)?, placed;] $($rest)*)
+    };
+
+    // a field with an old name, which becomes a second key
+    (@fields $read:tt [$($done:tt)*]
+        $field:ident: Option<$ty:ty> = $key:literal, alias($old:literal); $($rest:tt)*
+    ) => {
+        $crate::read_table!(@fields $read [$($done)* $field: $ty = $key $old, optional;] $($rest)*)
+    };
+    (@fields $read:tt [$($done:tt)*]
+        $field:ident: $ty:ty = $key:literal, alias($old:literal) $(, $how:ident $(($default:expr))?)*; $($rest:tt)*
+    ) => {
+        $crate::read_table!(
+            @fields $read [$($done)* $field: $ty = $key $old $(, $how $(($default))?)*;] $($rest)*
+        )
     };
 
     // each field in turn, where one of the type `Option` becomes optional
@@ -59,11 +75,11 @@ macro_rules! read_table {
     };
 
     (@table [$alloc:expr, $value:expr, $table:ident] $finish:ident($($rest:expr)?) [
-        $($field:ident: $ty:ty $(= $key:literal)? $(, $how:ident $(($default:expr))?)*;)*
+        $($field:ident: $ty:ty $(= $key:literal $($old:literal)?)? $(, $how:ident $(($default:expr))?)*;)*
     ]) => {{
         let mut helper = $crate::de_helpers::TableHelper::new($alloc, $value)?;
         $(let $field = $crate::read_table!(
-            @read helper, $ty, [$crate::read_table!(@key $field $($key)?)] $(, $how $($default)?)*
+            @read helper, $ty, [$crate::read_table!(@key $field $($key)?) $($(, $old)?)?] $(, $how $($default)?)*
         );)*
         helper.$finish($($rest)?)?;
         Ok($table {
@@ -75,7 +91,9 @@ macro_rules! read_table {
     (@key $field:ident $key:literal) => { $key };
 
     (@one $helper:ident, $ty:ty, [$key:expr]) => { $helper.read::<$ty>($key)? };
+    (@one $helper:ident, $ty:ty, [$key:expr, $old:expr]) => { $helper.read_either::<$ty>($key, $old)? };
     (@some $helper:ident, $ty:ty, [$key:expr]) => { $helper.read_optional::<$ty>($key)? };
+    (@some $helper:ident, $ty:ty, [$key:expr, $old:expr]) => { $helper.read_optional_either::<$ty>($key, $old)? };
 
     (@read $helper:ident, $ty:ty, $keys:tt) => { $crate::read_table!(@one $helper, $ty, $keys) };
     (@read $helper:ident, $ty:ty, $keys:tt, optional) => { $crate::read_table!(@some $helper, $ty, $keys) };

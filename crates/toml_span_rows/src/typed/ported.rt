@@ -1,4 +1,4 @@
-//! Types of callers who come from the Rust crate: strings with their bytes, errors with two
+//! Types of callers who come from the Rust crate: fields with old names, strings with their bytes, errors with two
 //! places, and the calls on errors that they make.
 //!
 //! - `Upload`, `Names`, `Range`, `Strict`, `Port`, `Length`: what the read gives.
@@ -13,9 +13,12 @@ use toml_span::de_helpers::{TableHelper, parse};
 use toml_span::{DeserError, Deserialize, Error, ErrorKind, Span, Spanned, Stop, Value};
 use toml_span_typed::read_table;
 
-/// Strings with their bytes.
+/// Fields with old names, and strings with their bytes.
 #[derive(Debug, Drop)]
 pub struct Upload {
+    pub max_body: u64,
+    pub limit: Option<u8>,
+    pub rate: u8,
     pub mode: Spanned<u8>,
     pub code: Option<Spanned<u8>>,
 }
@@ -23,6 +26,9 @@ pub struct Upload {
 impl<'de> Deserialize<'de> for Upload {
     fn deserialize(alloc: Global, value: &mut Value<'de>) -> Result<Upload, Stop<DeserError<'de>>> {
         read_table!(alloc, value, Upload {
+            max_body: u64 = "max-body", alias("max_body");
+            limit: Option<u8> = "limit", alias("max");
+            rate: u8 = "rate", alias("speed"), or(1);
             mode: Spanned<u8>, parsed;
             code: Option<Spanned<u8>>, parsed;
         })

@@ -7,6 +7,7 @@ ghost use Rattle.toml_span_tree.specs.Value.{is_filled, members_view, view};
 ghost use Rattle.toml_span_typed.specs.TableHelper.{EndsWithErrors, remaining_keys, without};
 ghost use Rattle.toml_span_typed.specs.code.TableHelper.{key_text};
 
+mod aliases;
 mod fields;
 
 use crate::de_helpers::expected;

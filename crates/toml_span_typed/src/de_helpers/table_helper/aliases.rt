@@ -1,0 +1,136 @@
+//! Reads of fields that have an old name besides.
+ghost use Rattle.std.specs.Prelude.{◌≡◌, ◌+◌, ◌≤◌, [], ◌∷◌, IfOk, IfSome, IsTrue, OnOk, Some, option_map};
+ghost use Rattle.toml_span_tree.specs.Error.{content_of};
+ghost use Rattle.toml_span_tree.specs.Value.{is_whole, view};
+ghost use Rattle.toml_span_typed.specs.Aliases.{AsksEither, TriesEither, again, asked_both, either, older, twice};
+ghost use Rattle.toml_span_typed.specs.Fields.{kept, lacking};
+ghost use Rattle.toml_span_typed.specs.TableHelper.{AllWhole, noted, state_of};
+
+use crate::de_helpers::table_helper::{TableHelper, missing_field};
+use crate::deserialize::{Deserialize, read_or_keep};
+use std::alloc::{AllocError, Global};
+use toml_span_lex::span::Span;
+use toml_span_tree::{Error, ErrorKind, Value};
+
+impl<'de> TableHelper<'de> {
+    /// As `read`, of a field that may stand under an old name.
+    ///
+    /// Where both names stand, the one of the name is read, and the error `DuplicateKey` is kept at the later of
+    /// the two keys. Both names are recorded, the old one first.
+    pub fn read_either<T: Deserialize<'de>>(
+        &mut self,
+        name: &'de str,
+        old: &'de str,
+    ) -> Result<Option<T>, AllocError>
+        requires { AllWhole (state_of self.old) }
+        ensures answer { IfOk result (λ field. AsksEither T.reads name.now old.now (state_of self.old) field
+            (state_of self.new)) }
+        ensures told { IfOk result (λ field. kept (state_of self.old) + lacking field ≤ kept (state_of self.new)) }
+        ensures whole { AllWhole (state_of self.new) }
+    {
+        match self.take_either(name, old)? {
+            Some(value) => read_or_keep(self.alloc, value, &mut self.errors),
+            None => {
+                self.keep(missing_field(name, self.span))?;
+                Ok(None)
+            }
+        }
+    }
+
+    /// As `read_optional`, of a field that may stand under an old name, as in `read_either`.
+    pub fn read_optional_either<T: Deserialize<'de>>(
+        &mut self,
+        name: &'de str,
+        old: &'de str,
+    ) -> Result<Option<T>, AllocError>
+        requires { AllWhole (state_of self.old) }
+        ensures answer { IfOk result (λ field. TriesEither T.reads name.now old.now (state_of self.old) field
+            (state_of self.new)) }
+        ensures told { OnOk result (kept (state_of self.old) ≤ kept (state_of self.new)) }
+        ensures whole { AllWhole (state_of self.new) }
+    {
+        match self.take_either(name, old)? {
+            Some(value) => read_or_keep(self.alloc, value, &mut self.errors),
+            None => Ok(None),
+        }
+    }
+
+    /// Moves the entries of both names out, and keeps the error where both stand. Gives the value of the name, or
+    /// else of the old one.
+    fn take_either(
+        &mut self,
+        name: &'de str,
+        old: &'de str,
+    ) -> Result<Option<Value<'de>>, AllocError>
+        requires { AllWhole (state_of self.old) }
+        ensures value { IfOk result (λ value. option_map view value ≡ either name.now old.now (state_of self.old)) }
+        ensures state { OnOk result (state_of self.new ≡ asked_both name.now old.now (state_of self.old)) }
+        ensures told { OnOk result (kept (state_of self.old) ≤ kept (state_of self.new)) }
+        ensures good { IfOk result (λ value. IfSome value (λ v. IsTrue (is_whole (view v)))) }
+        ensures whole { AllWhole (state_of self.new) }
+    {
+        let Some((other, earlier)) = self.take_placed(old)? else {
+            return match self.take_placed(name)? {
+                Some((_, value)) => Ok(Some(value)),
+                None => Ok(None),
+            };
+        };
+        let Some((span, value)) = self.take_placed(name)? else {
+            return Ok(Some(earlier));
+        };
+        drop(earlier);
+        let error = told_twice(self.alloc, name, span, old, other)?;
+        self.keep(error)?;
+        Ok(Some(value))
+    }
+
+    /// Records the name, and moves its entry out: the span of its key, and its value.
+    #[tactic(auto, using(crate::proofs::Whole::placed_whole))]
+    fn take_placed(&mut self, name: &'de str) -> Result<Option<(Span, Value<'de>)>, AllocError>
+        requires { AllWhole (state_of self.old) }
+        ensures entry { IfOk result (λ entry. option_map (λ e. (Some e.0, view e.1)) entry
+            ≡ older name.now (state_of self.old)) }
+        ensures state { OnOk result (state_of self.new ≡ noted name.now (state_of self.old)) }
+        ensures good { IfOk result (λ entry. IfSome entry (λ e. IsTrue (is_whole (view e.1)))) }
+        ensures whole { AllWhole (state_of self.new) }
+    {
+        match self.take(name)? {
+            Some((key, value)) => {
+                let span = key.span;
+                drop(key);
+                Ok(Some((span, value)))
+            }
+            None => Ok(None),
+        }
+    }
+}
+
+/// The error of a field under two names, at the later one.
+fn told_twice<'s>(
+    alloc: Global,
+    name: &str,
+    span: Span,
+    old: &str,
+    other: Span,
+) -> Result<Error<'s>, AllocError>
+    ensures { IfOk result (λ error. content_of error ≡ twice name.now span old.now other) }
+{
+    if span.start < other.start {
+        told_again(alloc, old, other, span)
+    } else {
+        told_again(alloc, name, span, other)
+    }
+}
+
+/// The error of a key that stands a second time.
+fn told_again<'s>(
+    alloc: Global,
+    name: &str,
+    span: Span,
+    first: Span,
+) -> Result<Error<'s>, AllocError>
+    ensures { IfOk result (λ error. content_of error ≡ again name.now span first) }
+{
+    let key = String::from_str(alloc, name)?;
+    Ok(Error::from((ErrorKind::DuplicateKey { key, first }, span)))
+}
