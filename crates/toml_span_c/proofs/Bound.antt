@@ -14,7 +14,6 @@ use Rattle.toml_span.specs.Claims.{Claim, Claims, no_claims, claimed, scope, cla
 use Rattle.toml_span.specs.Flat.{flat, all_claims}
 use Rattle.toml_span.specs.Ordered.{IsOrdered, HoldsOrdered, AreOrdered, MembersOrdered}
 use Rattle.toml_span.specs.Parsing.{IsTree}
-use Rattle.toml_span.proofs.Refusals.{tree-blocks}
 use Rattle.toml_span.specs.declared.claims.Sort.TheVariants.{ArrayOfTables, TableElement}
 use Rattle.toml_span.proofs.EachClaim.{Each, flat-decides}
 use Rattle.toml_span.proofs.Ordered.{first-entry, later-entry, one-each, same-name}
@@ -168,7 +167,7 @@ rising-few (c ∷ cs) i j h = omega (arith, (onward-few c cs j h.1).0)
 pub few-records : (bytes : List ℕ) (limit : ℕ) (root : Value) → IsTree bytes limit root → length (tree_records bytes (view root)) ≤ 2 * length bytes + 1
 few-records bytes limit root tree =
     let n = view root in
-    let (bs, has, made) = tree-blocks bytes limit root tree in
+    let (bs, has, made) = tree in
     let cs = claims bs in
     let all = all_claims cs in
     let ps = [] ∷ paths all in
