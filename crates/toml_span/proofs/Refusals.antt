@@ -1,5 +1,5 @@
 -- What the reader and the assembly give is what `parse` gives.
-use Rattle.std.proofs.Common.{◌≡◌, Some, ℕ, Bool, true, false, List, [], ◌∷◌, ◌++◌, length, refl, sym, subst, Result, Ok, Err}
+use Rattle.std.proofs.Common.{◌≡◌, Some, ℕ, Bool, true, false, List, [], ◌∷◌, ◌++◌, length, inl, refl, sym, subst, Result, Ok, Err}
 use Rattle.std.specs.Result.{IfOk}
 use Rattle.toml_span_lex.specs.declared.stop.Stop.{Stop}
 use Rattle.toml_span_lex.specs.declared.stop.Stop.TheVariants as stops
@@ -21,7 +21,7 @@ use Rattle.toml_span.specs.Claims.{claims}
 use Rattle.toml_span.specs.Clashes.{first_clash}
 use Rattle.toml_span.specs.code.Machine.{clash_told}
 use Rattle.toml_span.specs.code.Growing.{GrownGives}
-use Rattle.toml_span.specs.Parsing.{Answers, HasOutcome, IsTreeOf, resolved, clashed, refused_at}
+use Rattle.toml_span.specs.Parsing.{Answers}
 use Rattle.toml_span.proofs.Ordered.{one-each}
 use Rattle.toml_span.proofs.ShownWhole.{shown-whole}
 use Rattle.toml_span.specs.code.Placing.{AreSections, Assembles}
@@ -29,7 +29,7 @@ use Rattle.toml_span.specs.code.Placing.{AreSections, Assembles}
 -- a fault of reading is told as an error
 pub answers-fault : (text : List ℕ) (limit : ℕ) (stop : Stop Fault) (fault : Fault) (error : Error) → stop ≡ stops.Fault fault → GrownGives text limit (Err stop) → IsPlacedStop text stop
     → Tells text fault (content_of error) → Answers text limit (Err (stops.Fault error))
-answers-fault text limit stop fault error is stuck placed tells = (refused_at fault, document_due text limit fault (rw is at stuck), (rw is at placed, tells))
+answers-fault text limit stop fault error is stuck placed tells = inl (fault, document_due text limit fault (rw is at stuck), (rw is at placed, tells))
 
 -- ---- the sections that a text spells
 
@@ -54,18 +54,11 @@ spelled-headed bs text limit h =
 -- ---- their tree, or their first clash
 
 pub answers-tree : (text : List ℕ) (limit : ℕ) (bs : List Block) (root : Value) → SpellsDocument bs text limit → Assembles bs (length text) (Ok root) → Answers text limit (Ok root)
-answers-tree text limit bs root spelled (resolves, shows, ordered) = (resolved bs, (spelled, resolves), record { shows = shows; ordered = ordered })
-
--- the sections that a tree is of
-pub tree-blocks : (text : List ℕ) (limit : ℕ) (root : Value) → Answers text limit (Ok root) → (bs : List Block) × HasOutcome text limit (resolved bs) × IsTreeOf bs (length text) root
-tree-blocks text limit root (resolved bs, has, tree) = (bs, has, tree)
-tree-blocks text limit root (clashed bs clash, has, none) = absurd none
-tree-blocks text limit root (refused_at fault, has, none) = absurd none
+answers-tree text limit bs root spelled (resolves, shows, ordered) = (bs, (spelled, resolves), record { shows = shows; ordered = ordered })
 
 pub whole-tree : (text : List ℕ) (limit : ℕ) (r : Result Value (Stop Error)) → Answers text limit r → IfOk r (λ root. is_whole (view root) ≡ true)
 whole-tree text limit (Err stop) h = tt
-whole-tree text limit (Ok root) h =
-    let (bs, has, tree) = tree-blocks text limit root h in shown-whole (view root) (length text) bs (one-each (view root) tree.ordered) tree.shows
+whole-tree text limit (Ok root) (bs, has, tree) = shown-whole (view root) (length text) bs (one-each (view root) tree.ordered) tree.shows
 
 -- where the assembly ends at a clash it is the first one
 pub first-of-halt : (bs : List Block) (n : ℕ) (halt : Halt) (c : Clash) → halt ≡ halts.Clash c → Assembles bs n (Err halt) → first_clash (claims bs) ≡ Some (clash_told c)

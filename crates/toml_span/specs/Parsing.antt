@@ -1,5 +1,5 @@
 -- What `parse` answers.
-use Rattle.std.specs.Prelude.{◌≡◌, ⊤, ℕ, ◌≤◌, List, Some, Result, Ok, Err, map, length}
+use Rattle.std.specs.Prelude.{◌≡◌, ⊤, ℕ, ◌≤◌, ◌⊎◌, List, Some, Result, Ok, Err, map, length}
 use Rattle.toml_span_lex.specs.declared.stop.Stop.{Stop}
 use Rattle.toml_span_lex.specs.declared.stop.Stop.TheVariants as stops
 use Rattle.toml_span_tree.specs.declared.value.Value.{Value}
@@ -66,8 +66,14 @@ IsAnswerOf text outcome result = ⊥
 
 -- What comes back is the answer of what becomes of the text within the limit, or that memory was refused.
 abbrev pub Answers : List ℕ → ℕ → Result Value (Stop Error) → Type 0
+Answers text limit (Ok root) =
+    (blocks : List Block) × HasOutcome text limit (resolved blocks) × IsAnswerOf text (resolved blocks) (Ok root)
 Answers text limit (Err (stops.Memory e)) = ⊤
-Answers text limit result = (outcome : Outcome) × HasOutcome text limit outcome × IsAnswerOf text outcome result
+Answers text limit (Err (stops.Fault error)) =
+    ((fault : Fault) × HasOutcome text limit (refused_at fault)
+    × IsAnswerOf text (refused_at fault) (Err (stops.Fault error)))
+    ⊎ ((blocks : List Block) × (clash : NamedClash) × HasOutcome text limit (clashed blocks clash)
+    × IsAnswerOf text (clashed blocks clash) (Err (stops.Fault error)))
 
 -- a tree, and what stops its making, as they are answered
 abbrev pub IsTree : List ℕ → ℕ → Value → Type 0

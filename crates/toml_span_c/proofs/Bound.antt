@@ -10,7 +10,6 @@ use Rattle.toml_span_tree.specs.declared.value.Value.{Value}
 use Rattle.toml_span.specs.Claims.{Claim, claims}
 use Rattle.toml_span.specs.Flat.{all_claims}
 use Rattle.toml_span.specs.Parsing.{IsTree}
-use Rattle.toml_span.proofs.Refusals.{tree-blocks}
 use Rattle.toml_span.specs.declared.claims.Sort.TheVariants.{ArrayOfTables, TableElement}
 use Rattle.toml_span_laws.specs.Order.{claim_start}
 use Rattle.toml_span_laws.proofs.Order.{Onward, Rising, document-rises}
@@ -132,14 +131,14 @@ tree-bounded bytes n = node-bounded bytes 0 NONE 0 None no_span n
 
 pub few-records : (bytes : List ℕ) (limit : ℕ) (root : Value) → IsTree bytes limit root → length (tree_records bytes (view root)) ≤ 2 * length bytes + 1
 few-records bytes limit root tree =
-    let (bs, has, made) = tree-blocks bytes limit root tree in
+    let (bs, has, made) = tree in
     let all = all_claims (claims bs) in
     let claims_few = rising-few all 0 (length bytes) (document-rises bs bytes limit has.0) in
     omega (arith, length-records bytes 0 (tree_entries (view root)), (tree-bounded bytes (view root)).few, tree-few one_cost bs (length bytes) root made, one-each all, claims_few)
 
 pub short-strings : (bytes : List ℕ) (limit : ℕ) (root : Value) → IsTree bytes limit root → length (tree_strings bytes (view root)) ≤ length bytes
 short-strings bytes limit root tree =
-    let (bs, has, made) = tree-blocks bytes limit root tree in
+    let (bs, has, made) = tree in
     omega (arith, (tree-bounded bytes (view root)).short, tree-few bytes_cost bs (length bytes) root made, claims-fit bs bytes limit has.0)
 
 -- what the calls read can be counted

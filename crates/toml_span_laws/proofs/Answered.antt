@@ -23,7 +23,6 @@ use Rattle.toml_span.specs.Claims.{claims}
 use Rattle.toml_span.specs.Clashes.{NamedClash, first_clash}
 use Rattle.toml_span.specs.Parsing.{Outcome, resolved, clashed, refused_at, HasOutcome, TellsClash, IsAnswerOf, Answers, IsTree, IsRefusal}
 use Rattle.toml_span_laws.specs.Outcomes.{IsAlike}
-use Rattle.toml_span.proofs.Refusals.{tree-blocks}
 use Rattle.toml_span_laws.proofs.FirstClash.{cases_option}
 use Rattle.toml_span_laws.proofs.OneTree.{node-one}
 
@@ -94,29 +93,25 @@ any-memory text (clashed bs t) e = tt
 any-memory text (refused_at f) e = tt
 
 pub decides : (text : List ℕ) (limit : ℕ) (x : Outcome) (r : Result Value (Stop Error)) → HasOutcome text limit x → Answers text limit r → IsAnswerOf text x r
-decides text limit x (Ok root) h (y, g, a) = subst (λ z. IsAnswerOf text z (Ok root)) (one-outcome text limit y x g h) a
+decides text limit x (Ok root) h (bs, g, a) = subst (λ z. IsAnswerOf text z (Ok root)) (one-outcome text limit (resolved bs) x g h) a
 decides text limit x (Err (stops.Memory e)) h a = any-memory text x e
-decides text limit x (Err (stops.Fault e)) h (y, g, a) = subst (λ z. IsAnswerOf text z (Err (stops.Fault e))) (one-outcome text limit y x g h) a
+decides text limit x (Err (stops.Fault e)) h (inl (fault, g, a)) = subst (λ z. IsAnswerOf text z (Err (stops.Fault e))) (one-outcome text limit (refused_at fault) x g h) a
+decides text limit x (Err (stops.Fault e)) h (inr (bs, t, g, a)) = subst (λ z. IsAnswerOf text z (Err (stops.Fault e))) (one-outcome text limit (clashed bs t) x g h) a
 
 -- ---- one answer
 
 pub tree-or-refusal : (text : List ℕ) (limit : ℕ) (root : Value) (error : Error) → IsTree text limit root → IsRefusal text limit (stops.Fault error) → ⊥
-tree-or-refusal text limit root error h refusal =
-    let (bs, has, tree) = tree-blocks text limit root h in decides text limit (resolved bs) (Err (stops.Fault error)) has refusal
+tree-or-refusal text limit root error (bs, has, tree) refusal = decides text limit (resolved bs) (Err (stops.Fault error)) has refusal
 
 pub one-tree : (text : List ℕ) (limit : ℕ) (root other : Value) → IsTree text limit root → IsTree text limit other → view root ≡ view other
-one-tree text limit root other h g =
-    let (bs, has, tree) = tree-blocks text limit root h in
+one-tree text limit root other (bs, has, tree) g =
     let same = decides text limit (resolved bs) (Ok other) has g in
     node-one (view root) (view other) tree.ordered same.ordered (λ p. tree.shows p ∙ sym (same.shows p))
 
-same-told : (text : List ℕ) (x : Outcome) (e f : Error) → IsAnswerOf text x (Err (stops.Fault e)) → IsAnswerOf text x (Err (stops.Fault f)) → content_of e ≡ content_of f
-same-told text (resolved bs) e f a b = absurd a
-same-told text (clashed bs t) e f a b = one-clash text t e f a b
-same-told text (refused_at fault) e f a b = tells-one text fault (content_of e) (content_of f) a.1 b.1
-
 pub one-refusal : (text : List ℕ) (limit : ℕ) (e f : Error) → IsRefusal text limit (stops.Fault e) → IsRefusal text limit (stops.Fault f) → content_of e ≡ content_of f
-one-refusal text limit e f (x, h, a) b = same-told text x e f a (decides text limit x (Err (stops.Fault f)) h b)
+one-refusal text limit e f (inl (fault, h, a)) b =
+    let told = decides text limit (refused_at fault) (Err (stops.Fault f)) h b in tells-one text fault (content_of e) (content_of f) a.1 told.1
+one-refusal text limit e f (inr (bs, t, h, a)) b = one-clash text t e f a (decides text limit (clashed bs t) (Err (stops.Fault f)) h b)
 
 pub alike : (text : List ℕ) (limit : ℕ) (r s : Result Value (Stop Error)) → Answers text limit r → Answers text limit s → IsAlike r s
 alike text limit (Ok root) (Ok other) a b = one-tree text limit root other a b

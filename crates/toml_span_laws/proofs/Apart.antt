@@ -15,7 +15,6 @@ use Rattle.toml_span.specs.Flat.{all_claims, flat}
 use Rattle.toml_span_laws.specs.Clashing.{IsIn}
 use Rattle.toml_span_laws.specs.Order.{claim_start, Follows, key_at, KeysApart}
 use Rattle.toml_span.specs.Parsing.{IsTree}
-use Rattle.toml_span.proofs.Refusals.{tree-blocks}
 use Rattle.toml_span.proofs.EachClaim.{Each, flat-decides}
 use Rattle.toml_span_laws.proofs.Order.{IsKeyed, Onward, Rising, follows-start, document-rises}
 
@@ -116,7 +115,7 @@ flat-apart text limit n bs h p q k l is at e =
 
 pub tree-apart : (text : List ℕ) (limit : ℕ) (root : Value) → IsTree text limit root → KeysApart (λ p. place_at p (view root))
 tree-apart text limit root h p q k l is at e =
-    let (bs, has, tree) = tree-blocks text limit root h in
+    let (bs, has, tree) = h in
     let spanned = λ (o : Option Place). option_and_then (λ x. x.key_span) o in
     flat-apart text limit (length text) bs has.0 p q k l (ap spanned (sym (tree.shows p)) ∙ is) (ap spanned (sym (tree.shows q)) ∙ at) e
 

@@ -20,7 +20,6 @@ use Rattle.toml_span.specs.Claims.{Claim, Claims, no_claims, claimed, key_claims
 use Rattle.toml_span.specs.Flat.{flat}
 use Rattle.toml_span_laws.specs.Laws.{keys_in}
 use Rattle.toml_span.specs.Parsing.{IsTree}
-use Rattle.toml_span.proofs.Refusals.{tree-blocks}
 use Rattle.toml_span.specs.code.Placing.{AreSections}
 use Rattle.toml_span.proofs.EachClaim.{Each, each-followed, flat-decides}
 use Rattle.toml_span.proofs.Refusals.{spelled-headed}
@@ -251,7 +250,7 @@ found-place (Some r) m is = (place_of r, refl)
 
 pub tree-depth : (text : List ℕ) (limit : ℕ) (root : Value) (p : Path) (m : tree.Node) → IsTree text limit root → node_at p (view root) ≡ Some m → (keys_in p ≤ 2 * limit) × (length p ≤ 3 * limit)
 tree-depth text limit root p m h is =
-    let (bs, has, tree) = tree-blocks text limit root h in
+    let (bs, has, tree) = h in
     let (x, here) = found-place (reached p (None, view root)) m is in
     let found = sym (tree.shows p) ∙ here in
     (flat-keys text limit (length text) bs p x has.0 found, flat-steps text limit (length text) bs p x has.0 found)

@@ -16,7 +16,6 @@ use Rattle.toml_span.specs.Claims.{claims}
 use Rattle.toml_span.specs.Flat.{flat, Shows}
 use Rattle.toml_span.specs.Ordered.{IsOrdered, HoldsOrdered, AreOrdered, MembersOrdered}
 use Rattle.toml_span.specs.Parsing.{IsTree}
-use Rattle.toml_span.proofs.Refusals.{tree-blocks}
 use Rattle.toml_span.proofs.ShownWhole.{shown-filled}
 use Rattle.toml_span_laws.specs.Document.{StandsAt, without_key, subtree, IsValueOf, PointsAt}
 use Rattle.toml_span_laws.proofs.Answered.{one-document}
@@ -123,7 +122,7 @@ value-named pointer n m length bs h (names, path, cut, named, value) =
 
 pub tree-value : (text : List ℕ) (limit : ℕ) (root : Value) (bs : List Block) → IsTree text limit root → SpellsDocument bs text limit → IsValueOf (flat (length text) (claims bs)) (view root)
 tree-value text limit root bs h spelled =
-    let (cs, has, tree) = tree-blocks text limit root h in
+    let (cs, has, tree) = h in
     (tree.ordered, subst (λ l. Shows (view root) (flat (length text) (claims l))) (one-document text limit cs bs has.0 spelled) tree.shows)
 
 pub pointer-value : (text : List ℕ) (limit : ℕ) (root : Value) (bs : List Block) (pointer : List ℕ) (m : Node) → IsTree text limit root → SpellsDocument bs text limit

@@ -13,7 +13,6 @@ use Rattle.toml_span_laws.proofs.AgainLines.{document_spelled}
 use Rattle.toml_span.specs.Claims.{Claim, parsed_inner, value_shape, claims}
 use Rattle.toml_span.specs.Flat.{flat}
 use Rattle.toml_span.specs.Parsing.{IsTree}
-use Rattle.toml_span.proofs.Refusals.{tree-blocks}
 use Rattle.toml_span.proofs.EachClaim.{flat-decides}
 use Rattle.toml_span_laws.proofs.SpelledClaims.{Spelled, OfText, document-of_text}
 
@@ -65,9 +64,9 @@ flat-again text limit n bs p x s h at is =
 pub tree-scalar : (text : List ℕ) (limit : ℕ) (root : Value) (p : Path) (x : Place) (s : Scalar) → IsTree text limit root → place_at p (view root) ≡ Some x → x.shape ≡ shape_scalar s
     → HasScalar text limit s x.span
 tree-scalar text limit root p x s h at is =
-    let (bs, has, tree) = tree-blocks text limit root h in flat-scalar text limit (length text) bs p x s has.0 (sym (tree.shows p) ∙ at) is
+    let (bs, has, tree) = h in flat-scalar text limit (length text) bs p x s has.0 (sym (tree.shows p) ∙ at) is
 
 pub tree-again : (text : List ℕ) (limit : ℕ) (root : Value) (p : Path) (x : Place) (s : Scalar) → IsTree text limit root → place_at p (view root) ≡ Some x → x.shape ≡ shape_scalar s
     → ScalarReadsAgain text limit s x.span
 tree-again text limit root p x s h at is =
-    let (bs, has, tree) = tree-blocks text limit root h in flat-again text limit (length text) bs p x s has.0 (sym (tree.shows p) ∙ at) is
+    let (bs, has, tree) = h in flat-again text limit (length text) bs p x s has.0 (sym (tree.shows p) ∙ at) is

@@ -17,7 +17,6 @@ use Rattle.toml_span.specs.Clashes.{Resolves}
 use Rattle.toml_span.specs.Flat.{all_claims, claims_at, deciding_claim, first_claim_by_header, flat}
 use Rattle.toml_span.specs.Paths.{target, opened_by}
 use Rattle.toml_span.specs.Parsing.{HasOutcome, IsTree, resolved}
-use Rattle.toml_span.proofs.Refusals.{tree-blocks}
 use Rattle.toml_span_laws.proofs.Pointed.{tree-value}
 use Rattle.toml_span_laws.specs.Moved.{moved_place, StandsMoved, AssignsBrackets, text_again, at_x}
 use Rattle.toml_span_laws.specs.Clashing.{IsIn}
@@ -186,7 +185,7 @@ shows-flat text limit root bs p tree h = (tree-value text limit root bs tree h).
 
 tree-resolves : (text : List ℕ) (limit : ℕ) (root : Value) (bs : List Block) → IsTree text limit root → SpellsDocument bs text limit → Resolves (claims bs)
 tree-resolves text limit root bs tree h =
-    let (cs, has, shows) = tree-blocks text limit root tree in subst (λ l. Resolves (claims l)) (one-document text limit cs bs has.0 h) has.1
+    let (cs, has, shows) = tree in subst (λ l. Resolves (claims l)) (one-document text limit cs bs has.0 h) has.1
 
 pub tree-again : (text : List ℕ) (limit : ℕ) (root other : Value) (bs : List Block) (c : Claim) → SpellsDocument bs text limit → IsTree text limit root → AssignsBrackets bs c
     → IsTree (text_again text c.place.span) limit other → StandsMoved c.place.span.start 4 (λ p. place_at p (view root)) c.path (λ p. place_at p (view other)) at_x

@@ -8,7 +8,6 @@ use Rattle.toml_span.specs.Claims.{claims}
 use Rattle.toml_span.specs.Flat.{flat, Shows}
 use Rattle.toml_span.specs.Ordered.{IsOrdered}
 use Rattle.toml_span.specs.Parsing.{IsTree}
-use Rattle.toml_span.proofs.Refusals.{tree-blocks}
 use Rattle.toml_span_lines.specs.Lines.{tree_lines}
 use Rattle.toml_span_lines.specs.Shown.{ShowsDocument, ShowsPlaces}
 use Rattle.toml_span_lines.proofs.Entries.{node_entries}
@@ -29,7 +28,7 @@ tree-shown n length blocks ordered whole shows =
 -- the lines of a text's tree are those of its document
 pub tree-document : (bytes : List ℕ) (limit : ℕ) (root : Value) (text : List ℕ) → IsTree bytes limit root → is_whole (view root) ≡ true → text ≡ tree_lines (view root) → ShowsDocument bytes limit text
 tree-document bytes limit root text tree whole lines =
-    let (blocks, has, made) = tree-blocks bytes limit root tree in
+    let (blocks, has, made) = tree in
     let shown = tree-shown (view root) (length bytes) blocks made.ordered whole made.shows in
     record {
       blocks = blocks;

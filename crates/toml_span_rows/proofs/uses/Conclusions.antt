@@ -1,5 +1,5 @@
 -- What callers conclude from the clauses of `parse` and of the tree.
-use Rattle.std.proofs.Common.{◌≡◌, ◌≤◌, ◌↔◌, ℕ, ℤ, pos, negsuc, Bool, true, false, nat_lt, if◌then◌else◌, List, Option, Some, None, option_map, Ok, length, refl, sym, ap, ◌∙◌, subst, true≢false}
+use Rattle.std.proofs.Common.{◌≡◌, ◌≤◌, ◌↔◌, ℕ, ℤ, pos, negsuc, Bool, true, false, nat_lt, if◌then◌else◌, List, Option, Some, None, option_map, Ok, length, refl, sym, ap, ◌∙◌, subst, inl, inr, true≢false}
 use Rattle.std.proofs.lemmas.Option.{none-some, same_Some}
 use Rattle.toml_span_lex.specs.declared.span.Span.{Span}
 use Rattle.toml_span_lex.specs.declared.stop.Stop.{Stop}
@@ -17,8 +17,7 @@ use Rattle.toml_span_read.specs.Places.{IsLineInfo}
 use Rattle.toml_span_read.specs.Data.{Block}
 use Rattle.toml_span.specs.Claims.{claims}
 use Rattle.toml_span.specs.Flat.{flat, Shows}
-use Rattle.toml_span.specs.Parsing.{IsTree, IsRefusal, resolved, clashed, refused_at}
-use Rattle.toml_span.proofs.Refusals.{tree-blocks}
+use Rattle.toml_span.specs.Parsing.{IsTree, IsRefusal}
 use Rattle.toml_span_laws.specs.Document.{IsDocument, StandsAt}
 use Rattle.toml_span.proofs.ShownWhole.{shown-filled}
 
@@ -57,7 +56,7 @@ stands-pointed pointer n length bs P shows (names, path, place, cut, named, is, 
 pub reads-value : {X : Type 0} (s pointer : List ℕ) (root : Value) (m : Node) (o : Option X) (P : X → Place → Type 0) → IsTree s 128 root → pointed pointer (view root) ≡ Some m
     → ((k : Option Span) (x : X) → (o ≡ Some x) ↔ P x (place_of (k, m))) → IsDocument s (λ places. (x : X) → (o ≡ Some x) ↔ StandsAt pointer places (P x))
 reads-value s pointer root m o P tree is reads =
-    let (bs, has, made) = tree-blocks s 128 root tree in
+    let (bs, has, made) = tree in
     (bs, has.0, has.1, λ x. (stands bs made.shows x, answers bs made.shows x))
   where
     stands : (bs : List Block) → Shows (view root) (flat (length s) (claims bs)) → (x : _) → o ≡ Some x → StandsAt pointer (flat (length s) (claims bs)) (P x)
@@ -72,7 +71,7 @@ reads-value s pointer root m o P tree is reads =
 pub reads-nothing : {X : Type 0} (s pointer : List ℕ) (root : Value) (P : X → Place → Type 0) → IsTree s 128 root → pointed pointer (view root) ≡ None
     → IsDocument s (λ places. (x : X) → (None ≡ Some x) ↔ StandsAt pointer places (P x))
 reads-nothing s pointer root P tree is =
-    let (bs, has, made) = tree-blocks s 128 root tree in
+    let (bs, has, made) = tree in
     (bs, has.0, has.1, λ x. (λ h. absurd (none-some x h), nowhere bs made.shows x))
   where
     nowhere : (bs : List Block) → Shows (view root) (flat (length s) (claims bs)) → (x : _) → StandsAt pointer (flat (length s) (claims bs)) (P x) → None ≡ Some x
@@ -126,10 +125,9 @@ IsPlaceIn s span info = (span.start ≤ length s) × (span.start ≤ span.end) �
 
 -- so it is with each error that tells of a refusal
 pub refusal-place : (s : List ℕ) (limit : ℕ) (error : Error) → IsRefusal s limit (stops.Fault error) → (info : ℕ × ℕ) × (error.line_info ≡ Some info) × IsPlaceIn s error.span info
-refusal-place s limit error (resolved bs, has, none) = absurd none
-refusal-place s limit error (refused_at fault, due, (placed, (line, column, info, is))) =
+refusal-place s limit error (inl (fault, due, (placed, (line, column, info, is)))) =
     ((line, column), ap (λ x. x.line_info) is, subst (λ span. IsPlaceIn s span (line, column)) (sym (ap (λ x. x.span) is)) (placed.within, placed.forward, info))
-refusal-place s limit error (clashed bs first, has, clash) = (
+refusal-place s limit error (inr (bs, first, has, clash)) = (
   (clash.line, clash.column),
   ap (λ x. x.line_info) clash.tells,
   subst (λ span. IsPlaceIn s span (clash.line, clash.column)) (sym (ap (λ x. x.span) clash.tells)) (clash.within, clash.forward, clash.place),

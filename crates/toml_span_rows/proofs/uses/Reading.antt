@@ -17,7 +17,6 @@ use Rattle.toml_span_typed.specs.TableHelper.{State, OpensTable, Requires, Tries
 use Rattle.toml_span.specs.Claims.{claims}
 use Rattle.toml_span.specs.Flat.{flat}
 use Rattle.toml_span.specs.Parsing.{IsTree, IsRoot}
-use Rattle.toml_span.proofs.Refusals.{tree-blocks}
 use Rattle.toml_span_laws.specs.Document.{IsDocument, IsValueOf, subtree, without_key}
 use Rattle.toml_span_laws.specs.Helpers.{IsOver, ReadsPart, except}
 use Rattle.toml_span_laws.proofs.Fields.{opens-over, required-at, required-over, tried-at, tried-over}
@@ -29,7 +28,7 @@ use Rattle.toml_span_rows.specs.uses.Fields.{IsField, NoPort, errors_in, face, i
 pub on-document : (s : List ℕ) (root : Value) (P : (Path → Option Place) → Type 0) → IsTree s 128 root → ((places : Path → Option Place) → IsValueOf places (view root) → P places)
     → IsDocument s P
 on-document s root P tree holds =
-    let (bs, has, made) = tree-blocks s 128 root tree in (bs, has.0, has.1, holds (flat (length s) (claims bs)) (made.ordered, made.shows))
+    let (bs, has, made) = tree in (bs, has.0, has.1, holds (flat (length s) (claims bs)) (made.ordered, made.shows))
 
 -- ---- what a value gives is what its place gives
 

@@ -1,5 +1,4 @@
-use Rattle.std.proofs.Common.{arith, length}
-use Rattle.toml_span.specs.Parsing.{clashed}
+use Rattle.std.proofs.Common.{arith, inr, length}
 use Rattle.toml_span.specs.code.Machine.{clash_told}
 use Rattle.toml_span.proofs.PlaceLemmas.{clash_inside}
 use Rattle.toml_span.proofs.Refusals.{answers-tree, first-of-halt}
@@ -18,8 +17,9 @@ pub returns-in-Err-Clash-clause-answers : goal.returns-in-Err-Clash-clause-answe
 returns-in-Err-Clash-clause-answers c = λ bs limit spelled grows.
     let n = length c.args.text.now in
     let place = c.line_info-place.result in
-    let inside = clash_inside n _ _ c.in-Err-Clash.field-0-is (c.in-Err-Clash.ensures.placed n c.requires.inside) in (
-      clashed bs (clash_told c.in-Err-Clash.clash),
+    let inside = clash_inside n _ _ c.in-Err-Clash.field-0-is (c.in-Err-Clash.ensures.placed n c.requires.inside) in inr (
+      bs,
+      clash_told c.in-Err-Clash.clash,
       (spelled, first-of-halt _ n _ _ c.in-Err-Clash.field-0-is (c.in-Err-Clash.ensures.gives bs grows)),
       record {
         line = place.0;
