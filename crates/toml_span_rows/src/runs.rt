@@ -171,22 +171,6 @@ struct Ended<'b> {
     writer: Taken,
 }
 
-/// The status of the program's run over a reader and a writer.
-fn status_of(
-    alloc: Global,
-    limit: usize,
-    reader: &mut Told<Given<'_>>,
-    writer: &mut Told<Taken>,
-) -> u8
-    requires some { 1 ≤ limit }
-    requires small { limit ≤ 128 }
-{
-    if limit == 128 {
-        return run(alloc, reader, writer);
-    }
-    run_with_limit(alloc, limit, reader, writer)
-}
-
 /// Runs the program on bytes.
 fn run_on(alloc: Global, limit: usize, bytes: &[u8], ends: Ends) -> Ended<'_>
     requires some { 1 ≤ limit }
@@ -194,7 +178,11 @@ fn run_on(alloc: Global, limit: usize, bytes: &[u8], ends: Ends) -> Ended<'_>
 {
     let mut reader = Told::new(Given::new(bytes, ends));
     let mut writer = Told::new(Taken::new(alloc, ends));
-    let status = status_of(alloc, limit, &mut reader, &mut writer);
+    let status = if limit == 128 {
+        run(alloc, &mut reader, &mut writer)
+    } else {
+        run_with_limit(alloc, limit, &mut reader, &mut writer)
+    };
     Ended {
         status,
         reader: reader.into_inner(),

@@ -1,6 +1,5 @@
 -- What servers are read as, one by one and as the list of a document.
 use Rattle.std.proofs.Common.{◌≡◌, ℕ, List, [], ◌∷◌, ◌++◌, length, Option, Some, None, option_map, MatchOption, Result, Ok, Err, codes, refl, sym, ap, ◌∙◌, subst, inr}
-use Rattle.std.specs.Prelude.{⊤}
 use Rattle.std.proofs.lemmas.Option.{none-some, same_Some}
 use Rattle.toml_span_lex.specs.declared.span.Span.{Span}
 use Rattle.toml_span_lex.specs.declared.stop.Stop.{Stop}
