@@ -1,4 +1,4 @@
-use Rattle.std.proofs.Common.{arith, ◌<◌, ◌≤◌, length, inl, inr}
+use Rattle.std.proofs.Common.{arith, inl, inr}
 use Rattle.toml_span_lex.specs.Tokens.{lexeme}
 use Rattle.toml_span_lex.proofs.MadeStrings.{string_stands}
 use Rattle.toml_span_lex.proofs.NoFault.{token_or_fault}
