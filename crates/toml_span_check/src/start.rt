@@ -76,7 +76,8 @@ fn refuse<O: Sink, E: Sink>(
 }
 
 /// Does what the words ask for, of which the first is the program's name: runs on files (see `run`), or tells the
-/// usage or the version, with status 0, or what is wrong with the words, with status 2. Status 3: a write fails, 4: no memory.
+/// usage or the version, with status 0, or what is wrong with the words, with status 2. Status 3: a write fails, 4:
+/// no memory.
 pub(crate) fn start<I: Inputs, O: Sink, E: Sink>(
     alloc: Global,
     words: &[String],

@@ -128,8 +128,8 @@ fn section_path<'t>(
     path: Vec<Step<'t>>,
     opened: &mut Vec<Vec<Step<'t>>>,
 ) -> Result<Vec<Step<'t>>, AllocError>
-    ensures path { IfOk result (λ below. steps_of below ≡ spec.assigned_below (elements_added (map steps_of opened.old.items))
-        array (steps_of path.entry)) }
+    ensures path { IfOk result (λ below. steps_of below
+        ≡ spec.assigned_below (elements_added (map steps_of opened.old.items)) array (steps_of path.entry)) }
     ensures opened { OnOk result (map steps_of opened.new.items
         ≡ spec.with_opened (map steps_of opened.old.items) array (steps_of path.entry)) }
 {

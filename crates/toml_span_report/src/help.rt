@@ -52,7 +52,7 @@ fn form_help(code: &str) -> Option<&'static str>
         ),
         "invalid-number" => {
             Some(
-                "no zero leads a number, a point and `_` have digits on both sides, and radixes are `0x`, `0o` and `0b`",
+                "no zero leads a number, points and `_` stand between digits, radixes are `0x`, `0o` and `0b`",
             )
         }
         "invalid-datetime" => {
