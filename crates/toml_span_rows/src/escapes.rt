@@ -1,7 +1,7 @@
 //! The texts of rows, in which a backslash begins an escape.
 //!
-//! `\n` `\r` `\t` `\\`, `\u{HEX}` for a character by its number, and `\{N PART\}` for PART so many times. In PART any of
-//! the others may stand.
+//! `\n` `\r` `\t` `\\`, `\u{HEX}` for a character by its number, and `\{N PART\}` for PART so many times. In PART
+//! any of the others may stand.
 use std::alloc::{AllocError, Global};
 
 /// The character of a number in braces, and what stands behind them.
