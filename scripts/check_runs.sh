@@ -132,6 +132,85 @@ for variables, wanted in RUNS:
 PYTHON
 count=$((count + 1))
 
+# tells STATUS TEXT WORD..: compares what the program writes on these words, standard error behind standard output
+tells() {
+    (cd "$work/files" && timeout 60 "$program" "${@:3}" </dev/null >"$work/written" 2>"$work/complaint")
+    status=$?
+    cat "$work/complaint" >>"$work/written"
+    printf '%s' "$2" >"$work/wanted"
+    told "$(printf '%q ' "${@:3}")" "$work/wanted" "$1"
+}
+
+# words that are no UTF-8: a file's name is told by its bytes, the others are looked at, and a pointer is wrong
+mkdir "$work/files"
+printf 'a = 1\na = 2\n' >"$work/files/twice.toml"
+echo 'a = 1' | tee "$work/files/once.toml" >"$work/files/"$'caf\xe9.toml'
+# shellcheck disable=SC2016 # (backticks of a message)
+fault=':2:1: duplicate-key: duplicate key: `a`'
+tells 2 "twice.toml$fault
+toml_span_check: caf\\xe9.toml: its name is no UTF-8
+" --format short once.toml $'caf\xe9.toml' twice.toml
+tells 2 'toml_span_check: \xc3\xa9\u000a\xff: its name is no UTF-8
+1 file, 1 with errors
+' $'\xc3\xa9\n\xff'
+for words in $'--get\n/\xff' $'--get=/\xff'; do
+    mapfile -t words <<<"$words"
+    tells 2 "error: the value '/\\xff' of '--get' is no UTF-8
+" "${words[@]}" once.toml
+done
+
+# what can't be read is told in the system's words
+ln -s loop "$work/files/loop"
+(cd "$work/files" && python3 -c 'import socket; socket.socket(socket.AF_UNIX).bind("socket")')
+long=$(printf '%0300d' 0)
+tells 2 "toml_span_check: loop: Too many levels of symbolic links (os error 40)
+toml_span_check: socket: No such device or address (os error 6)
+toml_span_check: once.toml/x: Not a directory (os error 20)
+toml_span_check: $long: File name too long (os error 36)
+" --format short loop socket once.toml/x "$long"
+
+# all files below a folder are looked at, in the order of the bytes of their names; links to folders aren't followed,
+# and nothing waits for a pipe
+mkdir -p "$work/files/tree/a/folder.toml" "$work/files/empty/below"
+for file in a-b.toml a/x.toml a/folder.toml/y.toml a/notes.txt a/toml; do
+    cp "$work/files/twice.toml" "$work/files/tree/$file"
+done
+cp "$work/files/once.toml" "$work/files/tree/a.toml"
+cp "$work/files/once.toml" "$work/files/tree/"$'caf\xe9.toml'
+ln -s a/x.toml "$work/files/tree/linked.toml"
+ln -s nowhere "$work/files/tree/lost.toml"
+ln -s .. "$work/files/tree/a/up.toml"
+mkfifo "$work/files/tree/pipe.toml"
+for folder in tree tree/; do
+    tells 2 "tree/a-b.toml$fault
+tree/a/folder.toml/y.toml$fault
+tree/a/x.toml$fault
+tree/linked.toml$fault
+toml_span_check: tree/caf\\xe9.toml: its name is no UTF-8
+toml_span_check: tree/lost.toml: there is no such file
+" --format short "$folder"
+done
+ln -s tree "$work/files/way"
+tells 1 "way/a/folder.toml/y.toml$fault
+way/a/x.toml$fault
+" --format short way/a
+tells 2 'toml_span_check: empty: it is a folder with no *.toml file
+1 file, 1 with errors
+' empty
+
+# a pipe that nobody reads any more
+count=$((count + 1))
+python3 -c 'print("\n".join(f"k{n} = {n}" for n in range(50000)))' >"$work/files/many.toml"
+{
+    timeout 60 "$program" --items "$work/files/many.toml" 2>"$work/complaint"
+    echo $? >"$work/status"
+} | head -n 1 >"$work/written"
+if [ "$(<"$work/status")" -ne 3 ] || [ -s "$work/complaint" ]; then
+    wrong=$((wrong + 1))
+    echo "check runs: with a pipe that nobody reads it ended with status $(<"$work/status") (wanted: 3)"
+    cat "$work/complaint"
+fi
+
 # a name with a line feed makes no second line
 count=$((count + 1))
 timeout 60 "$program" $'nothing\n::error file=data/settings.toml' >"$work/written" 2>"$work/complaint"
@@ -143,6 +222,20 @@ fi
 # each request for memory refused in turn: status 4 and nothing is written, or else the whole answer
 source ../../scripts/refuse.sh
 make_refusals "$work"
+
+# reads and writes that a signal interrupts are made again
+make_interruptions "$work"
+for words in settings.toml - '--items - settings.toml'; do
+    count=$((count + 1))
+    read -ra words <<<"$words"
+    (cd data && timeout 60 "$program" "${words[@]}" <tree.toml >"$work/whole" 2>"$work/wanted")
+    (cd data && timeout 60 env LD_PRELOAD="$work/interrupt.so" "$program" "${words[@]}" <tree.toml \
+        >"$work/written" 2>"$work/complaint")
+    if ! cmp -s "$work/whole" "$work/written" || ! cmp -s "$work/wanted" "$work/complaint"; then
+        wrong=$((wrong + 1))
+        echo "check runs: ${words[*]}: it writes otherwise where signals come"
+    fi
+done
 
 # ask NUMBER WORD..: runs the program on these words, with the request of this number refused
 ask() {
@@ -182,6 +275,8 @@ refuse --format json settings.toml nothing.toml
 refuse --tagged tree.toml
 refuse --items tree.toml
 refuse --get /list/3 tree.toml
+refuse --format short .
+refuse $'caf\xe9.toml' settings.toml
 
 # the same of documents that are read and that clash, whose whole answers are stored
 for document in runs/refused/*.toml; do

@@ -1,11 +1,10 @@
-# For scripts that run a native program with one of its requests for memory refused; they source this file.
+# For scripts that run a native program with one of its requests for memory refused, or with its reads and writes
+# interrupted; they source this file.
 
 # make_refusals FOLDER: makes FOLDER/refuse.so, by the kit's clang. A program that is run with it (LD_PRELOAD) has its
 # request number $REFUSED refused, none for 0, and tells file descriptor 9 how many it made. They are counted before
 # the C library has them.
 make_refusals() {
-    local kit
-    kit=$(dirname "$(rt doc)")/toolchain/bin
     cat >"$1/refuse.c" <<'END'
 extern void *__libc_malloc(unsigned long);
 extern void *__libc_realloc(void *, unsigned long);
@@ -24,6 +23,31 @@ void *malloc(unsigned long size) { return is_refused() ? 0 : __libc_malloc(size)
 void *realloc(void *block, unsigned long size) { return is_refused() ? 0 : __libc_realloc(block, size); }
 __attribute__((destructor)) static void tell(void) { dprintf(9, "%ld\n", made); }
 END
-    "$kit/clang" --target=x86_64-unknown-linux-gnu -O1 -fPIC -c "$1/refuse.c" -o "$1/refuse.o" &&
-        "$kit/ld.lld" -shared "$1/refuse.o" -o "$1/refuse.so"
+    make_library "$1" refuse
+}
+
+# make_interruptions FOLDER: makes FOLDER/interrupt.so likewise. Each other read and write of a program that is run with
+# it fails as if a signal came.
+make_interruptions() {
+    cat >"$1/interrupt.c" <<'END'
+extern long syscall(long, ...);
+extern int *__errno_location(void);
+static int made;
+static int is_interrupted(void) {
+    if (++made % 2 == 0) return 0;
+    *__errno_location() = 4;
+    return 1;
+}
+long read(int file, void *at, unsigned long size) { return is_interrupted() ? -1 : syscall(0, file, at, size); }
+long write(int file, const void *at, unsigned long size) { return is_interrupted() ? -1 : syscall(1, file, at, size); }
+END
+    make_library "$1" interrupt
+}
+
+# make_library FOLDER NAME: makes FOLDER/NAME.so of FOLDER/NAME.c
+make_library() {
+    local kit
+    kit=$(dirname "$(rt doc)")/toolchain/bin
+    "$kit/clang" --target=x86_64-unknown-linux-gnu -O1 -fPIC -c "$1/$2.c" -o "$1/$2.o" &&
+        "$kit/ld.lld" -shared "$1/$2.o" -o "$1/$2.so"
 }

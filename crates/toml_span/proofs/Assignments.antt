@@ -1,5 +1,7 @@
 -- Assignments placed one after another, and inline tables.
-use Rattle.std.proofs.Common.{◌≡◌, ℕ, List, [], ◌∷◌, map, length, Option, Some, None, option_map, Result, Ok, Err, BTreeMap, refl, sym, ap, ◌∙◌, subst, arith}
+use Rattle.std.proofs.Common.{◌≡◌, ℕ, List, [], ◌∷◌, ◌==◌, true, map, length, vec_len, Option, Some, None, option_map, Result, Ok, Err, BTreeMap, refl, sym, ap, ◌∙◌, subst, arith}
+use Rattle.std.proofs.lemmas.Bool.{eqb-true}
+use Rattle.std.proofs.lemmas.List.{nil_from_length}
 use Rattle.toml_span_lex.specs.declared.key.Key.{Key}
 use Rattle.toml_span_tree.specs.Node as tree
 use Rattle.toml_span_tree.specs.Path.{Place, reached, place_of as tree_place}
@@ -45,6 +47,10 @@ pub places-one : (a : Assignment) (inner : List Key) (old new : Branch) (r : Res
     → Places old new r (pair_at (map simple_key inner) (simple_key a.parts.last) (view a.value)) (counts old) → Places old new r (assignment_claims (key_value a) []) (counts old)
 places-one a inner old new r is h =
     subst (λ cs. Places old new r cs (counts old)) (ap (λ keys. pair_at (map simple_key keys) (simple_key a.parts.last) (view a.value)) is ∙ pair-claims a) h
+
+-- a key that is one part
+pub inner-none : (a : Assignment) → true ≡ (vec_len a.parts.inner == 0) → [] ≡ a.parts.inner.items
+inner-none a h = let v = a.parts.inner in sym (nil_from_length v.items (omega (arith, v.ok.0, eqb-true (vec_len v) 0 (sym h))))
 
 -- ---- one after another
 

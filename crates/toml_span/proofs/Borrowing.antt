@@ -145,15 +145,16 @@ module _ (text : List ℕ) (ps : List SimpleKey) where
       (rw inserted (box_insert text ps c w (out-Branch n).tables.entries (clone_named k c same forth back key) made inside.1)) (rw items inside.2))
       (keep (box_found text ps (is_named (cow_str_bytes c.name)) x (out-Branch n).tables.entries found inside.1))
 
-  pub keeps_new : (n : Branch) (b : Branch-F Branch) (k c : Key) (x w : Branch) (box : Box Branch) → standing x ≡ []
-      → cow_str_bytes c.name ≡ cow_str_bytes k.name → (IsBorrowedStr k.name → IsBorrowedStr c.name) → (IsBorrowedStr c.name → IsBorrowedStr k.name) → box_value box ≡ w
-      → b.entries.items ≡ entries n → b.values ≡ (out-Branch n).values → b.tables.entries ≡ insert_entry key_cmp (out-Branch n).tables.entries c box
-      → IsFrom text ps (key_written k) → Keeps text ps x w (Ok tt) → AreBorrowedRight text ps (standing n) → AreBorrowedRight text ps (standing (roll-Branch b))
-  keeps_new n b k c x w box bare same forth back holds items values inserted key keep h =
+  pub keeps_new : (n : Branch) (b : Branch-F Branch) (k c : Key) (x : Branch) (w : Box Branch) (r : Result (Unit {0}) Halt) → standing x ≡ []
+      → cow_str_bytes c.name ≡ cow_str_bytes k.name → (IsBorrowedStr k.name → IsBorrowedStr c.name) → (IsBorrowedStr c.name → IsBorrowedStr k.name)
+      → b.entries.items ≡ entries n → b.values ≡ (out-Branch n).values → b.tables.entries ≡ insert_entry key_cmp (out-Branch n).tables.entries c w
+      → IsFrom text ps (key_written k) → Keeps text ps x (box_value w) r → Keeps text ps n (roll-Branch b) r
+  keeps_new n b k c x w r bare same forth back items values inserted key keep h =
       let inside = of_node text ps n h in
-      let made : AreBorrowedRight text ps (standing w) = keep (rw bare tt) in
-      node_of text ps b (rw values inside.0)
-      (rw inserted (box_insert text ps c box (out-Branch n).tables.entries (clone_named k c same forth back key) (rw holds made) inside.1)) (rw items inside.2)
+      ok_map r (AreBorrowedRight text ps (standing (box_value w))) (AreBorrowedRight text ps (standing (roll-Branch b)))
+      (λ made. node_of text ps b (rw values inside.0)
+      (rw inserted (box_insert text ps c w (out-Branch n).tables.entries (clone_named k c same forth back key) made inside.1)) (rw items inside.2))
+      (keep (rw bare tt))
 
   pub keeps_value : (n : Branch) (b : Branch-F Branch) (k : Key) (v : Value) → lookup_entry (is_named (cow_str_bytes k.name)) (out-Branch n).values.entries ≡ None
       → b.tables ≡ (out-Branch n).tables → b.entries.items ≡ entries n → b.values.entries ≡ insert_entry key_cmp (out-Branch n).values.entries k v

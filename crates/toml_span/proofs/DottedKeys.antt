@@ -78,7 +78,7 @@ pair-found n new x w k inner last v r found sets h =
 free-dotted : (n : Branch) (k : SimpleKey) (v : Read) (m : Mark) → m ≡ dotted_mark k v → met (closed_marks (closed k.name n)) m k.name ≡ None → closed k.name n ≡ None
 free-dotted n k v m same h = unclosed (closed k.name n) m k.name h (ap (λ m. is_entry_sort m.sort) same, tt)
 
-pub pair-new : (n new x w : Branch) (k : SimpleKey) (inner : List SimpleKey) (last : SimpleKey) (v : Read) (m : Mark)
+pair-new : (n new x w : Branch) (k : SimpleKey) (inner : List SimpleKey) (last : SimpleKey) (v : Read) (m : Mark)
     → child k.name n ≡ None → m ≡ dotted_mark k v → met (closed_marks (closed k.name n)) m k.name ≡ None → IsFresh x → SetsChild k.name w n new
     → Passes x w (Ok tt) (through_pair k inner last v) (counts x) → Places n new (Ok tt) (pair_at (k ∷ inner) last v) (counts n)
 unfolding pair_at
@@ -86,12 +86,18 @@ pair-new n new x w k inner last v m missing same free fresh sets h =
     subst (Places n new (Ok tt) (pair_at (k ∷ inner) last v)) (graft-itself (key k.name) (counts n))
     (places-new n new x w k.name (λ f. through_pair k inner last v) (λ f. f) missing (free-dotted n k v m same free) fresh sets h)
 
-pub pair-new-err : (n new x w : Branch) (k : SimpleKey) (inner : List SimpleKey) (last : SimpleKey) (v : Read) (m : Mark) (r q : Result (Unit {0}) Halt) (e : Halt) (d : Path → ℕ)
+pair-new-err : (n new x w : Branch) (k : SimpleKey) (inner : List SimpleKey) (last : SimpleKey) (v : Read) (m : Mark) (r q : Result (Unit {0}) Halt) (e : Halt) (d : Path → ℕ)
     → child k.name n ≡ None → m ≡ dotted_mark k v → met (closed_marks (closed k.name n)) m k.name ≡ None → IsFresh x → r ≡ Err e → q ≡ Err e
     → Passes x w r (through_pair k inner last v) (counts x) → Places n new q (pair_at (k ∷ inner) last v) d
 unfolding pair_at
 pair-new-err n new x w k inner last v m r q e d missing same free fresh was is h =
     places-new-err n new x w k.name r q e (λ f. through_pair k inner last v) (counts x) d missing (free-dotted n k v m same free) fresh was is h
+
+pub pair-fresh : (n new x w : Branch) (k : SimpleKey) (inner : List SimpleKey) (last : SimpleKey) (v : Read) (m : Mark) (r : Result (Unit {0}) Halt)
+    → child k.name n ≡ None → m ≡ dotted_mark k v → met (closed_marks (closed k.name n)) m k.name ≡ None → IsFresh x → SetsChild k.name w n new
+    → Passes x w r (through_pair k inner last v) (counts x) → Places n new r (pair_at (k ∷ inner) last v) (counts n)
+pair-fresh n new x w k inner last v m (Ok u) missing same free fresh sets h = pair-new n new x w k inner last v m missing same free fresh sets h
+pair-fresh n new x w k inner last v m (Err e) missing same free fresh sets h = pair-new-err n new x w k inner last v m (Err e) (Err e) e (counts n) missing same free fresh refl refl h
 
 pub pair-beside : (n new : Branch) (k : SimpleKey) (inner : List SimpleKey) (last : SimpleKey) (v : Read) (m : Mark) (q : Result (Unit {0}) Halt) (e : Halt) (P : Unit {0} → Type 0) (d : Path → ℕ)
     → child k.name n ≡ None → m ≡ dotted_mark k v → q ≡ Err e → Gives (Err e) (met (closed_marks (closed k.name n)) m k.name) P → Places n new q (pair_at (k ∷ inner) last v) d

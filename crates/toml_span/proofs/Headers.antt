@@ -273,18 +273,24 @@ module _ (h : Head) (k : SimpleKey) where
     section-found rest n new x w r found sets placed =
         rw (section_at-through, grown-through) (places-found n new x w k.name r (λ f. through f h k rest tail) (λ f. grown_through f h rest) found sets placed)
 
-    pub section-new : (rest : List SimpleKey) (n new x w : Branch) → child k.name n ≡ None → closed k.name n ≡ None → IsFresh x → SetsChild k.name w n new
+    section-new : (rest : List SimpleKey) (n new x w : Branch) → child k.name n ≡ None → closed k.name n ≡ None → IsFresh x → SetsChild k.name w n new
         → Passes x w (Ok tt) (through (counts x) h k rest tail) (grown_through (counts x) h rest)
         → Places n new (Ok tt) (section_at (counts n) h (k ∷ rest) tail) (grown (counts n) h (k ∷ rest))
     section-new rest n new x w missing free fresh sets placed =
         rw (section_at-through, grown-through)
         (places-new n new x w k.name (λ f. through f h k rest tail) (λ f. grown_through f h rest) missing free fresh sets placed)
 
-    pub section-new-err : (rest : List SimpleKey) (n new x w : Branch) (r q : Result (Unit {0}) Halt) (e : Halt) (d : Path → ℕ) → child k.name n ≡ None → closed k.name n ≡ None → IsFresh x
+    section-new-err : (rest : List SimpleKey) (n new x w : Branch) (r q : Result (Unit {0}) Halt) (e : Halt) (d : Path → ℕ) → child k.name n ≡ None → closed k.name n ≡ None → IsFresh x
         → r ≡ Err e → q ≡ Err e → Passes x w r (through (counts x) h k rest tail) (grown_through (counts x) h rest)
         → Places n new q (section_at (counts n) h (k ∷ rest) tail) d
     section-new-err rest n new x w r q e d missing free fresh is same placed =
         rw section_at-through (places-new-err n new x w k.name r q e (λ f. through f h k rest tail) (grown_through (counts x) h rest) d missing free fresh is same placed)
+
+    pub section-fresh : (rest : List SimpleKey) (n new x w : Branch) (r : Result (Unit {0}) Halt) → child k.name n ≡ None → closed k.name n ≡ None → IsFresh x → SetsChild k.name w n new
+        → Passes x w r (through (counts x) h k rest tail) (grown_through (counts x) h rest)
+        → Places n new r (section_at (counts n) h (k ∷ rest) tail) (grown (counts n) h (k ∷ rest))
+    section-fresh rest n new x w (Ok u) missing free fresh sets placed = section-new rest n new x w missing free fresh sets placed
+    section-fresh rest n new x w (Err e) missing free fresh sets placed = section-new-err rest n new x w (Err e) (Err e) e (grown (counts n) h (k ∷ rest)) missing free fresh refl refl placed
 
 -- ---- lists of the code
 

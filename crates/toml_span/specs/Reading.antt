@@ -6,7 +6,7 @@ use Rattle.toml_span_tree.specs.declared.value.Value.{Value}
 use Rattle.toml_span_tree.specs.Node.{Node}
 use Rattle.toml_span_tree.specs.Value.{view}
 use Rattle.toml_span_tree.specs.declared.error.Error.{Error}
-use Rattle.toml_span_tree.specs.Error.{content_of}
+use Rattle.toml_span_tree.specs.Error.{ErrorContent, content_of}
 use Rattle.toml_span_typed.specs.Errors.{Errors, one}
 use Rattle.toml_span.specs.Parsing.{IsTree, IsRefusal}
 use Rattle.toml_span_read.specs.Limits.{depth_limit}
@@ -22,3 +22,19 @@ NotRead reads text (stops.Memory e) = ⊤
 NotRead reads text (stops.Fault faults) =
     ((error : Error) × IsRefusal text depth_limit (stops.Fault error) × (faults ≡ one (content_of error)))
     ⊎ IsRead reads text (Err faults)
+
+-- The same of a type that warns, with the warnings before and after.
+abbrev pub IsReadWithWarnings : {T : Type 0}
+    → (Node → Result T Errors → List ErrorContent → List ErrorContent → Type 0) → List ℕ → Result T Errors
+    → List ErrorContent → List ErrorContent → Type 0
+IsReadWithWarnings reads text answer warnings more =
+    (root : Value) × IsTree text depth_limit root × reads (view root) answer warnings more
+
+abbrev pub NotReadWithWarnings : {T : Type 0}
+    → (Node → Result T Errors → List ErrorContent → List ErrorContent → Type 0) → List ℕ → Stop Errors
+    → List ErrorContent → List ErrorContent → Type 0
+NotReadWithWarnings reads text (stops.Memory e) warnings more = ⊤
+NotReadWithWarnings reads text (stops.Fault faults) warnings more =
+    ((error : Error) × IsRefusal text depth_limit (stops.Fault error) × (faults ≡ one (content_of error))
+    × (more ≡ warnings))
+    ⊎ IsReadWithWarnings reads text (Err faults) warnings more

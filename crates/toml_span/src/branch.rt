@@ -13,6 +13,7 @@ use crate::claims::{Mark, Marks, Sort};
 use smallvec::SmallVec;
 use std::alloc::{AllocError, Global};
 use std::collections::BTreeMap;
+use std::mem::replace;
 use toml_span_lex::key::Key;
 use toml_span_lex::span::Span;
 use toml_span_tree::{Array, Table, Value, ValueInner};
@@ -108,8 +109,8 @@ pub fn into_table<'de>(
         in_order(&values);
         return Ok(values);
     }
-    for (key, child) in tables {
-        let (span, value) = into_value(Box::into_inner(child))?;
+    for (key, mut child) in tables {
+        let (span, value) = into_value(child.as_mut())?;
         let key = Key {
             name: key.name,
             span,
@@ -120,33 +121,28 @@ pub fn into_table<'de>(
     Ok(values)
 }
 
-/// The value that a branch has become, and the span of its key.
+/// The value that a branch has become, and the span of its key. What the branch held is taken out.
 #[cycle(finish)]
-fn into_value<'de>(node: Branch<'de>) -> Result<(Span, Value<'de>), AllocError>
-    ensures becomes { Becomes node.entry result }
-    ensures borrows { (text : List ℕ) → (ps : List SimpleKey) → AreBorrowedRight text ps (standing node.entry)
+fn into_value<'de>(node: &mut Branch<'de>) -> Result<(Span, Value<'de>), AllocError>
+    ensures becomes { Becomes node.old result }
+    ensures borrows { (text : List ℕ) → (ps : List SimpleKey) → AreBorrowedRight text ps (standing node.old)
         → IfOk result (λ found. ((held found.1).0 ≡ false) × AreBorrowedRight text ps (value_standing found.1)) }
 {
-    let Branch {
-        marks,
-        values,
-        tables,
-        entries,
-    } = node;
-    let (key_span, span) = spans(marks.as_slice());
-    if entries.is_empty() {
-        drop(entries);
+    let (key_span, span) = spans(node.marks.as_slice());
+    let alloc = *node.entries.allocator();
+    if node.entries.is_empty() {
+        let tables = replace(&mut node.tables, BTreeMap::new(alloc));
+        let values = replace(&mut node.values, BTreeMap::new(alloc));
         let table = into_table(tables, values)?;
         return Ok((key_span, Value::with_span(ValueInner::Table(table), span)));
     }
-    drop(values);
-    drop(tables);
-    let array = into_array(entries)?;
+    let array = into_array(replace(&mut node.entries, Vec::new(alloc)))?;
     Ok((key_span, Value::with_span(ValueInner::Array(array), span)))
 }
 
 /// The elements of an array of tables as finished values.
 #[cycle(finish)]
+#[inline(never)]
 fn into_array<'de>(entries: Vec<Branch<'de>>) -> Result<Array<'de>, AllocError>
     ensures becomes { EachBecomes entries.entry.items result }
     ensures borrows { (text : List ℕ) → (ps : List SimpleKey)
@@ -154,8 +150,8 @@ fn into_array<'de>(entries: Vec<Branch<'de>>) -> Result<Array<'de>, AllocError>
         → IfOk result (λ array. AreBorrowedRight text ps (array_standing array.items)) }
 {
     let mut array = Vec::with_capacity(*entries.allocator(), entries.len())?;
-    for entry in entries {
-        let (_, value) = into_value(entry)?;
+    for mut entry in entries {
+        let (_, value) = into_value(&mut entry)?;
         array.push(value)?;
     }
     Ok(array)

@@ -10,12 +10,15 @@ mod scopes;
 mod sections;
 
 pub use de::parse;
-pub use read::{from_str, line_and_byte};
+pub use read::{from_str, from_str_with_warnings, line_and_byte};
 pub use toml_span_lex::span::Span;
 pub use toml_span_lex::spanned::Spanned;
 pub use toml_span_lex::stop::Stop;
 pub use toml_span_tree::{Diagnostic, Error, ErrorKind, Label, Value};
-pub use toml_span_typed::{DeserError, Deserialize, ErrorIter, Parsed, Unmerged, read_table};
+pub use toml_span_typed::{
+    DeserError, Deserialize, DeserializeWithWarnings, ErrorIter, Parsed, Unmerged, read_table,
+    read_tagged,
+};
 
 /// Typed reads of a table's fields.
 pub mod de_helpers {

@@ -1,14 +1,16 @@
 //! Reads a document as a type, and tells where a span stands.
-ghost use Rattle.std.specs.Prelude.{◌≡◌, ◌+◌, ℕ, IfOk, IfErr, Ok, length, min};
+ghost use Rattle.std.specs.Prelude.{◌≡◌, ◌+◌, ℕ, IfOk, IfErr, Ok, length, map, min};
+ghost use Rattle.toml_span_tree.specs.Error.{content_of};
 ghost use Rattle.toml_span_read.specs.Places.{IsLineInfo};
-ghost use Rattle.toml_span.specs.Reading.{IsRead, NotRead};
+ghost use Rattle.toml_span.specs.Reading.{IsRead, IsReadWithWarnings, NotRead, NotReadWithWarnings};
 
 use crate::de::parse;
 use std::alloc::Global;
 use toml_span_lex::span::Span;
 use toml_span_lex::stop::Stop;
 use toml_span_read::fault::line_info;
-use toml_span_typed::{DeserError, Deserialize};
+use toml_span_tree::Error;
+use toml_span_typed::{DeserError, Deserialize, DeserializeWithWarnings};
 
 /// Reads a document as a type: `parse`, and then `deserialize` of the root.
 ///
@@ -26,6 +28,26 @@ pub fn from_str<'de, T: Deserialize<'de>>(
         Err(Stop::Memory(error)) => return Err(Stop::Memory(error)),
     };
     T::deserialize(alloc, &mut root)
+}
+
+/// Reads a document as a type that warns: as `from_str`, and warnings are put behind those of the list, also where
+/// the read fails. A text that is refused has none.
+pub fn from_str_with_warnings<'de, T: DeserializeWithWarnings<'de>>(
+    alloc: Global,
+    text: &'de str,
+    warnings: &mut Vec<Error<'de>>,
+) -> Result<T, Stop<DeserError<'de>>>
+    ensures read { IfOk result (λ x. IsReadWithWarnings T.reads text.now (Ok x) (map content_of warnings.old.items)
+        (map content_of warnings.new.items)) }
+    ensures refused { IfErr result (λ stop. NotReadWithWarnings T.reads text.now stop
+        (map content_of warnings.old.items) (map content_of warnings.new.items)) }
+{
+    let mut root = match parse(alloc, text) {
+        Ok(root) => root,
+        Err(Stop::Fault(refusal)) => return Err(Stop::Fault(refusal.into())),
+        Err(Stop::Memory(error)) => return Err(Stop::Memory(error)),
+    };
+    T::deserialize_with_warnings(alloc, &mut root, warnings)
 }
 
 /// The line at which a span starts, and the byte of that line, both counted from 1: one more than the line

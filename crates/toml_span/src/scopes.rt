@@ -1,5 +1,5 @@
 //! Assignments placed below a branch: a section's table, or an inline table.
-ghost use Rattle.std.specs.Prelude.{◌≡◌, ⊤, ℕ, List, map, [], IfOk};
+ghost use Rattle.std.specs.Prelude.{◌≡◌, ⊤, ℕ, List, map, [], IfOk, Some};
 ghost use Rattle.std.specs.Cow.{cow_str_bytes};
 ghost use Rattle.toml_span_tree.specs.Value.{inner_view};
 ghost use Rattle.toml_span_tree.specs.Node as tree;
@@ -9,13 +9,14 @@ ghost use Rattle.toml_span_read.specs.Borrowed.{keys_written, written};
 ghost use Rattle.toml_span_read.specs.Data.{key_value, view, onto, no_items, ParsedValue as Read, parsed_span};
 ghost use Rattle.toml_span_read.specs.Keys.{SimpleKey, simple_key as part_of};
 ghost use Rattle.toml_span.specs.code.Borrowed.{AreFrom, IsFrom, Keeps, ValueRight, array_standing};
-ghost use Rattle.toml_span.specs.code.Borrowed.{table_standing};
+ghost use Rattle.toml_span.specs.code.Borrowed.{standing, table_standing};
 ghost use Rattle.toml_span.specs.Borrowed.{AreBorrowedRight};
 ghost use Rattle.toml_span.specs.Claims.{assignment_claims, key_value_claims, item_claims};
 ghost use Rattle.toml_span.specs.code.Machine.{Gives, met};
 ghost use Rattle.toml_span.specs.code.Placing.{Places, Passes, ValueGives, ScopeGives};
 ghost use Rattle.toml_span.specs.code.Relative.{pair_at, through_pair};
-ghost use Rattle.toml_span.specs.code.Tree.{child_in, closed_in, closed_marks, counts, held_marks};
+ghost use Rattle.toml_span.specs.code.Tree.{child_in, closed_in, closed_marks, counts, held_marks, IsFresh};
+ghost use Rattle.toml_span.specs.declared.scopes.Due.{Due};
 
 use crate::branch::{Branch, Branches, into_table};
 use crate::claims::{Halt, Mark, Sort, admit, claim};
@@ -44,7 +45,7 @@ fn pair_mark(sort: Sort, key: &Key<'_>, span: Span) -> Mark
 }
 
 /// Halts where a claim on a name clashes with a value that is assigned there.
-pub(crate) fn admit_beside_value<'de>(
+fn admit_beside_value<'de>(
     alloc: Global,
     values: &Table<'de>,
     mark: Mark,
@@ -64,6 +65,23 @@ pub(crate) fn admit_beside_value<'de>(
     }
 }
 
+/// A branch for a name, on which nothing is claimed yet. Halts where a claim on the name clashes with a value that is
+/// assigned there.
+#[inline(never)]
+pub(crate) fn fresh_child<'de>(
+    alloc: Global,
+    values: &Table<'de>,
+    mark: Mark,
+    key: &Key<'de>,
+) -> Result<Box<Branch<'de>>, Halt>
+    ensures { Gives result (met (closed_marks (closed_in (cow_str_bytes key.now.name) values.now)) mark
+        (cow_str_bytes key.now.name)) (λ child. IsFresh child.value × (standing child.value ≡ [])) }
+{
+    admit_beside_value(alloc, values, mark, key)?;
+    let child = Box::new(alloc, Branch::new(alloc))?;
+    Ok(child)
+}
+
 /// Halts where a claim on a name clashes with what headers and dotted keys made there.
 fn admit_beside_table<'de>(
     alloc: Global,
@@ -81,6 +99,7 @@ fn admit_beside_table<'de>(
 }
 
 /// Assigns a value to a name of a branch.
+#[inline(never)]
 fn assign<'de>(
     alloc: Global,
     node: &mut Branch<'de>,
@@ -113,7 +132,35 @@ fn assign<'de>(
     }
 }
 
-/// Places an assignment below a branch, inner part by inner part. `span` is the value's.
+/// What is to be assigned. Functions that call each other along a path take it by reference, so that none of them
+/// needs room on the stack for it.
+#[derive(Drop)]
+struct Due<'de> {
+    /// The last part of the key.
+    last: Key<'de>,
+    value: Result<Value<'de>, Halt>,
+}
+
+/// Assigns what is due to a name of a branch.
+#[inline(never)]
+fn assign_due<'de>(
+    alloc: Global,
+    node: &mut Branch<'de>,
+    due: &mut Option<Due<'de>>,
+    span: Span,
+) -> Result<(), Halt>
+    ensures gives { (d : Due) (v : Read) → due.old ≡ Some d → ValueGives d.value v → span ≡ parsed_span v
+        → Places node.old node.new result (pair_at [] (part_of d.last) v) (counts node.old) }
+    ensures borrows { (text : List ℕ) → (ps : List SimpleKey) → (d : Due) → due.old ≡ Some d
+        → IsFrom text ps (key_written d.last) → ValueRight text ps d.value → Keeps text ps node.old node.new result }
+{
+    match due.take() {
+        Some(next) => assign(alloc, node, next.last, next.value, span),
+        None => Ok(()),
+    }
+}
+
+/// Places what is due below a branch, inner part by inner part. `span` is the value's.
 ///
 /// An inline table is a scope of its own. What clashes in it is told behind the clashes of the key to
 /// which it is assigned, since it stands behind that key.
@@ -122,30 +169,24 @@ fn place_pair<'de>(
     alloc: Global,
     node: &mut Branch<'de>,
     inner: &[Key<'de>],
-    last: Key<'de>,
-    value: Result<Value<'de>, Halt>,
+    due: &mut Option<Due<'de>>,
     span: Span,
 ) -> Result<(), Halt>
-    ensures gives { (v : Read) → ValueGives value.entry v → span ≡ parsed_span v
-        → Places node.old node.new result (pair_at (map part_of inner.now) (part_of last.entry) v) (counts node.old) }
-    ensures borrows { (text : List ℕ) → (ps : List SimpleKey) → AreFrom text ps (keys_written inner.now)
-        → IsFrom text ps (key_written last.entry)
-        → ValueRight text ps value.entry → Keeps text ps node.old node.new result }
+    ensures gives { (d : Due) (v : Read) → due.old ≡ Some d → ValueGives d.value v → span ≡ parsed_span v
+        → Places node.old node.new result (pair_at (map part_of inner.now) (part_of d.last) v) (counts node.old) }
+    ensures borrows { (text : List ℕ) → (ps : List SimpleKey) → (d : Due) → due.old ≡ Some d
+        → AreFrom text ps (keys_written inner.now) → IsFrom text ps (key_written d.last)
+        → ValueRight text ps d.value → Keeps text ps node.old node.new result }
 {
     let [part, rest @ ..] = inner else {
-        return assign(alloc, node, last, value, span);
+        return assign_due(alloc, node, due, span);
     };
     match node.tables.entry(part.clone(alloc)?)? {
-        Entry::Occupied(entry) => {
-            pass_child(alloc, entry.into_mut(), part, rest, last, value, span)
-        }
+        Entry::Occupied(entry) => pass_child(alloc, entry.into_mut(), part, rest, due, span),
         Entry::Vacant(entry) => {
             let mark = pair_mark(Sort::Dotted, part, span);
-            admit_beside_value(alloc, &node.values, mark, part)?;
-            let mut child = Box::new(alloc, Branch::new(alloc))?;
-            pass_child(alloc, &mut child, part, rest, last, value, span)?;
-            entry.insert(child);
-            Ok(())
+            let child = fresh_child(alloc, &node.values, mark, part)?;
+            pass_child(alloc, entry.insert(child), part, rest, due, span)
         }
     }
 }
@@ -157,37 +198,37 @@ fn pass_child<'de>(
     child: &mut Box<Branch<'de>>,
     part: &Key<'de>,
     rest: &[Key<'de>],
-    last: Key<'de>,
-    value: Result<Value<'de>, Halt>,
+    due: &mut Option<Due<'de>>,
     span: Span,
 ) -> Result<(), Halt>
-    ensures gives { (v : Read) → ValueGives value.entry v → span ≡ parsed_span v
+    ensures gives { (d : Due) (v : Read) → due.old ≡ Some d → ValueGives d.value v → span ≡ parsed_span v
         → Passes child.old.value child.new.value result (through_pair (part_of part.now) (map part_of rest.now)
-        (part_of last.entry) v) (counts child.old.value) }
-    ensures borrows { (text : List ℕ) → (ps : List SimpleKey) → IsFrom text ps (key_written part.now)
-        → AreFrom text ps (keys_written rest.now) → IsFrom text ps (key_written last.entry)
-        → ValueRight text ps value.entry → Keeps text ps child.old.value child.new.value result }
+        (part_of d.last) v) (counts child.old.value) }
+    ensures borrows { (text : List ℕ) → (ps : List SimpleKey) → (d : Due) → due.old ≡ Some d
+        → IsFrom text ps (key_written part.now) → AreFrom text ps (keys_written rest.now)
+        → IsFrom text ps (key_written d.last) → ValueRight text ps d.value
+        → Keeps text ps child.old.value child.new.value result }
 {
-    pass_pair(alloc, child.as_mut(), part, rest, last, value, span)
+    pass_pair(alloc, child.as_mut(), part, rest, due, span)
 }
 
-/// Claims the branch of an inner part, and places the rest below it.
+/// Claims the branch of an inner part, and places what is due below it.
 #[cycle(place_pair)]
 fn pass_pair<'de>(
     alloc: Global,
     node: &mut Branch<'de>,
     part: &Key<'de>,
     rest: &[Key<'de>],
-    last: Key<'de>,
-    value: Result<Value<'de>, Halt>,
+    due: &mut Option<Due<'de>>,
     span: Span,
 ) -> Result<(), Halt>
-    ensures gives { (v : Read) → ValueGives value.entry v → span ≡ parsed_span v
+    ensures gives { (d : Due) (v : Read) → due.old ≡ Some d → ValueGives d.value v → span ≡ parsed_span v
         → Passes node.old node.new result (through_pair (part_of part.now) (map part_of rest.now)
-        (part_of last.entry) v) (counts node.old) }
-    ensures borrows { (text : List ℕ) → (ps : List SimpleKey) → IsFrom text ps (key_written part.now)
-        → AreFrom text ps (keys_written rest.now) → IsFrom text ps (key_written last.entry)
-        → ValueRight text ps value.entry → Keeps text ps node.old node.new result }
+        (part_of d.last) v) (counts node.old) }
+    ensures borrows { (text : List ℕ) → (ps : List SimpleKey) → (d : Due) → due.old ≡ Some d
+        → IsFrom text ps (key_written part.now) → AreFrom text ps (keys_written rest.now)
+        → IsFrom text ps (key_written d.last) → ValueRight text ps d.value
+        → Keeps text ps node.old node.new result }
 {
     claim(
         alloc,
@@ -195,7 +236,7 @@ fn pass_pair<'de>(
         pair_mark(Sort::Dotted, part, span),
         part,
     )?;
-    place_pair(alloc, node, rest, last, value, span)
+    place_pair(alloc, node, rest, due, span)
 }
 
 /// Places an assignment below a branch.
@@ -212,7 +253,11 @@ fn place_one<'de>(alloc: Global, pair: Assignment<'de>, node: &mut Branch<'de>) 
     } = pair;
     let span = value.span;
     let value = value_of(alloc, value);
-    place_pair(alloc, node, inner.as_slice(), last, value, span)
+    if inner.is_empty() {
+        return assign(alloc, node, last, value, span);
+    }
+    let mut due = Some(Due { last, value });
+    place_pair(alloc, node, inner.as_slice(), &mut due, span)
 }
 
 /// Places assignments below a branch.

@@ -18,7 +18,7 @@ ghost use Rattle.toml_span.specs.Parsing.{IsRoot};
 
 use crate::branch::{Branch, into_table};
 use crate::claims::{Clash, Halt, Head, Mark, Sort, claim};
-use crate::scopes::{admit_beside_value, place_all};
+use crate::scopes::{fresh_child, place_all};
 use std::alloc::{AllocError, Global};
 use std::collections::btree_map::Entry;
 use toml_span_lex::key::Key;
@@ -74,11 +74,8 @@ fn place_section<'de>(
         Entry::Occupied(entry) => pass_child(alloc, entry.into_mut(), part, rest, head, pairs),
         Entry::Vacant(entry) => {
             let mark = header_mark(head, sort_of(head, rest), part);
-            admit_beside_value(alloc, &node.values, mark, part)?;
-            let mut child = Box::new(alloc, Branch::new(alloc))?;
-            pass_child(alloc, &mut child, part, rest, head, pairs)?;
-            entry.insert(child);
-            Ok(())
+            let child = fresh_child(alloc, &node.values, mark, part)?;
+            pass_child(alloc, entry.insert(child), part, rest, head, pairs)
         }
     }
 }
@@ -196,6 +193,7 @@ fn add_entry<'de>(
 }
 
 /// Claims the branch at the end of a header, and places the assignments there.
+#[inline(never)]
 fn end_header<'de>(
     alloc: Global,
     node: &mut Branch<'de>,

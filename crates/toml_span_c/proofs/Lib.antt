@@ -1,6 +1,7 @@
 pub mod Arrays
 pub mod Bound
 pub mod Costs
+pub mod Cuts
 pub mod Fits
 pub mod Held
 pub mod Names

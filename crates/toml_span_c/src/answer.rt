@@ -12,7 +12,7 @@ pub const BOUND: usize = 16_777_216;
 /// The answer to the bytes of a document.
 #[derive(Drop)]
 pub(crate) enum Answer<'de> {
-    Tree(Value<'de>),
+    Tree(&'de str, Value<'de>),
     Fault(&'de str, Error<'de>),
     /// No UTF-8, or more than the bound.
     Unread,
@@ -30,7 +30,7 @@ pub(crate) fn answer_to<'de>(alloc: Global, bytes: &'de [u8]) -> Answer<'de>
         return Answer::Unread;
     };
     match parse(alloc, text) {
-        Ok(root) => Answer::Tree(root),
+        Ok(root) => Answer::Tree(text, root),
         Err(Stop::Fault(error)) => Answer::Fault(text, error),
         Err(Stop::Memory(_)) => Answer::Memory,
     }

@@ -23,12 +23,13 @@ pub(crate) struct Site<'a> {
 }
 
 /// Whether the document has this text at the span.
-fn stands(document: &[u8], span: Span, text: &str) -> bool
+fn stands(document: &str, span: Span, text: &str) -> bool
     ensures { result ≡ spec.stands document.now span text.now }
 {
-    span.start <= span.end
-        && span.end <= document.len()
-        && &document[span.start..span.end] == text.as_bytes()
+    match document.get(span.start..span.end) {
+        Some(there) => there == text,
+        None => span.start == span.end && span.end <= document.len() && text.is_empty(),
+    }
 }
 
 /// How many elements an array has room for.
@@ -54,7 +55,7 @@ fn put_bytes(strings: &mut [u8], count: &mut usize, bytes: &[u8])
 
 /// Where a text is. One that the document doesn't have at the span is put into the strings.
 fn put_text(
-    document: &[u8],
+    document: &str,
     span: Span,
     text: Option<&str>,
     strings: &mut [u8],
@@ -102,7 +103,7 @@ fn put_record(nodes: &mut [Record], at: usize, added: Record)
 
 /// The record of a value, before anything behind it is known. Its texts are put into the strings.
 fn begin_record(
-    document: &[u8],
+    document: &str,
     value: &Value<'_>,
     site: Site<'_>,
     strings: &mut [u8],
@@ -145,7 +146,7 @@ fn begin_record(
 /// Puts the records of a value, its own before those of what it holds.
 #[cycle(put_value)]
 fn put_value(
-    document: &[u8],
+    document: &str,
     value: &Value<'_>,
     site: Site<'_>,
     nodes: &mut [Record],
@@ -170,7 +171,7 @@ fn put_value(
 /// Puts the records of what a value holds.
 #[cycle(put_value)]
 fn put_held(
-    document: &[u8],
+    document: &str,
     value: &Value<'_>,
     at: usize,
     nodes: &mut [Record],
@@ -192,7 +193,7 @@ fn put_held(
 /// Puts the records of an array's elements.
 #[cycle(put_value)]
 fn put_elements(
-    document: &[u8],
+    document: &str,
     elements: &[Value<'_>],
     parent: usize,
     nodes: &mut [Record],
@@ -220,7 +221,7 @@ fn put_elements(
 /// Puts the records of a table's entries, in the order of their names.
 #[cycle(put_value)]
 fn put_entries(
-    document: &[u8],
+    document: &str,
     table: &Table<'_>,
     parent: usize,
     nodes: &mut [Record],
@@ -247,7 +248,7 @@ fn put_entries(
 
 /// Puts the records of a document, and says how many there are.
 pub(crate) fn put_tree(
-    document: &[u8],
+    document: &str,
     root: &Value<'_>,
     nodes: &mut [Record],
     strings: &mut [u8],

@@ -28,8 +28,8 @@ pub extern "C" fn toml_span_parse(
     ensures fault_kept { result ≢ 1 → fault.new ≡ fault.old }
 {
     match answer_to(alloc, text) {
-        Answer::Tree(root) => {
-            *counts = put_tree(text, &root, nodes, strings);
+        Answer::Tree(document, root) => {
+            *counts = put_tree(document, &root, nodes, strings);
             0
         }
         Answer::Fault(_text, error) => {
@@ -49,7 +49,7 @@ pub extern "C" fn toml_span_check(alloc: Global, text: &[u8]) -> u32
     ensures refused { result ≡ 1 → IsRefused text.now (λ error. ⊤) }
 {
     match answer_to(alloc, text) {
-        Answer::Tree(_) => 0,
+        Answer::Tree(_, _) => 0,
         Answer::Fault(_, _) => 1,
         Answer::Unread => 2,
         Answer::Memory => 4,

@@ -1,7 +1,7 @@
 //! The calls that tell what is wrong with a document.
 ghost use Rattle.std.specs.Prelude.{◌≡◌, ◌≢◌, ℕ, List, IsUtf8};
 ghost use Rattle.toml_span_tree.specs.Message.{display_text};
-ghost use Rattle.toml_span_report.specs.Report.{IsReport};
+ghost use Rattle.toml_span_report.specs.Errors.{IsReport};
 ghost use Rattle.toml_span_report.specs.declared.colours.Style.TheVariants.{Plain};
 ghost use Rattle.toml_span_c.specs.Calls.{Fills, IsDocument, IsRefused, IsStatus};
 ghost use Rattle.toml_span_c.specs.Faults as spec;
@@ -44,7 +44,7 @@ pub extern "C" fn toml_span_message(
     ensures kept { result ≢ 1 → (out.new ≡ out.old) × (length.new ≡ length.old) }
 {
     match answer_to(alloc, text) {
-        Answer::Tree(_) => 0,
+        Answer::Tree(_, _) => 0,
         Answer::Fault(_text, error) => match error.to_string(alloc) {
             Ok(message) => {
                 put_front(out, length, message.as_str());
@@ -78,7 +78,7 @@ pub extern "C" fn toml_span_report(
         return 2;
     };
     match answer_to(alloc, text) {
-        Answer::Tree(_) => 0,
+        Answer::Tree(_, _) => 0,
         Answer::Fault(text, error) => match render_error(alloc, Style::Plain, &error, name, text) {
             Ok(report) => {
                 put_front(out, length, report.as_str());

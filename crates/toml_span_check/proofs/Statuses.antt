@@ -6,7 +6,7 @@ use Rattle.std.specs.Str.{IsUtf8, is_utf8}
 use Rattle.toml_span_tree.specs.Node.{Node}
 use Rattle.toml_span_lines.specs.Run.{bound}
 use Rattle.toml_span_check.specs.Answer.{found, given, IsAnswer, IsRead}
-use Rattle.toml_span_check.specs.Run.{Reading, Gathered, nothing, answered, unread}
+use Rattle.toml_span_check.specs.Run.{Asked, Reading, Gathered, nothing, answered, unread}
 use Rattle.toml_span_check.specs.Start.{Says, Starts}
 use Rattle.toml_span_check.specs.declared.answer.Form.{Form}
 use Rattle.toml_span_check.specs.declared.answer.Task.{Task}
@@ -57,7 +57,7 @@ says-small : (old new : Option (List ℕ)) (failed : Bool) (text : List ℕ) (sa
 says-small old new true text said status small s = let three = s.cut refl in omega (arith, three)
 says-small old new false text said status small s = let same = (s.whole refl).1 in omega (arith, same, small)
 
-pub starts-small : (words : List (List ℕ)) (t : Bool) (old new : Option (List Reading)) (told told' : Option (List ℕ)) (untold : Bool) (warned warned' : Option (List ℕ)) (unwarned : Bool) (status : ℕ) →
+pub starts-small : (words : List (List ℕ)) (t : Bool) (old new : Option Asked) (told told' : Option (List ℕ)) (untold : Bool) (warned warned' : Option (List ℕ)) (unwarned : Bool) (status : ℕ) →
     Starts words t old new told told' untold warned warned' unwarned status → status ≤ 4
 starts-small words t old new told told' untold warned warned' unwarned status (inl (format, task, pointer, names, is_quiet, fine, asks, runs)) = runs.known
 starts-small words t old new told told' untold warned warned' unwarned status (inr (kind, among, same, inl (is, says, keeps))) = says-small _ _ _ _ _ _ (omega arith) says

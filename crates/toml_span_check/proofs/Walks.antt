@@ -5,7 +5,7 @@ use Rattle.std.specs.Cow.{cow_str_bytes}
 use Rattle.toml_span_check.specs.Visible.{quoted}
 use Rattle.toml_span_lex.specs.declared.key.Key.{Key}
 use Rattle.toml_span_tree.specs.declared.value.Value.{Value}
-use Rattle.toml_span_tree.specs.Diagnostic.{LabelContent}
+use Rattle.toml_span_report.specs.Report.{Place}
 use Rattle.toml_span_tree.specs.Node.{Node, node, taken, scalar, array, table}
 use Rattle.toml_span_tree.specs.Value.{view, items_view, members_view, is_taken}
 use Rattle.toml_span_check.specs.Faults.{label_json, labels_json}
@@ -53,7 +53,7 @@ members_shown-next t later es rest key value out comma name colon after all spli
     ap (λ o. o ++ last) whole ∙ (simp append_assoc) ∙ opened
 
 -- the text of the labels from one on
-pub labels_json-next : {X : Type 0} (f : X → LabelContent ℕ) (text : List ℕ) (later : Bool) (i : ℕ) (xs : List X) (x : X) (out comma after all : List ℕ) →
+pub labels_json-next : {X : Type 0} (f : X → Place) (text : List ℕ) (later : Bool) (i : ℕ) (xs : List X) (x : X) (out comma after all : List ℕ) →
     i < length xs → get_or xs i x ≡ x →
     out ++ labels_json text later (map f (drop i xs)) ≡ all →
     comma ≡ out ++ comma_if later →

@@ -1,18 +1,17 @@
 -- What is told of the bytes of a file.
 use Rattle.std.specs.Prelude.{◌≡◌, ◌<◌, ◌≤◌, ◌⊎◌, ℕ, true, false, IsUtf8, List, [], ◌++◌, length, codes, Option, Some}
 use Rattle.std.specs.Prelude.{None}
-use Rattle.toml_span_lex.specs.declared.span.Span.{Span}
 use Rattle.toml_span_tree.specs.declared.error.Error.{Error}
 use Rattle.toml_span_tree.specs.declared.value.Value.{Value}
-use Rattle.toml_span_tree.specs.Diagnostic.{labels_of}
-use Rattle.toml_span_tree.specs.Error.{kind_of}
-use Rattle.toml_span_tree.specs.Message.{code_of, display_text}
+use Rattle.toml_span_tree.specs.Error.{content_of}
 use Rattle.toml_span_tree.specs.Node.{Node}
 use Rattle.toml_span_tree.specs.Pointer.{pointed}
 use Rattle.toml_span_tree.specs.Value.{view}
 use Rattle.toml_span_lex.specs.declared.stop.Stop.TheVariants as stops
 use Rattle.toml_span.specs.Parsing.{IsTree, IsRefusal}
-use Rattle.toml_span_report.specs.Tokens.{IsMarked}
+use Rattle.toml_span_report.specs.Errors.{TellsError}
+use Rattle.toml_span_report.specs.Report.{ReportContent, bare}
+use Rattle.toml_span_report.specs.declared.report.Severity.TheVariants as severity
 use Rattle.toml_span_check.specs.Faults.{fault_text}
 use Rattle.toml_span_check.specs.Shown.{shown}
 use Rattle.toml_span_check.specs.declared.faults.Format.{Format}
@@ -24,9 +23,13 @@ use Rattle.toml_span_lines.specs.Lines.{tree_lines}
 use Rattle.toml_span_lines.specs.Run.{bound}
 use Rattle.toml_span_read.specs.Limits.{depth_limit}
 
+-- the text for a fault that has no place
+abbrev pub plain_fault : Format → List ℕ → List ℕ → List ℕ → List ℕ
+plain_fault format code message name = fault_text format (bare severity.Error code message) name []
+
 abbrev pub nothing_there : Format → List ℕ → List ℕ → ℕ × List ℕ
 nothing_there format pointer name =
-    (1, fault_text format (codes "nothing-there") (codes "nothing stands at `" ++ pointer ++ codes "`") [] name [])
+    (1, plain_fault format (codes "nothing-there") (codes "nothing stands at `" ++ pointer ++ codes "`") name)
 
 -- a value in a form
 abbrev pub formed : Form → Node → List ℕ
@@ -43,12 +46,11 @@ abbrev pub given : Format → Task → List ℕ → List ℕ → Node → ℕ ×
 given format Check pointer name n = (0, [])
 given format (Show form) pointer name n = found format form pointer name (pointed pointer n)
 
--- the text of an error: at the token where it stands, or else at its span
+-- the text of an error: that of its report
 abbrev pub IsFaultText : Format → Error → List ℕ → List ℕ → List ℕ → Type 0
 IsFaultText format error name text out =
-    (span : Span) × IsMarked text (kind_of error.kind) error.span span
-    × (out ≡ fault_text format (code_of (kind_of error.kind)) (display_text (kind_of error.kind))
-    (labels_of 0 span (kind_of error.kind)) name text)
+    (report : ReportContent) × TellsError severity.Error text (content_of error) report
+    × (out ≡ fault_text format report name text)
 
 -- a document, and what it gives; or none, and status 1 with the fault or the first clash
 abbrev pub IsRead : Format → Task → List ℕ → List ℕ → List ℕ → ℕ × List ℕ → Type 0
@@ -58,10 +60,10 @@ IsRead format task pointer name text answer =
     × IsFaultText format error name text out × (answer ≡ (1, out)))
 
 abbrev pub too_long : Format → List ℕ → ℕ × List ℕ
-too_long format name = (1, fault_text format (codes "too-long") (codes "the file has more than 16 MiB") [] name [])
+too_long format name = (1, plain_fault format (codes "too-long") (codes "the file has more than 16 MiB") name)
 
 abbrev pub not_utf8 : Format → List ℕ → ℕ × List ℕ
-not_utf8 format name = (1, fault_text format (codes "not-utf-8") (codes "the file is no UTF-8") [] name [])
+not_utf8 format name = (1, plain_fault format (codes "not-utf-8") (codes "the file is no UTF-8") name)
 
 -- The status and the text for the bytes of a file: more than the bound, no text, or a document or none.
 pub record IsAnswer (format : Format) (task : Task) (pointer : List ℕ) (name : List ℕ) (bytes : List ℕ)

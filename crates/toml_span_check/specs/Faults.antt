@@ -3,9 +3,9 @@ use Rattle.std.specs.Prelude.{ℕ, Bool, true, false, List, [], ◌∷◌, ◌++
 use Rattle.std.specs.Fmt.{decimal}
 use Rattle.toml_span_check.specs.Visible.{quoted}
 use Rattle.toml_span_lex.specs.declared.span.Span.{Span}
-use Rattle.toml_span_tree.specs.Diagnostic.{LabelContent}
 use Rattle.toml_span_report.specs.Places.{place, line_number, column}
-use Rattle.toml_span_report.specs.Report.{report, brief}
+use Rattle.toml_span_report.specs.Rendering.{report_text, report_line}
+use Rattle.toml_span_report.specs.Report.{Place, ReportContent}
 use Rattle.toml_span_check.specs.Shown.{comma_if, truth}
 use Rattle.toml_span_check.specs.declared.faults.Format.{Format}
 use Rattle.toml_span_check.specs.declared.faults.Format.TheVariants.{Text, Short, Json}
@@ -20,15 +20,15 @@ place_json text at =
     codes ",\"line\":" ++ decimal (line_number text (place text at)) ++ codes ",\"column\":"
     ++ decimal (column text (place text at))
 
-unfoldable pub label_head : List ℕ → LabelContent ℕ → List ℕ
+unfoldable pub label_head : List ℕ → Place → List ℕ
 label_head text mark = codes "{\"primary\":" ++ truth mark.primary ++ span_json mark.span
     ++ place_json text mark.span.start
 
-abbrev pub label_json : List ℕ → LabelContent ℕ → List ℕ
+abbrev pub label_json : List ℕ → Place → List ℕ
 label_json text mark = label_head text mark ++ codes ",\"message\":" ++ quoted mark.message ++ codes "}"
 
 -- with the closing bracket
-abbrev pub labels_json : List ℕ → Bool → List (LabelContent ℕ) → List ℕ
+abbrev pub labels_json : List ℕ → Bool → List Place → List ℕ
 labels_json text later [] = codes "]"
 labels_json text later (mark ∷ marks) = comma_if later ++ label_json text mark ++ labels_json text true marks
 
@@ -36,11 +36,11 @@ unfoldable pub head_json : List ℕ → List ℕ → List ℕ → List ℕ
 head_json code message name =
     codes "{\"file\":" ++ quoted name ++ codes ",\"code\":" ++ quoted code ++ codes ",\"message\":" ++ quoted message
 
-abbrev pub fault_json : List ℕ → List ℕ → List (LabelContent ℕ) → List ℕ → List ℕ → List ℕ
-fault_json code message marks name text =
-    head_json code message name ++ codes ",\"labels\":[" ++ labels_json text false marks ++ codes "}\n"
+abbrev pub fault_json : ReportContent → List ℕ → List ℕ → List ℕ
+fault_json r name text =
+    head_json r.code r.message name ++ codes ",\"labels\":[" ++ labels_json text false r.labels ++ codes "}\n"
 
-abbrev pub fault_text : Format → List ℕ → List ℕ → List (LabelContent ℕ) → List ℕ → List ℕ → List ℕ
-fault_text (Text style) code message marks name text = report style code message marks name text
-fault_text Short code message marks name text = brief code message marks name text
-fault_text Json code message marks name text = fault_json code message marks name text
+abbrev pub fault_text : Format → ReportContent → List ℕ → List ℕ → List ℕ
+fault_text (Text style) r name text = report_text style r name text
+fault_text Short r name text = report_line r name text
+fault_text Json r name text = fault_json r name text

@@ -7,3 +7,4 @@ pub mod Run
 pub mod Shown
 pub mod Start
 pub mod Visible
+pub mod Words

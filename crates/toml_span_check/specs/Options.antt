@@ -17,6 +17,7 @@ use Rattle.toml_span_check.specs.declared.faults.Format.{Format}
 use Rattle.toml_span_check.specs.declared.faults.Format.TheVariants.{Text, Short, Json}
 use Rattle.toml_span_check.specs.declared.options.Mistake.{Mistake}
 use Rattle.toml_span_check.specs.declared.options.Mistake.TheVariants as mistake
+use Rattle.toml_span_check.specs.Words.{is_bytes}
 use Rattle.toml_span_report.specs.declared.Style.{Style}
 use Rattle.toml_span_report.specs.declared.Style.TheVariants.{Plain, Coloured}
 
@@ -79,7 +80,8 @@ format_named name style =
 -- what is done with documents
 abbrev pub task_of : List Row → Result Task Mistake
 task_of rows =
-    if is_given rows (codes "items") && is_given rows (codes "tagged") then Err mistake.Forms
+    if is_bytes (value_of rows (codes "get")) then Err mistake.Pointer
+    else if is_given rows (codes "items") && is_given rows (codes "tagged") then Err mistake.Forms
     else if is_given rows (codes "items") then Ok (Show form.Items)
     else if is_given rows (codes "tagged") then Ok (Show form.Tagged)
     else if is_some (first_of (codes "get") rows) then Ok (Show form.Plain)
@@ -120,6 +122,7 @@ abbrev pub kind_of : Mistake → ErrorKind
 kind_of mistake.Format = InvalidValue
 kind_of mistake.Color = InvalidValue
 kind_of mistake.Forms = ArgumentConflict
+kind_of mistake.Pointer = InvalidValue
 
 abbrev pub mistake_kinds : Result (Format × Task) Mistake → Kinds
 mistake_kinds (Ok what) = []

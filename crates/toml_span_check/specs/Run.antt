@@ -1,6 +1,7 @@
 -- What the program writes for the files that it reads.
 use Rattle.std.specs.Prelude.{◌≡◌, ◌↔◌, ◌≤◌, ⊤, ℕ, ◌+◌, ◌==◌, nat_lt, max, Bool, ◌||◌, IsTrue, List, [], ◌∷◌, ◌++◌, map}
-use Rattle.std.specs.Prelude.{length, codes, if◌then◌else◌, Option, Some, None, Result, Ok, Err, Vec}
+use Rattle.std.specs.Prelude.{length, codes, if◌then◌else◌, Option, Some, None, Result, Ok, Err, String, Vec}
+use Rattle.std.specs.Prelude.{string_bytes}
 use Rattle.std.specs.Fmt.{decimal}
 use Rattle.std.specs.Global.{Global}
 use Rattle.std.specs.Io.KnownBytes.{Appends, Keeps}
@@ -9,46 +10,60 @@ use Rattle.std.specs.declared.io.ErrorKind.TheVariants as kind
 use Rattle.toml_span_lines.specs.Run.{HasRead, HasReadAll, HasWritten}
 use Rattle.toml_span_check.specs.Answer.{IsAnswer}
 use Rattle.toml_span_check.specs.Visible.{visible}
+use Rattle.toml_span_check.specs.Words.{shown_word}
 use Rattle.toml_span_check.specs.declared.answer.Task.{Task}
 use Rattle.toml_span_check.specs.declared.faults.Format.{Format}
 use Rattle.toml_span_check.specs.declared.faults.Format.TheVariants.{Text, Short, Json}
-use Rattle.toml_span_check.specs.declared.input.Unread.{Unread}
-use Rattle.toml_span_check.specs.declared.input.Unread.TheVariants.{Missing, Forbidden, Folder, Failed}
 
--- a file that was asked for: its name, and its bytes or why there are none
+-- what was found for a name: of a folder the names of the files below it, else the name alone
+abbrev pub Search : Type 0
+Search = List ℕ × List (List ℕ)
+
+-- a file that was asked for: its name, and its bytes or in words why there are none
 abbrev pub Reading : Type 0
-Reading = List ℕ × Result (List ℕ) Unread
+Reading = List ℕ × Result (List ℕ) (List ℕ)
 
-abbrev pub read_of : Result (Vec ℕ Global) Unread → Result (List ℕ) Unread
+abbrev pub read_of : Result (Vec ℕ Global) (String Global) → Result (List ℕ) (List ℕ)
 read_of (Ok bytes) = Ok bytes.items
-read_of (Err reason) = Err reason
+read_of (Err words) = Err (string_bytes words)
 
--- why a reader gave no bytes, by the kind of its error
-abbrev pub unread_by : ErrorKind → Unread
-unread_by kind.NotFound = Missing
-unread_by kind.PermissionDenied = Forbidden
-unread_by kind.IsADirectory = Folder
-unread_by _ = Failed
+-- what was asked of the system
+pub record Asked : Type 0 where
+  pub searches : List Search
+  pub readings : List Reading
 
 -- What reading a reader gave: all there is, or more than the bound; or why a read failed, and what was read is lost.
-abbrev pub HasReadOrNot : Option (List ℕ) → Option (List ℕ) → Result (List ℕ) Unread → Type 0
+abbrev pub HasReadOrNot : Option (List ℕ) → Option (List ℕ) → Result (List ℕ) (List ℕ) → Type 0
 HasReadOrNot old new (Ok bytes) = HasReadAll old new bytes
-HasReadOrNot old new (Err reason) = (bytes : List ℕ) × HasRead old new bytes
+HasReadOrNot old new (Err words) = (bytes : List ℕ) × HasRead old new bytes
+
+-- why a file can't be read, by the kind of the error: the system's words, but for the commonest kinds
+abbrev pub IsReason : ErrorKind → List ℕ → Type 0
+IsReason kind.NotFound words = words ≡ codes "there is no such file"
+IsReason kind.PermissionDenied words = words ≡ codes "it may not be read"
+IsReason kind.IsADirectory words = words ≡ codes "it is a folder with no *.toml file"
+IsReason _ words = ⊤
+
+-- one more search, where they are known
+abbrev pub Finds : Option Asked → Option Asked → Search → Type 0
+Finds None new search = ⊤
+Finds (Some asked) new search = new ≡ Some (record asked { searches = asked.searches ++ search ∷ [] })
+
+-- The files that names are for, in the order of the names.
+pub data FindsAll : List (List ℕ) → Option Asked → Option Asked → List (List ℕ) → Type 0 where
+  no_name : (log : Option Asked) → FindsAll [] log log []
+  one_more : (names : List (List ℕ)) (old mid new : Option Asked) (files : List (List ℕ)) (name : List ℕ)
+      (found : List (List ℕ)) → FindsAll names old mid files → Finds mid new (name, found)
+      → FindsAll (names ++ name ∷ []) old new (files ++ found)
 
 -- more readings, where they are known
-abbrev pub Logs : Option (List Reading) → Option (List Reading) → List Reading → Type 0
+abbrev pub Logs : Option Asked → Option Asked → List Reading → Type 0
 Logs None new more = ⊤
-Logs (Some readings) new more = new ≡ Some (readings ++ more)
-
-abbrev pub why : Unread → List ℕ
-why Missing = codes "there is no such file"
-why Forbidden = codes "it may not be read"
-why Folder = codes "it is a folder"
-why Failed = codes "reading it failed"
+Logs (Some asked) new more = new ≡ Some (record asked { readings = asked.readings ++ more })
 
 -- what is told of a file that can't be read
-abbrev pub complaint : List ℕ → Unread → List ℕ
-complaint name unread = codes "toml_span_check: " ++ visible name ++ codes ": " ++ why unread ++ codes "\n"
+abbrev pub complaint : List ℕ → List ℕ → List ℕ
+complaint name reason = codes "toml_span_check: " ++ visible name ++ codes ": " ++ reason ++ codes "\n"
 
 -- What is told of files, one after another: what their bytes give, what is told of those that can't be read, and the
 -- greatest of their statuses, which is 2 for one that can't be read; and how many have a fault, which is status 1, or
@@ -60,13 +75,14 @@ pub data Gathered (format : Format) (task : Task) (pointer : List ℕ)
       → Gathered format task pointer rs out errors status wrong → IsAnswer format task pointer name bytes answer
       → Gathered format task pointer (rs ++ (name, Ok bytes) ∷ []) (out ++ answer.1) errors (max status answer.0)
       (wrong + answer.0)
-  unread : (rs : List Reading) (out errors : List ℕ) (status wrong : ℕ) (name : List ℕ) (reason : Unread)
+  unread : (rs : List Reading) (out errors : List ℕ) (status wrong : ℕ) (name reason : List ℕ)
       → Gathered format task pointer rs out errors status wrong
-      → Gathered format task pointer (rs ++ (name, Err reason) ∷ []) out (errors ++ complaint name reason) 2 (wrong + 1)
+      → Gathered format task pointer (rs ++ (name, Err reason) ∷ []) out
+      (errors ++ complaint (shown_word name) reason) 2 (wrong + 1)
 
 -- the files of these names were read in their order, and this is told of them
 pub record Tells (format : Format) (task : Task) (pointer : List ℕ) (names : List (List ℕ))
-    (old new : Option (List Reading)) (out errors : List ℕ) (status wrong : ℕ) : Type 0 where
+    (old new : Option Asked) (out errors : List ℕ) (status wrong : ℕ) : Type 0 where
   pub readings : List Reading
   pub asked : map (λ r. r.0) readings ≡ names
   pub logged : Logs old new readings
@@ -90,17 +106,20 @@ said is_quiet text = if is_quiet then [] else text
 
 -- what is told of them in a run: nothing where it is quiet
 pub record Told (format : Format) (task : Task) (pointer : List ℕ) (names : List (List ℕ)) (is_quiet : Bool)
-    (old new : Option (List Reading)) (out errors : List ℕ) (status : ℕ) : Type 0 where
+    (old new : Option Asked) (out errors : List ℕ) (status : ℕ) : Type 0 where
+  pub files : List (List ℕ)
+  pub mid : Option Asked
+  pub found : FindsAll names old mid files
   pub all : List ℕ
   pub complaints : List ℕ
   pub wrong : ℕ
-  pub tells : Tells format task pointer names old new all complaints status wrong
+  pub tells : Tells format task pointer files mid new all complaints status wrong
   pub shown : out ≡ said is_quiet all
-  pub warned : errors ≡ said is_quiet (complaints ++ summary format (length names) wrong)
+  pub warned : errors ≡ said is_quiet (complaints ++ summary format (length files) wrong)
 
 -- A run: standard output before and after and whether writing it failed, the same of standard error, and the status.
 pub record Runs (format : Format) (task : Task) (pointer : List ℕ) (names : List (List ℕ)) (is_quiet : Bool)
-    (old new : Option (List Reading)) (told told' : Option (List ℕ)) (untold : Bool) (warned warned' : Option (List ℕ))
+    (old new : Option Asked) (told told' : Option (List ℕ)) (untold : Bool) (warned warned' : Option (List ℕ))
     (unwarned : Bool) (status : ℕ) : Type 0 where
   -- status 3 exactly where a write failed
   pub failed : (status ≡ 3) ↔ IsTrue (untold || unwarned)
@@ -117,10 +136,10 @@ pub record Runs (format : Format) (task : Task) (pointer : List ℕ) (names : Li
   pub known : status ≤ 4
 
 -- for a private clause: what one more reading adds
-abbrev pub Adds : Format → Task → List ℕ → List ℕ → Result (List ℕ) Unread → List ℕ × List ℕ × ℕ × ℕ
+abbrev pub Adds : Format → Task → List ℕ → List ℕ → Result (List ℕ) (List ℕ) → List ℕ × List ℕ × ℕ × ℕ
     → List ℕ × List ℕ × ℕ × ℕ → Type 0
 Adds format task pointer name (Ok bytes) old new =
     (answer : ℕ × List ℕ) × IsAnswer format task pointer name bytes answer
     × (new.0 ≡ old.0 ++ answer.1) × (new.1 ≡ old.1) × (new.2 ≡ max old.2 answer.0) × (new.3 ≡ old.3 + answer.0)
 Adds format task pointer name (Err reason) old new =
-    (new.0 ≡ old.0) × (new.1 ≡ old.1 ++ complaint name reason) × (new.2 ≡ 2) × (new.3 ≡ old.3 + 1)
+    (new.0 ≡ old.0) × (new.1 ≡ old.1 ++ complaint (shown_word name) reason) × (new.2 ≡ 2) × (new.3 ≡ old.3 + 1)

@@ -7,7 +7,7 @@ use Rattle.clap.specs.declared.error.kind.ErrorKind.TheVariants.{DisplayHelp, Di
 use Rattle.toml_span_lines.specs.Run.{HasWritten}
 use Rattle.toml_span_check.specs.Options.{Asks, faults}
 use Rattle.toml_span_check.specs.Visible.{visible_lines}
-use Rattle.toml_span_check.specs.Run.{Reading, Runs}
+use Rattle.toml_span_check.specs.Run.{Asked, Runs}
 use Rattle.toml_span_check.specs.declared.options.TheConstants.{USAGE, VERSION}
 use Rattle.toml_span_check.specs.declared.answer.Task.{Task}
 use Rattle.toml_span_check.specs.declared.faults.Format.{Format}
@@ -31,7 +31,7 @@ Refuses kind told told' untold warned warned' unwarned status =
 
 -- A run on words. Where they are taken it is a run on what they ask for; else no file is read. For want of memory,
 -- which is status 4, nothing is read or written.
-abbrev pub Starts : List (List ℕ) → Bool → Option (List Reading) → Option (List Reading)
+abbrev pub Starts : List (List ℕ) → Bool → Option Asked → Option Asked
     → Option (List ℕ) → Option (List ℕ) → Bool → Option (List ℕ) → Option (List ℕ) → Bool → ℕ → Type 0
 Starts words is_terminal old new told told' untold warned warned' unwarned status =
     ((format : Format) × (task : Task) × (pointer : List ℕ) × (names : List (List ℕ)) × (is_quiet : Bool)

@@ -1,17 +1,16 @@
 //! What is told of the bytes of a file.
-ghost use Rattle.std.specs.Prelude.{◌≡◌, [], ◌++◌, IfOk, option_map};
+ghost use Rattle.std.specs.Prelude.{◌≡◌, IfOk, option_map};
 ghost use Rattle.toml_span_tree.specs.Value.{view};
 ghost use Rattle.toml_span_check.specs.Answer as spec;
-ghost use Rattle.toml_span_check.specs.Faults as faults;
 
 use crate::faults::{Format, fault_text};
 use crate::shown::shown;
 use std::alloc::{AllocError, Global};
 use toml_span::de::parse;
-use toml_span::{Diagnostic, Error, Stop, Value};
+use toml_span::{Error, Stop, Value};
 use toml_span_lines::lines::tree_lines;
 use toml_span_lines::run::BOUND;
-use toml_span_report::diagnostic_in;
+use toml_span_report::Report;
 
 /// How a document is shown.
 #[derive(Clone, Copy, PartialEq, Eq)]
@@ -41,14 +40,10 @@ fn plain_fault(
     message: &str,
     name: &str,
 ) -> Result<Vec<u8>, AllocError>
-    ensures { IfOk result (λ out. out.items ≡ faults.fault_text format code.now message.now [] name.now []) }
+    ensures { IfOk result (λ out. out.items ≡ spec.plain_fault format code.now message.now name.now) }
 {
-    let diagnostic = Diagnostic {
-        code: String::from_str(alloc, code)?,
-        message: String::from_str(alloc, message)?,
-        labels: Vec::new(alloc),
-    };
-    Ok(fault_text(alloc, format, &diagnostic, name, "")?.into_bytes())
+    let report = Report::error(alloc, code, message)?;
+    Ok(fault_text(alloc, format, &report, name, "")?.into_bytes())
 }
 
 /// The text for an error of a text.
@@ -61,8 +56,8 @@ fn error_text(
 ) -> Result<Vec<u8>, AllocError>
     ensures { IfOk result (λ out. spec.IsFaultText format error.now name.now text.now out.items) }
 {
-    let diagnostic = diagnostic_in(alloc, error, 0usize, text)?;
-    Ok(fault_text(alloc, format, &diagnostic, name, text)?.into_bytes())
+    let report = Report::from_error(alloc, error, text)?;
+    Ok(fault_text(alloc, format, &report, name, text)?.into_bytes())
 }
 
 /// The status and the text where a pointer names nothing.

@@ -2,13 +2,14 @@
 ghost use Rattle.std.specs.Prelude.{◌≡◌, ◌++◌, false, OnOk, IfOk, map, string_bytes};
 ghost use Rattle.std.specs.Fmt.{decimal};
 ghost use Rattle.toml_span_tree.specs.Diagnostic.{label_content};
+ghost use Rattle.toml_span_report.specs.Report.{report_content};
 ghost use Rattle.toml_span_check.specs.Faults as spec;
 
 use crate::shown::{push_comma, push_quoted, truth};
 use std::alloc::{AllocError, Global};
 use std::fmt::Write;
-use toml_span::{Diagnostic, Label, Span};
-use toml_span_report::{Style, line_column, render, render_line};
+use toml_span::{Label, Span};
+use toml_span_report::{Report, Style, line_column, render, render_line};
 
 /// How a fault is told.
 #[derive(Clone, Copy, PartialEq, Eq)]
@@ -49,7 +50,7 @@ fn push_place(out: &mut String, text: &str, at: usize) -> Result<(), AllocError>
 }
 
 /// Adds the front of a label, up to its message.
-fn push_label_head(out: &mut String, text: &str, label: &Label<usize>) -> Result<(), AllocError>
+fn push_label_head(out: &mut String, text: &str, label: &Label<()>) -> Result<(), AllocError>
     ensures { OnOk result (string_bytes out.new ≡ string_bytes out.old
         ++ spec.label_head text.now (label_content label.now)) }
 {
@@ -65,7 +66,7 @@ fn push_label(
     alloc: Global,
     out: &mut String,
     text: &str,
-    label: &Label<usize>,
+    label: &Label<()>,
 ) -> Result<(), AllocError>
     ensures { OnOk result (string_bytes out.new ≡ string_bytes out.old
         ++ spec.label_json text.now (label_content label.now)) }
@@ -81,7 +82,7 @@ fn push_labels(
     alloc: Global,
     out: &mut String,
     text: &str,
-    labels: &[Label<usize>],
+    labels: &[Label<()>],
 ) -> Result<(), AllocError>
     ensures { OnOk result (string_bytes out.new ≡ string_bytes out.old
         ++ spec.labels_json text.now false (map label_content labels.now)) }
@@ -116,41 +117,33 @@ fn push_head(
     push_quoted(alloc, out, message)
 }
 
-/// A diagnostic as one line of JSON.
-fn fault_json(
-    alloc: Global,
-    diagnostic: &Diagnostic<usize>,
-    name: &str,
-    text: &str,
-) -> Result<String, AllocError>
-    ensures { IfOk result (λ out. string_bytes out
-        ≡ spec.fault_json (string_bytes diagnostic.now.code) (string_bytes diagnostic.now.message)
-        (map label_content diagnostic.now.labels.items) name.now text.now) }
+/// A report as one line of JSON.
+fn fault_json(alloc: Global, report: &Report, name: &str, text: &str) -> Result<String, AllocError>
+    ensures { IfOk result (λ out. string_bytes out ≡ spec.fault_json (report_content report.now) name.now text.now) }
 {
     let mut out = String::new(alloc);
-    let (code, message) = (diagnostic.code.as_str(), diagnostic.message.as_str());
+    let (code, message) = (report.code.as_str(), report.message.as_str());
     push_head(alloc, &mut out, code, message, name)?;
     out.push_str(",\"labels\":[")?;
-    push_labels(alloc, &mut out, text, diagnostic.labels.as_slice())?;
+    push_labels(alloc, &mut out, text, report.labels.as_slice())?;
     out.push_str("}\n")?;
     Ok(out)
 }
 
-/// A diagnostic of a text, in a format.
+/// A report on a text, in a format.
 pub(crate) fn fault_text(
     alloc: Global,
     format: Format,
-    diagnostic: &Diagnostic<usize>,
+    report: &Report,
     name: &str,
     text: &str,
 ) -> Result<String, AllocError>
     ensures { IfOk result (λ out. string_bytes out
-        ≡ spec.fault_text format (string_bytes diagnostic.now.code) (string_bytes diagnostic.now.message)
-        (map label_content diagnostic.now.labels.items) name.now text.now) }
+        ≡ spec.fault_text format (report_content report.now) name.now text.now) }
 {
     match format {
-        Format::Text(style) => render(alloc, style, diagnostic, name, text),
-        Format::Short => render_line(alloc, diagnostic, name, text),
-        Format::Json => fault_json(alloc, diagnostic, name, text),
+        Format::Text(style) => render(alloc, style, report, name, text),
+        Format::Short => render_line(alloc, report, name, text),
+        Format::Json => fault_json(alloc, report, name, text),
     }
 }

@@ -1,61 +1,56 @@
 //! The files that are read.
-ghost use Rattle.std.specs.Prelude.{◌≡◌, ◌∷◌, List, [], IfOk, Option, None};
+ghost use Rattle.std.specs.Prelude.{◌≡◌, ◌∷◌, [], IfOk, Option, None, false, map, string_bytes};
 ghost use Rattle.std.specs.IoError.{error_kind};
-ghost use Rattle.toml_span_check.specs.Run.{Reading, Logs, HasReadOrNot, read_of, unread_by};
+ghost use Rattle.toml_span_check.specs.Run.{Asked, Finds, HasReadOrNot, IsReason, Logs, read_of};
 
+use crate::folder::{files_below, is_folder};
+use crate::words::is_bytes;
 use std::alloc::{AllocError, Global};
 use std::fs::File;
 use std::io;
-use std::io::{ErrorKind, Read};
-use toml_span_lines::run::BOUND;
-
-/// Why a file can't be read.
-#[derive(Clone, Copy, PartialEq, Eq, Drop)]
-pub(crate) enum Unread {
-    Missing,
-    Forbidden,
-    Folder,
-    Failed,
-}
+use std::io::ErrorKind;
+use toml_span_lines::run::{Cut, read_bytes};
+use toml_span_lines::source::Source;
+use toml_span_lines::told::Told;
 
 /// What files are read from.
 pub(crate) trait Inputs {
-    /// The names that were asked for, with what was read there, where that is known.
-    ghost log: { Self → Option (List Reading) };
+    /// What was found for names and what was read, where that is known.
+    ghost log: { Self → Option Asked };
 
-    /// The bytes of a file, or why there are none. Of a file that is longer than the bound some bytes more than that
-    /// are enough.
-    fn read(&mut self, alloc: Global, name: &str) -> Result<Result<Vec<u8>, Unread>, AllocError>
+    /// The names of the files that a name is for: of a folder those below it, else the name alone.
+    fn find(&mut self, alloc: Global, name: &str) -> Result<Vec<String>, AllocError>
+        ensures { IfOk result (λ found. Finds (log self.old) (log self.new)
+            (name.now, map (λ file. string_bytes file) found.items)) };
+
+    /// The bytes of a file, or in words why there are none. Of a file that is longer than the bound some bytes more
+    /// than that are enough.
+    fn read(&mut self, alloc: Global, name: &str) -> Result<Result<Vec<u8>, String>, AllocError>
         ensures { IfOk result (λ r. Logs (log self.old) (log self.new) ((name.now, read_of r) ∷ [])) };
 }
 
-/// Why an opened file or a reader gave no bytes.
-fn unread_by(error: &io::Error) -> Unread
-    ensures { result ≡ unread_by (error_kind error.now) }
+/// Why a file can't be read, in words: the system's, but for the commonest reasons.
+fn reason(alloc: Global, error: &io::Error) -> Result<String, AllocError>
+    ensures { IfOk result (λ words. IsReason (error_kind error.now) (string_bytes words)) }
 {
     match error.kind() {
-        ErrorKind::NotFound => Unread::Missing,
-        ErrorKind::PermissionDenied => Unread::Forbidden,
-        ErrorKind::IsADirectory => Unread::Folder,
-        _ => Unread::Failed,
+        ErrorKind::NotFound => String::from_str(alloc, "there is no such file"),
+        ErrorKind::PermissionDenied => String::from_str(alloc, "it may not be read"),
+        ErrorKind::IsADirectory => String::from_str(alloc, "it is a folder with no *.toml file"),
+        _ => error.to_string(alloc),
     }
 }
 
-/// Reads all there is, but no more than the bound and one byte.
-fn read_bytes<R: Read>(alloc: Global, reader: &mut R) -> Result<Result<Vec<u8>, Unread>, AllocError>
+/// The bytes of what is open, or in words why there are none.
+fn read_all<R: Source>(alloc: Global, reader: &mut R) -> Result<Result<Vec<u8>, String>, AllocError>
+    requires { R.failed reader.old ≡ false }
     ensures { IfOk result (λ r. HasReadOrNot (R.remaining reader.old) (R.remaining reader.new) (read_of r)) }
 {
-    let mut bytes = Vec::new(alloc);
-    let mut buf = [0u8; 8192];
-    while bytes.len() < BOUND + 1 {
-        let room = buf.len().min(BOUND + 1 - bytes.len());
-        match reader.read(&mut buf[..room]) {
-            Ok(0) => return Ok(Ok(bytes)),
-            Ok(n) => bytes.extend_from_slice(&buf[..n])?,
-            Err(error) => return Ok(Err(unread_by(&error))),
-        }
+    match read_bytes(alloc, reader) {
+        Ok(bytes) => Ok(Ok(bytes)),
+        Err(Cut::Memory) => Err(AllocError),
+        Err(Cut::Failed(error)) => Ok(Err(reason(alloc, &error)?)),
     }
-    Ok(Ok(bytes))
 }
 
 /// The files and the standard input of the system.
@@ -67,14 +62,27 @@ pub(crate) struct Host {
 impl Inputs for Host {
     ghost log = { λ _. None };
 
-    fn read(&mut self, alloc: Global, name: &str) -> Result<Result<Vec<u8>, Unread>, AllocError> {
+    fn find(&mut self, alloc: Global, name: &str) -> Result<Vec<String>, AllocError> {
+        let mut found = Vec::new(alloc);
+        if name != "-" && is_folder(&self.rt, name) {
+            found = files_below(&self.rt, alloc, name)?;
+        }
+        if found.is_empty() {
+            found.push(String::from_str(alloc, name)?)?;
+        }
+        Ok(found)
+    }
+
+    fn read(&mut self, alloc: Global, name: &str) -> Result<Result<Vec<u8>, String>, AllocError> {
         if name == "-" {
-            let mut input = self.rt.stdin();
-            return read_bytes(alloc, &mut input);
+            return read_all(alloc, &mut Told::new(self.rt.stdin()));
+        }
+        if is_bytes(name) {
+            return Ok(Err(String::from_str(alloc, "its name is no UTF-8")?));
         }
         match File::open(&self.rt, name) {
-            Ok(mut file) => read_bytes(alloc, &mut file),
-            Err(error) => Ok(Err(unread_by(&error))),
+            Ok(file) => read_all(alloc, &mut Told::new(file)),
+            Err(error) => Ok(Err(reason(alloc, &error)?)),
         }
     }
 }

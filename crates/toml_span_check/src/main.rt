@@ -7,21 +7,25 @@ mod answer;
 mod colours;
 mod dates;
 mod faults;
+mod folder;
 mod input;
 mod options;
 mod run;
 mod shown;
 mod start;
 mod visible;
+mod words;
 
 use crate::colours::has_colours;
 use crate::input::Host;
 use crate::start::start;
+use crate::words::word_text;
 use std::alloc::AllocError;
 use std::env;
-use std::env::VarError;
+use std::env::{FillError, VarError};
 use std::io::IsTerminal;
 use std::process::ExitCode;
+use std::rt::Env;
 use toml_span_lines::told::Told;
 
 /// The value of a variable of the environment: empty where there is none.
@@ -32,6 +36,35 @@ fn variable(rt: &HostRuntime, name: &str) -> Result<String, AllocError> {
         Err(VarError::NotUnicode) => String::from_str(rt.alloc(), "?"),
         Err(VarError::OutOfMemory) => Err(AllocError),
     }
+}
+
+/// A word of the command line by its number, if there is one.
+fn word(rt: &HostRuntime, at: usize) -> Result<Option<Vec<u8>>, AllocError> {
+    let mut size = 256usize;
+    for _ in 0..usize::BITS {
+        let mut word = vec![in rt.alloc(); 0u8; size]?;
+        match rt.arg(at, word.as_mut_slice()) {
+            Ok(length) => {
+                word.truncate(length);
+                return Ok(Some(word));
+            }
+            Err(FillError::NotPresent) => return Ok(None),
+            Err(FillError::TooLong) => size = size.saturating_mul(2),
+        }
+    }
+    Err(AllocError)
+}
+
+/// The words of the command line as texts (see `word_text`).
+fn given_words(rt: &HostRuntime) -> Result<Vec<String>, AllocError> {
+    let mut words = Vec::new(rt.alloc());
+    for at in 0..usize::MAX {
+        let Some(word) = word(rt, at)? else {
+            break;
+        };
+        words.push(word_text(rt.alloc(), word.as_slice())?)?;
+    }
+    Ok(words)
 }
 
 /// Whether reports have colours that go to standard output.
@@ -48,11 +81,11 @@ fn wants_colours(rt: &HostRuntime, is_terminal: bool) -> Result<bool, AllocError
 }
 
 /// Runs the program, and answers its status.
-fn status_of(rt: HostRuntime) -> anyhow::Result<u8>
+fn status_of(rt: HostRuntime) -> Result<u8, AllocError>
     ensures { IfOk result (λ status. status ≤ 4) }
 {
     let alloc = rt.alloc();
-    let words: Vec<String> = env::args(&rt)?.collect(alloc)?;
+    let words = given_words(&rt)?;
     let out = rt.stdout();
     let is_coloured = wants_colours(&rt, out.is_terminal())?;
     let mut out = Told::new(out);

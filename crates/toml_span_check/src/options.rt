@@ -6,6 +6,7 @@ ghost use Rattle.toml_span_check.specs.Options as spec;
 
 use crate::answer::{Form, Task};
 use crate::faults::Format;
+use crate::words::is_bytes;
 use clap::error::ErrorKind;
 use clap::{Arg, ArgAction, ArgMatches, Command, Error};
 use std::alloc::{AllocError, Global};
@@ -16,7 +17,8 @@ pub(crate) const USAGE: &str = "\
 usage: toml_span_check [--format text|json|short] [--color auto|always|never]
                        [--get POINTER] [--tagged | --items] [--quiet] [FILE..]
 
-Tells the fault of each FILE that is no TOML document. With no FILE, and for `-`, standard input is read.
+Tells the fault of each FILE that is no TOML document. Of a folder all files below it are looked at whose names end in
+`.toml`. With no FILE, and for `-`, standard input is read.
 
   --format text    each fault in lines, with marks (the default)
   --format short   each fault in one line, as FILE:LINE:COLUMN: CODE: MESSAGE
@@ -57,6 +59,8 @@ enum Mistake {
     Color,
     /// `--items` and `--tagged` are both given.
     Forms,
+    /// The pointer is no UTF-8.
+    Pointer,
 }
 
 /// A flag, which has no value.
@@ -158,6 +162,9 @@ fn is_given(matches: &ArgMatches<'_>, name: &str) -> bool
 fn task_of(matches: &ArgMatches<'_>) -> Result<Task, Mistake>
     ensures { result ≡ spec.task_of (rows_of (found_of matches.now)) }
 {
+    if is_bytes(value_of(matches, "get")) {
+        return Err(Mistake::Pointer);
+    }
     match (is_given(matches, "items"), is_given(matches, "tagged")) {
         (true, true) => Err(Mistake::Forms),
         (true, false) => Ok(Task::Show(Form::Items)),
@@ -191,7 +198,7 @@ fn kind_of(mistake: Mistake) -> ErrorKind
     ensures { result ≡ spec.kind_of mistake }
 {
     match mistake {
-        Mistake::Format | Mistake::Color => ErrorKind::InvalidValue,
+        Mistake::Format | Mistake::Color | Mistake::Pointer => ErrorKind::InvalidValue,
         Mistake::Forms => ErrorKind::ArgumentConflict,
     }
 }
@@ -202,6 +209,7 @@ fn message_of(mistake: Mistake) -> &'static str {
         Mistake::Format => "the value of '--format' is 'text', 'json' or 'short'",
         Mistake::Color => "the value of '--color' is 'auto', 'always' or 'never'",
         Mistake::Forms => "the argument '--items' cannot be used with '--tagged'",
+        Mistake::Pointer => "the value of '--get' is no UTF-8",
     }
 }
 

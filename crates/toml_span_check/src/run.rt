@@ -1,12 +1,13 @@
 //! The run of the program.
 ghost use Rattle.std.specs.Prelude.{◌≡◌, ◌+◌, ◌++◌, IfOk, OnOk, false, map, string_bytes};
 ghost use Rattle.toml_span_check.specs.Run as spec;
-ghost use Rattle.toml_span_check.specs.Run.{Runs, Tells, Told, complaint};
+ghost use Rattle.toml_span_check.specs.Run.{FindsAll, Runs, Tells, Told, complaint};
 
 use crate::answer::{Task, answer};
 use crate::faults::Format;
-use crate::input::{Inputs, Unread};
+use crate::input::Inputs;
 use crate::visible::push_visible;
+use crate::words::shown_word;
 use std::alloc::{AllocError, Global};
 use std::fmt::Write;
 use toml_span_lines::run::write_bytes;
@@ -37,27 +38,16 @@ impl Telling {
     }
 }
 
-/// Why a file can't be read, in words.
-fn why(reason: Unread) -> &'static str
-    ensures { result.now ≡ spec.why reason }
-{
-    match reason {
-        Unread::Missing => "there is no such file",
-        Unread::Forbidden => "it may not be read",
-        Unread::Folder => "it is a folder",
-        Unread::Failed => "reading it failed",
-    }
-}
-
 /// Adds what is told of a file that can't be read.
-fn push_complaint(out: &mut String, name: &str, reason: Unread) -> Result<(), AllocError>
-    ensures { OnOk result (string_bytes out.new ≡ string_bytes out.old ++ complaint name.now reason) }
+fn push_complaint(out: &mut String, name: &str, reason: &str) -> Result<(), AllocError>
+    ensures { OnOk result (string_bytes out.new ≡ string_bytes out.old ++ complaint name.now reason.now) }
 {
     out.push_str("toml_span_check: ")?;
     push_visible(out, name)?;
     out.push_str(": ")?;
-    out.push_str(why(reason))?;
-    out.push_str("\n")
+    out.push_str(reason)?;
+    out.push_str("\n")?;
+    Ok(())
 }
 
 /// Adds what is told of one file.
@@ -67,7 +57,7 @@ fn tell_one(
     task: Task,
     pointer: &str,
     name: &str,
-    reading: Result<Vec<u8>, Unread>,
+    reading: Result<Vec<u8>, String>,
     telling: &mut Telling,
 ) -> Result<(), AllocError>
     ensures { OnOk result (spec.Adds format task pointer.now name.now (spec.read_of reading)
@@ -82,11 +72,29 @@ fn tell_one(
             telling.count(told.0)
         }
         Err(reason) => {
-            push_complaint(&mut telling.errors, name, reason)?;
+            let name = shown_word(alloc, name)?;
+            push_complaint(&mut telling.errors, name.as_str(), reason.as_str())?;
             telling.status = 2;
             telling.count(1)
         }
     }
+}
+
+/// The names of the files that names are for.
+fn find_all<I: Inputs>(
+    alloc: Global,
+    names: &[&str],
+    inputs: &mut I,
+) -> Result<Vec<String>, AllocError>
+    ensures { IfOk result (λ files. FindsAll (map (λ name. name.now) names.now) (I.log inputs.old) (I.log inputs.new)
+        (map (λ file. string_bytes file) files.items)) }
+{
+    let mut files = Vec::new(alloc);
+    for name in names {
+        let mut found = inputs.find(alloc, *name)?;
+        files.append(&mut found)?;
+    }
+    Ok(files)
 }
 
 /// Reads the files in their order, and gathers what is told of them.
@@ -95,10 +103,10 @@ fn tell<I: Inputs>(
     format: Format,
     task: Task,
     pointer: &str,
-    names: &[&str],
+    names: &[String],
     inputs: &mut I,
 ) -> Result<Telling, AllocError>
-    ensures { IfOk result (λ t. Tells format task pointer.now (map (λ name. name.now) names.now)
+    ensures { IfOk result (λ t. Tells format task pointer.now (map (λ name. string_bytes name) names.now)
         (I.log inputs.old) (I.log inputs.new)
         t.out.items (string_bytes t.errors) t.status t.wrong) }
 {
@@ -109,8 +117,9 @@ fn tell<I: Inputs>(
         wrong: 0,
     };
     for name in names {
-        let reading = inputs.read(alloc, *name)?;
-        tell_one(alloc, format, task, pointer, *name, reading, &mut telling)?;
+        let name = name.as_str();
+        let reading = inputs.read(alloc, name)?;
+        tell_one(alloc, format, task, pointer, name, reading, &mut telling)?;
     }
     Ok(telling)
 }
@@ -154,7 +163,8 @@ fn push_summary(
     }
 }
 
-/// What is told of the files of these names, and at its end how many of them have errors: nothing where it is quiet.
+/// What is told of the files that these names are for, and at its end how many of them have errors: nothing where it is
+/// quiet.
 fn tell_all<I: Inputs>(
     alloc: Global,
     format: Format,
@@ -167,19 +177,21 @@ fn tell_all<I: Inputs>(
     ensures { IfOk result (λ t. Told format task pointer.now (map (λ name. name.now) names.now) is_quiet
         (I.log inputs.old) (I.log inputs.new) t.out.items (string_bytes t.errors) t.status) }
 {
-    let mut telling = tell(alloc, format, task, pointer, names, inputs)?;
+    let found = find_all(alloc, names, inputs)?;
+    let files = found.as_slice();
+    let mut telling = tell(alloc, format, task, pointer, files, inputs)?;
     if is_quiet {
         telling.out = Vec::new(alloc);
         telling.errors = String::new(alloc);
         return Ok(telling);
     }
-    push_summary(&mut telling.errors, format, names.len(), telling.wrong)?;
+    push_summary(&mut telling.errors, format, files.len(), telling.wrong)?;
     Ok(telling)
 }
 
-/// Reads the files of these names, and writes what is told of them. Answers the status with which the program ends:
-/// 0 where all are read, 1 where one has a fault, 2 where one can't be read, 3 where a write fails, 4 without memory.
-/// A quiet run writes nothing.
+/// Reads the files that these names are for, and writes what is told of them. Answers the status with which the program
+/// ends: 0 where all are read, 1 where one has a fault, 2 where one can't be read, 3 where a write fails, 4 without
+/// memory. A quiet run writes nothing.
 pub(crate) fn run<I: Inputs, O: Sink, E: Sink>(
     alloc: Global,
     format: Format,

@@ -8,6 +8,7 @@ use crate::input::Inputs;
 use crate::options::{USAGE, VERSION, options_of};
 use crate::run::run;
 use crate::visible::{visible, visible_lines};
+use crate::words::shown_word;
 use clap::Error;
 use clap::error::ErrorKind;
 use std::alloc::{AllocError, Global};
@@ -26,10 +27,13 @@ fn say<W: Sink>(writer: &mut W, text: &str, status: u8) -> u8
     }
 }
 
-/// What clap says of words that it refuses.
+/// What clap says of words that it refuses. Those that it takes as they are shown have a pointer that is no UTF-8.
 fn message_of(alloc: Global, words: &[String]) -> Result<String, AllocError> {
     match options_of(alloc, words, false) {
-        Ok(_options) => String::from_str(alloc, "error: the words are wrong\n"),
+        Ok(options) => {
+            let pointer = options.pointer;
+            format!(in alloc; "error: the value '{pointer}' of '--get' is no UTF-8\n")
+        }
         Err(error) => {
             if error.kind() == ErrorKind::OutOfMemory {
                 return Err(AllocError);
@@ -45,6 +49,7 @@ fn mistake(alloc: Global, words: &[String]) -> Result<String, AllocError>
 {
     let mut shown = Vec::new(alloc);
     for word in words {
+        let word = shown_word(alloc, word.as_str())?;
         shown.push(visible(alloc, word.as_str())?)?;
     }
     let message = message_of(alloc, shown.as_slice())?;

@@ -60,5 +60,5 @@ pub record WritesOut (old new : Option (List ℕ)) (text : List ℕ) (failed : B
 
 -- reading stopped: a read failed, or memory did
 abbrev pub HasCut : Option (List ℕ) → Option (List ℕ) → Bool → Cut → Type 0
-HasCut old new failed Failed = (failed ≡ true) × ((bytes : List ℕ) × HasRead old new bytes)
+HasCut old new failed (Failed error) = (failed ≡ true) × ((bytes : List ℕ) × HasRead old new bytes)
 HasCut old new failed Memory = (failed ≡ false) × ((bytes : List ℕ) × HasRead old new bytes)

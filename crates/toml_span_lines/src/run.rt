@@ -7,6 +7,7 @@ use crate::lines::{error_line, tree_lines};
 use crate::sink::Sink;
 use crate::source::Source;
 use std::alloc::{AllocError, Global};
+use std::io;
 use toml_span::Stop;
 use toml_span::de::parse_with_limit;
 
@@ -17,14 +18,16 @@ pub const BOUND: usize = 16_777_216;
 const LIMIT: usize = 128;
 
 /// Why not all was read.
-#[derive(Clone, Copy, PartialEq, Eq, Drop)]
-enum Cut {
+#[derive(Clone, Copy, Drop)]
+pub enum Cut {
+    /// Memory was refused.
     Memory,
-    Failed,
+    /// A read failed.
+    Failed(io::Error),
 }
 
-/// Reads all there is, but no more than the bound and one byte.
-fn read_bytes<R: Source>(alloc: Global, reader: &mut R) -> Result<Vec<u8>, Cut>
+/// Reads all there is, but no more than the bound and one byte. After an error some was read, and is lost.
+pub fn read_bytes<R: Source>(alloc: Global, reader: &mut R) -> Result<Vec<u8>, Cut>
     requires { R.failed reader.old ≡ false }
     ensures ok { IfOk result (λ v. HasReadAll (R.remaining reader.old) (R.remaining reader.new) v.items
         × (R.failed reader.new ≡ false)) }
@@ -41,7 +44,7 @@ fn read_bytes<R: Source>(alloc: Global, reader: &mut R) -> Result<Vec<u8>, Cut>
                     return Err(Cut::Memory);
                 }
             }
-            Err(_) => return Err(Cut::Failed),
+            Err(error) => return Err(Cut::Failed(error)),
         }
     }
     Ok(bytes)
@@ -111,7 +114,7 @@ pub fn run_with_limit<R: Source, W: Sink>(
 {
     let bytes = match read_bytes(alloc, reader) {
         Ok(bytes) => bytes,
-        Err(Cut::Failed) => return 3,
+        Err(Cut::Failed(_)) => return 3,
         Err(Cut::Memory) => return 4,
     };
     let Ok((status, text)) = answer(alloc, bytes.as_slice(), limit) else {

@@ -1,12 +1,14 @@
 //! The readers and writers of std.
 ghost use Rattle.std.specs.Prelude.{◌≡◌, false};
+ghost use Rattle.std.specs.Io.{ReadsAtMost, WritesAtMost};
+ghost use Rattle.std.specs.Io.KnownBytes.{ReadConsumes, WriteAppends};
 
 use crate::sink::Sink;
 use crate::source::Source;
 use std::io;
-use std::io::{Read, Write};
+use std::io::{ErrorKind, Read, Write};
 
-/// A reader or a writer of std that tells whether it has failed.
+/// A reader or a writer of std that tells whether it has failed. What a signal interrupts is tried again.
 #[derive(Drop)]
 pub struct Told<T> {
     inner: T,
@@ -34,13 +36,41 @@ impl<T> Told<T> {
     }
 }
 
+/// A read that no signal interrupts.
+fn read_again<R: Read>(reader: &mut R, buf: &mut [u8]) -> io::Result<usize>
+    ensures bound { ReadsAtMost result buf.new }
+    ensures bytes { ReadConsumes (R.remaining reader.old) (R.remaining reader.new) result buf.new }
+{
+    for _ in 0..u64::MAX {
+        match reader.read(buf) {
+            Err(error) if error.kind() == ErrorKind::Interrupted => {}
+            result => return result,
+        }
+    }
+    Err(io::Error::from(ErrorKind::Interrupted))
+}
+
+/// A write that no signal interrupts.
+fn write_again<W: Write>(writer: &mut W, buf: &[u8]) -> io::Result<usize>
+    ensures bound { WritesAtMost result buf.now }
+    ensures bytes { WriteAppends (W.contents writer.old) (W.contents writer.new) result buf.now }
+{
+    for _ in 0..u64::MAX {
+        match writer.write(buf) {
+            Err(error) if error.kind() == ErrorKind::Interrupted => {}
+            result => return result,
+        }
+    }
+    Err(io::Error::from(ErrorKind::Interrupted))
+}
+
 impl<T: Read> Source for Told<T> {
     ghost remaining = { λ t. T.remaining t.inner };
 
     ghost failed = { λ t. t.failed };
 
     fn read(&mut self, buf: &mut [u8]) -> io::Result<usize> {
-        let result = self.inner.read(buf);
+        let result = read_again(&mut self.inner, buf);
         if result.is_err() {
             self.failed = true;
         }
@@ -58,7 +88,7 @@ impl<T: Write> Sink for Told<T> {
     ghost failed = { λ t. t.failed };
 
     fn write(&mut self, buf: &[u8]) -> io::Result<usize> {
-        match self.inner.write(buf) {
+        match write_again(&mut self.inner, buf) {
             Ok(n) => {
                 if n == 0 && !buf.is_empty() {
                     self.failed = true;

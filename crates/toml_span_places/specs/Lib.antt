@@ -1,1 +1,5 @@
+pub mod Cuts
 pub mod Keys
+pub mod Lines
+pub mod Literals
+pub mod Quoted

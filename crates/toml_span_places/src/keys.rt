@@ -42,7 +42,7 @@ pub struct KeyPlace<'t> {
     pub role: Role,
 }
 
-fn is_quote(byte: u8) -> bool
+pub(crate) fn is_quote(byte: u8) -> bool
     ensures { result ≡ spec.is_quote byte }
 {
     byte == b'"' || byte == b'\''

@@ -1,12 +1,14 @@
 -- Colours of a report, as terminals set them (SGR of ECMA-48).
 use Rattle.std.specs.Prelude.{ℕ, List, ◌∷◌, ◌++◌, codes}
 use Rattle.toml_span_report.specs.declared.colours.Ink.{Ink}
-use Rattle.toml_span_report.specs.declared.colours.Ink.TheVariants.{Red, Blue, Bold}
+use Rattle.toml_span_report.specs.declared.colours.Ink.TheVariants.{Red, Yellow, Green, Blue, Bold}
 use Rattle.toml_span_report.specs.declared.colours.Style.{Style}
 use Rattle.toml_span_report.specs.declared.colours.Style.TheVariants.{Plain, Coloured}
 
 abbrev pub beginning : Ink → List ℕ
 beginning Red = 27 ∷ codes "[1;31m"
+beginning Yellow = 27 ∷ codes "[1;33m"
+beginning Green = 27 ∷ codes "[1;32m"
 beginning Blue = 27 ∷ codes "[1;34m"
 beginning Bold = 27 ∷ codes "[1m"
 

@@ -2,7 +2,11 @@ pub mod Characters
 pub mod Colours
 pub mod Errors
 pub mod Help
+pub mod Many
+pub mod Names
 pub mod Places
+pub mod Rendering
 pub mod Report
 pub mod Strips
 pub mod Tokens
+pub mod UnknownKeys

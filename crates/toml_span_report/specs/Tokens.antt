@@ -1,10 +1,10 @@
 -- The token at which an error stands.
 use Rattle.std.specs.Prelude.{◌≡◌, ℕ, ◌-◌, ◌⊎◌, min, Bool, true, false, ◌==◌, ◌&&◌, ◌||◌, nat_eq, List, codes, length}
-use Rattle.std.specs.Prelude.{Option, Some, None}
+use Rattle.std.specs.Prelude.{Option, Some, None, if◌then◌else◌, slice_index}
 use Rattle.std.specs.List.{starts_with}
 use Rattle.toml_span_lex.specs.declared.span.Span.{Span}
 use Rattle.toml_span_lex.specs.Tokens.{Lexeme, Stands}
-use Rattle.toml_span_tree.specs.Error.{Kind, wanted, multiline_string_key}
+use Rattle.toml_span_tree.specs.Error.{Kind, wanted, missing_field, multiline_string_key}
 use Rattle.toml_span_report.specs.Places.{place, line_end}
 
 -- where the token at a place ends, or that none stands there, as at the end of the text
@@ -32,10 +32,24 @@ is_at_token (wanted expected found) span = names_token found && span.end - span.
 is_at_token multiline_string_key span = true
 is_at_token _ span = false
 
-abbrev pub IsMarkedWhere : List ℕ → Bool → Span → Span → Type 0
-IsMarkedWhere text true told span = (span.start ≡ told.start) × MarksToken text (place text told.start) span.end
-IsMarkedWhere text false told span = span ≡ told
+-- The span of a table with a missing field is the whole text for the root, whose start is marked then, and the section
+-- of a header, which is marked up to the end of its line. That of an inline table begins at its braces.
+unfoldable pub table_mark : List ℕ → Span → Span
+table_mark text told =
+    let at = place text told.start in
+    if told.start == 0 && told.end == length text then record { start = told.start; end = 0 }
+    else if slice_index text at == 91 then record { start = told.start; end = min told.end (line_end text at) }
+    else told
 
--- what is marked of a text for an error: the token at its place, or else its span
+abbrev pub own_mark : List ℕ → Kind → Span → Span
+own_mark text (missing_field field) told = table_mark text told
+own_mark text _ told = told
+
+abbrev pub IsMarkedWhere : List ℕ → Kind → Bool → Span → Span → Type 0
+IsMarkedWhere text kind true told span =
+    (span.start ≡ told.start) × MarksToken text (place text told.start) span.end
+IsMarkedWhere text kind false told span = span ≡ own_mark text kind told
+
+-- what is marked of a text for an error: the token at its place, or the head of a table, or else its span
 abbrev pub IsMarked : List ℕ → Kind → Span → Span → Type 0
-IsMarked text kind told span = IsMarkedWhere text (is_at_token kind told) told span
+IsMarked text kind told span = IsMarkedWhere text kind (is_at_token kind told) told span

@@ -16,8 +16,12 @@ pub enum Style {
 /// How a part of a report is coloured.
 #[derive(Clone, Copy, PartialEq, Eq)]
 pub(crate) enum Ink {
-    /// The code, and the marks of a primary label with what they say.
+    /// The headline's front, and the marks of a primary label with what they say, of an error.
     Red,
+    /// The same of a warning.
+    Yellow,
+    /// The same of a note.
+    Green,
     /// What stands to the left of lines, and other marks.
     Blue,
     /// The message.
@@ -30,6 +34,8 @@ fn beginning(ink: Ink) -> &'static str
 {
     match ink {
         Ink::Red => "\u{1b}[1;31m",
+        Ink::Yellow => "\u{1b}[1;33m",
+        Ink::Green => "\u{1b}[1;32m",
         Ink::Blue => "\u{1b}[1;34m",
         Ink::Bold => "\u{1b}[1m",
     }

@@ -1,15 +1,142 @@
-//! The text that shows the errors of a read.
-ghost use Rattle.std.specs.Prelude.{IfOk, string_bytes};
+//! The reports of errors, and their text.
+ghost use Rattle.std.specs.Prelude.{◌≡◌, IfOk, map, string_bytes};
+ghost use Rattle.toml_span_tree.specs.Diagnostic.{label_content};
+ghost use Rattle.toml_span_tree.specs.Error.{content_of, kind_of};
 ghost use Rattle.toml_span_typed.specs.Errors.{all};
-ghost use Rattle.toml_span_report.specs.Errors.{AreReports, AreShown};
+ghost use Rattle.toml_span_report.specs.Errors as spec;
+ghost use Rattle.toml_span_report.specs.Errors.{AreReports, AreShown, IsReport, TellsError};
+ghost use Rattle.toml_span_report.specs.Report.{report_content};
+ghost use Rattle.toml_span_report.specs.declared.report.Severity.TheVariants as severities;
 
 use crate::colours::Style;
-use crate::report::render_error;
+use crate::help::help_of;
+use crate::rendering::render;
+use crate::report::{Report, Severity};
+use crate::tokens::marked_span;
+use crate::unknown_keys::{
+    key_labels, key_names, lent_names, suggestions, unknown_keys, what_is_expected,
+};
 use std::alloc::{AllocError, Global};
+use toml_span_lex::span::Span;
 use toml_span_lex::stop::Stop;
+use toml_span_tree::{Error, ErrorKind, Label};
 use toml_span_typed::DeserError;
 
-/// The text that shows all errors of a read, each as `render_error` shows it, in their order. Only want of memory
+/// What an error tells.
+fn message(alloc: Global, error: &Error<'_>) -> Result<String, AllocError>
+    ensures { IfOk result (λ text. string_bytes text ≡ spec.message (kind_of error.now.kind)) }
+{
+    match &error.kind {
+        ErrorKind::UnexpectedKeys { keys, .. } => {
+            let names = key_names(alloc, keys.as_slice())?;
+            unknown_keys(alloc, names.as_slice())
+        }
+        _ => error.to_string(alloc),
+    }
+}
+
+/// The labels of an error that stands at a span.
+fn labels(alloc: Global, error: &Error<'_>, span: Span) -> Result<Vec<Label<()>>, AllocError>
+    ensures { IfOk result (λ labels. map label_content labels.items ≡ spec.labels span (kind_of error.now.kind)) }
+{
+    if let ErrorKind::UnexpectedKeys { keys, .. } = &error.kind {
+        return key_labels(alloc, keys.as_slice());
+    }
+    let mut marked = error.clone(alloc)?;
+    marked.span = span;
+    let diagnostic = marked.to_diagnostic(alloc, ())?;
+    Ok(diagnostic.labels)
+}
+
+/// What is said besides.
+fn notes(alloc: Global, kind: &ErrorKind<'_>) -> Result<Vec<String>, AllocError>
+    ensures { IfOk result (λ notes. map string_bytes notes.items ≡ spec.notes (kind_of kind.now)) }
+{
+    let mut notes = Vec::new(alloc);
+    if let ErrorKind::UnexpectedKeys { expected, .. } = kind {
+        let names = lent_names(alloc, expected.as_slice())?;
+        notes.push(what_is_expected(alloc, names.as_slice())?)?;
+    }
+    Ok(notes)
+}
+
+/// What can be done.
+fn help(alloc: Global, kind: &ErrorKind<'_>, message: &str) -> Result<Vec<String>, AllocError>
+    ensures { IfOk result (λ help. map string_bytes help.items ≡ spec.help (kind_of kind.now) message.now) }
+{
+    if let ErrorKind::UnexpectedKeys { keys, expected } = kind {
+        let names = key_names(alloc, keys.as_slice())?;
+        let expected = lent_names(alloc, expected.as_slice())?;
+        return suggestions(alloc, names.as_slice(), expected.as_slice());
+    }
+    let mut help = Vec::new(alloc);
+    let code = kind.to_string(alloc)?;
+    if let Some(text) = help_of(code.as_str(), message) {
+        help.push(String::from_str(alloc, text)?)?;
+    }
+    Ok(help)
+}
+
+/// The report of an error, of this severity.
+fn report_of(
+    alloc: Global,
+    severity: Severity,
+    error: &Error<'_>,
+    text: &str,
+) -> Result<Report, AllocError>
+    ensures { IfOk result (λ made. TellsError severity text.now (content_of error.now) (report_content made)) }
+{
+    let span = marked_span(alloc, &error.kind, error.span, text)?;
+    let message = message(alloc, error)?;
+    Ok(Report {
+        severity,
+        code: error.kind.to_string(alloc)?,
+        labels: labels(alloc, error, span)?,
+        notes: notes(alloc, &error.kind)?,
+        help: help(alloc, &error.kind, message.as_str())?,
+        message,
+    })
+}
+
+impl Report {
+    /// The report of an error of this text: its message, its labels and help for forms that are commonly mistaken.
+    ///
+    /// The span of an error of `parse` may be no more than the place of a token, as long as the words for it or as the
+    /// value of a string: there the token is marked, no further than its line, or the place alone where none stands, as
+    /// at the end of the text. Of a table that lacks a field the header is marked, up to the end of its line, or the
+    /// braces, or of the root the start of the text. Of unknown keys each is marked, a note tells the keys that are
+    /// expected, and help the nearest of them, by `nearest`. Only want of memory is refused.
+    pub fn from_error(alloc: Global, error: &Error<'_>, text: &str) -> Result<Report, AllocError>
+        ensures { IfOk result (λ made. TellsError severities.Error text.now (content_of error.now)
+            (report_content made)) }
+    {
+        report_of(alloc, Severity::Error, error, text)
+    }
+
+    /// The same as a warning, where the program goes on in spite of the error.
+    pub fn from_warning(alloc: Global, error: &Error<'_>, text: &str) -> Result<Report, AllocError>
+        ensures { IfOk result (λ made. TellsError severities.Warning text.now (content_of error.now)
+            (report_content made)) }
+    {
+        report_of(alloc, Severity::Warning, error, text)
+    }
+}
+
+/// The text of an error: `render` of its report. Only want of memory is refused.
+pub fn render_error(
+    alloc: Global,
+    style: Style,
+    error: &Error<'_>,
+    name: &str,
+    text: &str,
+) -> Result<String, AllocError>
+    ensures { IfOk result (λ out. IsReport style name.now text.now (content_of error.now) (string_bytes out)) }
+{
+    let report = Report::from_error(alloc, error, text)?;
+    render(alloc, style, &report, name, text)
+}
+
+/// The text of all errors of a read, each as `render_error` shows it, in their order. Only want of memory
 /// is refused.
 pub fn render_errors(
     alloc: Global,

@@ -1,16 +1,23 @@
-//! The text that shows an error of a TOML document to people: its message, its lines, and marks under them.
+//! Reports on TOML documents, of errors or of a program's own, and their text: a message, lines, and marks under them.
 #![tactic(auto)]
 
 mod characters;
 mod colours;
 mod errors;
 mod help;
+mod many;
+mod names;
 mod places;
+mod rendering;
 mod report;
 mod strips;
 mod tokens;
+mod unknown_keys;
 
 pub use colours::Style;
-pub use errors::{render_errors, render_stop};
+pub use errors::{render_error, render_errors, render_stop};
+pub use many::render_all;
+pub use names::nearest;
 pub use places::line_column;
-pub use report::{diagnostic_in, diagnostic_of, render, render_error, render_line};
+pub use rendering::{render, render_line};
+pub use report::{Report, Severity};

@@ -88,7 +88,7 @@ pub(crate) fn line_number(text: &str, at: usize) -> usize
 }
 
 /// How many characters a text has.
-fn characters(text: &str) -> usize
+pub(crate) fn characters(text: &str) -> usize
     ensures value { result ≡ length (chars text.now) }
     ensures bound { result ≤ length text.now }
 {

@@ -1,16 +1,16 @@
 //! The token at which an error stands.
-ghost use Rattle.std.specs.Prelude.{◌≡◌, IfOk, if◌then◌else◌, None, Some, option_map};
+ghost use Rattle.std.specs.Prelude.{◌≡◌, IfOk};
 ghost use Rattle.std.specs.Str.{IsCharBoundary};
 ghost use Rattle.toml_span_tree.specs.Error.{kind_of};
 ghost use Rattle.toml_span_report.specs.Tokens as spec;
 
-use crate::places::line_end;
+use crate::places::{line_end, place};
 use std::alloc::{AllocError, Global};
 use toml_span_lex::span::Span;
 use toml_span_lex::stop::Stop;
 use toml_span_lex::strings::string_at;
 use toml_span_lex::tokenizer::token_at;
-use toml_span_tree::{Error, ErrorKind};
+use toml_span_tree::ErrorKind;
 
 /// Where the token at a place ends, or `None` where none stands.
 fn token_behind(alloc: Global, text: &str, at: usize) -> Result<Option<usize>, AllocError>
@@ -36,7 +36,7 @@ fn token_behind(alloc: Global, text: &str, at: usize) -> Result<Option<usize>, A
 }
 
 /// Where the marks of the token at a place end: with it, no further than its line, and at once where none stands.
-pub(crate) fn marks_end(alloc: Global, text: &str, at: usize) -> Result<usize, AllocError>
+fn marks_end(alloc: Global, text: &str, at: usize) -> Result<usize, AllocError>
     requires { IsCharBoundary text.now at }
     ensures { IfOk result (λ end. spec.MarksToken text.now at end) }
 {
@@ -57,23 +57,58 @@ fn names_token(found: &str) -> bool
         || found.starts_with(b"whitespace")
 }
 
-/// The kind of an error whose span is no more than the place of a token.
-pub(crate) fn kind_at_token<'s>(kind: &ErrorKind<'s>, span: Span) -> Option<ErrorKind<'s>>
-    ensures { option_map kind_of result
-        ≡ (if spec.is_at_token (kind_of kind.now) span then Some (kind_of kind.now) else None) }
+/// Whether the span of an error is no more than the place of a token.
+fn is_at_token(kind: &ErrorKind<'_>, span: Span) -> bool
+    ensures { result ≡ spec.is_at_token (kind_of kind.now) span }
 {
     match kind {
-        ErrorKind::Wanted { expected, found } => {
-            if names_token(found) && span.end.saturating_sub(span.start) == found.len() {
-                Some(ErrorKind::Wanted {
-                    expected: *expected,
-                    found: *found,
-                })
-            } else {
-                None
-            }
+        ErrorKind::Wanted { found, .. } => {
+            names_token(found) && span.end.saturating_sub(span.start) == found.len()
         }
-        ErrorKind::MultilineStringKey => Some(ErrorKind::MultilineStringKey),
-        _ => None,
+        ErrorKind::MultilineStringKey => true,
+        _ => false,
     }
+}
+
+/// What is marked of a table that lacks a field: its header, up to the end of the line, or its braces; of the root the
+/// place at which it begins.
+#[tactic(auto, unfolding(crate::specs::Tokens::table_mark))]
+fn table_mark(text: &str, span: Span) -> Span
+    ensures { result ≡ spec.table_mark text.now span }
+{
+    let at = place(text, span.start);
+    let bytes = text.as_bytes();
+    let end = if span.start == 0 && span.end == bytes.len() {
+        0
+    } else if at < bytes.len() && bytes[at] == b'[' {
+        span.end.min(line_end(text, at))
+    } else {
+        span.end
+    };
+    Span {
+        start: span.start,
+        end,
+    }
+}
+
+/// What is marked of a text for an error: the token at its place, the header or the braces of a table, or its span.
+pub(crate) fn marked_span(
+    alloc: Global,
+    kind: &ErrorKind<'_>,
+    span: Span,
+    text: &str,
+) -> Result<Span, AllocError>
+    ensures { IfOk result (λ marked. spec.IsMarked text.now (kind_of kind.now) span marked) }
+{
+    if is_at_token(kind, span) {
+        let end = marks_end(alloc, text, place(text, span.start))?;
+        return Ok(Span {
+            start: span.start,
+            end,
+        });
+    }
+    Ok(match kind {
+        ErrorKind::MissingField(_) => table_mark(text, span),
+        _ => span,
+    })
 }

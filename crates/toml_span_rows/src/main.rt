@@ -11,6 +11,7 @@ mod escapes;
 mod faults;
 mod holders;
 mod places;
+mod reports;
 mod runs;
 mod sections;
 mod texts;
@@ -65,6 +66,7 @@ fn push_answer(alloc: Global, row: Row<'_>, out: &mut String) -> Result<bool, Al
             || faults::answer(alloc, row, out)?
             || sections::answer(alloc, row, out)?
             || texts::answer(alloc, row, out)?
+            || reports::answer(alloc, row, out)?
             || runs::answer(alloc, row, out)?
             || callers::answer(alloc, row, out)?
             || derived::answer(alloc, row, out)?

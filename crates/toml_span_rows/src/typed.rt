@@ -15,6 +15,7 @@ mod odd;
 mod ported;
 mod reads;
 mod structs;
+pub mod warned;
 
 use crate::Row;
 use crate::told::{known, push_told, push_told_line};

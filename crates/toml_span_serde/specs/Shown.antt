@@ -2,7 +2,7 @@
 use Rattle.std.specs.Prelude.{ℕ, List}
 use Rattle.toml_span_lex.specs.declared.stop.Stop.{Stop}
 use Rattle.toml_span_lex.specs.declared.stop.Stop.TheVariants as stop
-use Rattle.toml_span_report.specs.Report.{IsReport}
+use Rattle.toml_span_report.specs.Errors.{IsReport}
 use Rattle.toml_span_report.specs.declared.colours.Style.{Style}
 use Rattle.toml_span_serde.specs.Misfits.{content_of_error}
 use Rattle.toml_span_serde.specs.declared.misfit.Error.{Error}

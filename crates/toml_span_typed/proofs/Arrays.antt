@@ -15,7 +15,7 @@ module _ {T : Type 0} (reads : Node → Result T Errors → Node → Type 0) whe
   each_push [] v (b ∷ bs) a h one = elim h [ ]
   each_push (u ∷ us) v [] a h one = elim h [ ]
 
-elements_push : {T : Type 0} → (answers : List (Result T Errors)) (a : Result T Errors) → elements (answers ++ a ∷ []) ≡ elements answers ++ elements (a ∷ [])
+pub elements_push : {T : Type 0} → (answers : List (Result T Errors)) (a : Result T Errors) → elements (answers ++ a ∷ []) ≡ elements answers ++ elements (a ∷ [])
 elements_push [] a = refl
 elements_push (Ok x ∷ answers) a = ap (λ ys. x ∷ ys) (elements_push answers a)
 elements_push (Err e ∷ answers) a = elements_push answers a

@@ -4,3 +4,5 @@ pub mod Tables
 pub mod Whole
 pub mod Maps
 pub mod Tuples
+pub mod WithWarnings
+pub mod Rests

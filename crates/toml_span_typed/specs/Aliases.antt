@@ -2,7 +2,7 @@
 use Rattle.std.specs.Prelude.{◌≡◌, ℕ, List, [], ◌∷◌, Option, Some, None, option_map, MatchOption, if◌then◌else◌, nat_lt}
 use Rattle.std.specs.Prelude.{Result, Ok, Err}
 use Rattle.toml_span_lex.specs.declared.span.Span.{Span}
-use Rattle.toml_span_tree.specs.Error.{ErrorContent, duplicate_key}
+use Rattle.toml_span_tree.specs.Error.{ErrorContent, deprecated, duplicate_key}
 use Rattle.toml_span_tree.specs.Node.{Node, entry_at}
 use Rattle.toml_span_typed.specs.Errors.{Errors, all}
 use Rattle.toml_span_typed.specs.TableHelper.{State, keeping, missing, noted, without}
@@ -47,24 +47,37 @@ either name old s = first_value (newer name old s) (older old s)
 abbrev pub asked_both : List ℕ → List ℕ → State → State
 asked_both name old s = keeping_twice name (newer name old s) old (older old s) (noted name (noted old s))
 
--- `read_either`: the element; or None, and the error that neither stands there, or all errors of the read, are kept
+-- the warning that a key stands under a deprecated name
+abbrev pub outdated_at : List ℕ → List ℕ → Option (Option Span) → List ErrorContent
+outdated_at name old (Some (Some span)) = record { kind = deprecated old name; span = span; line_info = None } ∷ []
+outdated_at name old _ = []
+
+-- the warning, where the old name has an entry
+abbrev pub outdated : List ℕ → List ℕ → State → List ErrorContent
+outdated name old s = outdated_at name old (option_map (λ entry. entry.0) (older old s))
+
+-- the error that the name is not there is kept
+abbrev pub lacks : List ℕ → State → State
+lacks name s = keeping (missing name s ∷ []) s
+
+-- the element of a value that was moved out; or None: with all errors of the read kept, and without a value as `none`
+-- says
+abbrev pub ReadsMoved : {T : Type 0} → (Node → Result T Errors → Node → Type 0) → (State → State) → Option Node
+    → State → Option T → State → Type 0
+ReadsMoved reads none moved before (Some x) after =
+    (value : Node) × (left : Node) × (moved ≡ Some value) × reads value (Ok x) left × (after ≡ before)
+ReadsMoved reads none moved before None after = MatchOption moved
+    (after ≡ none before)
+    (λ value. (faults : Errors) × (left : Node) × reads value (Err faults) left × (after ≡ keeping (all faults) before))
+
+-- `read_either`: what stands there, with the error that neither does
 abbrev pub AsksEither : {T : Type 0} → (Node → Result T Errors → Node → Type 0) → List ℕ → List ℕ → State
     → Option T → State → Type 0
-AsksEither reads name old before (Some x) after =
-    (value : Node) × (left : Node) × (either name old before ≡ Some value) × reads value (Ok x) left
-    × (after ≡ asked_both name old before)
-AsksEither reads name old before None after = MatchOption (either name old before)
-    (after ≡ keeping (missing name before ∷ []) (asked_both name old before))
-    (λ value. (faults : Errors) × (left : Node) × reads value (Err faults) left
-    × (after ≡ keeping (all faults) (asked_both name old before)))
+AsksEither reads name old before field after =
+    ReadsMoved reads (lacks name) (either name old before) (asked_both name old before) field after
 
--- `read_optional_either`: the element; None where neither stands there, and where the read failed
+-- `read_optional_either`: what stands there, if anything does
 abbrev pub TriesEither : {T : Type 0} → (Node → Result T Errors → Node → Type 0) → List ℕ → List ℕ → State
     → Option T → State → Type 0
-TriesEither reads name old before (Some x) after =
-    (value : Node) × (left : Node) × (either name old before ≡ Some value) × reads value (Ok x) left
-    × (after ≡ asked_both name old before)
-TriesEither reads name old before None after = MatchOption (either name old before)
-    (after ≡ asked_both name old before)
-    (λ value. (faults : Errors) × (left : Node) × reads value (Err faults) left
-    × (after ≡ keeping (all faults) (asked_both name old before)))
+TriesEither reads name old before field after =
+    ReadsMoved reads (λ s. s) (either name old before) (asked_both name old before) field after

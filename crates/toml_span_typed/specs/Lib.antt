@@ -1,4 +1,5 @@
 pub mod Errors
+pub mod Floats
 pub mod Reads
 pub mod TableHelper
 pub mod Parse
@@ -7,3 +8,6 @@ pub mod Maps
 pub mod code
 pub mod Tuples
 pub mod Aliases
+pub mod Tags
+pub mod Rests
+pub mod WithWarnings

@@ -4,3 +4,5 @@ pub mod Arrays
 pub mod Integers
 pub mod Maps
 pub mod TableHelper
+pub mod Tags
+pub mod WithWarnings

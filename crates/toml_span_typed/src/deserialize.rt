@@ -9,6 +9,7 @@ ghost use Rattle.toml_span_typed.specs.code.Arrays.{ReadsOrKeeps};
 ghost use Rattle.toml_span_typed.specs.Reads.{Answers};
 
 mod arrays;
+mod floats;
 mod holders;
 mod integers;
 mod maps;

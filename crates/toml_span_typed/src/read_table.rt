@@ -15,15 +15,28 @@
 /// - `level: Level, parsed;` is what `FromStr` makes of a string; the type may be an `Option`, a `Spanned` or an
 ///   `Option` of a `Spanned`, and `or(..)` may stand behind it;
 /// - `max_body: u64 = "max-body", alias("max_body");` may stand under an old name (`TableHelper::read_either`);
-///   `alias` comes first, and the others may stand behind it.
+///   `alias` comes first, and the others may stand behind it;
+/// - `limits: Limits, flatten;`, the last field, is read of the keys that are left (`TableHelper::read_rest`).
 ///
 /// Other keys are an error; with `..` behind the last field they are put back into the value. All errors
 /// are told, in the order of the fields.
+///
+/// With a list of warnings, `read_table!(alloc, value, warnings, Server { .. })`, it is the body of a
+/// `deserialize_with_warnings`, and a field may be
+///
+/// - `max_body: u64 = "max-body", deprecated("max_body");`, as `alias`, and its old name warns
+///   (`TableHelper::read_deprecated`);
+/// - `origin: Server, with_warnings;`, of a type that warns itself, or an `Option` of one.
 #[macro_export]
 macro_rules! read_table {
-    ($alloc:expr, $value:expr, $table:ident { $($fields:tt)* }) => {
-        $crate::read_table!(@fields [$alloc, $value, $table] [] $($fields)*)
-    };
+    ($alloc:expr, $value:expr, $table:ident { $($fields:tt)* }) => {{
+        let mut helper = $crate::de_helpers::TableHelper::new($alloc, $value)?;
+        $crate::read_table!(@fields [helper, $value, [], [$table]] [] $($fields)*)
+    }};
+    ($alloc:expr, $value:expr, $warnings:ident, $table:ident { $($fields:tt)* }) => {{
+        let mut helper = $crate::de_helpers::TableHelper::new($alloc, $value)?;
+        $crate::read_table!(@fields [helper, $value, [$warnings], [$table]] [] $($fields)*)
+    }};
 
     // a string with its bytes
     (@fields $read:tt [$($done:tt)*]
@@ -48,13 +61,34 @@ macro_rules! read_table {
             @fields $read [$($done)* $field: $ty = $key $old $(, $how $(($default))?)*;] $($rest)*
         )
     };
+    (@fields $read:tt [$($done:tt)*]
+        $field:ident: Option<$ty:ty> = $key:literal, deprecated($old:literal); $($rest:tt)*
+    ) => {
+        $crate::read_table!(@fields $read [$($done)* $field: $ty = $key $old deprecated, optional;] $($rest)*)
+    };
+    (@fields $read:tt [$($done:tt)*]
+        $field:ident: $ty:ty = $key:literal, deprecated($old:literal) $(, $how:ident $(($default:expr))?)*;
+        $($rest:tt)*
+    ) => {
+        $crate::read_table!(
+            @fields $read [$($done)* $field: $ty = $key $old deprecated $(, $how $(($default))?)*;] $($rest)*
+        )
+    };
 
     // each field in turn, where one of the type `Option` becomes optional
     (@fields $read:tt [$($done:tt)*] $field:ident: Option<$ty:ty> $(= $key:literal)?; $($rest:tt)*) => {
         $crate::read_table!(@fields $read [$($done)* $field: $ty $(= $key)?, optional;] $($rest)*)
     };
+    (@fields $read:tt [$($done:tt)*]
+        $field:ident: Option<$ty:ty> $(= $key:literal)?, with_warnings; $($rest:tt)*
+    ) => {
+        $crate::read_table!(@fields $read [$($done)* $field: $ty $(= $key)?, with_warnings, optional;] $($rest)*)
+    };
     (@fields $read:tt [$($done:tt)*] $field:ident: Option<$ty:ty> $(= $key:literal)?, parsed; $($rest:tt)*) => {
         $crate::read_table!(@fields $read [$($done)* $field: $ty $(= $key)?, parsed, optional;] $($rest)*)
+    };
+    (@fields $read:tt [$($done:tt)*] $field:ident: $ty:ty, flatten; $next:ident $($rest:tt)*) => {
+        compile_error!("`read_table!`: the field with `flatten` is the last one")
     };
     (@fields $read:tt [$($done:tt)*]
         $field:ident: $ty:ty $(= $key:literal)? $(, $how:ident $(($default:expr))?)*; $($rest:tt)*
@@ -70,19 +104,20 @@ macro_rules! read_table {
         compile_error!("`read_table!`: fields end with `;`")
     };
     (@fields $read:tt $fields:tt) => { $crate::read_table!(@table $read finish() $fields) };
-    (@fields [$alloc:expr, $value:expr, $table:ident] $fields:tt ..) => {
-        $crate::read_table!(@table [$alloc, $value, $table] finish_into($value) $fields)
+    (@fields [$helper:ident, $value:expr, $warnings:tt, $table:tt] $fields:tt ..) => {
+        $crate::read_table!(@table [$helper, $value, $warnings, $table] finish_into($value) $fields)
     };
 
-    (@table [$alloc:expr, $value:expr, $table:ident] $finish:ident($($rest:expr)?) [
-        $($field:ident: $ty:ty $(= $key:literal $($old:literal)?)? $(, $how:ident $(($default:expr))?)*;)*
+    (@table [$helper:ident, $value:expr, $warnings:tt, [$($table:tt)+]] $finish:ident($($rest:expr)?) [
+        $($field:ident: $ty:ty $(= $key:literal $($old:literal $($deprecated:ident)?)?)?
+            $(, $how:ident $(($default:expr))?)*;)*
     ]) => {{
-        let mut helper = $crate::de_helpers::TableHelper::new($alloc, $value)?;
         $(let $field = $crate::read_table!(
-            @read helper, $ty, [$crate::read_table!(@key $field $($key)?) $($(, $old)?)?] $(, $how $($default)?)*
+            @read [$helper, $warnings], $ty,
+            [$crate::read_table!(@key $field $($key)?) $($(, $old $(, $deprecated)?)?)?] $(, $how $($default)?)*
         );)*
-        helper.$finish($($rest)?)?;
-        Ok($table {
+        $helper.$finish($($rest)?)?;
+        Ok($($table)+ {
             $($field: $crate::read_table!(@field $field $($how)*),)*
         })
     }};
@@ -90,24 +125,48 @@ macro_rules! read_table {
     (@key $field:ident) => { stringify!($field) };
     (@key $field:ident $key:literal) => { $key };
 
-    (@one $helper:ident, $ty:ty, [$key:expr]) => { $helper.read::<$ty>($key)? };
-    (@one $helper:ident, $ty:ty, [$key:expr, $old:expr]) => { $helper.read_either::<$ty>($key, $old)? };
-    (@some $helper:ident, $ty:ty, [$key:expr]) => { $helper.read_optional::<$ty>($key)? };
-    (@some $helper:ident, $ty:ty, [$key:expr, $old:expr]) => { $helper.read_optional_either::<$ty>($key, $old)? };
+    (@one [$helper:ident, $warnings:tt], $ty:ty, [$key:expr]) => { $helper.read::<$ty>($key)? };
+    (@one [$helper:ident, $warnings:tt], $ty:ty, [$key:expr, $old:expr]) => {
+        $helper.read_either::<$ty>($key, $old)?
+    };
+    (@one [$helper:ident, [$warnings:ident]], $ty:ty, [$key:expr, $old:expr, deprecated]) => {
+        $helper.read_deprecated::<$ty>($key, $old, $warnings)?
+    };
+    (@some [$helper:ident, $warnings:tt], $ty:ty, [$key:expr]) => { $helper.read_optional::<$ty>($key)? };
+    (@some [$helper:ident, $warnings:tt], $ty:ty, [$key:expr, $old:expr]) => {
+        $helper.read_optional_either::<$ty>($key, $old)?
+    };
+    (@some [$helper:ident, [$warnings:ident]], $ty:ty, [$key:expr, $old:expr, deprecated]) => {
+        $helper.read_optional_deprecated::<$ty>($key, $old, $warnings)?
+    };
+    (@one $helper:tt, $ty:ty, [$key:expr, $old:expr, deprecated]) => {
+        compile_error!("`read_table!`: `deprecated` warns: `read_table!(alloc, value, warnings, ..)`")
+    };
+    (@some $helper:tt, $ty:ty, [$key:expr, $old:expr, deprecated]) => {
+        compile_error!("`read_table!`: `deprecated` warns: `read_table!(alloc, value, warnings, ..)`")
+    };
 
-    (@read $helper:ident, $ty:ty, $keys:tt) => { $crate::read_table!(@one $helper, $ty, $keys) };
-    (@read $helper:ident, $ty:ty, $keys:tt, optional) => { $crate::read_table!(@some $helper, $ty, $keys) };
-    (@read $helper:ident, $ty:ty, $keys:tt, or $default:expr) => {
+    (@read $helper:tt, $ty:ty, $keys:tt) => { $crate::read_table!(@one $helper, $ty, $keys) };
+    (@read $helper:tt, $ty:ty, $keys:tt, optional) => { $crate::read_table!(@some $helper, $ty, $keys) };
+    (@read $helper:tt, $ty:ty, $keys:tt, or $default:expr) => {
         match $crate::read_table!(@some $helper, $ty, $keys) {
             Some(field) => field,
             None => $default,
         }
     };
 
-    (@read $helper:ident, $ty:ty, $keys:tt, parsed) => {
+    (@read [$helper:ident, [$warnings:ident]], $ty:ty, [$key:expr], with_warnings) => {
+        $helper.read_with_warnings::<$ty>($key, $warnings)?
+    };
+    (@read [$helper:ident, [$warnings:ident]], $ty:ty, [$key:expr], with_warnings, optional) => {
+        $helper.read_optional_with_warnings::<$ty>($key, $warnings)?
+    };
+    (@read [$helper:ident, $warnings:tt], $ty:ty, $keys:tt, flatten) => { $helper.read_rest::<$ty>()? };
+
+    (@read $helper:tt, $ty:ty, $keys:tt, parsed) => {
         $crate::read_table!(@one $helper, $crate::Parsed<$ty>, $keys)
     };
-    (@read $helper:ident, $ty:ty, $keys:tt, parsed, optional) => {
+    (@read $helper:tt, $ty:ty, $keys:tt, parsed, optional) => {
         match $crate::read_table!(@some $helper, $crate::Parsed<$ty>, $keys) {
             Some(field) => {
                 let value = field.value;
@@ -116,17 +175,17 @@ macro_rules! read_table {
             None => None,
         }
     };
-    (@read $helper:ident, $ty:ty, $keys:tt, parsed, or $default:expr) => {
+    (@read $helper:tt, $ty:ty, $keys:tt, parsed, or $default:expr) => {
         match $crate::read_table!(@some $helper, $crate::Parsed<$ty>, $keys) {
             Some(field) => field.value,
             None => $default,
         }
     };
 
-    (@read $helper:ident, $ty:ty, $keys:tt, placed) => {
+    (@read $helper:tt, $ty:ty, $keys:tt, placed) => {
         $crate::read_table!(@one $helper, $crate::Spanned<$crate::Parsed<$ty>>, $keys)
     };
-    (@read $helper:ident, $ty:ty, $keys:tt, placed, optional) => {
+    (@read $helper:tt, $ty:ty, $keys:tt, placed, optional) => {
         match $crate::read_table!(@some $helper, $crate::Spanned<$crate::Parsed<$ty>>, $keys) {
             Some(field) => {
                 let span = field.span;
@@ -138,6 +197,8 @@ macro_rules! read_table {
     };
 
     (@field $field:ident) => { $field.unwrap() };
+    (@field $field:ident with_warnings) => { $field.unwrap() };
+    (@field $field:ident flatten) => { $field.unwrap() };
     (@field $field:ident parsed) => {{
         let value = $field.unwrap().value;
         value

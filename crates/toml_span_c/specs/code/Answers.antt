@@ -8,7 +8,7 @@ use Rattle.toml_span_lex.specs.declared.stop.Stop.TheVariants as stops
 use Rattle.toml_span_read.specs.Limits.{depth_limit}
 
 abbrev pub IsAnswer : List ℕ → Answer → Type 0
-IsAnswer bytes (Tree root) = IsText bytes × IsTree bytes depth_limit root
+IsAnswer bytes (Tree text root) = IsText bytes × (text.now ≡ bytes) × IsTree bytes depth_limit root
 IsAnswer bytes (Fault text error) =
     IsText bytes × (text.now ≡ bytes) × IsRefusal bytes depth_limit (stops.Fault error)
 IsAnswer bytes Unread = ¬ IsText bytes

@@ -7,6 +7,7 @@
 //! - `twice`: the last error of `Names`, and its diagnostic.
 use crate::faults::push_twice;
 use crate::told::{push_told, push_told_line};
+use crate::typed::warned::{Named, Ratio, Target};
 use std::alloc::{AllocError, Global};
 use std::borrow::CowStr;
 use toml_span::de_helpers::{TableHelper, parse};
@@ -170,6 +171,9 @@ pub fn push_ported<'de>(
         "Strict" => push_told(Strict::deserialize(alloc, value), out),
         "Port" => push_told(Port::deserialize(alloc, value), out),
         "Length" => push_told(Length::deserialize(alloc, value), out),
+        "Target" => push_told(Target::deserialize(alloc, value), out),
+        "Ratio" => push_told(Ratio::deserialize(alloc, value), out),
+        "Named" => push_told(Named::deserialize(alloc, value), out),
         "stop" => match u8::deserialize(alloc, value) {
             Ok(number) => push_told(number, out),
             Err(stop) => push_text(stop, out),

@@ -63,6 +63,8 @@ fn push_other<'de>(
     match name {
         "String" => push_as::<String>(alloc, value, out),
         "CowStr" => push_as::<Held<'de>>(alloc, value, out),
+        "f32" => push_as::<f32>(alloc, value, out),
+        "f64" => push_as::<f64>(alloc, value, out),
         "FloatText" => push_as::<FloatText>(alloc, value, out),
         "DateText" => push_as::<DateText<'de>>(alloc, value, out),
         "Vec<u8>" => push_as::<Vec<u8>>(alloc, value, out),

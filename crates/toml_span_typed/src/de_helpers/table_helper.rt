@@ -9,6 +9,8 @@ ghost use Rattle.toml_span_typed.specs.code.TableHelper.{key_text};
 
 mod aliases;
 mod fields;
+mod tags;
+mod with_warnings;
 
 use crate::de_helpers::expected;
 use crate::deser_error::DeserError;

@@ -15,7 +15,7 @@ use toml_span_lex::stop::Stop;
 use toml_span_tree::{Error, ErrorKind, Value, ValueInner};
 
 /// The error of an integer that the type of this name does not hold.
-fn out_of_range<'s>(name: &'s str, span: Span) -> DeserError<'s>
+pub(crate) fn out_of_range<'s>(name: &'s str, span: Span) -> DeserError<'s>
     ensures { result ≡ one (beyond_range name.now span) }
 {
     Error::from((ErrorKind::OutOfRange(name), span)).into()

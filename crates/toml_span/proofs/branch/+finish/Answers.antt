@@ -1,5 +1,9 @@
-use Rattle.std.proofs.Common.{[], refl}
+use Rattle.std.proofs.Common.{◌≡◌, [], refl, ap, ◌∙◌}
 use Rattle.std.proofs.lemmas.List.{nil_from_length}
+use Rattle.toml_span.specs.declared.branch.Branch.{Branch}
+use Rattle.toml_span.specs.declared.branch.Branch.TheOpen.{Branch-F}
+use Rattle.toml_span.specs.declared.branch.Branch.TheViews.{out-Branch, roll-Branch}
+use Rattle.toml_span.proofs.Placed.{out-roll}
 use Rattle.toml_span.proofs.BorrowLemmas.{box_first, entry_first, element_push, insert_title, of_node, made_table, made_array}
 use Rattle.toml_span.proofs.Finishing.{no_entries, some_entries, never-empty, entries-more, filled-more, filled-none, filled-finishes, became-table, became-array}
 use Rattle.toml_span.proofs.branch.+finish.Goals as goal
@@ -19,11 +23,11 @@ pub into_table-loop-key-preserved : goal.into_table-loop-key-preserved
 into_table-loop-key-preserved t c = record {
   filled =
       rw c.in_ok-insert.ensures.entries
-      (filled-more _ c.in-Some.key _ c.in-Some.child _ _ _ _ refl (rw c.into_inner.ensures at c.in_ok-span.ensures.becomes) (rw c.in-Some.ensures.steps at c.loop-key.invariant.filled));
+      (filled-more _ c.in-Some.key _ c.in-Some.child _ _ _ _ refl (rw c.as_mut.ensures.value at c.in_ok-span.ensures.becomes) (rw c.in-Some.ensures.steps at c.loop-key.invariant.filled));
   borrows = λ text ps tables values.
       let before = c.loop-key.invariant.borrows text ps tables values in
       let first = box_first text ps c.in-Some.key c.in-Some.child _ _ c.in-Some.ensures.steps before.0 in
-      let made = c.in_ok-span.ensures.borrows text ps (rw c.into_inner.ensures first.1) in
+      let made = c.in_ok-span.ensures.borrows text ps (rw c.as_mut.ensures.value first.1) in
       (first.2, rw c.in_ok-insert.ensures.entries (insert_title text ps _ c.in_ok-span.value _ first.0 made.0 made.1 before.1));
   bare = λ none. absurd (never-empty _ _ _ c.in-Some.ensures.steps (c.loop-key.invariant.bare none));
 }
@@ -38,23 +42,29 @@ into_table-returns-then-is_empty-clause-finishes t c =
 pub into_table-returns-clause-borrows : goal.into_table-returns-clause-borrows
 into_table-returns-clause-borrows t c = λ text ps tables values. (c.loop-key.invariant.borrows text ps tables values).1
 
+values_kept : (b : Branch-F Branch) → (out-Branch (roll-Branch b)).values ≡ b.values
+values_kept b = ap (λ (b : Branch-F Branch). b.values) (out-roll b)
+
 pub into_value-returns-then-is_empty-clause-becomes : goal.into_value-returns-then-is_empty-clause-becomes
 into_value-returns-then-is_empty-clause-becomes t c =
-    became-table c.args.node c.in_ok-table.table c.spans.result _ (rw c.as_slice.ensures at c.spans.ensures) c.with_span.ensures.view (no_entries c.args.node c.if-is_empty.ensures) c.in_ok-table.ensures.finishes
+    became-table c.args.node.now c.in_ok-table.table c.spans.result _ (rw c.as_slice.ensures at c.spans.ensures) c.with_span.ensures.view (no_entries c.args.node.now c.if-is_empty.ensures)
+    (rw (c.replace-tables.ensures.value, c.replace-values.ensures.value ∙ values_kept _) at c.in_ok-table.ensures.finishes)
 
 pub into_value-returns-clause-becomes : goal.into_value-returns-clause-becomes
 into_value-returns-clause-becomes t c =
-    became-array c.args.node c.in_ok-array.array c.spans.result _ (rw c.as_slice.ensures at c.spans.ensures) c.with_span-2.ensures.view (some_entries c.args.node c.if-is_empty.ensures) c.in_ok-array.ensures.becomes
+    became-array c.args.node.now c.in_ok-array.array c.spans.result _ (rw c.as_slice.ensures at c.spans.ensures) c.with_span-2.ensures.view (some_entries c.args.node.now c.if-is_empty.ensures)
+    (rw c.replace.ensures.value at c.in_ok-array.ensures.becomes)
 
 pub into_value-returns-then-is_empty-clause-borrows : goal.into_value-returns-then-is_empty-clause-borrows
 into_value-returns-then-is_empty-clause-borrows t c = λ text ps h.
-    let inside = of_node text ps c.args.node h in
-    made_table text ps c.with_span.result c.in_ok-table.table _ c.with_span.ensures.kept (c.in_ok-table.ensures.borrows text ps inside.1 inside.0)
+    let inside = of_node text ps c.args.node.now h in
+    made_table text ps c.with_span.result c.in_ok-table.table _ c.with_span.ensures.kept
+    (c.in_ok-table.ensures.borrows text ps (rw c.replace-tables.ensures.value inside.1) (rw (c.replace-values.ensures.value ∙ values_kept _) inside.0))
 
 pub into_value-returns-clause-borrows : goal.into_value-returns-clause-borrows
 into_value-returns-clause-borrows t c = λ text ps h.
-    let inside = of_node text ps c.args.node h in
-    made_array text ps c.with_span-2.result c.in_ok-array.array _ c.with_span-2.ensures.kept (c.in_ok-array.ensures.borrows text ps inside.2)
+    let inside = of_node text ps c.args.node.now h in
+    made_array text ps c.with_span-2.result c.in_ok-array.array _ c.with_span-2.ensures.kept (c.in_ok-array.ensures.borrows text ps (rw c.replace.ensures.value inside.2))
 
 pub into_array-returns-clause-borrows : goal.into_array-returns-clause-borrows
 into_array-returns-clause-borrows t c = λ text ps h. (c.loop-entry.invariant.borrows text ps h).1

@@ -1,70 +1,57 @@
-use Rattle.std.proofs.Common.{map, BTreeMap, ◌≡◌, rules, refl, sym, ap, ◌∙◌, subst}
-use Rattle.std.specs.BTreeMap.{insert_entry}
+use Rattle.std.proofs.Common.{map, BTreeMap, ◌≡◌, rules, refl, sym, ap, ◌∙◌}
+use Rattle.std.specs.Prelude.{⊤}
 use Rattle.std.specs.BTreeMap.Entry.{map_with_value}
 use Rattle.std.specs.Global.{Box}
 use Rattle.std.specs.declared.collections.btree_map.Entry.{Entry}
 use Rattle.toml_span_lex.specs.declared.key.Key.{Key}
 use Rattle.toml_span.specs.declared.branch.Branch.{Branch}
 use Rattle.toml_span_read.specs.Keys.{simple_key}
-use Rattle.toml_span_read.proofs.EarlierTree.{key_cmp, parts-first}
+use Rattle.toml_span_read.proofs.EarlierTree.{parts-first}
 use Rattle.toml_span.specs.Claims.{pair_mark}
 use Rattle.toml_span.specs.declared.claims.Sort.TheVariants.{Dotted}
 use Rattle.toml_span.specs.declared.branch.Branch.TheViews.{out-Branch}
 use Rattle.toml_span.proofs.Claimed.{marked-roll}
-use Rattle.toml_span.proofs.DottedKeys.{passes-dotted, passes-dotted-err, pair-found, pair-new, pair-new-err, pair-beside}
+use Rattle.toml_span.proofs.DottedKeys.{passes-dotted, passes-dotted-err, pair-found, pair-fresh, pair-beside}
 use Rattle.toml_span.proofs.Placed.{err-of, sets-new}
 use Rattle.toml_span.proofs.Borrowing.{front_from, keeps_entered, keeps_marked, keeps_new, keeps_same}
-use Rattle.toml_span.specs.code.Tree.{IsFresh}
-use Rattle.toml_span.specs.code.Borrowed.{standing}
-use Rattle.toml_span.proofs.Named.{looked}
+use Rattle.toml_span.proofs.Named.{looked, told}
 use Rattle.toml_span.proofs.scopes.+place_pair.Goals as goal
 
 pub pass_pair-returns-in_err-claim-clause-gives : goal.pass_pair-returns-in_err-claim-clause-gives
-pass_pair-returns-in_err-claim-clause-gives t c = λ v value span.
-    passes-dotted-err c.args.node.now _ (simple_key c.args.part.now) (map simple_key c.args.rest.now) (simple_key c.args.last) v c.pair_mark.result c.from_residual.result c.in_err-claim.field-0.0 _ _
+pass_pair-returns-in_err-claim-clause-gives t c = λ d v due value span.
+    passes-dotted-err c.args.node.now _ (simple_key c.args.part.now) (map simple_key c.args.rest.now) (simple_key d.last) v c.pair_mark.result c.from_residual.result c.in_err-claim.field-0.0 _ _
     (c.pair_mark.ensures ∙ ap (pair_mark Dotted c.args.part.now.span) span) (err-of c.from_residual.result c.in_err-claim.field-0.0 _ c.from_residual.ensures.1 (λ y p. p)) c.in_err-claim.ensures
 
 pub pass_pair-returns-clause-gives : goal.pass_pair-returns-clause-gives
-pass_pair-returns-clause-gives t c = λ v value span.
-    passes-dotted c.args.node.now _ _ (simple_key c.args.part.now) (map simple_key c.args.rest.now) (simple_key c.args.last) v c.pair_mark.result c.place_pair.result
+pass_pair-returns-clause-gives t c = λ d v due value span.
+    passes-dotted c.args.node.now _ _ (simple_key c.args.part.now) (map simple_key c.args.rest.now) (simple_key d.last) v c.pair_mark.result c.place_pair.result
     (c.pair_mark.ensures ∙ ap (pair_mark Dotted c.args.part.now.span) span) c.in_ok-claim.ensures.0
-    (marked-roll c.pair_mark.result c.args.node.now _ c.in_ok-claim.ensures.1 refl refl refl) (c.place_pair.ensures.gives v value span)
+    (marked-roll c.pair_mark.result c.args.node.now _ c.in_ok-claim.ensures.1 refl refl refl) (c.place_pair.ensures.gives d v due value span)
 
 pub pass_pair-returns-clause-borrows : goal.pass_pair-returns-clause-borrows
-pass_pair-returns-clause-borrows t c = λ text ps simple_key rest last value.
-    keeps_marked text ps c.args.node.now _ _ c.place_pair.result refl refl refl (c.place_pair.ensures.borrows text ps rest last value)
+pass_pair-returns-clause-borrows t c = λ text ps d due part rest last value.
+    keeps_marked text ps c.args.node.now _ _ c.place_pair.result refl refl refl (c.place_pair.ensures.borrows text ps d due rest last value)
 
 pub pass_child-returns-clause-borrows : goal.pass_child-returns-clause-borrows
-pass_child-returns-clause-borrows t c = λ text ps simple_key rest last value.
-    keeps_same text ps c.as_mut.result.now c.args.child.now.value _ c.pass_pair.result c.as_mut.ensures.value (c.pass_pair.ensures.borrows text ps simple_key rest last value)
+pass_child-returns-clause-borrows t c = λ text ps d due part rest last value.
+    keeps_same text ps c.as_mut.result.now c.args.child.now.value _ c.pass_pair.result c.as_mut.ensures.value (c.pass_pair.ensures.borrows text ps d due part rest last value)
 
 pub place_pair-returns-in_default-clause-borrows : goal.place_pair-returns-in_default-clause-borrows
-place_pair-returns-in_default-clause-borrows t c = λ text ps parts last value. c.assign.ensures.borrows text ps last value
+place_pair-returns-in_default-clause-borrows t c = λ text ps d due parts last value. c.assign_due.ensures.borrows text ps d due last value
 
-pub place_pair-returns-in_err-admit_beside_value-in-Vacant-clause-gives : goal.place_pair-returns-in_err-admit_beside_value-in-Vacant-clause-gives
-place_pair-returns-in_err-admit_beside_value-in-Vacant-clause-gives t c = λ v value span.
+pub place_pair-returns-in_err-child-in-Vacant-clause-gives : goal.place_pair-returns-in_err-child-in-Vacant-clause-gives
+place_pair-returns-in_err-child-in-Vacant-clause-gives t c = λ d v due value span.
     let n = out-Branch c.args.node.now in
     let front = parts-first c.args.inner.now c.part-item.result _ c.in-len1-up.len_at_least c.part-item.is in
     let missing = looked (simple_key c.part-item.result).name c.in_ok-clone.field-0 n.tables _ c.in_ok-clone.ensures.name (rw c.in-Vacant.is at c.in_ok-entry.ensures.found) in
-    let q = c.from_residual-in_err-admit_beside_value-in-Vacant in
-    let e = c.in_err-admit_beside_value-in-Vacant.field-0.0 in
+    let q = c.from_residual-in_err-child-in-Vacant in
+    let e = c.in_err-child-in-Vacant.field-0.0 in
     rw front
-    (pair-beside c.args.node.now _ (simple_key c.part-item.result) _ (simple_key c.args.last) v c.pair_mark-mark.result q.result e _ _ missing (c.pair_mark-mark.ensures ∙ ap (pair_mark Dotted c.part-item.result.span) span)
-    (err-of q.result e _ q.ensures.1 (λ y p. p)) c.in_err-admit_beside_value-in-Vacant.ensures)
-
-pub place_pair-returns-in_err-pass_child-in-Vacant-clause-gives : goal.place_pair-returns-in_err-pass_child-in-Vacant-clause-gives
-place_pair-returns-in_err-pass_child-in-Vacant-clause-gives t c = λ v value span.
-    let n = out-Branch c.args.node.now in
-    let front = parts-first c.args.inner.now c.part-item.result _ c.in-len1-up.len_at_least c.part-item.is in
-    let missing = looked (simple_key c.part-item.result).name c.in_ok-clone.field-0 n.tables _ c.in_ok-clone.ensures.name (rw c.in-Vacant.is at c.in_ok-entry.ensures.found) in
-    let q = c.from_residual-in_err-pass_child-in-Vacant in
-    let e = c.in_err-pass_child-in-Vacant.field-0.0 in
-    rw front
-    (pair-new-err c.args.node.now _ c.in_ok-child-in-Vacant.child.value _ (simple_key c.part-item.result) _ (simple_key c.args.last) v c.pair_mark-mark.result c.pass_child-in-Vacant.result q.result e _ missing (c.pair_mark-mark.ensures ∙ ap (pair_mark Dotted c.part-item.result.span) span)
-    c.in_ok-admit_beside_value-in-Vacant.ensures.0 (subst IsFresh (sym c.in_ok-child-in-Vacant.ensures.ok) c.new.ensures.fresh) c.in_err-pass_child-in-Vacant.was (err-of q.result e _ q.ensures.1 (λ y p. p)) (c.pass_child-in-Vacant.ensures.gives v value span))
+    (pair-beside c.args.node.now _ (simple_key c.part-item.result) _ (simple_key d.last) v c.pair_mark-mark.result q.result e (λ u. ⊤) _ missing (c.pair_mark-mark.ensures ∙ ap (pair_mark Dotted c.part-item.result.span) span)
+    (err-of q.result e _ q.ensures.1 (λ y p. p)) (told e _ _ (λ u. ⊤) c.in_err-child-in-Vacant.ensures))
 
 pub place_pair-returns-in-Occupied-clause-gives : goal.place_pair-returns-in-Occupied-clause-gives
-place_pair-returns-in-Occupied-clause-gives t c = λ v value span.
+place_pair-returns-in-Occupied-clause-gives t c = λ d v due value span.
     let n = out-Branch c.args.node.now in
     let front = parts-first c.args.inner.now c.part-item.result _ c.in-len1-up.len_at_least c.part-item.is in
     let clone = c.in_ok-clone in
@@ -74,30 +61,30 @@ place_pair-returns-in-Occupied-clause-gives t c = λ v value span.
     let same = rw c.in-Occupied.is at c.in_ok-entry.ensures.same_map in
     let box = c.pass_child.new.child in
     let places = λ (tables : BTreeMap Key (Box Branch)) (is : tables ≡ map_with_value (Entry.Occupied c.in-Occupied.entry) box).
-    pair-found c.args.node.now _ c.into_mut.result.now.value box.value (simple_key c.part-item.result) _ (simple_key c.args.last) v c.pass_child.result found
+    pair-found c.args.node.now _ c.into_mut.result.now.value box.value (simple_key c.part-item.result) _ (simple_key d.last) v c.pass_child.result found
     (sets-new c.args.node.now (record { marks = n.marks; values = n.values; tables = tables; entries = n.entries }) (simple_key c.part-item.result).name clone.field-0 box clone.ensures.name refl refl refl
-    (ap (λ (m : BTreeMap Key (Box Branch)). m.entries) is ∙ update.1 box)) (c.pass_child.ensures.gives v value span) in
+    (ap (λ (m : BTreeMap Key (Box Branch)). m.entries) is ∙ update.1 box)) (c.pass_child.ensures.gives d v due value span) in
     rw front (places _ (search (rules, same)))
 
-pub place_pair-returns-in_ok-pass_child-in-Vacant-clause-gives : goal.place_pair-returns-in_ok-pass_child-in-Vacant-clause-gives
-place_pair-returns-in_ok-pass_child-in-Vacant-clause-gives t c = λ v value span.
+pub place_pair-returns-in_ok-child-in-Vacant-clause-gives : goal.place_pair-returns-in_ok-child-in-Vacant-clause-gives
+place_pair-returns-in_ok-child-in-Vacant-clause-gives t c = λ d v due value span.
     let n = out-Branch c.args.node.now in
     let front = parts-first c.args.inner.now c.part-item.result _ c.in-len1-up.len_at_least c.part-item.is in
     let missing = looked (simple_key c.part-item.result).name c.in_ok-clone.field-0 n.tables _ c.in_ok-clone.ensures.name (rw c.in-Vacant.is at c.in_ok-entry.ensures.found) in
     let clone = c.in_ok-clone in
+    let fresh = c.in_ok-child-in-Vacant.ensures in
     let update = rw c.in-Vacant.is at c.in_ok-entry.ensures.update in
     let same = rw c.in-Vacant.is at c.in_ok-entry.ensures.same_map in
     let box = c.pass_child-in-Vacant.new.child in
-    let written = update.1 c.insert.result.now ∙ ap (insert_entry key_cmp n.tables.entries clone.field-0) c.insert.ensures.value in
-    let places = λ (tables : BTreeMap Key (Box Branch)) (is : tables ≡ map_with_value (Entry.Vacant c.in-Vacant.entry) c.insert.result.now).
-    pair-new c.args.node.now _ c.in_ok-child-in-Vacant.child.value box.value (simple_key c.part-item.result) _ (simple_key c.args.last) v c.pair_mark-mark.result missing (c.pair_mark-mark.ensures ∙ ap (pair_mark Dotted c.part-item.result.span) span)
-    c.in_ok-admit_beside_value-in-Vacant.ensures.0 (subst IsFresh (sym c.in_ok-child-in-Vacant.ensures.ok) c.new.ensures.fresh)
+    let places = λ (tables : BTreeMap Key (Box Branch)) (is : tables ≡ map_with_value (Entry.Vacant c.in-Vacant.entry) box).
+    pair-fresh c.args.node.now _ c.insert.result.now.value box.value (simple_key c.part-item.result) _ (simple_key d.last) v c.pair_mark-mark.result c.pass_child-in-Vacant.result missing (c.pair_mark-mark.ensures ∙ ap (pair_mark Dotted c.part-item.result.span) span)
+    fresh.0 (rw c.insert.ensures.value fresh.1.0)
     (sets-new c.args.node.now (record { marks = n.marks; values = n.values; tables = tables; entries = n.entries }) (simple_key c.part-item.result).name clone.field-0 box clone.ensures.name refl refl refl
-    (ap (λ (m : BTreeMap Key (Box Branch)). m.entries) is ∙ written)) (c.in_ok-pass_child-in-Vacant.ensures.gives v value span) in
+    (ap (λ (m : BTreeMap Key (Box Branch)). m.entries) is ∙ update.1 box)) (c.pass_child-in-Vacant.ensures.gives d v due value span) in
     rw front (places _ (search (rules, same)))
 
 pub place_pair-returns-in-Occupied-clause-borrows : goal.place_pair-returns-in-Occupied-clause-borrows
-place_pair-returns-in-Occupied-clause-borrows t c = λ text ps parts last value.
+place_pair-returns-in-Occupied-clause-borrows t c = λ text ps d due parts last value.
     let n = out-Branch c.args.node.now in
     let front = front_from text ps c.args.inner.now c.part-item.result _ c.in-len1-up.len_at_least c.part-item.is parts in
     let clone = c.in_ok-clone in
@@ -108,20 +95,19 @@ place_pair-returns-in-Occupied-clause-borrows t c = λ text ps parts last value.
     let keeps = λ (tables : BTreeMap Key (Box Branch)) (is : tables ≡ map_with_value (Entry.Occupied c.in-Occupied.entry) box).
     keeps_entered text ps c.args.node.now (record { marks = n.marks; values = n.values; tables = tables; entries = n.entries }) c.part-item.result clone.field-0 c.into_mut.result.now box c.pass_child.result
     clone.ensures.name clone.ensures.borrowed clone.ensures.owned (sym stands ∙ c.into_mut.ensures.value) refl refl (ap (λ (m : BTreeMap Key (Box Branch)). m.entries) is ∙ update.1 box) front.0
-    (c.pass_child.ensures.borrows text ps front.0 front.1 last value) in
+    (c.pass_child.ensures.borrows text ps d due front.0 front.1 last value) in
     keeps _ (search (rules, same))
 
-pub place_pair-returns-in_ok-pass_child-in-Vacant-clause-borrows : goal.place_pair-returns-in_ok-pass_child-in-Vacant-clause-borrows
-place_pair-returns-in_ok-pass_child-in-Vacant-clause-borrows t c = λ text ps parts last value before.
+pub place_pair-returns-in_ok-child-in-Vacant-clause-borrows : goal.place_pair-returns-in_ok-child-in-Vacant-clause-borrows
+place_pair-returns-in_ok-child-in-Vacant-clause-borrows t c = λ text ps d due parts last value.
     let n = out-Branch c.args.node.now in
     let front = front_from text ps c.args.inner.now c.part-item.result _ c.in-len1-up.len_at_least c.part-item.is parts in
     let clone = c.in_ok-clone in
     let update = rw c.in-Vacant.is at c.in_ok-entry.ensures.update in
     let same = rw c.in-Vacant.is at c.in_ok-entry.ensures.same_map in
     let box = c.pass_child-in-Vacant.new.child in
-    let written = update.1 c.insert.result.now ∙ ap (insert_entry key_cmp n.tables.entries clone.field-0) c.insert.ensures.value in
-    let keeps = λ (tables : BTreeMap Key (Box Branch)) (is : tables ≡ map_with_value (Entry.Vacant c.in-Vacant.entry) c.insert.result.now).
-    keeps_new text ps c.args.node.now (record { marks = n.marks; values = n.values; tables = tables; entries = n.entries }) c.part-item.result clone.field-0 c.in_ok-child-in-Vacant.child.value box.value box
-    (ap standing c.in_ok-child-in-Vacant.ensures.ok ∙ c.new.ensures.bare) clone.ensures.name clone.ensures.borrowed clone.ensures.owned refl refl refl (ap (λ (m : BTreeMap Key (Box Branch)). m.entries) is ∙ written)
-    front.0 (c.in_ok-pass_child-in-Vacant.ensures.borrows text ps front.0 front.1 last value) before in
+    let keeps = λ (tables : BTreeMap Key (Box Branch)) (is : tables ≡ map_with_value (Entry.Vacant c.in-Vacant.entry) box).
+    keeps_new text ps c.args.node.now (record { marks = n.marks; values = n.values; tables = tables; entries = n.entries }) c.part-item.result clone.field-0 c.insert.result.now.value box c.pass_child-in-Vacant.result
+    (rw c.insert.ensures.value c.in_ok-child-in-Vacant.ensures.1.1) clone.ensures.name clone.ensures.borrowed clone.ensures.owned refl refl (ap (λ (m : BTreeMap Key (Box Branch)). m.entries) is ∙ update.1 box)
+    front.0 (c.pass_child-in-Vacant.ensures.borrows text ps d due front.0 front.1 last value) in
     keeps _ (search (rules, same))

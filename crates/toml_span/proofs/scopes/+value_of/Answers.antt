@@ -1,4 +1,4 @@
-use Rattle.std.proofs.Common.{◌≡◌, rules, ap, ◌∙◌}
+use Rattle.std.proofs.Common.{◌≡◌, [], rules, refl, ap, ◌∙◌}
 use Rattle.std.proofs.lemmas.Int.{to_z-of_z}
 use mir.Syntax.{w64}
 use mir.Val.{SFits, of_z, to_z}
@@ -12,7 +12,7 @@ use Rattle.toml_span.proofs.BorrowLemmas.{element_push, of_node}
 use Rattle.toml_span.proofs.Placed.{err-of}
 use Rattle.toml_span.proofs.Borrowing as borrowing
 use Rattle.toml_span.proofs.Borrowing.{again_from, assignment_from, first_from}
-use Rattle.toml_span.proofs.Assignments.{none-left, places-one, val_span, remains-first, placing-more, placing-err, placing-none, table-gives, table-err}
+use Rattle.toml_span.proofs.Assignments.{none-left, inner-none, places-one, val_span, remains-first, placing-more, placing-err, placing-none, table-gives, table-err}
 use Rattle.toml_span.proofs.Values.{elements-first, elements-more, elements-err, elements-none, string-gives, integer-gives, float-gives, boolean-gives, datetime-gives, array-gives, array-err, inline-gives, inline-err}
 use Rattle.toml_span.proofs.scopes.+value_of.Goals as goal
 use Rattle.toml_span.proofs.scopes.+value_of.Goals.{value_of-in-String, value_of-in-Integer, value_of-in-Float, value_of-in-Boolean, value_of-in-Datetime, value_of-in-Array+in_ok-array_of-in-Array, value_of-in-Inline+in_ok-table_of-in-Inline}
@@ -53,7 +53,12 @@ array_of-returns-clause-gives t c = elements-none _ _ c.loop-element.array (none
 pub place_one-returns-clause-gives : goal.place_one-returns-clause-gives
 place_one-returns-clause-gives t c =
     places-one c.args.pair c.as_slice.result.now c.args.node.now c.place_pair.new.node c.place_pair.result c.as_slice.ensures.value
-    (c.place_pair.ensures.gives (view c.args.pair.value) c.value_of-value.ensures.gives (val_span c.args.pair.value))
+    (c.place_pair.ensures.gives _ (view c.args.pair.value) refl c.value_of-value.ensures.gives (val_span c.args.pair.value))
+
+pub place_one-returns-then-is_empty-clause-gives : goal.place_one-returns-then-is_empty-clause-gives
+place_one-returns-then-is_empty-clause-gives t c =
+    places-one c.args.pair [] c.args.node.now c.assign.new.node c.assign.result (inner-none c.args.pair c.if-is_empty.ensures)
+    (c.assign.ensures.gives (view c.args.pair.value) c.value_of-value.ensures.gives (val_span c.args.pair.value))
 
 pub place_pairs-loop-pair-init : goal.place_pairs-loop-pair-init
 place_pairs-loop-pair-init t c = record {
@@ -136,7 +141,12 @@ array_of-returns-clause-borrows t c = λ text ps h. (c.loop-element.invariant.bo
 pub place_one-returns-clause-borrows : goal.place_one-returns-clause-borrows
 place_one-returns-clause-borrows t c = λ text ps h.
     let from = assignment_from text ps c.args.pair h in
-    c.place_pair.ensures.borrows text ps (rw c.as_slice.ensures.value from.0) from.1 (c.value_of-value.ensures.borrows text ps from.2)
+    c.place_pair.ensures.borrows text ps _ refl (rw c.as_slice.ensures.value from.0) from.1 (c.value_of-value.ensures.borrows text ps from.2)
+
+pub place_one-returns-then-is_empty-clause-borrows : goal.place_one-returns-then-is_empty-clause-borrows
+place_one-returns-then-is_empty-clause-borrows t c = λ text ps h.
+    let from = assignment_from text ps c.args.pair h in
+    c.assign.ensures.borrows text ps from.1 (c.value_of-value.ensures.borrows text ps from.2)
 
 pub place_pairs-returns-clause-borrows : goal.place_pairs-returns-clause-borrows
 place_pairs-returns-clause-borrows t c = λ text ps h node. (c.loop-pair.invariant.borrows text ps h node).1

@@ -1,25 +1,23 @@
-use Rattle.std.proofs.Common.{BTreeMap, arith, ◌≡◌, ◌-◌, ◌<◌, length, vec_len, ◌∙◌, [], ap, map, refl, rules, subst, sym}
-use Rattle.std.specs.BTreeMap.{insert_entry}
+use Rattle.std.proofs.Common.{BTreeMap, arith, ◌≡◌, ◌-◌, ◌<◌, length, vec_len, ◌∙◌, [], ap, map, refl, rules, sym}
+use Rattle.std.specs.Prelude.{⊤}
 use Rattle.std.specs.BTreeMap.Entry.{map_with_value}
 use Rattle.std.proofs.lemmas.Bool.{false≢true}
 use Rattle.std.specs.Global.{Box}
 use Rattle.std.specs.declared.collections.btree_map.Entry.{Entry}
 use Rattle.toml_span_lex.specs.declared.key.Key.{Key}
-use Rattle.toml_span_read.proofs.EarlierTree.{key_cmp}
 use Rattle.toml_span_read.specs.Data.{key_value}
 use Rattle.toml_span_read.specs.Keys.{simple_key}
 use Rattle.toml_span.specs.declared.claims.Sort.TheVariants.{Passed}
 use Rattle.toml_span.specs.declared.branch.Branch.{Branch}
 use Rattle.toml_span.specs.declared.branch.Branch.TheViews.{out-Branch}
 use Rattle.toml_span.specs.Claims.{key_value_claims, header_mark}
-use Rattle.toml_span.specs.code.Borrowed.{standing}
-use Rattle.toml_span.specs.code.Tree.{entries, IsFresh}
+use Rattle.toml_span.specs.code.Tree.{entries}
 use Rattle.toml_span.proofs.Claimed.{marked-roll}
 use Rattle.toml_span.proofs.Placed.{roll-out}
-use Rattle.toml_span.proofs.Headers.{descended, descended-err, no-latest, parts-below, parts-front, parts-none, parts-some, pass-again, pass-end, pass-lent, pass-vec, section-beside, section-end, section-found, section-free, section-new, section-new-err}
+use Rattle.toml_span.proofs.Headers.{descended, descended-err, no-latest, parts-below, parts-front, parts-none, parts-some, pass-again, pass-end, pass-lent, pass-vec, section-beside, section-end, section-found, section-free, section-fresh}
 use Rattle.toml_span.proofs.Borrowing.{front_from, keeps_entered, keeps_entry, keeps_marked, keeps_new, keeps_same}
 use Rattle.toml_span.proofs.Placed.{err-of, sets-new}
-use Rattle.toml_span.proofs.Named.{looked}
+use Rattle.toml_span.proofs.Named.{looked, told}
 use Rattle.toml_span.proofs.sections.+place_section.Goals as goal
 
 pub descend-returns-in_err-claim-clause-gives : goal.descend-returns-in_err-claim-clause-gives
@@ -53,28 +51,6 @@ place_section-returns-in_default-clause-gives t c =
     section-end c.args.head (key_value_claims (map key_value c.args.pairs.items) []) (map simple_key c.args.parts.now) c.args.node.now c.place_all.new.node c.place_all.result
     (parts-below c.args.parts.now c.in_default.len_below) c.place_all.ensures.gives
 
-pub place_section-returns-in_err-admit_beside_value-in-Vacant-clause-gives : goal.place_section-returns-in_err-admit_beside_value-in-Vacant-clause-gives
-place_section-returns-in_err-admit_beside_value-in-Vacant-clause-gives t c =
-    let n = out-Branch c.args.node.now in
-    let front = parts-front c.args.parts.now c.part-item.result _ c.in-len1-up.len_at_least c.part-item.is in
-    let missing = looked (simple_key c.part-item.result).name c.in_ok-clone.field-0 n.tables _ c.in_ok-clone.ensures.name (rw c.in-Vacant.is at c.in_ok-entry.ensures.found) in
-    let clash = rw (c.header_mark-mark.ensures, c.sort_of.ensures) at c.in_err-admit_beside_value-in-Vacant.ensures in
-    let q = c.from_residual-in_err-admit_beside_value-in-Vacant in
-    let e = c.in_err-admit_beside_value-in-Vacant.field-0.0 in
-    rw front (section-beside c.args.head (simple_key c.part-item.result) (key_value_claims (map key_value c.args.pairs.items) []) _ c.args.node.now _ q.result e _ _ missing (err-of q.result e _ q.ensures.1 (λ y p. p)) clash)
-
-pub place_section-returns-in_err-pass_child-in-Vacant-clause-gives : goal.place_section-returns-in_err-pass_child-in-Vacant-clause-gives
-place_section-returns-in_err-pass_child-in-Vacant-clause-gives t c =
-    let n = out-Branch c.args.node.now in
-    let front = parts-front c.args.parts.now c.part-item.result _ c.in-len1-up.len_at_least c.part-item.is in
-    let missing = looked (simple_key c.part-item.result).name c.in_ok-clone.field-0 n.tables _ c.in_ok-clone.ensures.name (rw c.in-Vacant.is at c.in_ok-entry.ensures.found) in
-    let free = rw (c.header_mark-mark.ensures, c.sort_of.ensures) at c.in_ok-admit_beside_value-in-Vacant.ensures in
-    let q = c.from_residual-in_err-pass_child-in-Vacant in
-    let e = c.in_err-pass_child-in-Vacant.field-0.0 in
-    rw front
-    (section-new-err c.args.head (simple_key c.part-item.result) (key_value_claims (map key_value c.args.pairs.items) []) _ c.args.node.now _ c.in_ok-child-in-Vacant.child.value c.pass_child-in-Vacant.new.child.value c.pass_child-in-Vacant.result q.result e _ missing
-    (section-free c.args.head (simple_key c.part-item.result) (key_value_claims (map key_value c.args.pairs.items) []) _ c.args.node.now free.0) (subst IsFresh (sym c.in_ok-child-in-Vacant.ensures.ok) c.new.ensures.fresh) c.in_err-pass_child-in-Vacant.was (err-of q.result e _ q.ensures.1 (λ y p. p)) c.pass_child-in-Vacant.ensures.gives)
-
 pub place_section-returns-in-Occupied-clause-gives : goal.place_section-returns-in-Occupied-clause-gives
 place_section-returns-in-Occupied-clause-gives t c =
     let n = out-Branch c.args.node.now in
@@ -91,21 +67,31 @@ place_section-returns-in-Occupied-clause-gives t c =
     (ap (λ (m : BTreeMap Key (Box Branch)). m.entries) is ∙ update.1 box)) c.pass_child.ensures.gives in
     rw front (places _ (search (rules, same)))
 
-pub place_section-returns-in_ok-pass_child-in-Vacant-clause-gives : goal.place_section-returns-in_ok-pass_child-in-Vacant-clause-gives
-place_section-returns-in_ok-pass_child-in-Vacant-clause-gives t c =
+pub place_section-returns-in_err-child-in-Vacant-clause-gives : goal.place_section-returns-in_err-child-in-Vacant-clause-gives
+place_section-returns-in_err-child-in-Vacant-clause-gives t c =
     let n = out-Branch c.args.node.now in
     let front = parts-front c.args.parts.now c.part-item.result _ c.in-len1-up.len_at_least c.part-item.is in
     let missing = looked (simple_key c.part-item.result).name c.in_ok-clone.field-0 n.tables _ c.in_ok-clone.ensures.name (rw c.in-Vacant.is at c.in_ok-entry.ensures.found) in
-    let free = rw (c.header_mark-mark.ensures, c.sort_of.ensures) at c.in_ok-admit_beside_value-in-Vacant.ensures in
+    let q = c.from_residual-in_err-child-in-Vacant in
+    let e = c.in_err-child-in-Vacant.field-0.0 in
+    let clash = rw (c.header_mark-mark.ensures, c.sort_of.ensures) at (told {B = Unit {0}} e _ _ (λ u. ⊤) c.in_err-child-in-Vacant.ensures) in
+    rw front (section-beside c.args.head (simple_key c.part-item.result) (key_value_claims (map key_value c.args.pairs.items) []) _ c.args.node.now _ q.result e (λ u. ⊤) _ missing (err-of q.result e _ q.ensures.1 (λ y p. p)) clash)
+
+pub place_section-returns-in_ok-child-in-Vacant-clause-gives : goal.place_section-returns-in_ok-child-in-Vacant-clause-gives
+place_section-returns-in_ok-child-in-Vacant-clause-gives t c =
+    let n = out-Branch c.args.node.now in
+    let front = parts-front c.args.parts.now c.part-item.result _ c.in-len1-up.len_at_least c.part-item.is in
+    let missing = looked (simple_key c.part-item.result).name c.in_ok-clone.field-0 n.tables _ c.in_ok-clone.ensures.name (rw c.in-Vacant.is at c.in_ok-entry.ensures.found) in
+    let fresh = rw (c.header_mark-mark.ensures, c.sort_of.ensures) at c.in_ok-child-in-Vacant.ensures in
     let clone = c.in_ok-clone in
     let update = rw c.in-Vacant.is at c.in_ok-entry.ensures.update in
     let same = rw c.in-Vacant.is at c.in_ok-entry.ensures.same_map in
     let box = c.pass_child-in-Vacant.new.child in
-    let written = update.1 c.insert.result.now ∙ ap (insert_entry key_cmp n.tables.entries clone.field-0) c.insert.ensures.value in
-    let places = λ (tables : BTreeMap Key (Box Branch)) (is : tables ≡ map_with_value (Entry.Vacant c.in-Vacant.entry) c.insert.result.now).
-    section-new c.args.head (simple_key c.part-item.result) (key_value_claims (map key_value c.args.pairs.items) []) _ c.args.node.now _ c.in_ok-child-in-Vacant.child.value box.value missing (section-free c.args.head (simple_key c.part-item.result) (key_value_claims (map key_value c.args.pairs.items) []) _ c.args.node.now free.0) (subst IsFresh (sym c.in_ok-child-in-Vacant.ensures.ok) c.new.ensures.fresh)
+    let places = λ (tables : BTreeMap Key (Box Branch)) (is : tables ≡ map_with_value (Entry.Vacant c.in-Vacant.entry) box).
+    section-fresh c.args.head (simple_key c.part-item.result) (key_value_claims (map key_value c.args.pairs.items) []) _ c.args.node.now _ c.insert.result.now.value box.value c.pass_child-in-Vacant.result missing
+    (section-free c.args.head (simple_key c.part-item.result) (key_value_claims (map key_value c.args.pairs.items) []) _ c.args.node.now fresh.0) (rw c.insert.ensures.value fresh.1.0)
     (sets-new c.args.node.now (record { marks = n.marks; values = n.values; tables = tables; entries = n.entries }) (simple_key c.part-item.result).name clone.field-0 box clone.ensures.name refl refl refl
-    (ap (λ (m : BTreeMap Key (Box Branch)). m.entries) is ∙ written)) c.in_ok-pass_child-in-Vacant.ensures.gives in
+    (ap (λ (m : BTreeMap Key (Box Branch)). m.entries) is ∙ update.1 box)) c.pass_child-in-Vacant.ensures.gives in
     rw front (places _ (search (rules, same)))
 
 pub pass_child-returns-clause-gives : goal.pass_child-returns-clause-gives
@@ -155,17 +141,16 @@ place_section-returns-in-Occupied-clause-borrows t c = λ text ps parts pairs.
     (c.pass_child.ensures.borrows text ps front.0 front.1 pairs) in
     keeps _ (search (rules, same))
 
-pub place_section-returns-in_ok-pass_child-in-Vacant-clause-borrows : goal.place_section-returns-in_ok-pass_child-in-Vacant-clause-borrows
-place_section-returns-in_ok-pass_child-in-Vacant-clause-borrows t c = λ text ps parts pairs before.
+pub place_section-returns-in_ok-child-in-Vacant-clause-borrows : goal.place_section-returns-in_ok-child-in-Vacant-clause-borrows
+place_section-returns-in_ok-child-in-Vacant-clause-borrows t c = λ text ps parts pairs.
     let n = out-Branch c.args.node.now in
     let front = front_from text ps c.args.parts.now c.part-item.result _ c.in-len1-up.len_at_least c.part-item.is parts in
     let clone = c.in_ok-clone in
     let update = rw c.in-Vacant.is at c.in_ok-entry.ensures.update in
     let same = rw c.in-Vacant.is at c.in_ok-entry.ensures.same_map in
     let box = c.pass_child-in-Vacant.new.child in
-    let written = update.1 c.insert.result.now ∙ ap (insert_entry key_cmp n.tables.entries clone.field-0) c.insert.ensures.value in
-    let keeps = λ (tables : BTreeMap Key (Box Branch)) (is : tables ≡ map_with_value (Entry.Vacant c.in-Vacant.entry) c.insert.result.now).
-    keeps_new text ps c.args.node.now (record { marks = n.marks; values = n.values; tables = tables; entries = n.entries }) c.part-item.result clone.field-0 c.in_ok-child-in-Vacant.child.value box.value box
-    (ap standing c.in_ok-child-in-Vacant.ensures.ok ∙ c.new.ensures.bare) clone.ensures.name clone.ensures.borrowed clone.ensures.owned refl refl refl (ap (λ (m : BTreeMap Key (Box Branch)). m.entries) is ∙ written)
-    front.0 (c.in_ok-pass_child-in-Vacant.ensures.borrows text ps front.0 front.1 pairs) before in
+    let keeps = λ (tables : BTreeMap Key (Box Branch)) (is : tables ≡ map_with_value (Entry.Vacant c.in-Vacant.entry) box).
+    keeps_new text ps c.args.node.now (record { marks = n.marks; values = n.values; tables = tables; entries = n.entries }) c.part-item.result clone.field-0 c.insert.result.now.value box c.pass_child-in-Vacant.result
+    (rw c.insert.ensures.value c.in_ok-child-in-Vacant.ensures.1.1) clone.ensures.name clone.ensures.borrowed clone.ensures.owned refl refl (ap (λ (m : BTreeMap Key (Box Branch)). m.entries) is ∙ update.1 box)
+    front.0 (c.pass_child-in-Vacant.ensures.borrows text ps front.0 front.1 pairs) in
     keeps _ (search (rules, same))

@@ -1,6 +1,6 @@
 use Rattle.std.proofs.Common.{ℕ, List, subst}
 use Rattle.std.specs.Prelude.{string_bytes}
-use Rattle.toml_span_report.specs.Report.{IsReport}
+use Rattle.toml_span_report.specs.Errors.{IsReport}
 use Rattle.toml_span_report.specs.declared.colours.Style.TheVariants.{Plain}
 use Rattle.toml_span_tree.specs.Error.{content_of}
 use Rattle.toml_span_c.specs.Calls.{Fills}

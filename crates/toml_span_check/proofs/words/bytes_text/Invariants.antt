@@ -1,0 +1,7 @@
+use Rattle.std.proofs.Common.{◌≡◌, take, string_bytes}
+use Rattle.std.specs.List.{flat_map}
+use Rattle.toml_span_check.specs.Words.{byte_text}
+use Rattle.toml_span_check.proofs.words.bytes_text.Given as goal
+
+abbrev pub invariant-loop-byte : goal.invariant-loop-byte
+invariant-loop-byte l = string_bytes l.text ≡ flat_map byte_text (take l.byte-index l.word)

@@ -1,0 +1,159 @@
+//! Keys and strings as they are written.
+ghost use Rattle.std.specs.Prelude.{◌≡◌, ◌<◌, ◌++◌, IfOk, OnOk, string_bytes, encode_utf8};
+ghost use Rattle.std.specs.Char.{digit_char};
+ghost use Rattle.std.specs.List.{list_all, list_any};
+ghost use Rattle.toml_span_lex.specs.Bytes.{is_keylike as is_keylike_byte};
+ghost use Rattle.toml_span_places.specs.Quoted as spec;
+
+use std::alloc::{AllocError, Global};
+use toml_span_lex::bytes::is_keylike;
+
+/// The letter behind the backslash of a character's escape, where it has one (TOML 1.1, String).
+fn letter_of(c: char) -> Option<char>
+    ensures { result ≡ spec.letter_of c }
+{
+    match c {
+        '"' | '\\' => Some(c),
+        '\u{8}' => Some('b'),
+        '\n' => Some('n'),
+        '\u{c}' => Some('f'),
+        '\r' => Some('r'),
+        '\u{1b}' => Some('e'),
+        _ => None,
+    }
+}
+
+/// A control character other than a tab.
+fn is_control(c: char) -> bool
+    ensures { result ≡ spec.is_control c }
+{
+    (c < ' ' && c != '\t') || c == '\u{7f}'
+}
+
+/// Adds a digit in base 16.
+fn push_digit(out: &mut String, digit: u32) -> Result<(), AllocError>
+    requires { digit < 16 }
+    ensures { OnOk result (string_bytes out.new ≡ string_bytes out.old ++ encode_utf8 (digit_char digit)) }
+{
+    out.push(char::from_digit(digit, 16).unwrap_or('0'))
+}
+
+/// Adds the two digits of a character's number.
+fn push_number(out: &mut String, c: char) -> Result<(), AllocError>
+    requires { c < 256 }
+    ensures { OnOk result (string_bytes out.new ≡ string_bytes out.old ++ spec.number_escape c) }
+{
+    out.push_str("\\x")?;
+    push_digit(out, c as u32 / 16)?;
+    push_digit(out, c as u32 % 16)
+}
+
+/// Adds a letter behind a backslash.
+fn push_letter(out: &mut String, letter: char) -> Result<(), AllocError>
+    ensures { OnOk result (string_bytes out.new ≡ string_bytes out.old ++ spec.letter_escape letter) }
+{
+    out.push('\\')?;
+    out.push(letter)
+}
+
+/// Adds a character as it stands between quotation marks.
+fn push_char(out: &mut String, c: char) -> Result<(), AllocError>
+    ensures { OnOk result (string_bytes out.new ≡ string_bytes out.old ++ spec.basic_char c) }
+{
+    match letter_of(c) {
+        Some(letter) => push_letter(out, letter),
+        None if is_control(c) => push_number(out, c),
+        None => out.push(c),
+    }
+}
+
+/// Adds a text as it stands between quotation marks.
+fn push_basic(out: &mut String, text: &str) -> Result<(), AllocError>
+    ensures { OnOk result (string_bytes out.new ≡ string_bytes out.old ++ spec.basic text.now) }
+{
+    for c in text.chars() {
+        push_char(out, c)?;
+    }
+    Ok(())
+}
+
+/// Whether a byte can't stand between quotation marks as it is.
+fn is_escaped(byte: u8) -> bool
+    ensures { result ≡ spec.is_escaped byte }
+{
+    byte == b'"' || byte == b'\\'
+}
+
+/// Whether a byte can't stand between apostrophes.
+fn is_unliteral(byte: u8) -> bool
+    ensures { result ≡ spec.is_unliteral byte }
+{
+    byte == b'\'' || (byte < b' ' && byte != b'\t') || byte == 0x7f
+}
+
+fn has_escaped(bytes: &[u8]) -> bool
+    ensures { result ≡ list_any spec.is_escaped bytes.now }
+{
+    bytes.iter().any(|byte| is_escaped(*byte))
+}
+
+fn has_unliteral(bytes: &[u8]) -> bool
+    ensures { result ≡ list_any spec.is_unliteral bytes.now }
+{
+    bytes.iter().any(|byte| is_unliteral(*byte))
+}
+
+/// Whether a text is shorter between apostrophes.
+fn is_literal(text: &str) -> bool
+    ensures { result ≡ spec.is_literal text.now }
+{
+    has_escaped(text.as_bytes()) && !has_unliteral(text.as_bytes())
+}
+
+/// The shortest spelling of a string on one line: between quotation marks with the escapes that it needs, or between
+/// apostrophes, where that is shorter and can be.
+///
+/// `basic-string = quotation-mark *basic-char quotation-mark`,
+/// `literal-string = apostrophe *literal-char apostrophe` (TOML 1.1, String)
+pub fn quote_string(alloc: Global, text: &str) -> Result<String, AllocError>
+    ensures { IfOk result (λ out. string_bytes out ≡ spec.quoted text.now) }
+{
+    let mut out = String::new(alloc);
+    if is_literal(text) {
+        out.push_str("'")?;
+        out.push_str(text)?;
+        out.push_str("'")?;
+    } else {
+        out.push_str("\"")?;
+        push_basic(&mut out, text)?;
+        out.push_str("\"")?;
+    }
+    Ok(out)
+}
+
+fn all_keylike(bytes: &[u8]) -> bool
+    ensures { result ≡ list_all is_keylike_byte bytes.now }
+{
+    bytes.iter().all(|byte| is_keylike(*byte))
+}
+
+/// Whether a name can be written without quotes.
+fn is_bare(name: &str) -> bool
+    ensures { result ≡ spec.is_bare name.now }
+{
+    !name.is_empty() && all_keylike(name.as_bytes())
+}
+
+/// The shortest spelling of a key: as it is where letters, digits, dashes and underscores alone are in it, or as a
+/// string.
+///
+/// `simple-key = quoted-key / unquoted-key` (TOML 1.1, Keys)
+pub fn quote_key(alloc: Global, name: &str) -> Result<String, AllocError>
+    ensures { IfOk result (λ out. string_bytes out ≡ spec.key_text name.now) }
+{
+    if is_bare(name) {
+        String::from_str(alloc, name)
+    } else {
+        quote_string(alloc, name)
+    }
+}

@@ -1,7 +1,0 @@
-use Rattle.std.proofs.Common.{◌≡◌, map, drop}
-use Rattle.toml_span_report.specs.Report.{first_primary}
-use Rattle.toml_span_report.specs.Strips.{marked_line_of}
-use Rattle.toml_span_report.proofs.report.main_strip.Given as goal
-
-abbrev pub invariant-loop-strip : goal.invariant-loop-strip
-invariant-loop-strip l = first_primary (map marked_line_of (drop l.strip-index l.strips)) ≡ first_primary (map marked_line_of l.strips)

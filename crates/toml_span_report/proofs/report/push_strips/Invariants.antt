@@ -1,9 +1,0 @@
-use Rattle.std.proofs.Common.{◌≡◌, ◌++◌, map, drop, None, string_bytes}
-use Rattle.toml_span_report.specs.Report.{drawn}
-use Rattle.toml_span_report.specs.Strips.{marked_line_of}
-use Rattle.toml_span_report.proofs.report.push_strips.Given as goal
-
-abbrev pub invariant-loop-i : goal.invariant-loop-i
-invariant-loop-i l =
-    string_bytes l.out ++ drawn l.frame.style l.frame.width l.above (map marked_line_of (drop l.i l.strips))
-    ≡ string_bytes l.fn.out ++ drawn l.frame.style l.frame.width None (map marked_line_of l.strips)

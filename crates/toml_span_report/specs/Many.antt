@@ -1,0 +1,70 @@
+-- The text of many reports.
+use Rattle.std.specs.Prelude.{◌≡◌, ℕ, zero, suc, Bool, true, false, ◌==◌, List, [], ◌∷◌, ◌++◌, map, codes}
+use Rattle.std.specs.Prelude.{if◌then◌else◌, Option, Some, None, string_bytes}
+use Rattle.std.specs.Fmt.{decimal}
+use Rattle.std.specs.List.{count_by, flat_map}
+use Rattle.std.specs.List.Sorted.{IsNonDecreasingBy, IsStableByKey}
+use Rattle.std.specs.Ordering.{nat_cmp}
+use Rattle.toml_span_report.specs.Rendering.{before, drawn_report, main_part, word}
+use Rattle.toml_span_report.specs.Report.{ReportContent}
+use Rattle.toml_span_report.specs.Strips.{MarkedLine, all_marked_lines}
+use Rattle.toml_span_report.specs.declared.colours.Style.{Style}
+use Rattle.toml_span_report.specs.declared.many.Drawn.{Drawn}
+use Rattle.toml_span_report.specs.declared.report.Severity.{Severity}
+use Rattle.toml_span_report.specs.declared.report.Severity.TheVariants.{Error, Warning, Note}
+
+-- the offset at which a report stands, which is 0 without labels, and its text
+abbrev pub place_of : Option MarkedLine → ℕ
+place_of None = 0
+place_of (Some p) = p.at
+
+abbrev pub drawn : Style → List ℕ → List ℕ → ReportContent → ℕ × List ℕ
+drawn style name text r =
+    let parts = all_marked_lines text r.labels in (place_of (main_part parts), drawn_report style r name parts)
+
+abbrev pub drawn_content : Drawn → ℕ × List ℕ
+drawn_content d = (d.at, string_bytes d.text)
+
+-- No place stands behind a later one, and those of one place are the same, in the same order.
+pub record AreInOrder (given ordered : List (ℕ × List ℕ)) : Type 0 where
+  pub places : IsNonDecreasingBy (λ d. d.0) ordered
+  pub same : IsStableByKey (λ d. d.0) nat_cmp given ordered
+
+abbrev pub with_blank_line : ℕ × List ℕ → List ℕ
+with_blank_line d = d.1 ++ codes "\n"
+
+-- ---- the last line
+
+abbrev pub is_same : Severity → Severity → Bool
+is_same Error Error = true
+is_same Warning Warning = true
+is_same Note Note = true
+is_same _ _ = false
+
+abbrev pub is_of : Severity → ReportContent → Bool
+is_of severity r = is_same severity r.severity
+
+-- a line with one more count, behind a comma where something stands before it, or as it is where the count is 0
+abbrev pub comma : List ℕ → List ℕ
+comma [] = []
+comma (x ∷ xs) = codes ", "
+
+abbrev pub plural : ℕ → List ℕ
+plural n = if n == 1 then [] else codes "s"
+
+abbrev pub with_count : List ℕ → ℕ → List ℕ → List ℕ
+with_count line zero word = line
+with_count line (suc n) word = line ++ comma line ++ decimal (suc n) ++ codes " " ++ word ++ plural (suc n)
+
+abbrev pub total : List ReportContent → List ℕ
+total rs =
+    with_count (with_count (with_count [] (count_by (is_of Error) rs) (word Error))
+    (count_by (is_of Warning) rs) (word Warning)) (count_by (is_of Note) rs) (word Note)
+
+abbrev pub joined : List (ℕ × List ℕ) → List ReportContent → List ℕ
+joined ordered rs = flat_map with_blank_line ordered ++ before (codes "\n") (total rs)
+
+-- the texts of reports in the order of their places, a blank line behind each, and how many there are
+abbrev pub AreReportTexts : Style → List ℕ → List ℕ → List ReportContent → List ℕ → Type 0
+AreReportTexts style name text rs out =
+    (ordered : List (ℕ × List ℕ)) × AreInOrder (map (drawn style name text) rs) ordered × (out ≡ joined ordered rs)

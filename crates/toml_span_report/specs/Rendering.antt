@@ -1,0 +1,177 @@
+-- The text of a report.
+use Rattle.std.specs.Prelude.{ℕ, ◌-◌, max, Bool, true, false, nat_lt, nat_le, List, [], ◌∷◌, ◌++◌, codes, length}
+use Rattle.std.specs.Prelude.{Option, Some, None, if◌then◌else◌, replicate, take}
+use Rattle.std.specs.Fmt.{decimal}
+use Rattle.std.specs.List.{fold, flat_map}
+use Rattle.toml_span_report.specs.Characters.{shown, columns}
+use Rattle.toml_span_report.specs.Colours.{painted}
+use Rattle.toml_span_report.specs.Places.{place}
+use Rattle.toml_span_report.specs.Report.{ReportContent}
+use Rattle.toml_span_report.specs.declared.report.Severity.{Severity}
+use Rattle.toml_span_report.specs.declared.report.Severity.TheVariants.{Error, Warning, Note}
+use Rattle.toml_span_report.specs.Strips.{MarkedLine, all_marked_lines, is_near, window_of, seen_in}
+use Rattle.toml_span_report.specs.declared.colours.Ink.{Ink}
+use Rattle.toml_span_report.specs.declared.colours.Ink.TheVariants.{Red, Yellow, Green, Blue, Bold}
+use Rattle.toml_span_report.specs.declared.colours.Style.{Style}
+use Rattle.toml_span_report.specs.declared.strips.Window.{Window}
+
+-- a text that is not empty, behind something
+abbrev pub behind : List ℕ → List ℕ → List ℕ
+behind sign [] = []
+behind sign (x ∷ xs) = sign ++ x ∷ xs
+
+-- a text is cut where dots stand
+abbrev pub dots : Bool → List ℕ
+dots true = codes "..."
+dots false = []
+
+-- a code, a message or a name as it is shown, cut behind 1,000 bytes
+unfoldable pub told : List ℕ → List ℕ
+told text = let end = place text 1000 in shown (take end text) ++ dots (nat_lt end (length text))
+
+-- how a report begins, and the colour of that
+abbrev pub word : Severity → List ℕ
+word Error = codes "error"
+word Warning = codes "warning"
+word Note = codes "note"
+
+abbrev pub ink_of : Severity → Ink
+ink_of Error = Red
+ink_of Warning = Yellow
+ink_of Note = Green
+
+-- a code in brackets, or nothing
+abbrev pub in_brackets : List ℕ → List ℕ
+in_brackets [] = []
+in_brackets (x ∷ xs) = codes "[" ++ (x ∷ xs) ++ codes "]"
+
+-- `error[code]: message`
+abbrev pub headline : Style → ReportContent → List ℕ
+headline style r =
+    painted style (ink_of r.severity) (word r.severity ++ in_brackets (told r.code))
+    ++ painted style Bold (behind (codes ": ") (told r.message)) ++ codes "\n"
+
+-- the first line that a primary label marks
+abbrev pub first_primary : List MarkedLine → Option MarkedLine
+first_primary [] = None
+first_primary (p ∷ ps) = if p.is_primary then Some p else first_primary ps
+
+abbrev pub first_of : List MarkedLine → Option MarkedLine
+first_of [] = None
+first_of (p ∷ ps) = Some p
+
+abbrev pub or_else : Option MarkedLine → Option MarkedLine → Option MarkedLine
+or_else (Some p) other = Some p
+or_else None other = other
+
+abbrev pub main_part : List MarkedLine → Option MarkedLine
+main_part parts = or_else (first_primary parts) (first_of parts)
+
+-- `:line:column`, both counted from 1
+abbrev pub place_told : Option MarkedLine → List ℕ
+place_told None = []
+place_told (Some p) = codes ":" ++ decimal p.number ++ codes ":" ++ decimal p.column
+
+-- the columns that the greatest of the line numbers takes
+abbrev pub greatest : List MarkedLine → ℕ
+greatest parts = fold (λ n p. max p.number n) 0 parts
+
+abbrev pub width_of : List MarkedLine → ℕ
+width_of parts = length (decimal (greatest parts))
+
+-- what stands to the left of a line, and a bar
+abbrev pub gutter : Style → ℕ → List ℕ → List ℕ
+gutter style width number = painted style Blue (replicate (width - length number) 32 ++ number ++ codes " |")
+
+-- what is shown of the line
+abbrev pub source : MarkedLine → List ℕ
+source p = dots p.is_cut_before ++ shown p.before ++ shown p.marked ++ shown p.behind ++ dots p.is_cut_behind
+
+abbrev pub source_line : Style → ℕ → MarkedLine → List ℕ
+source_line style width p = gutter style width (decimal p.number) ++ behind (codes " ") (source p) ++ codes "\n"
+
+-- the marks under it, as many as the marked text takes columns, and one at least; and the message
+abbrev pub sign : Bool → ℕ
+sign true = 94
+sign false = 45
+
+abbrev pub marks : MarkedLine → List ℕ
+marks p = replicate (columns (dots p.is_cut_before ++ shown p.before)) 32
+    ++ replicate (max (columns (shown p.marked)) 1) (sign p.is_primary)
+
+abbrev pub ink : Severity → Bool → Ink
+ink severity true = ink_of severity
+ink severity false = Blue
+
+abbrev pub marks_line : Style → Severity → ℕ → MarkedLine → List ℕ
+marks_line style severity width p =
+    gutter style width [] ++ codes " "
+    ++ painted style (ink severity p.is_primary) (marks p ++ behind (codes " ") (told p.message)) ++ codes "\n"
+
+-- The first line has a bar above it. A line is not shown again where the window above shows the part, and dots stand
+-- for lines between.
+abbrev pub opening : Style → ℕ → Option Window → MarkedLine → List ℕ
+opening style width None p = gutter style width [] ++ codes "\n" ++ source_line style width p
+opening style width (Some above) p =
+    if is_near above p then []
+    else if nat_le (p.number - above.number) 1 then source_line style width p
+    else codes "...\n" ++ source_line style width p
+
+abbrev pub drawn : Style → Severity → ℕ → Option Window → List MarkedLine → List ℕ
+drawn style severity width above [] = []
+drawn style severity width above (p ∷ ps) =
+    let window = window_of above p ps in
+    opening style width above (seen_in window p) ++ marks_line style severity width (seen_in window p)
+    ++ drawn style severity width (Some window) ps
+
+-- the notes and the help below the lines, with a bar above them
+abbrev pub bar : Style → ℕ → List ℕ
+bar style width = gutter style width [] ++ codes "\n"
+
+abbrev pub bar_above : Style → ℕ → List (List ℕ) → List ℕ
+bar_above style width [] = []
+bar_above style width (text ∷ texts) = bar style width
+
+abbrev pub remark : Style → ℕ → List ℕ → List ℕ → List ℕ
+remark style width title text =
+    painted style Blue (replicate width 32 ++ codes " = ") ++ painted style Bold title ++ told text ++ codes "\n"
+
+abbrev pub remarks : Style → ℕ → ReportContent → List ℕ
+remarks style width r =
+    bar_above style width (r.notes ++ r.help) ++ flat_map (remark style width (codes "note: ")) r.notes
+    ++ flat_map (remark style width (codes "help: ")) r.help
+
+-- the headline and the place of the report
+abbrev pub front : Style → ReportContent → List ℕ → List MarkedLine → List ℕ
+front style r name parts =
+    headline style r
+    ++ painted style Blue (replicate (width_of parts) 32 ++ codes "--> ") ++ told name
+    ++ place_told (main_part parts) ++ codes "\n"
+
+-- The whole text: these, the lines of the labels with what they say, and notes and help where there are any.
+abbrev pub drawn_report : Style → ReportContent → List ℕ → List MarkedLine → List ℕ
+drawn_report style r name parts =
+    front style r name parts ++ drawn style r.severity (width_of parts) None parts ++ remarks style (width_of parts) r
+
+abbrev pub report_text : Style → ReportContent → List ℕ → List ℕ → List ℕ
+report_text style r name text = drawn_report style r name (all_marked_lines text r.labels)
+
+-- a text that is not empty, before something
+abbrev pub before : List ℕ → List ℕ → List ℕ
+before sign [] = []
+before sign (x ∷ xs) = (x ∷ xs) ++ sign
+
+-- An error has no word of its own in a line.
+abbrev pub grade : Severity → List ℕ
+grade Error = []
+grade Warning = codes "warning: "
+grade Note = codes "note: "
+
+-- one line: `name:line:column: code: message`, with `warning: ` or `note: ` before the code
+abbrev pub brief : ReportContent → List ℕ → List MarkedLine → List ℕ
+brief r name parts =
+    told name ++ place_told (main_part parts) ++ codes ": " ++ grade r.severity
+    ++ before (codes ": ") (told r.code) ++ told r.message ++ codes "\n"
+
+abbrev pub report_line : ReportContent → List ℕ → List ℕ → List ℕ
+report_line r name text = brief r name (all_marked_lines text r.labels)

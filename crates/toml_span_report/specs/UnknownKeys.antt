@@ -1,0 +1,40 @@
+-- What is told of keys that no field has.
+use Rattle.std.specs.Prelude.{ℕ, List, [], ◌∷◌, ◌++◌, ◌==◌, codes, length, if◌then◌else◌, Option}
+use Rattle.std.specs.List.{flat_map, join_by}
+use Rattle.std.specs.Option.{option_map, option_to_list}
+use Rattle.toml_span_lex.specs.declared.span.Span.{Span}
+use Rattle.toml_span_tree.specs.Diagnostic.{primary}
+use Rattle.toml_span_report.specs.Names.{nearest}
+use Rattle.toml_span_report.specs.Report.{Place}
+
+abbrev pub named : List ℕ → List ℕ
+named name = codes "`" ++ name ++ codes "`"
+
+abbrev pub listed : List (List ℕ) → List ℕ
+listed names = join_by named (codes ", ") names
+
+-- the message for keys of these names
+abbrev pub unknown_keys : List (List ℕ) → List ℕ
+unknown_keys names = (if length names == 1 then codes "unknown key " else codes "unknown keys ") ++ listed names
+
+-- the note
+abbrev pub what_is_expected : List (List ℕ) → List ℕ
+what_is_expected [] = codes "no key is expected"
+what_is_expected (name ∷ names) = codes "expected " ++ listed (name ∷ names)
+
+-- the label of a key
+abbrev pub key_label : List ℕ × Span → Place
+key_label key = primary tt key.1 (codes "unknown key")
+
+-- the help for one of some keys
+abbrev pub in_place_of : ℕ → List ℕ → List ℕ
+in_place_of count name = if count == 1 then [] else codes " in place of " ++ named name
+
+abbrev pub suggestion : ℕ → List ℕ → List ℕ → List ℕ
+suggestion count name meant = codes "did you mean " ++ named meant ++ in_place_of count name ++ codes "?"
+
+abbrev pub suggestion_for : ℕ → List (List ℕ) → List ℕ → Option (List ℕ)
+suggestion_for count expected name = option_map (suggestion count name) (nearest name expected)
+
+abbrev pub suggestions : List (List ℕ) → List (List ℕ) → List (List ℕ)
+suggestions names expected = flat_map (λ name. option_to_list (suggestion_for (length names) expected name)) names

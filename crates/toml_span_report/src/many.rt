@@ -1,0 +1,171 @@
+//! The text of many reports.
+ghost use Rattle.std.specs.Prelude.{◌≡◌, ◌++◌, codes, IfOk, OnOk, map, option_map, string_bytes};
+ghost use Rattle.std.specs.List.{count_by, flat_map};
+ghost use Rattle.toml_span_report.specs.Many as spec;
+ghost use Rattle.toml_span_report.specs.Many.{AreReportTexts, drawn_content};
+ghost use Rattle.toml_span_report.specs.Report.{report_content};
+ghost use Rattle.toml_span_report.specs.Strips.{marked_line_of};
+
+use crate::colours::Style;
+use crate::rendering::{drawn, main_strip, push_before, word};
+use crate::report::{Report, Severity};
+use crate::strips::{Strip, all_strips};
+use std::alloc::{AllocError, Global};
+use std::fmt::Write;
+
+/// The text of a report, and the offset at which it stands.
+#[derive(Drop)]
+pub(crate) struct Drawn {
+    at: usize,
+    text: String,
+}
+
+/// Where a strip begins.
+fn place_of(strip: Option<Strip<'_>>) -> usize
+    ensures { result ≡ spec.place_of (option_map marked_line_of strip.entry) }
+{
+    match strip {
+        Some(strip) => strip.at,
+        None => 0,
+    }
+}
+
+/// Draws a report.
+fn draw(
+    alloc: Global,
+    style: Style,
+    report: &Report,
+    name: &str,
+    text: &str,
+) -> Result<Drawn, AllocError>
+    ensures { IfOk result (λ made. drawn_content made
+        ≡ spec.drawn style name.now text.now (report_content report.now)) }
+{
+    let strips = all_strips(alloc, text, report.labels.as_slice())?;
+    let at = place_of(main_strip(strips.as_slice()));
+    let text = drawn(alloc, style, report, name, strips.as_slice())?;
+    Ok(Drawn { at, text })
+}
+
+/// Draws reports.
+fn draw_all(
+    alloc: Global,
+    style: Style,
+    reports: &[Report],
+    name: &str,
+    text: &str,
+) -> Result<Vec<Drawn>, AllocError>
+    ensures { IfOk result (λ made. map drawn_content made.items
+        ≡ map (λ report. spec.drawn style name.now text.now (report_content report)) reports.now) }
+{
+    let mut made = Vec::with_capacity(alloc, reports.len())?;
+    for report in reports {
+        made.push(draw(alloc, style, report, name, text)?)?;
+    }
+    Ok(made)
+}
+
+/// Adds the texts, with a blank line behind each.
+fn push_texts(out: &mut String, drawn: &[Drawn]) -> Result<(), AllocError>
+    ensures { OnOk result (string_bytes out.new ≡ string_bytes out.old
+        ++ flat_map spec.with_blank_line (map drawn_content drawn.now)) }
+{
+    for report in drawn {
+        out.push_str(report.text.as_str())?;
+        out.push_str("\n")?;
+    }
+    Ok(())
+}
+
+fn is_of(severity: Severity, report: &Report) -> bool
+    ensures { result ≡ spec.is_of severity (report_content report.now) }
+{
+    match severity {
+        Severity::Error => matches!(report.severity, Severity::Error),
+        Severity::Warning => matches!(report.severity, Severity::Warning),
+        Severity::Note => matches!(report.severity, Severity::Note),
+    }
+}
+
+/// How many reports have this severity.
+fn count_of(severity: Severity, reports: &[Report]) -> usize
+    ensures { result ≡ count_by (spec.is_of severity) (map report_content reports.now) }
+{
+    let mut count = 0usize;
+    for report in reports {
+        if is_of(severity, report) {
+            count = count.saturating_add(1);
+        }
+    }
+    count
+}
+
+/// Adds a count, behind a comma where something stands before it, or nothing where it is 0.
+fn push_count(line: &mut String, count: usize, word: &str) -> Result<(), AllocError>
+    ensures { OnOk result (string_bytes line.new ≡ spec.with_count (string_bytes line.old) count word.now) }
+{
+    if count == 0 {
+        return Ok(());
+    }
+    if !line.is_empty() {
+        line.push_str(", ")?;
+    }
+    write!(line, "{count} {word}")?;
+    if count != 1 {
+        line.push_str("s")?;
+    }
+    Ok(())
+}
+
+/// How many errors, warnings and notes there are.
+fn total(alloc: Global, reports: &[Report]) -> Result<String, AllocError>
+    ensures { IfOk result (λ line. string_bytes line ≡ spec.total (map report_content reports.now)) }
+{
+    let mut line = String::new(alloc);
+    push_count(
+        &mut line,
+        count_of(Severity::Error, reports),
+        word(Severity::Error),
+    )?;
+    push_count(
+        &mut line,
+        count_of(Severity::Warning, reports),
+        word(Severity::Warning),
+    )?;
+    push_count(
+        &mut line,
+        count_of(Severity::Note, reports),
+        word(Severity::Note),
+    )?;
+    Ok(line)
+}
+
+/// The texts, and the last line.
+fn joined(alloc: Global, drawn: &[Drawn], reports: &[Report]) -> Result<String, AllocError>
+    ensures { IfOk result (λ out. string_bytes out
+        ≡ spec.joined (map drawn_content drawn.now) (map report_content reports.now)) }
+{
+    let mut out = String::new(alloc);
+    push_texts(&mut out, drawn)?;
+    let total = total(alloc, reports)?;
+    push_before(&mut out, "\n", total.as_str())?;
+    Ok(out)
+}
+
+/// The text of reports on one text: each as `render` shows it and a blank line behind it, in the order of the places
+/// at which they stand, and a last line such as `3 errors, 1 warning`. Reports at one place keep their order, and one
+/// without labels stands at the start of the text. Without reports the text is empty. Only want of memory is refused.
+pub fn render_all(
+    alloc: Global,
+    style: Style,
+    reports: &[Report],
+    name: &str,
+    text: &str,
+) -> Result<String, AllocError>
+    ensures { IfOk result (λ out. AreReportTexts style name.now text.now (map report_content reports.now)
+        (string_bytes out)) }
+{
+    let mut drawn = draw_all(alloc, style, reports, name, text)?;
+    drawn.sort_by_key(|report| report.at)?;
+    joined(alloc, drawn.as_slice(), reports)
+}

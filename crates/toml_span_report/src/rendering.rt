@@ -1,0 +1,481 @@
+//! The text of a report.
+ghost use Rattle.std.specs.Prelude.{◌≡◌, ◌++◌, IfOk, OnOk, map, None, option_map, string_bytes};
+ghost use Rattle.std.specs.List.{flat_map};
+ghost use Rattle.toml_span_report.specs.Rendering as spec;
+ghost use Rattle.toml_span_report.specs.Report.{report_content};
+ghost use Rattle.toml_span_report.specs.Strips.{marked_line_of};
+
+use crate::characters::{columns, push_shown, push_times, shown};
+use crate::colours::{Ink, Style, push_painted};
+use crate::places::place;
+use crate::report::{Report, Severity};
+use crate::strips::{Strip, Window, all_strips, is_near, seen_in, window_of};
+use std::alloc::{AllocError, Global};
+use std::fmt::Write;
+
+/// Adds a text behind a sign, or nothing where the text is empty.
+fn push_behind(out: &mut String, sign: &str, text: &str) -> Result<(), AllocError>
+    ensures { OnOk result (string_bytes out.new ≡ string_bytes out.old ++ spec.behind sign.now text.now) }
+{
+    if text.is_empty() {
+        return Ok(());
+    }
+    out.push_str(sign)?;
+    out.push_str(text)
+}
+
+fn push_dots(out: &mut String, is_cut: bool) -> Result<(), AllocError>
+    ensures { OnOk result (string_bytes out.new ≡ string_bytes out.old ++ spec.dots is_cut) }
+{
+    if is_cut {
+        out.push_str("...")?;
+    }
+    Ok(())
+}
+
+/// Adds a text as it is shown, cut behind 1,000 bytes.
+#[tactic(auto, unfolding(crate::specs::Rendering::told))]
+fn push_told(out: &mut String, text: &str) -> Result<(), AllocError>
+    ensures { OnOk result (string_bytes out.new ≡ string_bytes out.old ++ spec.told text.now) }
+{
+    let end = place(text, 1000);
+    push_shown(out, &text[..end])?;
+    push_dots(out, end < text.len())
+}
+
+/// A text as it is shown, cut behind 1,000 bytes.
+fn told(alloc: Global, text: &str) -> Result<String, AllocError>
+    ensures { IfOk result (λ out. string_bytes out ≡ spec.told text.now) }
+{
+    let mut out = String::new(alloc);
+    push_told(&mut out, text)?;
+    Ok(out)
+}
+
+/// How a report begins.
+pub(crate) fn word(severity: Severity) -> &'static str
+    ensures { result.now ≡ spec.word severity }
+{
+    match severity {
+        Severity::Error => "error",
+        Severity::Warning => "warning",
+        Severity::Note => "note",
+    }
+}
+
+/// The colour of that, and of the marks of primary labels.
+fn ink_of(severity: Severity) -> Ink
+    ensures { result ≡ spec.ink_of severity }
+{
+    match severity {
+        Severity::Error => Ink::Red,
+        Severity::Warning => Ink::Yellow,
+        Severity::Note => Ink::Green,
+    }
+}
+
+/// Adds a text in brackets, or nothing where it is empty.
+fn push_in_brackets(out: &mut String, text: &str) -> Result<(), AllocError>
+    ensures { OnOk result (string_bytes out.new ≡ string_bytes out.old ++ spec.in_brackets text.now) }
+{
+    if text.is_empty() {
+        return Ok(());
+    }
+    out.push_str("[")?;
+    out.push_str(text)?;
+    out.push_str("]")
+}
+
+/// Adds the severity, the code and the message.
+fn push_headline(
+    alloc: Global,
+    style: Style,
+    out: &mut String,
+    report: &Report,
+) -> Result<(), AllocError>
+    ensures { OnOk result (string_bytes out.new ≡ string_bytes out.old
+        ++ spec.headline style (report_content report.now)) }
+{
+    let code = told(alloc, report.code.as_str())?;
+    let mut front = String::from_str(alloc, word(report.severity))?;
+    push_in_brackets(&mut front, code.as_str())?;
+    push_painted(out, style, ink_of(report.severity), front.as_str())?;
+    let message = told(alloc, report.message.as_str())?;
+    let mut back = String::new(alloc);
+    push_behind(&mut back, ": ", message.as_str())?;
+    push_painted(out, style, Ink::Bold, back.as_str())?;
+    out.push_str("\n")
+}
+
+/// The first strip of a primary label, or else the first of all.
+pub(crate) fn main_strip<'a>(strips: &[Strip<'a>]) -> Option<Strip<'a>>
+    ensures { option_map marked_line_of result ≡ spec.main_part (map marked_line_of strips.now) }
+{
+    for strip in strips {
+        if strip.is_primary {
+            return Some(*strip);
+        }
+    }
+    strips.first().copied()
+}
+
+/// Adds the line and the column of a strip.
+fn push_place(out: &mut String, strip: Option<Strip<'_>>) -> Result<(), AllocError>
+    ensures { OnOk result (string_bytes out.new ≡ string_bytes out.old
+        ++ spec.place_told (option_map marked_line_of strip.entry)) }
+{
+    let Some(strip) = strip else {
+        return Ok(());
+    };
+    let (number, column) = (strip.number, strip.column);
+    write!(out, ":{number}:{column}")
+}
+
+/// The columns that the greatest of the line numbers takes.
+fn width_of(alloc: Global, strips: &[Strip<'_>]) -> Result<usize, AllocError>
+    ensures { IfOk result (λ width. width ≡ spec.width_of (map marked_line_of strips.now)) }
+{
+    let mut greatest = 0;
+    for strip in strips {
+        greatest = strip.number.max(greatest);
+    }
+    let digits = greatest.to_string(alloc)?;
+    Ok(digits.len())
+}
+
+/// How lines are drawn.
+#[derive(Clone, Copy)]
+struct Frame {
+    alloc: Global,
+    style: Style,
+    severity: Severity,
+    /// The columns of the line numbers.
+    width: usize,
+}
+
+/// Adds what stands to the left of a line, and a bar.
+fn push_gutter(frame: Frame, out: &mut String, number: &str) -> Result<(), AllocError>
+    ensures { OnOk result (string_bytes out.new ≡ string_bytes out.old
+        ++ spec.gutter frame.style frame.width number.now) }
+{
+    let mut left = String::new(frame.alloc);
+    push_times(&mut left, frame.width.saturating_sub(number.len()), ' ')?;
+    left.push_str(number)?;
+    left.push_str(" |")?;
+    push_painted(out, frame.style, Ink::Blue, left.as_str())
+}
+
+/// Adds the line of a strip.
+fn push_source_line(frame: Frame, out: &mut String, strip: &Strip<'_>) -> Result<(), AllocError>
+    ensures { OnOk result (string_bytes out.new ≡ string_bytes out.old
+        ++ spec.source_line frame.style frame.width (marked_line_of strip.now)) }
+{
+    let number = strip.number.to_string(frame.alloc)?;
+    push_gutter(frame, out, number.as_str())?;
+    let mut source = String::new(frame.alloc);
+    push_dots(&mut source, strip.is_cut_before)?;
+    push_shown(&mut source, strip.before)?;
+    push_shown(&mut source, strip.marked)?;
+    push_shown(&mut source, strip.behind)?;
+    push_dots(&mut source, strip.is_cut_behind)?;
+    push_behind(out, " ", source.as_str())?;
+    out.push_str("\n")
+}
+
+/// Adds the marks of a strip.
+fn push_marks(alloc: Global, out: &mut String, strip: &Strip<'_>) -> Result<(), AllocError>
+    ensures { OnOk result (string_bytes out.new ≡ string_bytes out.old ++ spec.marks (marked_line_of strip.now)) }
+{
+    let mut before = String::new(alloc);
+    push_dots(&mut before, strip.is_cut_before)?;
+    push_shown(&mut before, strip.before)?;
+    push_times(out, columns(before.as_str()), ' ')?;
+    let marked = shown(alloc, strip.marked)?;
+    let sign = if strip.is_primary { '^' } else { '-' };
+    push_times(out, columns(marked.as_str()).max(1), sign)
+}
+
+/// The colour of a label's marks.
+fn ink(severity: Severity, is_primary: bool) -> Ink
+    ensures { result ≡ spec.ink severity is_primary }
+{
+    if is_primary {
+        ink_of(severity)
+    } else {
+        Ink::Blue
+    }
+}
+
+/// Adds the line of marks, and what is to be said.
+fn push_marks_line(frame: Frame, out: &mut String, strip: &Strip<'_>) -> Result<(), AllocError>
+    ensures { OnOk result (string_bytes out.new ≡ string_bytes out.old
+        ++ spec.marks_line frame.style frame.severity frame.width (marked_line_of strip.now)) }
+{
+    push_gutter(frame, out, "")?;
+    out.push_str(" ")?;
+    let mut marks = String::new(frame.alloc);
+    push_marks(frame.alloc, &mut marks, strip)?;
+    let message = told(frame.alloc, strip.message)?;
+    push_behind(&mut marks, " ", message.as_str())?;
+    push_painted(
+        out,
+        frame.style,
+        ink(frame.severity, strip.is_primary),
+        marks.as_str(),
+    )?;
+    out.push_str("\n")
+}
+
+/// Adds the line of a strip where the window above does not show it, and what stands above it.
+fn push_opening(
+    frame: Frame,
+    out: &mut String,
+    above: Option<Window>,
+    strip: &Strip<'_>,
+) -> Result<(), AllocError>
+    ensures { OnOk result (string_bytes out.new ≡ string_bytes out.old
+        ++ spec.opening frame.style frame.width above (marked_line_of strip.now)) }
+{
+    match above {
+        None => {
+            push_gutter(frame, out, "")?;
+            out.push_str("\n")?;
+        }
+        Some(above) => {
+            if is_near(above, strip) {
+                return Ok(());
+            }
+            if strip.number.saturating_sub(above.number) > 1 {
+                out.push_str("...\n")?;
+            }
+        }
+    }
+    push_source_line(frame, out, strip)
+}
+
+/// Adds the lines of all strips, with their marks.
+fn push_strips(frame: Frame, out: &mut String, strips: &[Strip<'_>]) -> Result<(), AllocError>
+    ensures { OnOk result (string_bytes out.new ≡ string_bytes out.old
+        ++ spec.drawn frame.style frame.severity frame.width None (map marked_line_of strips.now)) }
+{
+    let mut above = None;
+    for (i, strip) in strips.iter().enumerate() {
+        let window = window_of(above, strip, &strips[i + 1..]);
+        let seen = seen_in(window, strip);
+        push_opening(frame, out, above, &seen)?;
+        push_marks_line(frame, out, &seen)?;
+        above = Some(window);
+    }
+    Ok(())
+}
+
+/// The headline and the place.
+fn front(
+    frame: Frame,
+    report: &Report,
+    name: &str,
+    strips: &[Strip<'_>],
+) -> Result<String, AllocError>
+    requires { frame.width ≡ spec.width_of (map marked_line_of strips.now) }
+    ensures { IfOk result (λ out. string_bytes out
+        ≡ spec.front frame.style (report_content report.now) name.now (map marked_line_of strips.now)) }
+{
+    let mut out = String::new(frame.alloc);
+    push_headline(frame.alloc, frame.style, &mut out, report)?;
+    let mut arrow = String::new(frame.alloc);
+    push_times(&mut arrow, frame.width, ' ')?;
+    arrow.push_str("--> ")?;
+    push_painted(&mut out, frame.style, Ink::Blue, arrow.as_str())?;
+    push_told(&mut out, name)?;
+    push_place(&mut out, main_strip(strips))?;
+    out.push_str("\n")?;
+    Ok(out)
+}
+
+/// Adds a note or a line of help.
+fn push_remark(frame: Frame, out: &mut String, title: &str, text: &str) -> Result<(), AllocError>
+    ensures { OnOk result (string_bytes out.new ≡ string_bytes out.old
+        ++ spec.remark frame.style frame.width title.now text.now) }
+{
+    let mut left = String::new(frame.alloc);
+    push_times(&mut left, frame.width, ' ')?;
+    left.push_str(" = ")?;
+    push_painted(out, frame.style, Ink::Blue, left.as_str())?;
+    push_painted(out, frame.style, Ink::Bold, title)?;
+    push_told(out, text)?;
+    out.push_str("\n")
+}
+
+/// Adds these, one below the other.
+fn push_each(
+    frame: Frame,
+    out: &mut String,
+    title: &str,
+    texts: &[String],
+) -> Result<(), AllocError>
+    ensures { OnOk result (string_bytes out.new ≡ string_bytes out.old
+        ++ flat_map (spec.remark frame.style frame.width title.now) (map string_bytes texts.now)) }
+{
+    for text in texts {
+        push_remark(frame, out, title, text.as_str())?;
+    }
+    Ok(())
+}
+
+/// Adds a bar alone.
+fn push_bar(frame: Frame, out: &mut String) -> Result<(), AllocError>
+    ensures { OnOk result (string_bytes out.new ≡ string_bytes out.old ++ spec.bar frame.style frame.width) }
+{
+    push_gutter(frame, out, "")?;
+    out.push_str("\n")
+}
+
+/// Adds a bar where there is help.
+fn push_bar_above_help(frame: Frame, out: &mut String, help: &[String]) -> Result<(), AllocError>
+    ensures { OnOk result (string_bytes out.new ≡ string_bytes out.old
+        ++ spec.bar_above frame.style frame.width (map string_bytes help.now)) }
+{
+    match help.split_first() {
+        Some(_) => push_bar(frame, out),
+        None => Ok(()),
+    }
+}
+
+/// Adds a bar where there are notes or help.
+fn push_bar_above(
+    frame: Frame,
+    out: &mut String,
+    notes: &[String],
+    help: &[String],
+) -> Result<(), AllocError>
+    ensures { OnOk result (string_bytes out.new ≡ string_bytes out.old
+        ++ spec.bar_above frame.style frame.width (map string_bytes notes.now ++ map string_bytes help.now)) }
+{
+    match notes.split_first() {
+        Some(_) => push_bar(frame, out),
+        None => push_bar_above_help(frame, out, help),
+    }
+}
+
+/// Adds the notes and the help, with a bar above them, where there are any.
+fn push_remarks(frame: Frame, out: &mut String, report: &Report) -> Result<(), AllocError>
+    ensures { OnOk result (string_bytes out.new ≡ string_bytes out.old
+        ++ spec.remarks frame.style frame.width (report_content report.now)) }
+{
+    let (notes, help) = (report.notes.as_slice(), report.help.as_slice());
+    push_bar_above(frame, out, notes, help)?;
+    push_each(frame, out, "note: ", notes)?;
+    push_each(frame, out, "help: ", help)
+}
+
+/// The text for strips.
+pub(crate) fn drawn(
+    alloc: Global,
+    style: Style,
+    report: &Report,
+    name: &str,
+    strips: &[Strip<'_>],
+) -> Result<String, AllocError>
+    ensures { IfOk result (λ out. string_bytes out
+        ≡ spec.drawn_report style (report_content report.now) name.now (map marked_line_of strips.now)) }
+{
+    let width = width_of(alloc, strips)?;
+    let frame = Frame {
+        alloc,
+        style,
+        severity: report.severity,
+        width,
+    };
+    let mut out = front(frame, report, name, strips)?;
+    push_strips(frame, &mut out, strips)?;
+    push_remarks(frame, &mut out, report)?;
+    Ok(out)
+}
+
+/// The text of a report on this text, whose file has this name.
+///
+/// It has a headline, the place of the first primary label as `name:line:column`, both counted from 1 and the column
+/// in characters, the lines on which labels begin and end, with marks under them: `^` for a primary label, `-` for
+/// another; and notes and help. Labels stand in the order of the text. A span may be any: what lies past the text or
+/// within a character is moved to the nearest place before it, and a reversed span is empty. An empty one has one mark.
+///
+/// A tab is shown as four spaces, another control character below U+0080 by its picture, one from U+0080 on, or one
+/// that ends a line, turns the direction of the text or takes no column, as U+FFFD. A byte order mark at the start of
+/// the text is not shown.
+///
+/// Of a long line 80 bytes before its first label are shown, and 160 from the start of the last one on that begins no
+/// more than 240 bytes behind that. For a label further on the line is shown again. A code, a message, a note or a
+/// name is cut behind 1,000 bytes. Colours, where the style has them, add nothing else. Only want of memory is refused.
+pub fn render(
+    alloc: Global,
+    style: Style,
+    report: &Report,
+    name: &str,
+    text: &str,
+) -> Result<String, AllocError>
+    ensures { IfOk result (λ out. string_bytes out
+        ≡ spec.report_text style (report_content report.now) name.now text.now) }
+{
+    let strips = all_strips(alloc, text, report.labels.as_slice())?;
+    drawn(alloc, style, report, name, strips.as_slice())
+}
+
+/// Adds a text before a sign, or nothing where the text is empty.
+pub(crate) fn push_before(out: &mut String, sign: &str, text: &str) -> Result<(), AllocError>
+    ensures { OnOk result (string_bytes out.new ≡ string_bytes out.old ++ spec.before sign.now text.now) }
+{
+    if text.is_empty() {
+        return Ok(());
+    }
+    out.push_str(text)?;
+    out.push_str(sign)
+}
+
+/// What tells a line that is no error's.
+fn grade(severity: Severity) -> &'static str
+    ensures { result.now ≡ spec.grade severity }
+{
+    match severity {
+        Severity::Error => "",
+        Severity::Warning => "warning: ",
+        Severity::Note => "note: ",
+    }
+}
+
+/// The one line for strips.
+fn brief(
+    alloc: Global,
+    report: &Report,
+    name: &str,
+    strips: &[Strip<'_>],
+) -> Result<String, AllocError>
+    ensures { IfOk result (λ out. string_bytes out
+        ≡ spec.brief (report_content report.now) name.now (map marked_line_of strips.now)) }
+{
+    let mut out = String::new(alloc);
+    push_told(&mut out, name)?;
+    push_place(&mut out, main_strip(strips))?;
+    out.push_str(": ")?;
+    out.push_str(grade(report.severity))?;
+    let code = told(alloc, report.code.as_str())?;
+    push_before(&mut out, ": ", code.as_str())?;
+    push_told(&mut out, report.message.as_str())?;
+    out.push_str("\n")?;
+    Ok(out)
+}
+
+/// The one line `name:line:column: code: message` that tells a report on this text, which editors read, with
+/// `warning: ` or `note: ` before the code where it is no error. The place is that of `render`, and is left out where
+/// there is no label, as the code is where it is empty. Only want of memory is refused.
+pub fn render_line(
+    alloc: Global,
+    report: &Report,
+    name: &str,
+    text: &str,
+) -> Result<String, AllocError>
+    ensures { IfOk result (λ out. string_bytes out
+        ≡ spec.report_line (report_content report.now) name.now text.now) }
+{
+    let strips = all_strips(alloc, text, report.labels.as_slice())?;
+    brief(alloc, report, name, strips.as_slice())
+}

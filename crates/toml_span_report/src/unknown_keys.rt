@@ -1,0 +1,183 @@
+//! What is told of keys that no field has.
+ghost use Rattle.std.specs.Prelude.{◌≡◌, ◌++◌, codes, IfOk, OnOk, map, option_map, string_bytes};
+ghost use Rattle.std.specs.Option.{option_to_list};
+ghost use Rattle.std.specs.List.{flat_map};
+ghost use Rattle.toml_span_tree.specs.Diagnostic.{label_content};
+ghost use Rattle.toml_span_tree.specs.Error.{marked_keys};
+ghost use Rattle.toml_span_report.specs.UnknownKeys as spec;
+
+use crate::names::nearest;
+use std::alloc::{AllocError, Global};
+use toml_span_lex::span::Span;
+use toml_span_tree::Label;
+
+/// Adds a name in back quotes.
+fn push_named(out: &mut String, name: &str) -> Result<(), AllocError>
+    ensures { OnOk result (string_bytes out.new ≡ string_bytes out.old ++ spec.named name.now) }
+{
+    out.push_str("`")?;
+    out.push_str(name)?;
+    out.push_str("`")
+}
+
+/// Adds further names, a comma before each.
+fn push_more(out: &mut String, names: &[&str]) -> Result<(), AllocError>
+    ensures { OnOk result (string_bytes out.new ≡ string_bytes out.old
+        ++ flat_map (λ name. codes ", " ++ spec.named name) (map (λ name. name.now) names.now)) }
+{
+    for name in names {
+        out.push_str(", ")?;
+        push_named(out, *name)?;
+    }
+    Ok(())
+}
+
+/// Adds names with commas between them.
+fn push_listed(out: &mut String, names: &[&str]) -> Result<(), AllocError>
+    ensures { OnOk result (string_bytes out.new ≡ string_bytes out.old
+        ++ spec.listed (map (λ name. name.now) names.now)) }
+{
+    match names.split_first() {
+        Some((first, more)) => {
+            push_named(out, *first)?;
+            push_more(out, more)
+        }
+        None => Ok(()),
+    }
+}
+
+/// The names of keys.
+pub(crate) fn key_names<'a>(
+    alloc: Global,
+    keys: &'a [(String, Span)],
+) -> Result<Vec<&'a str>, AllocError>
+    ensures { IfOk result (λ names. map (λ name. name.now) names.items ≡ map (λ key. key.0) (marked_keys keys.now)) }
+{
+    let mut names = Vec::with_capacity(alloc, keys.len())?;
+    for key in keys {
+        names.push(key.0.as_str())?;
+    }
+    Ok(names)
+}
+
+/// Names that are lent.
+pub(crate) fn lent_names<'a>(alloc: Global, owned: &'a [String]) -> Result<Vec<&'a str>, AllocError>
+    ensures { IfOk result (λ names. map (λ name. name.now) names.items ≡ map string_bytes owned.now) }
+{
+    let mut names = Vec::with_capacity(alloc, owned.len())?;
+    for name in owned {
+        names.push(name.as_str())?;
+    }
+    Ok(names)
+}
+
+/// The message for keys of these names.
+pub(crate) fn unknown_keys(alloc: Global, names: &[&str]) -> Result<String, AllocError>
+    ensures { IfOk result (λ out. string_bytes out ≡ spec.unknown_keys (map (λ name. name.now) names.now)) }
+{
+    let title = if names.len() == 1 {
+        "unknown key "
+    } else {
+        "unknown keys "
+    };
+    let mut out = String::from_str(alloc, title)?;
+    push_listed(&mut out, names)?;
+    Ok(out)
+}
+
+/// The keys that are expected.
+pub(crate) fn what_is_expected(alloc: Global, names: &[&str]) -> Result<String, AllocError>
+    ensures { IfOk result (λ out. string_bytes out ≡ spec.what_is_expected (map (λ name. name.now) names.now)) }
+{
+    if names.is_empty() {
+        return String::from_str(alloc, "no key is expected");
+    }
+    let mut out = String::from_str(alloc, "expected ")?;
+    push_listed(&mut out, names)?;
+    Ok(out)
+}
+
+/// A label at each key.
+pub(crate) fn key_labels(
+    alloc: Global,
+    keys: &[(String, Span)],
+) -> Result<Vec<Label<()>>, AllocError>
+    ensures { IfOk result (λ labels. map label_content labels.items ≡ map spec.key_label (marked_keys keys.now)) }
+{
+    let mut labels = Vec::with_capacity(alloc, keys.len())?;
+    for key in keys {
+        labels.push(Label {
+            primary: true,
+            file: (),
+            span: key.1,
+            message: String::from_str(alloc, "unknown key")?,
+        })?;
+    }
+    Ok(labels)
+}
+
+/// Adds in place of which key, where it is not the only one.
+fn push_in_place_of(out: &mut String, count: usize, name: &str) -> Result<(), AllocError>
+    ensures { OnOk result (string_bytes out.new ≡ string_bytes out.old ++ spec.in_place_of count name.now) }
+{
+    if count == 1 {
+        return Ok(());
+    }
+    out.push_str(" in place of ")?;
+    push_named(out, name)
+}
+
+/// That a key may be meant, where this one is one of some.
+fn suggestion(alloc: Global, count: usize, name: &str, meant: &str) -> Result<String, AllocError>
+    ensures { IfOk result (λ out. string_bytes out ≡ spec.suggestion count name.now meant.now) }
+{
+    let mut out = String::from_str(alloc, "did you mean ")?;
+    push_named(&mut out, meant)?;
+    push_in_place_of(&mut out, count, name)?;
+    out.push_str("?")?;
+    Ok(out)
+}
+
+/// The nearest of the names that are expected, where there is one.
+fn suggestion_for(
+    alloc: Global,
+    count: usize,
+    name: &str,
+    expected: &[&str],
+) -> Result<Option<String>, AllocError>
+    ensures { IfOk result (λ help. option_map string_bytes help
+        ≡ spec.suggestion_for count (map (λ name. name.now) expected.now) name.now) }
+{
+    match nearest(alloc, name, expected)? {
+        Some(meant) => Ok(Some(suggestion(alloc, count, name, meant)?)),
+        None => Ok(None),
+    }
+}
+
+/// Adds a text, if there is one.
+fn push_text(texts: &mut Vec<String>, text: Option<String>) -> Result<(), AllocError>
+    ensures { OnOk result (map string_bytes texts.new.items
+        ≡ map string_bytes texts.old.items ++ option_to_list (option_map string_bytes text)) }
+{
+    if let Some(text) = text {
+        texts.push(text)?;
+    }
+    Ok(())
+}
+
+/// For each name the nearest of those that are expected, where there is one.
+pub(crate) fn suggestions(
+    alloc: Global,
+    names: &[&str],
+    expected: &[&str],
+) -> Result<Vec<String>, AllocError>
+    ensures { IfOk result (λ help. map string_bytes help.items
+        ≡ spec.suggestions (map (λ name. name.now) names.now) (map (λ name. name.now) expected.now)) }
+{
+    let mut help = Vec::new(alloc);
+    for name in names {
+        let text = suggestion_for(alloc, names.len(), *name, expected)?;
+        push_text(&mut help, text)?;
+    }
+    Ok(help)
+}

@@ -1,0 +1,143 @@
+//! Rows of reports, on a text in the file `a.toml`.
+//!
+//! - `nearest WORD`: the nearest of the names that stand in the text with spaces between them.
+//! - `lint` and `lint_lines`: what the lint of the pages reports, all at once, and each in its line.
+//! - `read_servers`: all errors of a read of the servers, a name each, of which each has a `host` and may have a
+//!   `port`.
+//! - `coloured SEVERITY`: a report of this severity in colours, whose message and text are the row's text.
+//! - `without_labels MESSAGE`: a warning with three labels, and a note and an error without labels, each of that
+//!   message: all at once, and each in its line.
+mod lint;
+
+use crate::Row;
+use crate::told::{known, push_told};
+use lint::lint;
+use std::alloc::{AllocError, Global};
+use std::collections::BTreeMap;
+use toml_span::{DeserError, Deserialize, Span, Stop, Value, from_str, parse, read_table};
+use toml_span_report::{
+    Report, Severity, Style, nearest, render, render_all, render_line, render_stop,
+};
+
+/// The name of the file.
+const FILE: &str = "a.toml";
+
+#[derive(Debug, Drop)]
+struct Server {
+    host: String,
+    port: u16,
+}
+
+impl<'de> Deserialize<'de> for Server {
+    fn deserialize(alloc: Global, value: &mut Value<'de>) -> Result<Self, Stop<DeserError<'de>>> {
+        read_table!(alloc, value, Server { host: String; port: u16, or(80); })
+    }
+}
+
+#[derive(Debug, Drop)]
+struct Servers {
+    name: String,
+    server: Option<BTreeMap<String, Server>>,
+}
+
+impl<'de> Deserialize<'de> for Servers {
+    fn deserialize(alloc: Global, value: &mut Value<'de>) -> Result<Self, Stop<DeserError<'de>>> {
+        read_table!(alloc, value, Servers { name: String; server: Option<BTreeMap<String, Server>>; })
+    }
+}
+
+/// Writes the answer of a row, or says that there is no such call.
+pub fn answer(alloc: Global, row: Row<'_>, out: &mut String) -> Result<bool, AllocError> {
+    let pushed = match row.call {
+        "nearest" => push_nearest(alloc, row, out),
+        "lint" => push_linted(alloc, row.text, false, out),
+        "lint_lines" => push_linted(alloc, row.text, true, out),
+        "read_servers" => push_servers(alloc, row.text, out),
+        "without_labels" => push_without_labels(alloc, row, out),
+        "coloured" => push_coloured(alloc, row, out),
+        _ => return Ok(false),
+    };
+    known(pushed)
+}
+
+/// Answers `nearest`.
+fn push_nearest(alloc: Global, row: Row<'_>, out: &mut String) -> Result<(), AllocError> {
+    let names: Vec<&str> = row.text.split(' ').collect(alloc)?;
+    push_told(nearest(alloc, row.word(0), names.as_slice()), out)
+}
+
+/// Adds reports all at once, or each in its line.
+fn push_reports(
+    alloc: Global,
+    reports: &[Report],
+    text: &str,
+    in_lines: bool,
+    out: &mut String,
+) -> Result<(), AllocError> {
+    if !in_lines {
+        let shown = render_all(alloc, Style::Plain, reports, FILE, text)?;
+        return out.push_str(shown.as_str());
+    }
+    for report in reports {
+        let line = render_line(alloc, report, FILE, text)?;
+        out.push_str(line.as_str())?;
+    }
+    Ok(())
+}
+
+/// Answers `lint` and `lint_lines`.
+fn push_linted(
+    alloc: Global,
+    text: &str,
+    in_lines: bool,
+    out: &mut String,
+) -> Result<(), AllocError> {
+    match parse(alloc, text) {
+        Ok(root) => {
+            let reports = lint(alloc, &root)?;
+            push_reports(alloc, reports.as_slice(), text, in_lines, out)
+        }
+        Err(stop) => push_told(stop, out),
+    }
+}
+
+/// Answers `read_servers`.
+fn push_servers(alloc: Global, text: &str, out: &mut String) -> Result<(), AllocError> {
+    match from_str::<Servers>(alloc, text) {
+        Ok(servers) => push_told(servers, out),
+        Err(stop) => {
+            let shown = render_stop(alloc, Style::Plain, stop, FILE, text)?;
+            out.push_str(shown.as_str())
+        }
+    }
+}
+
+/// Answers `without_labels`.
+fn push_without_labels(alloc: Global, row: Row<'_>, out: &mut String) -> Result<(), AllocError> {
+    let message = row.word(0);
+    let mut reports = Vec::new(alloc);
+    let warning = Report::warning(alloc, "", message)?
+        .secondary(Span::new(4, 5), "second")?
+        .primary(Span::new(2, 3), "first")?
+        .primary(Span::new(0, 1), "")?
+        .note("one note")?
+        .help("one way")?
+        .note("another note")?
+        .help("another way")?;
+    reports.push(warning)?;
+    reports.push(Report::new(alloc, Severity::Note, "noted", message)?)?;
+    reports.push(Report::error(alloc, "wrong", message)?)?;
+    push_reports(alloc, reports.as_slice(), row.text, false, out)?;
+    push_reports(alloc, reports.as_slice(), row.text, true, out)
+}
+
+/// Answers `coloured`.
+fn push_coloured(alloc: Global, row: Row<'_>, out: &mut String) -> Result<(), AllocError> {
+    let severity = match row.word(0) {
+        "warning" => Severity::Warning,
+        "note" => Severity::Note,
+        _ => Severity::Error,
+    };
+    let report = Report::new(alloc, severity, "c", row.text)?.primary(Span::new(0, 1), "")?;
+    push_told(render(alloc, Style::Coloured, &report, FILE, row.text), out)
+}

@@ -1,0 +1,36 @@
+-- One more value at the end of those that were read, with its warnings.
+use Rattle.std.proofs.Common.{◌≡◌, List, [], ◌∷◌, ◌++◌, map, Result, Ok, Err, refl, ap, sym, subst, ◌∙◌}
+use Rattle.toml_span_tree.specs.Node.{Node}
+use Rattle.toml_span_tree.specs.Value.{items_view, view}
+use Rattle.toml_span_tree.specs.declared.value.Value.{Value}
+use Rattle.toml_span_tree.specs.Error.{ErrorContent}
+use Rattle.toml_span_typed.specs.code.WithWarnings.{AddsWithWarnings, AreReadWithWarnings}
+use Rattle.toml_span_typed.specs.Errors.{Errors, all}
+use Rattle.toml_span_typed.specs.Reads.{elements, errors, nodes_of}
+use Rattle.toml_span_typed.specs.WithWarnings.{EachWithWarnings, ReadsAllWithWarnings}
+use Rattle.toml_span_typed.proofs.Arrays.{elements_push, errors_push, nodes_of-items_of}
+
+module _ {T : Type 0} (reads : Node → Result T Errors → List ErrorContent → List ErrorContent → Type 0) where
+  each_push : (vs : List Node) (v : Node) (answers : List (Result T Errors)) (a : Result T Errors) (w x y : List ErrorContent) → EachWithWarnings reads vs answers w x → reads v a x y → EachWithWarnings reads (vs ++ v ∷ []) (answers ++ a ∷ []) w y
+  each_push [] v [] a w x y h one = (y, subst (λ (z : List ErrorContent). reads v a z y) h one, refl)
+  each_push (u ∷ us) v (b ∷ bs) a w x y h one = (h.0, h.1, each_push us v bs a h.0 x y h.2 one)
+  each_push [] v (b ∷ bs) a w x y h one = elim h [ ]
+  each_push (u ∷ us) v [] a w x y h one = elim h [ ]
+
+-- what was read, and one more
+pub read_more : {T : Type 0} → (reads : Node → Result T Errors → List ErrorContent → List ErrorContent → Type 0) (vs : List Node) (v : Node) (xs ys : List T) (fs gs w x y : List ErrorContent) → AreReadWithWarnings reads vs xs fs w x → AddsWithWarnings reads v xs fs ys gs x y → AreReadWithWarnings reads (vs ++ v ∷ []) ys gs w y
+read_more reads vs v xs ys fs gs w x y h more = (
+  h.0 ++ more.0 ∷ [],
+  each_push reads vs v h.0 more.0 w x y h.1 more.1,
+  elements_push h.0 more.0 ∙ ap (λ zs. zs ++ elements (more.0 ∷ [])) h.2 ∙ sym more.2,
+  errors_push h.0 more.0 ∙ ap (λ zs. zs ++ errors (more.0 ∷ [])) h.3 ∙ sym more.3,
+)
+
+read_array : {T : Type 0} → (reads : Node → Result T Errors → List ErrorContent → List ErrorContent → Type 0) (vs : List Value) (xs : List T) (fs w x : List ErrorContent) → AreReadWithWarnings reads (map view vs) xs fs w x → AreReadWithWarnings reads (nodes_of (items_view vs)) xs fs w x
+read_array reads vs xs fs w x h = rw (nodes_of-items_of (map view vs)) h
+
+pub joined_elements : {T : Type 0} → (reads : Node → Result T Errors → List ErrorContent → List ErrorContent → Type 0) (vs : List Value) (xs : List T) (fs w x : List ErrorContent) → fs ≡ [] → AreReadWithWarnings reads (map view vs) xs fs w x → ReadsAllWithWarnings reads (nodes_of (items_view vs)) (Ok xs) w x
+joined_elements reads vs xs fs w x none h = let r = read_array reads vs xs fs w x h in (r.0, r.1, (r.3 ∙ none, r.2))
+
+pub joined_errors : {T : Type 0} → (reads : Node → Result T Errors → List ErrorContent → List ErrorContent → Type 0) (vs : List Value) (xs : List T) (fs w x : List ErrorContent) (faults : Errors) → fs ≡ all faults → AreReadWithWarnings reads (map view vs) xs fs w x → ReadsAllWithWarnings reads (nodes_of (items_view vs)) (Err faults) w x
+joined_errors reads vs xs fs w x faults some h = let r = read_array reads vs xs fs w x h in (r.0, r.1, r.3 ∙ some)

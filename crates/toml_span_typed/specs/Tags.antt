@@ -1,0 +1,41 @@
+-- What a helper answers of the tag of an enum, and what it gives where none was read.
+use Rattle.std.specs.Prelude.{ℕ, List, [], ◌∷◌, Option, Some, None, cond, Result, Ok, Err, codes}
+use Rattle.std.specs.Str.{bytes_eq}
+use Rattle.toml_span_lex.specs.declared.span.Span.{Span}
+use Rattle.toml_span_tree.specs.Error.{ErrorContent, unexpected_value}
+use Rattle.toml_span_tree.specs.Node.{Node, node, scalar, text}
+use Rattle.toml_span_tree.specs.Value.{wrong_kind}
+use Rattle.toml_span_typed.specs.TableHelper.{State, found, keeping, missing, noted}
+
+-- the first of these tags that is this text
+abbrev pub among : List ℕ → List (List ℕ) → Option (List ℕ)
+among s [] = None
+among s (tag ∷ tags) = cond (bytes_eq tag s) (Some tag) (among s tags)
+
+abbrev pub or_unexpected : List (List ℕ) → List ℕ → Span → Option (List ℕ) → Result (List ℕ) ErrorContent
+or_unexpected tags s span (Some tag) = Ok tag
+or_unexpected tags s span None = Err (record { kind = unexpected_value tags (Some s); span = span; line_info = None })
+
+-- the tag that a string is, or the error that it is none of them
+abbrev pub read_tag : List (List ℕ) → Node → Result (List ℕ) ErrorContent
+read_tag tags (node (scalar (text s)) span) = or_unexpected tags s span (among s tags)
+read_tag tags value = Err (wrong_kind (codes "a string") value)
+
+-- of what stands under a name, or the error that nothing does
+abbrev pub read_tag_at : List (List ℕ) → ErrorContent → Option Node → Result (List ℕ) ErrorContent
+read_tag_at tags fault (Some value) = read_tag tags value
+read_tag_at tags fault None = Err fault
+
+-- the tag, or none, and its error is kept
+abbrev pub keeping_tag : State → Result (List ℕ) ErrorContent → Option (List ℕ) × State
+keeping_tag s (Ok tag) = (Some tag, s)
+keeping_tag s (Err fault) = (None, keeping (fault ∷ []) s)
+
+-- `read_tag`: the answer, and the helper then
+abbrev pub asked_tag : List ℕ → List (List ℕ) → State → Option (List ℕ) × State
+asked_tag name tags s = keeping_tag (noted name s) (read_tag_at tags (missing name s) (found name s))
+
+-- these errors, or this one where there are none
+abbrev pub or_else : ErrorContent → List ErrorContent → List ErrorContent
+or_else fault [] = fault ∷ []
+or_else fault (first ∷ rest) = first ∷ rest

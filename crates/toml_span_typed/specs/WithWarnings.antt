@@ -1,0 +1,68 @@
+-- What a read that warns answers, and which warnings it leaves. The lists of warnings are those before and after.
+use Rattle.std.specs.Prelude.{◌≡◌, ⊤, ℕ, List, [], ◌∷◌, Option, Some, None, MatchOption, Result, Ok, Err, codes}
+use Rattle.toml_span_lex.specs.declared.stop.Stop.{Stop}
+use Rattle.toml_span_lex.specs.declared.stop.Stop.TheVariants as stop
+use Rattle.toml_span_tree.specs.Error.{ErrorContent}
+use Rattle.toml_span_tree.specs.Node.{Node, node, array}
+use Rattle.toml_span_typed.specs.Aliases.{lacks}
+use Rattle.toml_span_typed.specs.Errors.{Errors, all}
+use Rattle.toml_span_typed.specs.Reads.{Joins, nodes_of, refused}
+use Rattle.toml_span_typed.specs.TableHelper.{State, found, keeping, noted}
+
+-- the type's reading allows the answer and the warnings; of want of memory nothing is said
+abbrev pub AnswersWithWarnings : {T : Type 0}
+    → (Node → Result T Errors → List ErrorContent → List ErrorContent → Type 0) → Node → Result T (Stop Errors)
+    → List ErrorContent → List ErrorContent → Type 0
+AnswersWithWarnings reads value (Ok x) warnings more = reads value (Ok x) warnings more
+AnswersWithWarnings reads value (Err (stop.Fault faults)) warnings more = reads value (Err faults) warnings more
+AnswersWithWarnings reads value (Err (stop.Memory error)) warnings more = ⊤
+
+-- the element of a value that was moved out; or None: with all errors of the read kept, and without a value as `none`
+-- says
+abbrev pub ReadsMoved : {T : Type 0}
+    → (Node → Result T Errors → List ErrorContent → List ErrorContent → Type 0) → (State → State) → Option Node
+    → State → Option T → State → List ErrorContent → List ErrorContent → Type 0
+ReadsMoved reads none moved before (Some x) after warnings more =
+    (value : Node) × (moved ≡ Some value) × reads value (Ok x) warnings more × (after ≡ before)
+ReadsMoved reads none moved before None after warnings more = MatchOption moved
+    ((after ≡ none before) × (more ≡ warnings))
+    (λ value. (faults : Errors) × reads value (Err faults) warnings more × (after ≡ keeping (all faults) before))
+
+-- `read_with_warnings`: what stands there, with the error that nothing does
+abbrev pub AsksWithWarnings : {T : Type 0}
+    → (Node → Result T Errors → List ErrorContent → List ErrorContent → Type 0) → List ℕ → State
+    → Option T → State → List ErrorContent → List ErrorContent → Type 0
+AsksWithWarnings reads name before field after warnings more =
+    ReadsMoved reads (lacks name) (found name before) (noted name before) field after warnings more
+
+-- `read_optional_with_warnings`: what stands there, if anything does
+abbrev pub TriesWithWarnings : {T : Type 0}
+    → (Node → Result T Errors → List ErrorContent → List ErrorContent → Type 0) → List ℕ → State
+    → Option T → State → List ErrorContent → List ErrorContent → Type 0
+TriesWithWarnings reads name before field after warnings more =
+    ReadsMoved reads (λ s. s) (found name before) (noted name before) field after warnings more
+
+-- an answer for each value that the reading allows, the warnings of each behind those of the ones before it
+abbrev pub EachWithWarnings : {T : Type 0}
+    → (Node → Result T Errors → List ErrorContent → List ErrorContent → Type 0) → List Node → List (Result T Errors)
+    → List ErrorContent → List ErrorContent → Type 0
+EachWithWarnings reads [] [] warnings more = more ≡ warnings
+EachWithWarnings reads (value ∷ values) (answer ∷ answers) warnings more = (next : List ErrorContent)
+    × reads value answer warnings next × EachWithWarnings reads values answers next more
+EachWithWarnings reads _ _ warnings more = ⊥
+
+-- each value is read, and the answer joins what they gave
+abbrev pub ReadsAllWithWarnings : {T : Type 0}
+    → (Node → Result T Errors → List ErrorContent → List ErrorContent → Type 0) → List Node → Result (List T) Errors
+    → List ErrorContent → List ErrorContent → Type 0
+ReadsAllWithWarnings reads values answer warnings more =
+    (answers : List (Result _ Errors)) × EachWithWarnings reads values answers warnings more × Joins answers answer
+
+-- T's readings of an array's elements, joined
+abbrev pub array_with_warnings : {T : Type 0}
+    → (Node → Result T Errors → List ErrorContent → List ErrorContent → Type 0) → Node → Result (List T) Errors
+    → List ErrorContent → List ErrorContent → Type 0
+array_with_warnings reads (node (array values) span) answer warnings more =
+    ReadsAllWithWarnings reads (nodes_of values) answer warnings more
+array_with_warnings reads value answer warnings more =
+    (answer ≡ refused (codes "an array") value) × (more ≡ warnings)

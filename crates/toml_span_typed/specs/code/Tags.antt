@@ -1,0 +1,10 @@
+-- A tag, or the error of one.
+use Rattle.std.specs.Prelude.{ℕ, List, Result, Ok, Err}
+use Rattle.std.specs.Borrow.{Bor}
+use Rattle.toml_span_tree.specs.declared.error.Error.{Error}
+use Rattle.toml_span_tree.specs.Error.{ErrorContent, content_of}
+
+-- what each of them tells
+abbrev pub tag_told : Result (Bor (List ℕ)) Error → Result (List ℕ) ErrorContent
+tag_told (Ok tag) = Ok tag.now
+tag_told (Err error) = Err (content_of error)

@@ -1,0 +1,31 @@
+-- How a value is read that warns.
+use Rattle.std.specs.Prelude.{◌≡◌, ◌++◌, [], ◌∷◌, List, Option, Some, None, Result, Ok, Err}
+use Rattle.toml_span_tree.specs.Error.{ErrorContent}
+use Rattle.toml_span_tree.specs.Node.{Node}
+use Rattle.toml_span_typed.specs.Errors.{Errors, all}
+use Rattle.toml_span_typed.specs.Reads.{elements, errors}
+use Rattle.toml_span_typed.specs.WithWarnings.{EachWithWarnings}
+
+-- its element, or its errors are kept behind others
+abbrev pub ReadsOrKeeps : {T : Type 0}
+    → (Node → Result T Errors → List ErrorContent → List ErrorContent → Type 0) → Node → List ErrorContent
+    → Option T → List ErrorContent → List ErrorContent → List ErrorContent → Type 0
+ReadsOrKeeps reads value faults (Some x) kept warnings more = reads value (Ok x) warnings more × (kept ≡ faults)
+ReadsOrKeeps reads value faults None kept warnings more =
+    (told : Errors) × reads value (Err told) warnings more × (kept ≡ faults ++ all told)
+
+-- the values were read, with these elements and these errors
+abbrev pub AreReadWithWarnings : {T : Type 0}
+    → (Node → Result T Errors → List ErrorContent → List ErrorContent → Type 0) → List Node → List T
+    → List ErrorContent → List ErrorContent → List ErrorContent → Type 0
+AreReadWithWarnings reads values xs faults warnings more =
+    (answers : List (Result _ Errors)) × EachWithWarnings reads values answers warnings more
+    × (elements answers ≡ xs) × (errors answers ≡ faults)
+
+-- one more value is read: its element comes behind the elements, or its errors behind the errors
+abbrev pub AddsWithWarnings : {T : Type 0}
+    → (Node → Result T Errors → List ErrorContent → List ErrorContent → Type 0) → Node → List T → List ErrorContent
+    → List T → List ErrorContent → List ErrorContent → List ErrorContent → Type 0
+AddsWithWarnings reads value xs faults ys told warnings more =
+    (answer : Result _ Errors) × reads value answer warnings more
+    × (ys ≡ xs ++ elements (answer ∷ [])) × (told ≡ faults ++ errors (answer ∷ []))

@@ -1,0 +1,134 @@
+//! Reads of the tag of an enum, and of what else its table has.
+ghost use Rattle.std.specs.Prelude.{◌≡◌, ◌+◌, ◌≤◌, IfOk, IsTrue, OnErr, Result, map, option_map};
+ghost use Rattle.toml_span_tree.specs.Error.{content_of};
+ghost use Rattle.toml_span_tree.specs.Value.{is_whole, view};
+ghost use Rattle.toml_span_typed.specs.Errors.{all};
+ghost use Rattle.toml_span_typed.specs.Fields.{kept, lacking};
+ghost use Rattle.toml_span_typed.specs.Rests.{ReadsRest, emptied, remaining};
+ghost use Rattle.toml_span_typed.specs.TableHelper.{AllWhole, missing, state_of};
+ghost use Rattle.toml_span_typed.specs.Tags.{among, asked_tag, keeping_tag, or_else, read_tag};
+ghost use Rattle.toml_span_typed.specs.code.Tags.{tag_told};
+
+use crate::de_helpers::table_helper::{TableHelper, missing_field};
+use crate::deser_error::DeserError;
+use crate::deserialize::{Deserialize, read_or_keep};
+use std::alloc::{AllocError, Global};
+use std::mem;
+use toml_span_tree::{Error, ErrorKind, Table, Value, ValueInner};
+
+impl<'de> TableHelper<'de> {
+    /// Records the name, moves its entry out, and gives the one of these tags that the string there is.
+    ///
+    /// The answer is None where no entry stands, with the error `MissingField` at the table's span; where it is no
+    /// string, with `Wanted`; and where it is none of the tags, with `UnexpectedValue`, both at the value's span.
+    pub fn read_tag(
+        &mut self,
+        name: &'de str,
+        tags: &'de [&'de str],
+    ) -> Result<Option<&'de str>, AllocError>
+        requires { AllWhole (state_of self.old) }
+        ensures answer { IfOk result (λ tag. (option_map (λ t. t.now) tag, state_of self.new)
+            ≡ asked_tag name.now (map (λ t. t.now) tags.now) (state_of self.old)) }
+        ensures told { IfOk result (λ tag. kept (state_of self.old) + lacking tag ≤ kept (state_of self.new)) }
+        ensures whole { AllWhole (state_of self.new) }
+    {
+        let tag = match self.take_placed(name)? {
+            Some((_, value)) => tag_of(self.alloc, value, tags)?,
+            None => Err(missing_field(name, self.span)),
+        };
+        self.keep_tag(tag)
+    }
+
+    /// Keeps the error of a tag, if it has one.
+    fn keep_tag(
+        &mut self,
+        tag: Result<&'de str, Error<'de>>,
+    ) -> Result<Option<&'de str>, AllocError>
+        ensures answer { IfOk result (λ t. (option_map (λ t. t.now) t, state_of self.new)
+            ≡ keeping_tag (state_of self.old) (tag_told tag.entry)) }
+        ensures told { IfOk result (λ t. kept (state_of self.old) + lacking t ≤ kept (state_of self.new)) }
+        ensures whole { AllWhole (state_of self.old) → AllWhole (state_of self.new) }
+    {
+        match tag {
+            Ok(tag) => Ok(Some(tag)),
+            Err(error) => {
+                self.keep(error)?;
+                Ok(None)
+            }
+        }
+    }
+
+    /// Ends the reads of a table whose tag was not read: the errors that are kept, or, where none is, that this field
+    /// is missing. Keys that remain are not told. Takes no memory.
+    pub fn untagged(self, name: &'de str) -> DeserError<'de>
+        ensures { all result ≡ or_else (missing name.now (state_of self.entry)) (state_of self.entry).errors }
+    {
+        match DeserError::from_list(self.errors) {
+            Some(errors) => errors,
+            None => DeserError::from(missing_field(name, self.span)),
+        }
+    }
+
+    /// Reads the entries that remain as a table of another type, at the same span. The helper keeps all errors, and no
+    /// entry remains. The answer is None where the read fails.
+    pub fn read_rest<T: Deserialize<'de>>(&mut self) -> Result<Option<T>, AllocError>
+        requires { AllWhole (state_of self.old) }
+        ensures answer { IfOk result (λ rest. ReadsRest T.reads (state_of self.old) rest (state_of self.new)) }
+        ensures err { OnErr result (state_of self.new ≡ emptied (state_of self.old)) }
+        ensures told { IfOk result (λ rest. kept (state_of self.old) + lacking rest ≤ kept (state_of self.new)) }
+        ensures whole { AllWhole (state_of self.new) }
+    {
+        let rest = self.take_rest();
+        read_or_keep(self.alloc, rest, &mut self.errors)
+    }
+
+    /// Moves the entries that remain out, as a table.
+    fn take_rest(&mut self) -> Value<'de>
+        ensures rest { view result ≡ remaining (state_of self.old) }
+        ensures state { state_of self.new ≡ emptied (state_of self.old) }
+    {
+        let empty: Table<'de> = Table::new(self.alloc);
+        let table: Table<'de> = mem::replace::<Table<'de>>(&mut self.table, empty);
+        Value::with_span(ValueInner::Table(table), self.span)
+    }
+}
+
+/// The tag that a string is, or the error that it is none of them.
+fn tag_of<'de>(
+    alloc: Global,
+    mut value: Value<'de>,
+    tags: &'de [&'de str],
+) -> Result<Result<&'de str, Error<'de>>, AllocError>
+    requires { IsTrue (is_whole (view value)) }
+    ensures { IfOk result (λ tag. tag_told tag ≡ read_tag (map (λ t. t.now) tags.now) (view value.entry)) }
+{
+    let span = value.span;
+    let text = match value.take_string(None) {
+        Ok(text) => text,
+        Err(error) => return Ok(Err(error)),
+    };
+    if let Some(tag) = tag_among(text.as_str(), tags) {
+        return Ok(Ok(tag));
+    }
+    let kind = ErrorKind::UnexpectedValue {
+        expected: tags,
+        value: Some(String::from_str(alloc, text.as_str())?),
+    };
+    Ok(Err(Error::from((kind, span))))
+}
+
+/// The first of these tags that is this text.
+fn tag_among<'t>(text: &str, tags: &'t [&'t str]) -> Option<&'t str>
+    ensures { option_map (λ tag. tag.now) result ≡ among text.now (map (λ t. t.now) tags.now) }
+{
+    match tags {
+        [tag, rest @ ..] => {
+            if *tag == text {
+                Some(*tag)
+            } else {
+                tag_among(text, rest)
+            }
+        }
+        [] => None,
+    }
+}

@@ -1,0 +1,52 @@
+//! Reads of fields whose types warn.
+ghost use Rattle.std.specs.Prelude.{◌+◌, ◌≤◌, IfOk, map};
+ghost use Rattle.toml_span_tree.specs.Error.{content_of};
+ghost use Rattle.toml_span_typed.specs.Fields.{kept, lacking};
+ghost use Rattle.toml_span_typed.specs.TableHelper.{AllWhole, state_of};
+ghost use Rattle.toml_span_typed.specs.WithWarnings.{AsksWithWarnings, TriesWithWarnings};
+
+use crate::de_helpers::table_helper::{TableHelper, missing_field};
+use crate::with_warnings::{DeserializeWithWarnings, read_or_keep};
+use std::alloc::AllocError;
+use toml_span_tree::Error;
+
+impl<'de> TableHelper<'de> {
+    /// As `read`, of a type that warns.
+    pub fn read_with_warnings<T: DeserializeWithWarnings<'de>>(
+        &mut self,
+        name: &'de str,
+        warnings: &mut Vec<Error<'de>>,
+    ) -> Result<Option<T>, AllocError>
+        requires { AllWhole (state_of self.old) }
+        ensures answer { IfOk result (λ field. AsksWithWarnings T.reads name.now (state_of self.old) field
+            (state_of self.new) (map content_of warnings.old.items) (map content_of warnings.new.items)) }
+        ensures told { IfOk result (λ field. kept (state_of self.old) + lacking field ≤ kept (state_of self.new)) }
+        ensures whole { AllWhole (state_of self.new) }
+    {
+        match self.take_placed(name)? {
+            Some((_, value)) => read_or_keep(self.alloc, value, &mut self.errors, warnings),
+            None => {
+                self.keep(missing_field(name, self.span))?;
+                Ok(None)
+            }
+        }
+    }
+
+    /// As `read_optional`, of a type that warns.
+    pub fn read_optional_with_warnings<T: DeserializeWithWarnings<'de>>(
+        &mut self,
+        name: &'de str,
+        warnings: &mut Vec<Error<'de>>,
+    ) -> Result<Option<T>, AllocError>
+        requires { AllWhole (state_of self.old) }
+        ensures answer { IfOk result (λ field. TriesWithWarnings T.reads name.now (state_of self.old) field
+            (state_of self.new) (map content_of warnings.old.items) (map content_of warnings.new.items)) }
+        ensures told { IfOk result (λ field. kept (state_of self.old) ≤ kept (state_of self.new)) }
+        ensures whole { AllWhole (state_of self.new) }
+    {
+        match self.take_placed(name)? {
+            Some((_, value)) => read_or_keep(self.alloc, value, &mut self.errors, warnings),
+            None => Ok(None),
+        }
+    }
+}

@@ -1,0 +1,89 @@
+//! Reads of floats as numbers.
+ghost use Rattle.std.specs.Prelude.{◌≡◌, codes};
+ghost use Rattle.std.specs.Float.{binary32, binary64};
+ghost use Rattle.toml_span_typed.specs.Floats.{finite_float, or_beyond, read_number};
+ghost use Rattle.toml_span_typed.specs.Reads.{Gives, Never};
+
+use crate::de_helpers::refused;
+use crate::deser_error::DeserError;
+use crate::deserialize::Deserialize;
+use crate::deserialize::integers::out_of_range;
+use std::alloc::Global;
+use toml_span_lex::span::Span;
+use toml_span_lex::stop::Stop;
+use toml_span_tree::{Value, ValueInner};
+
+/// The number nearest to a float's text, where that is finite.
+fn double_of(text: &str) -> Option<f64>
+    ensures { result ≡ finite_float binary64 text.now }
+{
+    let double = fast_float::parse::<f64, _>(text).ok()?;
+    if double.is_finite() {
+        Some(double)
+    } else {
+        None
+    }
+}
+
+/// The same in single precision.
+fn single_of(text: &str) -> Option<f32>
+    ensures { result ≡ finite_float binary32 text.now }
+{
+    let single = fast_float::parse::<f32, _>(text).ok()?;
+    if single.is_finite() {
+        Some(single)
+    } else {
+        None
+    }
+}
+
+/// The number, or the error that the type of this name holds none that is near.
+fn or_out_of_range<'s, T: Drop>(
+    number: Option<T>,
+    name: &'s str,
+    span: Span,
+) -> Result<T, Stop<DeserError<'s>>>
+    ensures { result ≡ or_beyond name.now span number }
+{
+    match number {
+        Some(number) => Ok(number),
+        None => Err(Stop::Fault(out_of_range(name, span))),
+    }
+}
+
+/// The number nearest to a float. One that is not finite, as of `inf`, `nan` and `1e400`, is the error `OutOfRange`:
+/// `FloatText` has it.
+impl<'de> Deserialize<'de> for f64 {
+    ghost reads = { Gives (read_number (codes "f64") binary64) };
+
+    ghost starved = { Never };
+
+    fn deserialize(_alloc: Global, value: &mut Value<'de>) -> Result<f64, Stop<DeserError<'de>>> {
+        match value.take() {
+            ValueInner::Float(float) => {
+                let number = double_of(float.text());
+                drop(float);
+                or_out_of_range(number, "f64", value.span)
+            }
+            other => Err(refused("a float", other, value.span)),
+        }
+    }
+}
+
+/// The same in single precision.
+impl<'de> Deserialize<'de> for f32 {
+    ghost reads = { Gives (read_number (codes "f32") binary32) };
+
+    ghost starved = { Never };
+
+    fn deserialize(_alloc: Global, value: &mut Value<'de>) -> Result<f32, Stop<DeserError<'de>>> {
+        match value.take() {
+            ValueInner::Float(float) => {
+                let number = single_of(float.text());
+                drop(float);
+                or_out_of_range(number, "f32", value.span)
+            }
+            other => Err(refused("a float", other, value.span)),
+        }
+    }
+}

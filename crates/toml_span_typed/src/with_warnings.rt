@@ -1,0 +1,64 @@
+//! Reads that also warn, as of fields under deprecated names.
+ghost use Rattle.std.specs.Prelude.{◌≡◌, ◌+◌, ◌≤◌, IfOk, IsTrue, List, OnErr, Result, length, map};
+ghost use Rattle.toml_span_tree.specs.Error.{ErrorContent, content_of};
+ghost use Rattle.toml_span_tree.specs.Node.{Node};
+ghost use Rattle.toml_span_tree.specs.Value.{is_whole, view};
+ghost use Rattle.toml_span_typed.specs.Errors.{Errors};
+ghost use Rattle.toml_span_typed.specs.Fields.{lacking};
+ghost use Rattle.toml_span_typed.specs.WithWarnings.{AnswersWithWarnings};
+ghost use Rattle.toml_span_typed.specs.code.WithWarnings.{ReadsOrKeeps};
+
+mod lists;
+
+use crate::deser_error::DeserError;
+use std::alloc::{AllocError, Global};
+use toml_span_lex::stop::Stop;
+use toml_span_tree::{Error, Value};
+
+/// A type whose read has warnings besides its errors. `Deserialize` has no place for them, so such a type is read by
+/// calls that have one, and no other read of a table can lose them.
+///
+/// An implementation may state what its read answers: `reads` relates the value before, the answer, which is an
+/// element or the errors, the warnings before and those after. One that leaves it out says nothing of them.
+pub trait DeserializeWithWarnings<'de>: Sized + Drop {
+    ghost reads: { Node → Result Self Errors → List ErrorContent → List ErrorContent → Type 0 } = { λ _ _ _ _. Unit {0} };
+
+    /// Reads the value, of which nothing may be taken, neither here nor below (`is_whole`). Warnings are put behind
+    /// those of the list, also where the read fails.
+    fn deserialize_with_warnings(
+        alloc: Global,
+        value: &mut Value<'de>,
+        warnings: &mut Vec<Error<'de>>,
+    ) -> Result<Self, Stop<DeserError<'de>>>
+        requires { IsTrue (is_whole (view value.old)) }
+        ensures { AnswersWithWarnings reads (view value.old) result (map content_of warnings.old.items)
+            (map content_of warnings.new.items) };
+}
+
+/// Reads a value. Where that fails, its errors are kept behind those of a list, and there is no answer; without
+/// memory none is kept.
+pub(crate) fn read_or_keep<'de, T: DeserializeWithWarnings<'de>>(
+    alloc: Global,
+    mut value: Value<'de>,
+    faults: &mut Vec<Error<'de>>,
+    warnings: &mut Vec<Error<'de>>,
+) -> Result<Option<T>, AllocError>
+    requires { IsTrue (is_whole (view value)) }
+    ensures ok { IfOk result (λ element. ReadsOrKeeps T.reads (view value.entry) (map content_of faults.old.items)
+        element (map content_of faults.new.items) (map content_of warnings.old.items)
+        (map content_of warnings.new.items)) }
+    ensures told { IfOk result (λ element. length (map content_of faults.old.items) + lacking element
+        ≤ length (map content_of faults.new.items)) }
+    ensures err { OnErr result (faults.new.items ≡ faults.old.items) }
+{
+    let read = T::deserialize_with_warnings(alloc, &mut value, warnings);
+    drop(value);
+    match read {
+        Ok(element) => Ok(Some(element)),
+        Err(Stop::Fault(more)) => {
+            more.append_to(faults)?;
+            Ok(None)
+        }
+        Err(Stop::Memory(e)) => Err(e),
+    }
+}
