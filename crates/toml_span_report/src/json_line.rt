@@ -25,12 +25,7 @@ fn push_number(out: &mut String, title: &str, number: usize) -> Result<(), Alloc
 }
 
 /// Adds a member whose value is a text, behind what stands before it.
-fn push_member(
-    alloc: Global,
-    out: &mut String,
-    title: &str,
-    text: &str,
-) -> Result<(), AllocError>
+fn push_member(alloc: Global, out: &mut String, title: &str, text: &str) -> Result<(), AllocError>
     ensures { OnOk result (string_bytes out.new ≡ string_bytes out.old ++ spec.member_json title.now text.now) }
 {
     out.push_str(title)?;
@@ -163,12 +158,7 @@ fn push_array(
 }
 
 /// Adds the name of the file, the code and the message.
-fn push_head(
-    alloc: Global,
-    out: &mut String,
-    report: &Report,
-    name: &str,
-) -> Result<(), AllocError>
+fn push_head(alloc: Global, out: &mut String, report: &Report, name: &str) -> Result<(), AllocError>
     ensures { OnOk result (string_bytes out.new ≡ string_bytes out.old
         ++ spec.head_json (report_content report.now) name.now) }
 {
