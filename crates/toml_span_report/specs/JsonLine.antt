@@ -7,7 +7,6 @@ use Rattle.toml_span_report.specs.Places.{place, line_number, column}
 use Rattle.toml_span_report.specs.Rendering.{word}
 use Rattle.toml_span_report.specs.Report.{Place, ReportContent}
 use Rattle.toml_span_report.specs.Visible.{quoted}
-use Rattle.toml_span_report.specs.declared.report.Severity.{Severity}
 
 -- ---- labels
 
@@ -26,18 +25,25 @@ place_json text at =
     codes ",\"line\":" ++ decimal (line_number text (place text at))
     ++ codes ",\"column\":" ++ decimal (column text (place text at))
 
+-- where it stands
+unfoldable pub spot_json : List ℕ → Span → List ℕ
+spot_json text span = span_json span ++ place_json text span.start
+
 -- a member whose value is a text, behind what stands before it
 abbrev pub member_json : List ℕ → List ℕ → List ℕ
 member_json title text = title ++ quoted text
 
-abbrev pub label_json : List ℕ → Place → List ℕ
-label_json text mark =
-    role_json mark.primary ++ span_json mark.span ++ place_json text mark.span.start
-    ++ member_json (codes ",\"message\":") mark.message ++ codes "}"
+-- a label, of its parts
+unfoldable pub parts_json : List ℕ → Bool → Span → List ℕ → List ℕ
+parts_json text is_primary span message =
+    role_json is_primary ++ spot_json text span ++ member_json (codes ",\"message\":") message ++ codes "}"
+
+unfoldable pub label_json : List ℕ → Place → List ℕ
+label_json text mark = parts_json text mark.primary mark.span mark.message
 
 -- ---- reports
 
--- the elements of an array, with commas between them, in brackets
+-- labels and texts as arrays, with commas between them
 abbrev pub labels_json : List ℕ → List Place → List ℕ
 labels_json text marks = codes "[" ++ join_by (label_json text) (codes ",") marks ++ codes "]"
 
@@ -56,7 +62,7 @@ remarks_json r =
     member_json (codes ",\"severity\":") (word r.severity) ++ codes ",\"notes\":" ++ texts_json r.notes
     ++ codes ",\"help\":" ++ texts_json r.help
 
--- The whole line.
+-- the whole line
 abbrev pub report_json : ReportContent → List ℕ → List ℕ → List ℕ
 report_json r name text =
     head_json r name ++ codes ",\"labels\":" ++ labels_json text r.labels ++ remarks_json r ++ codes "}\n"

@@ -143,7 +143,8 @@ fn reports_of(alloc: Global, errors: &DeserError<'_>, text: &str) -> Result<Vec<
 {
     let mut reports = Vec::new(alloc);
     for error in errors.iter() {
-        reports.push(Report::from_error(alloc, error, text)?)?;
+        let report = Report::from_error(alloc, error, text)?;
+        reports.push(report)?;
     }
     Ok(reports)
 }

@@ -32,14 +32,14 @@ fn push_member(alloc: Global, out: &mut String, title: &str, text: &str) -> Resu
     push_quoted(alloc, out, text)
 }
 
-/// How a label begins.
-fn role(is_primary: bool) -> &'static str
-    ensures { result.now ≡ spec.role_json is_primary }
+/// Adds how a label begins.
+fn push_role(out: &mut String, is_primary: bool) -> Result<(), AllocError>
+    ensures { OnOk result (string_bytes out.new ≡ string_bytes out.old ++ spec.role_json is_primary) }
 {
     if is_primary {
-        "{\"primary\":true"
+        out.push_str("{\"primary\":true")
     } else {
-        "{\"primary\":false"
+        out.push_str("{\"primary\":false")
     }
 }
 
@@ -62,7 +62,36 @@ fn push_place(out: &mut String, text: &str, at: usize) -> Result<(), AllocError>
     push_number(out, ",\"column\":", column)
 }
 
+/// Adds where a label stands.
+#[tactic(auto, unfolding(crate::specs::JsonLine::spot_json))]
+fn push_spot(out: &mut String, text: &str, span: Span) -> Result<(), AllocError>
+    ensures { OnOk result (string_bytes out.new ≡ string_bytes out.old ++ spec.spot_json text.now span) }
+{
+    push_span(out, span)?;
+    push_place(out, text, span.start)
+}
+
+/// Adds a label of these parts as a JSON object.
+#[tactic(auto, unfolding(crate::specs::JsonLine::parts_json))]
+fn push_parts(
+    alloc: Global,
+    out: &mut String,
+    text: &str,
+    is_primary: bool,
+    span: Span,
+    message: &str,
+) -> Result<(), AllocError>
+    ensures { OnOk result (string_bytes out.new ≡ string_bytes out.old
+        ++ spec.parts_json text.now is_primary span message.now) }
+{
+    push_role(out, is_primary)?;
+    push_spot(out, text, span)?;
+    push_member(alloc, out, ",\"message\":", message)?;
+    out.push_str("}")
+}
+
 /// Adds a label as a JSON object.
+#[tactic(auto, unfolding(crate::specs::JsonLine::label_json))]
 fn push_label(
     alloc: Global,
     out: &mut String,
@@ -72,11 +101,8 @@ fn push_label(
     ensures { OnOk result (string_bytes out.new ≡ string_bytes out.old
         ++ spec.label_json text.now (label_content label.now)) }
 {
-    out.push_str(role(label.primary))?;
-    push_span(out, label.span)?;
-    push_place(out, text, label.span.start)?;
-    push_member(alloc, out, ",\"message\":", label.message.as_str())?;
-    out.push_str("}")
+    let (is_primary, span) = (label.primary, label.span);
+    push_parts(alloc, out, text, is_primary, span, label.message.as_str())
 }
 
 /// Adds further labels, a comma before each.

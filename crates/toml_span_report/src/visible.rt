@@ -91,8 +91,8 @@ pub fn visible_lines(alloc: Global, text: &str) -> Result<String, AllocError>
     Ok(out)
 }
 
-/// Adds a text as a string of JSON (RFC 8259, section 7), in quotes, in which characters that terminals act on stand by
-/// their numbers (see `push_visible`). Only want of memory is refused.
+/// Adds a text as a string of JSON, in quotes, in which characters that terminals act on stand by their numbers (see
+/// `push_visible`). Only want of memory is refused.
 pub fn push_quoted(alloc: Global, out: &mut String, text: &str) -> Result<(), AllocError>
     ensures { OnOk result (string_bytes out.new ≡ string_bytes out.old ++ spec.quoted text.now) }
 {

@@ -1,4 +1,4 @@
-use Rattle.std.proofs.Common.{◌≡◌, List, [], ◌∷◌, ◌++◌, ◌∙◌, ap, map, sym, subst, refl, append_assoc, append-nil}
+use Rattle.std.proofs.Common.{◌≡◌, List, [], ◌∷◌, ◌++◌, map, sym, subst, refl, append_assoc, append-nil}
 use Rattle.std.proofs.lemmas.List.{map-append}
 use Rattle.toml_span_tree.specs.Error.{ErrorContent}
 use Rattle.toml_span_typed.specs.Errors.{all}
@@ -10,10 +10,10 @@ pub loop-error-preserved : goal.loop-error-preserved
 loop-error-preserved c =
     λ rest are.
     let text = c.args.text.now in
-    let first = report_content c.in_ok-from_error.from_error in
+    let first = report_content c.in_ok-report.report in
     let told : TellErrors text c.loop-error.error-iterator (first ∷ rest) =
     subst (λ (es : List ErrorContent). TellErrors text es (first ∷ rest)) (sym c.in-Some.ensures.steps)
-    (first, rest, c.in_ok-from_error.ensures, are, refl) in
+    (first, rest, c.in_ok-report.ensures, are, refl) in
     let joined : map report_content c.push.new.self.items ++ rest ≡ map report_content c.loop-error.reports.items ++ first ∷ rest =
     rw (c.in_ok-push.ensures.items, map-append, append_assoc) refl in
     subst (λ (rs : List ReportContent). TellErrors text (all c.args.errors.now) rs) (sym joined)
