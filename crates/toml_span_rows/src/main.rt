@@ -7,6 +7,7 @@
 
 mod callers;
 mod derived;
+mod edits;
 mod escapes;
 mod faults;
 mod holders;
@@ -66,6 +67,7 @@ fn push_answer(alloc: Global, row: Row<'_>, out: &mut String) -> Result<bool, Al
             || faults::answer(alloc, row, out)?
             || sections::answer(alloc, row, out)?
             || texts::answer(alloc, row, out)?
+            || edits::answer(alloc, row, out)?
             || reports::answer(alloc, row, out)?
             || runs::answer(alloc, row, out)?
             || callers::answer(alloc, row, out)?
