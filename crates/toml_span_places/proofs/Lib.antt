@@ -1,4 +1,5 @@
 pub mod PathLemmas
 pub mod KeyLemmas
+pub mod PointLemmas
 pub mod ValueSizes
 pub mod ValueKeys
