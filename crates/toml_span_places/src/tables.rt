@@ -249,6 +249,24 @@ pub fn table_places<'t, 'de>(
     Ok(out)
 }
 
+/// In which ways these places name the table at a path.
+fn forms_of(
+    alloc: Global,
+    places: &[TablePlace<'_>],
+    path: &[Step<'_>],
+) -> Result<Vec<TableForm>, AllocError>
+    ensures { IfOk result (λ forms. forms.items
+        ≡ spec.forms_at (map step_of path.now) (map standing_table places.now)) }
+{
+    let mut forms = Vec::new(alloc);
+    for place in places {
+        if same_path(place.path.as_slice(), path) {
+            forms.push(place.form)?;
+        }
+    }
+    Ok(forms)
+}
+
 /// In which ways the text names the table at a path, in its order, one for each place. Empty at the root and where no
 /// table stands.
 ///
@@ -258,15 +276,9 @@ pub fn table_forms<'t, 'de>(
     sections: &'t [Section<'de>],
     path: &[Step<'_>],
 ) -> Result<Vec<TableForm>, AllocError>
-    ensures { IfOk result (λ forms. forms.items ≡ spec.forms_at (map step_of path.now)
-        (document_tables (map block sections.now))) }
+    ensures { IfOk result (λ forms. forms.items
+        ≡ spec.forms_at (map step_of path.now) (document_tables (map block sections.now))) }
 {
     let places = table_places(alloc, sections)?;
-    let mut forms = Vec::new(alloc);
-    for place in &places {
-        if same_path(place.path.as_slice(), path) {
-            forms.push(place.form)?;
-        }
-    }
-    Ok(forms)
+    forms_of(alloc, places.as_slice(), path)
 }
