@@ -1,22 +1,14 @@
 -- The tables of headers, of assignments and of sections, one further on.
-use Rattle.std.proofs.Common.{◌≡◌, ℕ, ◌+◌, ◌<◌, List, [], ◌∷◌, ◌++◌, map, drop, length, get_or, refl, ap, sym, ◌∙◌, arith}
-use Rattle.std.proofs.Common.{◌≤◌, ◌==◌, add-one, false}
+use Rattle.std.proofs.Common.{◌≡◌, ℕ, ◌+◌, ◌<◌, List, [], ◌∷◌, ◌++◌, map, drop, length, get_or, ap, ◌∙◌}
+use Rattle.std.proofs.Common.{add-one}
 use Rattle.std.proofs.lemmas.List.{drop_more}
-use Rattle.toml_span_lex.specs.declared.key.Key.{Key}
-use Rattle.toml_span_lex.specs.declared.span.Span.{Span}
 use Rattle.toml_span_tree.specs.Path.{Path, position}
-use Rattle.toml_span_read.specs.Keys.{SimpleKey, simple_key}
-use Rattle.toml_span_read.specs.Data.{Block, block, key_value, no_items, no_pairs, onto, pairs_onto, view}
-use Rattle.toml_span_read.specs.declared.section.Section.{Section}
+use Rattle.toml_span_read.specs.Data.{key_value, no_items, no_pairs, onto, pairs_onto, view}
 use Rattle.toml_span_read.specs.declared.value.Assignment.{Assignment}
 use Rattle.toml_span_read.specs.declared.value.Val.{Val}
-use Rattle.toml_span.specs.Paths.{enter, with_key}
-use Rattle.toml_span_places.specs.Keys.{below, opened_behind}
-use Rattle.toml_span_places.specs.Tables.{StandingTable, dotted_tables, header_tables, item_tables, pair_tables}
-use Rattle.toml_span_places.specs.Tables.{section_tables, sections_tables, table_at, value_tables}
-use Rattle.toml_span_places.specs.declared.tables.TableForm.TheVariants as forms
-use Rattle.toml_span_places.proofs.PathLemmas.{behind_first, keys_first, keys_some}
-use Rattle.toml_span_places.proofs.KeyLemmas.{listed_next, listed_two}
+use Rattle.toml_span_places.specs.Tables.{StandingTable, item_tables, pair_tables}
+use Rattle.toml_span_places.specs.Tables.{value_tables}
+use Rattle.toml_span_places.proofs.KeyLemmas.{listed_next}
 
 abbrev pub elements_tables : Path → ℕ → List Val → List StandingTable
 elements_tables p i vs = item_tables p i (onto (map view vs) no_items)
