@@ -2,4 +2,8 @@ pub mod Cuts
 pub mod Keys
 pub mod Lines
 pub mod Literals
+pub mod Points
 pub mod Quoted
+pub mod Sections
+pub mod Spots
+pub mod Tables
