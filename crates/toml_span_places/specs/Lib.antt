@@ -3,3 +3,4 @@ pub mod Keys
 pub mod Lines
 pub mod Literals
 pub mod Quoted
+pub mod Spelled

@@ -8,6 +8,7 @@ mod lines;
 mod literals;
 mod paths;
 mod quoted;
+mod spelled;
 mod values;
 
 pub use cuts::replaced;
@@ -15,3 +16,4 @@ pub use keys::{KeyPlace, Role, key_places, with_quotes};
 pub use lines::{assignment_lines, section_lines};
 pub use literals::literal_span;
 pub use quoted::{quote_key, quote_string};
+pub use spelled::to_toml;
