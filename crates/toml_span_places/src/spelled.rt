@@ -1,5 +1,5 @@
 //! Values as TOML text.
-ghost use Rattle.std.specs.Prelude.{◌≡◌, ◌++◌, IfOk, OnOk, false, string_bytes};
+ghost use Rattle.std.specs.Prelude.{◌≡◌, ◌++◌, IfOk, OnOk, true, string_bytes};
 ghost use Rattle.std.specs.Fmt.{signed_decimal};
 ghost use Rattle.toml_span_tree.specs.Value.{view, inner_view, items_view, members_view};
 ghost use Rattle.toml_span_places.specs.Quoted as quoted;
