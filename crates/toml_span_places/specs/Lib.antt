@@ -5,5 +5,6 @@ pub mod Literals
 pub mod Points
 pub mod Quoted
 pub mod Sections
+pub mod Spelled
 pub mod Spots
 pub mod Tables

@@ -3,6 +3,7 @@
 //! - `key_places: TEXT` tells of each key the steps to what it names, its role, and its span without and with its
 //!   quotes.
 //! - `literals: TEXT` tells of each value its path, where it is spelled, and the text there.
+//! - `to_toml: TEXT` tells each value as TOML on one line, behind its path.
 //! - `lines: TEXT` tells the lines of each section, and below it those of each of its assignments.
 //! - `with_quotes START..END: TEXT` tells the span of a key with its quotes.
 //! - `quote_key: NAME` and `quote_string: TEXT` tell how they are written.
@@ -18,7 +19,7 @@ use toml_span::value::Value;
 use toml_span::{Span, Stop};
 use toml_span_places::{
     KeyPlace, assignment_lines, key_places, literal_span, quote_key, quote_string, replaced,
-    section_lines, with_quotes,
+    section_lines, to_toml, with_quotes,
 };
 use toml_span_read::{Section, read_sections};
 
@@ -137,6 +138,17 @@ pub fn push_literals(
         push_span(out, span)?;
         out.push(' ')?;
         push_cut(text, span, out)?;
+    }
+    Ok(())
+}
+
+/// Adds each value of a tree as TOML, behind its path.
+pub fn push_spelled(alloc: Global, root: &Value<'_>, out: &mut String) -> Result<(), AllocError> {
+    for place in &below(alloc, root)? {
+        out.push_str(place.path.as_str())?;
+        out.push(' ')?;
+        out.push_str(to_toml(alloc, place.value)?.as_str())?;
+        out.push('\n')?;
     }
     Ok(())
 }

@@ -3,7 +3,7 @@
 //! that it prints. `twice` parses twice: what the first answers in a word, and the second whole.
 ghost use Rattle.std.specs.Prelude.{◌≤◌, IfSome};
 
-use crate::edits::push_literals;
+use crate::edits::{push_literals, push_spelled};
 use crate::faults::push_twice;
 use crate::spots::push_node_at;
 use crate::told::{known, push_told_line};
@@ -66,6 +66,7 @@ fn push_call<'t>(
         "kinds" => kinds::push_kinds(alloc, root, out),
         "again" => pieces::push_again(alloc, row.text, root, out),
         "literals" => push_literals(alloc, row.text, root, out),
+        "to_toml" => push_spelled(alloc, root, out),
         "text_order" => orders::push_order(alloc, root, out),
         "nodes" => orders::push_nodes(alloc, root, out),
         "diagnostics" => out.push_str("no fault"),
