@@ -10,3 +10,4 @@ pub mod Report
 pub mod Strips
 pub mod Tokens
 pub mod UnknownKeys
+pub mod Reads
