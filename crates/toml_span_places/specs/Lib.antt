@@ -7,3 +7,4 @@ pub mod Quoted
 pub mod Sections
 pub mod Spots
 pub mod Tables
+pub mod code
