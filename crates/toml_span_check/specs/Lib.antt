@@ -8,3 +8,4 @@ pub mod Shown
 pub mod Start
 pub mod Visible
 pub mod Words
+pub mod code

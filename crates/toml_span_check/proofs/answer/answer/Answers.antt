@@ -1,44 +1,47 @@
-use Rattle.std.proofs.Common.{◌≡◌, ◌≤◌, ◌<◌, ℕ, List, Result, Ok, Err, IfOk, IsUtf8, Vec, length, subst, arith}
-use Rattle.std.specs.Global.{Global}
+use Rattle.std.proofs.Common.{◌≡◌, ◌≤◌, ◌<◌, ℕ, List, Result, Ok, Err, IfOk, IsUtf8, length, subst, arith}
 use Rattle.std.specs.declared.alloc.AllocError.{AllocError}
+use Rattle.toml_span_check.specs.declared.answer.Answer.{Answer}
+use Rattle.toml_span_check.specs.declared.answer.Answer.TheVariants.{Text, Document}
 use Rattle.toml_span_check.specs.declared.answer.Task.{Task}
 use Rattle.toml_span_check.specs.declared.faults.Format.{Format}
 use Rattle.toml_span_lines.specs.Run.{bound}
 use Rattle.toml_span_check.specs.Answer.{too_long, not_utf8, IsRead, IsAnswer}
+use Rattle.toml_span_check.specs.code.Answers.{Answers, Reads}
 use Rattle.toml_span_check.proofs.answer.answer.Goals as goal
 
-abbrev Made : Type 0
-Made = Result (ℕ × Vec ℕ Global) AllocError
-
-long : (r : Made) (format : Format) (task : Task) (pointer name bytes : List ℕ) → bound < length bytes → IfOk r (λ a. (a.0, a.1.items) ≡ too_long format name) → IfOk r (λ a. IsAnswer format task pointer name bytes (a.0, a.1.items))
-long (Err e) format task pointer name bytes above h = tt
-long (Ok a) format task pointer name bytes above h = record {
+long : (format : Format) (task : Task) (pointer name bytes : List ℕ) (answer : ℕ × List ℕ) → bound < length bytes → answer ≡ too_long format name → IsAnswer format task pointer name bytes answer
+long format task pointer name bytes answer above h = record {
   long = λ _. h;
   no_text = λ short. absurd (omega arith);
   read = λ short. absurd (omega arith);
 }
 
-no_text : (r : Made) (format : Format) (task : Task) (pointer name bytes : List ℕ) → length bytes ≤ bound → ¬ (IsUtf8 bytes) → IfOk r (λ a. (a.0, a.1.items) ≡ not_utf8 format name) → IfOk r (λ a. IsAnswer format task pointer name bytes (a.0, a.1.items))
-no_text (Err e) format task pointer name bytes small none h = tt
-no_text (Ok a) format task pointer name bytes small none h = record {
+no_text : (format : Format) (task : Task) (pointer name bytes : List ℕ) (answer : ℕ × List ℕ) → length bytes ≤ bound → ¬ (IsUtf8 bytes) → answer ≡ not_utf8 format name → IsAnswer format task pointer name bytes answer
+no_text format task pointer name bytes answer small none h = record {
   long = λ above. absurd (omega arith);
   no_text = λ _ _. h;
   read = λ _ some. absurd (none some);
 }
 
-read : (r : Made) (format : Format) (task : Task) (pointer name bytes text : List ℕ) → length bytes ≤ bound → IsUtf8 bytes → text ≡ bytes → IfOk r (λ a. IsRead format task pointer name text (a.0, a.1.items)) → IfOk r (λ a. IsAnswer format task pointer name bytes (a.0, a.1.items))
-read (Err e) format task pointer name bytes text small utf8 is h = tt
-read (Ok a) format task pointer name bytes text small utf8 is h = record {
+read : (format : Format) (task : Task) (pointer name bytes text : List ℕ) (answer : ℕ × List ℕ) → length bytes ≤ bound → IsUtf8 bytes → text ≡ bytes → IsRead format task pointer name text answer → IsAnswer format task pointer name bytes answer
+read format task pointer name bytes text answer small utf8 is h = record {
   long = λ above. absurd (omega arith);
   no_text = λ _ none. absurd (none utf8);
-  read = λ _ _. subst (λ (b : List ℕ). IsRead format task pointer name b (a.0, a.1.items)) is h;
+  read = λ _ _. subst (λ (b : List ℕ). IsRead format task pointer name b answer) is h;
 }
 
-pub returns-then-bytes-gt-BOUND : goal.returns-then-bytes-gt-BOUND
-returns-then-bytes-gt-BOUND c = long _ _ c.args.task c.args.pointer.now _ _ c.if-bytes-gt-BOUND.true c.too_long.ensures
+judged : (r : Result Answer AllocError) (format : Format) (task : Task) (name bytes text : List ℕ) → length bytes ≤ bound → IsUtf8 bytes → text ≡ bytes →
+    IfOk r (λ a. (pointer : List ℕ) → Reads format task pointer name text a) → IfOk r (λ a. (pointer : List ℕ) → Answers format task pointer name bytes a)
+judged (Err e) format task name bytes text small utf8 is h = tt
+judged (Ok (Text status out)) format task name bytes text small utf8 is h = λ pointer. read format task pointer name bytes text _ small utf8 is (h pointer)
+judged (Ok (Document form root)) format task name bytes text small utf8 is h =
+    λ pointer. let both = h pointer in (both.0, read format task pointer name bytes text _ small utf8 is both.1)
+
+pub returns-in_ok-too_long : goal.returns-in_ok-too_long
+returns-in_ok-too_long c = λ pointer. long _ c.args.task pointer _ _ _ c.if-bytes-gt-BOUND.true c.in_ok-too_long.ensures
 
 pub returns-in-Ok : goal.returns-in-Ok
-returns-in-Ok c = read _ _ _ _ _ _ _ c.if-bytes-gt-BOUND.false c.in-Ok.ensures.cases.1 c.in-Ok.ensures.cases.0 c.answer_text.ensures
+returns-in-Ok c = judged _ _ _ _ _ _ c.if-bytes-gt-BOUND.false c.in-Ok.ensures.cases.1 c.in-Ok.ensures.cases.0 c.answer_text.ensures
 
-pub returns-in-Err : goal.returns-in-Err
-returns-in-Err c = no_text _ _ c.args.task c.args.pointer.now _ _ c.if-bytes-gt-BOUND.false c.in-Err.ensures.cases.0 c.not_utf8.ensures
+pub returns-in_ok-not_utf8 : goal.returns-in_ok-not_utf8
+returns-in_ok-not_utf8 c = λ pointer. no_text _ c.args.task pointer _ _ _ c.if-bytes-gt-BOUND.false c.in-Err.ensures.cases.0 c.in_ok-not_utf8.ensures
