@@ -1,7 +1,7 @@
 //! What is told of the bytes of a file.
 ghost use Rattle.std.specs.Prelude.{◌≡◌, IfOk, ℕ, List};
 ghost use Rattle.toml_span_check.specs.Answer as spec;
-ghost use Rattle.toml_span_check.specs.code.Answers.{Answers, Reads};
+ghost use Rattle.toml_span_check.specs.code.Judged.{Judges, JudgesText};
 
 use crate::faults::{Format, fault_text};
 use std::alloc::{AllocError, Global};
@@ -93,53 +93,53 @@ fn not_utf8(alloc: Global, format: Format, name: &str) -> Result<Vec<u8>, AllocE
     plain_fault(alloc, format, "not-utf-8", "the file is no UTF-8", name)
 }
 
-/// What is told of the bytes of a file.
-pub(crate) enum Answer<'t> {
+/// What is told of the bytes of a file, once they are judged.
+pub(crate) enum Judged<'t> {
     /// A status and a text.
     Text(u8, Vec<u8>),
     /// A document, which is to be shown in a form.
     Document(Form, Value<'t>),
 }
 
-/// The answer for a text.
-fn answer_text<'t>(
+/// Judges a text.
+fn judge_text<'t>(
     alloc: Global,
     format: Format,
     task: Task,
     name: &str,
     text: &'t str,
-) -> Result<Answer<'t>, AllocError>
-    ensures { IfOk result (λ a. (pointer : List ℕ) → Reads format task pointer name.now text.now a) }
+) -> Result<Judged<'t>, AllocError>
+    ensures { IfOk result (λ a. (pointer : List ℕ) → JudgesText format task pointer name.now text.now a) }
 {
     match parse(alloc, text) {
         Ok(root) => match task {
-            Task::Check => Ok(Answer::Text(0, Vec::new(alloc))),
-            Task::Show(form) => Ok(Answer::Document(form, root)),
+            Task::Check => Ok(Judged::Text(0, Vec::new(alloc))),
+            Task::Show(form) => Ok(Judged::Document(form, root)),
         },
         Err(Stop::Fault(error)) => {
             let out = error_text(alloc, format, &error, name, text);
             drop(error);
-            Ok(Answer::Text(1, out?))
+            Ok(Judged::Text(1, out?))
         }
         Err(Stop::Memory(error)) => Err(error),
     }
 }
 
-/// The answer for the bytes of a file.
-pub(crate) fn answer<'t>(
+/// Judges the bytes of a file.
+pub(crate) fn judge<'t>(
     alloc: Global,
     format: Format,
     task: Task,
     name: &str,
     bytes: &'t [u8],
-) -> Result<Answer<'t>, AllocError>
-    ensures { IfOk result (λ a. (pointer : List ℕ) → Answers format task pointer name.now bytes.now a) }
+) -> Result<Judged<'t>, AllocError>
+    ensures { IfOk result (λ a. (pointer : List ℕ) → Judges format task pointer name.now bytes.now a) }
 {
     if bytes.len() > BOUND {
-        return Ok(Answer::Text(1, too_long(alloc, format, name)?));
+        return Ok(Judged::Text(1, too_long(alloc, format, name)?));
     }
     match str::from_utf8(bytes) {
-        Ok(text) => answer_text(alloc, format, task, name, text),
-        Err(_) => Ok(Answer::Text(1, not_utf8(alloc, format, name)?)),
+        Ok(text) => judge_text(alloc, format, task, name, text),
+        Err(_) => Ok(Judged::Text(1, not_utf8(alloc, format, name)?)),
     }
 }

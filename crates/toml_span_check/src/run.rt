@@ -5,7 +5,7 @@ ghost use Rattle.toml_span_check.specs.Run as spec;
 ghost use Rattle.toml_span_check.specs.Run.{FindsAll, Runs, complaint};
 ghost use Rattle.toml_span_check.specs.code.Telling.{EndsQuiet, TellsAll, TellsBytes, TellsFiles, TellsOne};
 
-use crate::answer::{Answer, Task, answer};
+use crate::answer::{Judged, Task, judge};
 use crate::document::show;
 use crate::faults::Format;
 use crate::input::Inputs;
@@ -72,12 +72,12 @@ fn tell_bytes<O: Sink>(
     ensures { TellsBytes format task pointer.now name.now bytes.now result
         (O.contents out.old) (O.contents out.new) (O.failed out.new) held.old.items held.new.items }
 {
-    match answer(alloc, format, task, name, bytes)? {
-        Answer::Text(status, mut text) => {
+    match judge(alloc, format, task, name, bytes)? {
+        Judged::Text(status, mut text) => {
             held.append(&mut text)?;
             Ok(status)
         }
-        Answer::Document(form, root) => {
+        Judged::Document(form, root) => {
             show(alloc, format, form, pointer, name, &root, held, out)
         }
     }

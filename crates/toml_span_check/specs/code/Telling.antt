@@ -1,5 +1,5 @@
 -- What is told of files while they are read: what is written of it, and what is held.
-use Rattle.std.specs.Prelude.{◌≡◌, ◌⊎◌, ℕ, ◌+◌, max, Bool, true, false, List, [], ◌++◌, Option, Result, Ok, Err, Unit}
+use Rattle.std.specs.Prelude.{◌≡◌, ◌⊎◌, ℕ, ◌+◌, max, Bool, true, false, List, [], ◌++◌, Option, Result, Ok, Err}
 use Rattle.std.specs.Prelude.{string_bytes}
 use Rattle.toml_span_lines.specs.Held.{HoldsRest}
 use Rattle.toml_span_lines.specs.Run.{HasWritten}

@@ -1,13 +1,13 @@
 use Rattle.std.proofs.Common.{◌≡◌, ◌≤◌, ◌<◌, ℕ, List, Result, Ok, Err, IfOk, IsUtf8, length, subst, arith}
 use Rattle.std.specs.declared.alloc.AllocError.{AllocError}
-use Rattle.toml_span_check.specs.declared.answer.Answer.{Answer}
-use Rattle.toml_span_check.specs.declared.answer.Answer.TheVariants.{Text, Document}
+use Rattle.toml_span_check.specs.declared.answer.Judged.{Judged}
+use Rattle.toml_span_check.specs.declared.answer.Judged.TheVariants.{Text, Document}
 use Rattle.toml_span_check.specs.declared.answer.Task.{Task}
 use Rattle.toml_span_check.specs.declared.faults.Format.{Format}
 use Rattle.toml_span_lines.specs.Run.{bound}
 use Rattle.toml_span_check.specs.Answer.{too_long, not_utf8, IsRead, IsAnswer}
-use Rattle.toml_span_check.specs.code.Answers.{Answers, Reads}
-use Rattle.toml_span_check.proofs.answer.answer.Goals as goal
+use Rattle.toml_span_check.specs.code.Judged.{Judges, JudgesText}
+use Rattle.toml_span_check.proofs.answer.judge.Goals as goal
 
 long : (format : Format) (task : Task) (pointer name bytes : List ℕ) (answer : ℕ × List ℕ) → bound < length bytes → answer ≡ too_long format name → IsAnswer format task pointer name bytes answer
 long format task pointer name bytes answer above h = record {
@@ -30,8 +30,8 @@ read format task pointer name bytes text answer small utf8 is h = record {
   read = λ _ _. subst (λ (b : List ℕ). IsRead format task pointer name b answer) is h;
 }
 
-judged : (r : Result Answer AllocError) (format : Format) (task : Task) (name bytes text : List ℕ) → length bytes ≤ bound → IsUtf8 bytes → text ≡ bytes →
-    IfOk r (λ a. (pointer : List ℕ) → Reads format task pointer name text a) → IfOk r (λ a. (pointer : List ℕ) → Answers format task pointer name bytes a)
+judged : (r : Result Judged AllocError) (format : Format) (task : Task) (name bytes text : List ℕ) → length bytes ≤ bound → IsUtf8 bytes → text ≡ bytes →
+    IfOk r (λ a. (pointer : List ℕ) → JudgesText format task pointer name text a) → IfOk r (λ a. (pointer : List ℕ) → Judges format task pointer name bytes a)
 judged (Err e) format task name bytes text small utf8 is h = tt
 judged (Ok (Text status out)) format task name bytes text small utf8 is h = λ pointer. read format task pointer name bytes text _ small utf8 is (h pointer)
 judged (Ok (Document form root)) format task name bytes text small utf8 is h =
@@ -41,7 +41,7 @@ pub returns-in_ok-too_long : goal.returns-in_ok-too_long
 returns-in_ok-too_long c = λ pointer. long _ c.args.task pointer _ _ _ c.if-bytes-gt-BOUND.true c.in_ok-too_long.ensures
 
 pub returns-in-Ok : goal.returns-in-Ok
-returns-in-Ok c = judged _ _ _ _ _ _ c.if-bytes-gt-BOUND.false c.in-Ok.ensures.cases.1 c.in-Ok.ensures.cases.0 c.answer_text.ensures
+returns-in-Ok c = judged _ _ _ _ _ _ c.if-bytes-gt-BOUND.false c.in-Ok.ensures.cases.1 c.in-Ok.ensures.cases.0 c.judge_text.ensures
 
 pub returns-in_ok-not_utf8 : goal.returns-in_ok-not_utf8
 returns-in_ok-not_utf8 c = λ pointer. no_text _ c.args.task pointer _ _ _ c.if-bytes-gt-BOUND.false c.in-Err.ensures.cases.0 c.in_ok-not_utf8.ensures
