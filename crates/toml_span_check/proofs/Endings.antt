@@ -21,9 +21,10 @@ kept X a b (inl same) = inl (subst (Keeps a) (sym same) (Keeps-refl a))
 kept X a b (inr x) = inr x
 
 -- without memory
-pub ends-empty : (format : Format) (task : Task) (pointer : List ℕ) (names : List (List ℕ)) (old new : Option Asked) (told told' : Option (List ℕ)) (untold : Bool) (warned : Option (List ℕ)) (unwarned : Bool) →
-    TellsAll format task pointer names (Err Memory) old new told told' untold → unwarned ≡ false → Runs format task pointer names false old new told told' untold warned warned unwarned 4
-ends-empty format task pointer names old new told told' untold warned unwarned t fine = record {
+pub ends-empty : (format : Format) (task : Task) (pointer : List ℕ) (names : List (List ℕ)) (old new : Option Asked) (told told' : Option (List ℕ)) (untold : Bool) (warned : Option (List ℕ)) (unwarned : Bool) (e : Unwritten) →
+    TellsAll format task pointer names (Err e) old new told told' untold → e ≡ Memory → unwarned ≡ false → Runs format task pointer names false old new told told' untold warned warned unwarned 4
+ends-empty format task pointer names old new told told' untold warned unwarned Failed t is fine = cc
+ends-empty format task pointer names old new told told' untold warned unwarned Memory t is fine = record {
   failed = neither-failed untold unwarned 4 (λ is. omega (arith, is)) t.0 fine;
   silent = λ _. (Keeps-refl warned, kept _ told told' t.1);
   cut = λ is. absurd (false≢true (sym t.0 ∙ is));
@@ -52,6 +53,11 @@ ends-cut format task pointer names old new told told' untold warned unwarned bad
   tells = λ no. absurd (no refl);
   known = omega arith;
 }
+
+pub ends-failed : (format : Format) (task : Task) (pointer : List ℕ) (names : List (List ℕ)) (old new : Option Asked) (told told' : Option (List ℕ)) (untold : Bool) (warned : Option (List ℕ)) (unwarned : Bool) (e : Unwritten) →
+    TellsAll format task pointer names (Err e) old new told told' untold → e ≡ Failed → unwarned ≡ false → Runs format task pointer names false old new told told' untold warned warned unwarned 3
+ends-failed format task pointer names old new told told' untold warned unwarned Memory t is fine = cc
+ends-failed format task pointer names old new told told' untold warned unwarned Failed t is fine = ends-cut format task pointer names old new told told' untold warned unwarned t.0 t.1 fine
 
 -- all that is told is held at the end, and is written but in part
 pub begins-all : (format : Format) (task : Task) (pointer : List ℕ) (names : List (List ℕ)) (old new : Option Asked) (told mid told' : Option (List ℕ)) (out errors held : List ℕ) (status : ℕ) →

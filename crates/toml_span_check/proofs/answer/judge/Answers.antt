@@ -37,11 +37,8 @@ judged (Ok (Text status out)) format task name bytes text small utf8 is h = λ p
 judged (Ok (Document form root)) format task name bytes text small utf8 is h =
     λ pointer. let both = h pointer in (both.0, read format task pointer name bytes text _ small utf8 is both.1)
 
-pub returns-in_ok-too_long : goal.returns-in_ok-too_long
-returns-in_ok-too_long c = λ pointer. long _ c.args.task pointer _ _ _ c.if-bytes-gt-BOUND.true c.in_ok-too_long.ensures
-
 pub returns-in-Ok : goal.returns-in-Ok
 returns-in-Ok c = judged _ _ _ _ _ _ c.if-bytes-gt-BOUND.false c.in-Ok.ensures.cases.1 c.in-Ok.ensures.cases.0 c.judge_text.ensures
 
-pub returns-in_ok-not_utf8 : goal.returns-in_ok-not_utf8
-returns-in_ok-not_utf8 c = λ pointer. no_text _ c.args.task pointer _ _ _ c.if-bytes-gt-BOUND.false c.in-Err.ensures.cases.0 c.in_ok-not_utf8.ensures
+pub returns-in_ok-not_utf8-in-Err : goal.returns-in_ok-not_utf8-in-Err
+returns-in_ok-not_utf8-in-Err c = λ pointer. no_text _ c.args.task pointer _ _ _ c.if-bytes-gt-BOUND.false c.in-Err.ensures.cases.0 c.in_ok-not_utf8-in-Err.ensures

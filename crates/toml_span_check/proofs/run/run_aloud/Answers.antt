@@ -1,15 +1,13 @@
 use Rattle.std.proofs.Common.{◌∙◌, ap, not}
-use Rattle.toml_span_check.proofs.Endings.{begins-all, ends-cut, ends-empty, ends-told, ends-unwarned}
+use Rattle.toml_span_check.proofs.Endings.{begins-all, ends-cut, ends-empty, ends-failed, ends-told, ends-unwarned}
 use Rattle.toml_span_check.proofs.run.run_aloud.Goals as goal
 use Rattle.toml_span_check.proofs.run.run_aloud.Goals.{else-write_bytes-via-then-write_bytes+else-write_bytes-2, else-write_bytes-via-else-write_bytes}
 
 pub returns-in-Err-Memory : goal.returns-in-Err-Memory
-returns-in-Err-Memory g c = ends-empty c.args.format c.args.task c.args.pointer.now _ _ _ _ _ _ _ _ c.in-Err-Memory.ensures c.requires.errors
+returns-in-Err-Memory g c = ends-empty _ _ _ _ _ _ _ _ _ _ _ c.in-Err-Memory.field-0 c.in-Err-Memory.ensures c.in-Err-Memory.field-0-is c.requires.errors
 
 pub returns-in-Err-Failed : goal.returns-in-Err-Failed
-returns-in-Err-Failed g c =
-    let told = c.in-Err-Failed.ensures in
-    ends-cut c.args.format c.args.task c.args.pointer.now _ _ _ _ _ _ _ _ told.0 told.1 c.requires.errors
+returns-in-Err-Failed g c = ends-failed _ _ _ _ _ _ _ _ _ _ _ c.in-Err-Failed.field-0 c.in-Err-Failed.ensures c.in-Err-Failed.field-0-is c.requires.errors
 
 pub returns-then-write_bytes-2 : goal.returns-then-write_bytes-2
 returns-then-write_bytes-2 g c =

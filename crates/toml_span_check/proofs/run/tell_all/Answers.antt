@@ -1,6 +1,7 @@
-use Rattle.std.proofs.Common.{◌∙◌, ◌++◌, ap, length, map, refl, string_bytes, sym}
+use Rattle.std.proofs.Common.{◌∙◌, ◌++◌, ap, length, map, refl, string_bytes, subst, sym, ℕ, List, Bor, String}
 use Rattle.std.proofs.lemmas.List.{length-map}
-use Rattle.toml_span_check.specs.Run.{summary}
+use Rattle.std.specs.Global.{Global}
+use Rattle.toml_span_check.specs.Run.{FindsAll, summary}
 use Rattle.toml_span_check.proofs.Tellings.{stops-finding, stops-files, stops-counting}
 use Rattle.toml_span_check.proofs.run.tell_all.Goals as goal
 
@@ -9,9 +10,10 @@ returns-in_err-found g c = stops-finding c.args.format c.args.task c.args.pointe
 
 pub returns-in_err-telling : goal.returns-in_err-telling
 returns-in_err-telling g c =
-    let told = c.in_err-telling.ensures in
-    stops-files c.args.format c.args.task c.args.pointer.now _ (map (λ file. string_bytes file) c.in_ok-found.found.items) _ (g.I.Inputs.log c.find_all.new.inputs) _ _ _ _
-    c.in_err-telling.field-0.0 c.from_residual-in_err-telling.result c.in_ok-found.ensures (rw c.as_slice-files.ensures.value at told) c.from_residual-in_err-telling.ensures.1
+    let found = subst (λ (files : List (String Global)). FindsAll (map (λ (name : Bor (List ℕ)). name.now) c.args.names.now) (g.I.Inputs.log c.args.inputs.now) (g.I.Inputs.log c.find_all.new.inputs) (map (λ file. string_bytes file) files))
+        (sym c.as_slice-files.ensures.value) c.in_ok-found.ensures in
+    stops-files c.args.format c.args.task c.args.pointer.now _ (map (λ file. string_bytes file) c.as_slice-files.result.now) _ (g.I.Inputs.log c.find_all.new.inputs) _ _ _ _
+    c.in_err-telling.field-0.0 c.from_residual-in_err-telling.result found c.in_err-telling.ensures c.from_residual-in_err-telling.ensures.1
 
 pub returns-in_err-push_summary : goal.returns-in_err-push_summary
 returns-in_err-push_summary g c =
