@@ -1,5 +1,5 @@
 -- How runs end.
-use Rattle.std.proofs.Common.{◌≡◌, ◌∙◌, ◌++◌, ◌⊎◌, ◌||◌, ℕ, ◌≤◌, Bool, true, false, List, [], Option, Result, Ok, Err, string_bytes, refl, sym, ap, subst, inl, inr, arith}
+use Rattle.std.proofs.Common.{◌≡◌, ◌∙◌, ◌⊎◌, ◌||◌, ℕ, Bool, true, false, List, [], Option, Err, refl, sym, subst, inl, inr, arith}
 use Rattle.std.proofs.KnownBytes.{Appends-nil, Appends-trans, Keeps-refl}
 use Rattle.std.proofs.lemmas.Bool.{false≢true}
 use Rattle.std.proofs.lemmas.List.{append-nil}
@@ -10,8 +10,7 @@ use Rattle.toml_span_lines.specs.declared.held.Unwritten.{Unwritten}
 use Rattle.toml_span_lines.specs.declared.held.Unwritten.TheVariants.{Failed, Memory}
 use Rattle.toml_span_check.specs.declared.answer.Task.{Task}
 use Rattle.toml_span_check.specs.declared.faults.Format.{Format}
-use Rattle.toml_span_check.specs.declared.run.Telling.{Telling}
-use Rattle.toml_span_check.specs.Run.{Asked, Begins, Runs, Shows, Told}
+use Rattle.toml_span_check.specs.Run.{Asked, Begins, Runs, Told}
 use Rattle.toml_span_check.specs.code.Telling.{EndsQuiet, TellsAll}
 use Rattle.toml_span_check.proofs.Statuses.{told-small, neither-failed}
 use Rattle.toml_span_check.proofs.Tellings.{written-behind}

@@ -1,5 +1,5 @@
 -- What is told of one file.
-use Rattle.std.proofs.Common.{◌≡◌, ◌+◌, ◌++◌, ℕ, Bool, true, false, max, List, Option, Vec, Result, Ok, Err, IfOk, IsErrAnd, refl, sym, ap, subst, inl, inr}
+use Rattle.std.proofs.Common.{◌≡◌, ◌+◌, ◌++◌, ℕ, Bool, max, List, Option, Vec, Result, Ok, Err, IfOk, IsErrAnd, refl, sym, ap, subst, inl, inr}
 use Rattle.std.specs.Global.{Global}
 use Rattle.std.specs.declared.alloc.AllocError.{AllocError}
 use Rattle.toml_span_lines.specs.Held.{HoldsRest, Streams}

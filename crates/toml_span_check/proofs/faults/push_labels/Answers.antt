@@ -1,4 +1,4 @@
-use Rattle.std.proofs.Common.{ℕ, ◌++◌, ◌∙◌, ap, sym, map, string_bytes}
+use Rattle.std.proofs.Common.{◌++◌, ◌∙◌, ap, sym, map, string_bytes}
 use Rattle.std.proofs.lemmas.List.{drop_all}
 use Rattle.toml_span_tree.specs.Diagnostic.{label_content}
 use Rattle.toml_span_check.specs.Faults.{labels_json}

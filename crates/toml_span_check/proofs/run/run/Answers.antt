@@ -1,4 +1,3 @@
-use Rattle.std.proofs.Common.{refl}
 use Rattle.toml_span_check.proofs.Endings.{ends-quiet}
 use Rattle.toml_span_check.proofs.run.run.Goals as goal
 

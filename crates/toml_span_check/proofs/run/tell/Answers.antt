@@ -1,4 +1,4 @@
-use Rattle.std.proofs.Common.{◌≡◌, ◌∙◌, ◌+◌, ◌++◌, ◌∷◌, ap, inl, refl, sym, ℕ, List, [], String, map, take, drop, string_bytes}
+use Rattle.std.proofs.Common.{◌∙◌, ◌+◌, ◌++◌, ◌∷◌, ap, inl, refl, sym, ℕ, List, [], String, map, take, drop, string_bytes}
 use Rattle.std.proofs.KnownBytes.{Appends-nil}
 use Rattle.std.specs.Global.{Global}
 use Rattle.toml_span_check.specs.Run.{read_of}
