@@ -30,6 +30,10 @@ range_help message =
     then Some (codes "an i32 is from -2147483648 to 2147483647")
     else if bytes_eq message (codes "out of range of 'u64'") then Some (codes "a u64 is at least 0")
     else if bytes_eq message (codes "out of range of 'usize'") then Some (codes "a usize is at least 0")
+    else if bytes_eq message (codes "out of range of 'f32'")
+    then Some (codes "an f32 is finite, from -3.4028235e38 to 3.4028235e38")
+    else if bytes_eq message (codes "out of range of 'f64'")
+    then Some (codes "an f64 is finite, from -1.7976931348623157e308 to 1.7976931348623157e308")
     else None
 
 -- by the code alone

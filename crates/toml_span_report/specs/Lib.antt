@@ -7,6 +7,7 @@ pub mod Names
 pub mod Places
 pub mod Rendering
 pub mod Report
+pub mod Reported
 pub mod Strips
 pub mod Tokens
 pub mod UnknownKeys

@@ -1,0 +1,23 @@
+-- The reports of a text that outlive it.
+use Rattle.std.specs.Prelude.{◌≡◌, ℕ, List}
+use Rattle.std.specs.List.{AllZip, flat_map}
+use Rattle.toml_span_lex.specs.declared.stop.Stop.{Stop}
+use Rattle.toml_span_lex.specs.declared.stop.Stop.TheVariants as stop
+use Rattle.toml_span_tree.specs.Error.{ErrorContent}
+use Rattle.toml_span_typed.specs.Errors.{Errors, all}
+use Rattle.toml_span_report.specs.Errors.{TellsError}
+use Rattle.toml_span_report.specs.Rendering.{report_text}
+use Rattle.toml_span_report.specs.Report.{ReportContent}
+use Rattle.toml_span_report.specs.declared.colours.Style.{Style}
+use Rattle.toml_span_report.specs.declared.report.Severity.TheVariants as severities
+
+-- a report of each error, in order, and the texts of the reports, one behind the other
+abbrev pub AreReported : Style → List ℕ → List ℕ → List ErrorContent → List ReportContent → List ℕ → Type 0
+AreReported style name text errors reports out =
+    AllZip (TellsError severities.Error text) errors reports
+    × (out ≡ flat_map (λ report. report_text style report name text) reports)
+
+-- Want of memory has no report.
+abbrev pub AreTold : Style → List ℕ → List ℕ → Stop Errors → List ReportContent → List ℕ → Type 0
+AreTold style name text (stop.Fault faults) reports out = AreReported style name text (all faults) reports out
+AreTold style name text (stop.Memory e) reports out = ⊥

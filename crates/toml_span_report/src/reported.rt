@@ -1,0 +1,98 @@
+//! The reports of a text that outlive it.
+ghost use Rattle.std.specs.Prelude.{◌≡◌, IfOk, Some, map, string_bytes};
+ghost use Rattle.std.specs.List.{AllZip, flat_map};
+ghost use Rattle.toml_span_report.specs.Errors.{TellsError};
+ghost use Rattle.toml_span_report.specs.Rendering.{report_text};
+ghost use Rattle.toml_span_report.specs.Report.{report_content};
+ghost use Rattle.toml_span_report.specs.Reported.{AreReported, AreTold};
+ghost use Rattle.toml_span_report.specs.declared.report.Severity.TheVariants as severities;
+ghost use Rattle.toml_span_typed.specs.Errors.{all};
+
+use crate::colours::Style;
+use crate::rendering::render;
+use crate::report::Report;
+use std::alloc::{AllocError, Global};
+use std::fmt;
+use std::fmt::{Display, Formatter, Write};
+use toml_span_lex::stop::Stop;
+use toml_span_typed::DeserError;
+
+/// Why a text was not read. It owns what it tells, so it outlives the text, from which a `DeserError` borrows: a function
+/// that reads a file and lets its text go can return it.
+#[derive(Debug, Drop)]
+pub struct Reported {
+    /// The reports of the errors, in their order.
+    pub reports: Vec<Report>,
+    /// The texts of the reports, one behind the other.
+    pub text: String,
+}
+
+impl Reported {
+    /// The reports of all errors for which `from_str` read nothing, and their text, as `render_stop` gives it. Want of
+    /// memory has no report, and comes back.
+    pub fn of(
+        alloc: Global,
+        style: Style,
+        stop: Stop<DeserError<'_>>,
+        name: &str,
+        text: &str,
+    ) -> Result<Reported, AllocError>
+        ensures { IfOk result (λ made. AreTold style name.now text.now stop.entry
+            (map report_content made.reports.items) (string_bytes made.text)) }
+    {
+        match stop {
+            Stop::Fault(errors) => {
+                let reports = report_each(alloc, &errors, text)?;
+                let text = texts_of(alloc, style, reports.as_slice(), name, text)?;
+                Ok(Reported { reports, text })
+            }
+            Stop::Memory(error) => Err(error),
+        }
+    }
+}
+
+/// The text.
+impl Display for Reported {
+    ghost output = { λ reported. Some (string_bytes reported.text) };
+
+    fn fmt<W: Write>(&self, f: &mut Formatter<W>) -> fmt::Result {
+        f.write_str(self.text.as_str())
+    }
+}
+
+impl std::error::Error for Reported {}
+
+/// The report of each error.
+fn report_each(
+    alloc: Global,
+    errors: &DeserError<'_>,
+    text: &str,
+) -> Result<Vec<Report>, AllocError>
+    ensures { IfOk result (λ made. AllZip (TellsError severities.Error text.now) (all errors.now)
+        (map report_content made.items)) }
+{
+    let mut reports = Vec::new(alloc);
+    for error in errors.iter() {
+        reports.push(Report::from_error(alloc, error, text)?)?;
+    }
+    Ok(reports)
+}
+
+/// The texts of reports, one behind the other.
+fn texts_of(
+    alloc: Global,
+    style: Style,
+    reports: &[Report],
+    name: &str,
+    text: &str,
+) -> Result<String, AllocError>
+    ensures { IfOk result (λ out. string_bytes out
+        ≡ flat_map (λ report. report_text style report name.now text.now) (map report_content reports.now)) }
+{
+    let mut out = String::new(alloc);
+    for report in reports {
+        let shown = render(alloc, style, report, name, text)?;
+        out.push_str(shown.as_str())?;
+    }
+    Ok(out)
+}
