@@ -6,12 +6,10 @@ ghost use Rattle.toml_span.specs.Reading.{IsRead};
 ghost use Rattle.toml_span_load.specs.Load.{NotLoaded, told};
 
 use std::alloc::{AllocError, Global};
-use std::fmt;
 use std::fmt::{Display, Formatter, Write};
-use std::fs;
-use std::io;
 use std::io::ErrorKind;
 use std::rt::Files;
+use std::{fmt, fs, io};
 use toml_span::{Deserialize, from_str};
 use toml_span_report::{Reported, Style};
 

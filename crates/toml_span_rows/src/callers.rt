@@ -34,7 +34,7 @@ pub fn answer(alloc: Global, row: Row<'_>, out: &mut String) -> Result<bool, All
         "integer_at" => push_told(integer_at(alloc, text, row.word(0)), out),
         "refused_at" => push_told(refused_at(alloc, text), out),
         "port_of" => push_told(port_of(alloc, text), out),
-        "port_told" => push_told(port_told(alloc, text), out),
+        "port_told" => push_port(alloc, text, out),
         "settings_of" => push_settings(settings_of(alloc, text), out),
         "servers_of" => push_servers(servers_of(alloc, text), out),
         "with_value" => push_changed(alloc, row, out),
@@ -45,6 +45,12 @@ pub fn answer(alloc: Global, row: Row<'_>, out: &mut String) -> Result<bool, All
         _ => return Ok(false),
     };
     known(pushed)
+}
+
+/// Answers `port_told`.
+fn push_port(alloc: Global, text: &str, out: &mut String) -> Result<(), AllocError> {
+    let told = port_told(alloc, text)?;
+    out.push_str(told.as_str())
 }
 
 /// Answers `settings_of`: the settings, or the errors.

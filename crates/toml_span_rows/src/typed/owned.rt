@@ -68,10 +68,7 @@ fn load(rt: &HostRuntime, name: &str) -> Result<Listener, LoadError> {
 }
 
 /// Adds a listener, or why there is none.
-fn push_listener(
-    read: Result<Listener, LoadError>,
-    out: &mut String,
-) -> Result<(), AllocError> {
+fn push_listener(read: Result<Listener, LoadError>, out: &mut String) -> Result<(), AllocError> {
     match read {
         Ok(listener) => push_told(listener, out),
         Err(LoadError::Reported(reported)) => {

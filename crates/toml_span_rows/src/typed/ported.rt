@@ -50,7 +50,7 @@ impl<'de> Deserialize<'de> for Names {
             }
         }
         match DeserError::from_list(errors) {
-            Some(errors) => Err(Stop::Fault(errors)),
+            Some(errors) => Err(errors.into()),
             None => Ok(Names(names)),
         }
     }
