@@ -1,21 +1,20 @@
 -- The reports of a text that outlive it.
-use Rattle.std.specs.Prelude.{◌≡◌, ℕ, List}
-use Rattle.std.specs.List.{AllZip, flat_map}
+use Rattle.std.specs.Prelude.{ℕ, List}
+use Rattle.std.specs.List.{AllZip}
 use Rattle.toml_span_lex.specs.declared.stop.Stop.{Stop}
 use Rattle.toml_span_lex.specs.declared.stop.Stop.TheVariants as stop
 use Rattle.toml_span_tree.specs.Error.{ErrorContent}
 use Rattle.toml_span_typed.specs.Errors.{Errors, all}
 use Rattle.toml_span_report.specs.Errors.{TellsError}
-use Rattle.toml_span_report.specs.Rendering.{report_text}
+use Rattle.toml_span_report.specs.Many.{AreReportTexts}
 use Rattle.toml_span_report.specs.Report.{ReportContent}
 use Rattle.toml_span_report.specs.declared.colours.Style.{Style}
 use Rattle.toml_span_report.specs.declared.report.Severity.TheVariants as severities
 
--- a report of each error, in order, and the texts of the reports, one behind the other
+-- a report of each error, in order, and their text
 abbrev pub AreReported : Style → List ℕ → List ℕ → List ErrorContent → List ReportContent → List ℕ → Type 0
 AreReported style name text errors reports out =
-    AllZip (TellsError severities.Error text) errors reports
-    × (out ≡ flat_map (λ report. report_text style report name text) reports)
+    AllZip (TellsError severities.Error text) errors reports × AreReportTexts style name text reports out
 
 -- Want of memory has no report.
 abbrev pub AreTold : Style → List ℕ → List ℕ → Stop Errors → List ReportContent → List ℕ → Type 0

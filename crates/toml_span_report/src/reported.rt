@@ -1,15 +1,14 @@
 //! The reports of a text that outlive it.
-ghost use Rattle.std.specs.Prelude.{◌≡◌, IfOk, Some, map, string_bytes};
-ghost use Rattle.std.specs.List.{AllZip, flat_map};
+ghost use Rattle.std.specs.Prelude.{IfOk, Some, map, string_bytes};
+ghost use Rattle.std.specs.List.{AllZip};
 ghost use Rattle.toml_span_report.specs.Errors.{TellsError};
-ghost use Rattle.toml_span_report.specs.Rendering.{report_text};
 ghost use Rattle.toml_span_report.specs.Report.{report_content};
-ghost use Rattle.toml_span_report.specs.Reported.{AreReported, AreTold};
+ghost use Rattle.toml_span_report.specs.Reported.{AreTold};
 ghost use Rattle.toml_span_report.specs.declared.report.Severity.TheVariants as severities;
 ghost use Rattle.toml_span_typed.specs.Errors.{all};
 
 use crate::colours::Style;
-use crate::rendering::render;
+use crate::many::render_all;
 use crate::report::Report;
 use std::alloc::{AllocError, Global};
 use std::fmt;
@@ -23,13 +22,13 @@ use toml_span_typed::DeserError;
 pub struct Reported {
     /// The reports of the errors, in their order.
     pub reports: Vec<Report>,
-    /// The texts of the reports, one behind the other.
+    /// Their text, as `render_all` gives it.
     pub text: String,
 }
 
 impl Reported {
-    /// The reports of all errors for which `from_str` read nothing, and their text, as `render_stop` gives it. Want of
-    /// memory has no report, and comes back.
+    /// The reports of all errors for which `from_str` read nothing, and their text. Want of memory has no report, and
+    /// comes back.
     pub fn of(
         alloc: Global,
         style: Style,
@@ -43,7 +42,7 @@ impl Reported {
         match stop {
             Stop::Fault(errors) => {
                 let reports = report_each(alloc, &errors, text)?;
-                let text = texts_of(alloc, style, reports.as_slice(), name, text)?;
+                let text = render_all(alloc, style, reports.as_slice(), name, text)?;
                 Ok(Reported { reports, text })
             }
             Stop::Memory(error) => Err(error),
@@ -76,23 +75,4 @@ fn report_each(
         reports.push(Report::from_error(alloc, error, text)?)?;
     }
     Ok(reports)
-}
-
-/// The texts of reports, one behind the other.
-fn texts_of(
-    alloc: Global,
-    style: Style,
-    reports: &[Report],
-    name: &str,
-    text: &str,
-) -> Result<String, AllocError>
-    ensures { IfOk result (λ out. string_bytes out
-        ≡ flat_map (λ report. report_text style report name.now text.now) (map report_content reports.now)) }
-{
-    let mut out = String::new(alloc);
-    for report in reports {
-        let shown = render(alloc, style, report, name, text)?;
-        out.push_str(shown.as_str())?;
-    }
-    Ok(out)
 }
