@@ -6,5 +6,4 @@ pub mod Options
 pub mod Run
 pub mod Shown
 pub mod Start
-pub mod Visible
 pub mod Words

@@ -6,12 +6,12 @@ ghost use Rattle.toml_span_check.specs.Run.{FindsAll, Runs, Tells, Told, complai
 use crate::answer::{Task, answer};
 use crate::faults::Format;
 use crate::input::Inputs;
-use crate::visible::push_visible;
 use crate::words::shown_word;
 use std::alloc::{AllocError, Global};
 use std::fmt::Write;
 use toml_span_lines::run::write_bytes;
 use toml_span_lines::sink::Sink;
+use toml_span_report::visible::push_visible;
 
 /// What is told of files.
 #[derive(Drop)]

@@ -1,13 +1,10 @@
 //! The reports of a text that outlive it.
 ghost use Rattle.std.specs.Prelude.{IfOk, Some, map, string_bytes};
-ghost use Rattle.std.specs.List.{AllZip};
-ghost use Rattle.toml_span_report.specs.Errors.{TellsError};
 ghost use Rattle.toml_span_report.specs.Report.{report_content};
 ghost use Rattle.toml_span_report.specs.Reported.{AreTold};
-ghost use Rattle.toml_span_report.specs.declared.report.Severity.TheVariants as severities;
-ghost use Rattle.toml_span_typed.specs.Errors.{all};
 
 use crate::colours::Style;
+use crate::errors::reports_of;
 use crate::many::render_all;
 use crate::report::Report;
 use std::alloc::{AllocError, Global};
@@ -27,8 +24,8 @@ pub struct Reported {
 }
 
 impl Reported {
-    /// The reports of all errors for which `from_str` read nothing, and their text. Want of memory has no report, and
-    /// comes back.
+    /// The reports of all errors for which `from_str` read nothing, and the text that `render_stop` gives. Want of memory
+    /// has no report, and comes back.
     pub fn of(
         alloc: Global,
         style: Style,
@@ -41,7 +38,7 @@ impl Reported {
     {
         match stop {
             Stop::Fault(errors) => {
-                let reports = report_each(alloc, &errors, text)?;
+                let reports = reports_of(alloc, &errors, text)?;
                 let text = render_all(alloc, style, reports.as_slice(), name, text)?;
                 Ok(Reported { reports, text })
             }
@@ -60,19 +57,3 @@ impl Display for Reported {
 }
 
 impl std::error::Error for Reported {}
-
-/// The report of each error.
-fn report_each(
-    alloc: Global,
-    errors: &DeserError<'_>,
-    text: &str,
-) -> Result<Vec<Report>, AllocError>
-    ensures { IfOk result (λ made. AllZip (TellsError severities.Error text.now) (all errors.now)
-        (map report_content made.items)) }
-{
-    let mut reports = Vec::new(alloc);
-    for error in errors.iter() {
-        reports.push(Report::from_error(alloc, error, text)?)?;
-    }
-    Ok(reports)
-}

@@ -7,8 +7,8 @@ use Rattle.std.specs.Str.{chars}
 use Rattle.json.specs.Print as print
 
 -- a control character, one that ends a line, or one that turns the direction of the text
-abbrev pub is_hidden : ℕ → Bool
-is_hidden c = nat_lt c 0x20 || (nat_le 0x7F c && nat_lt c 0xA0) || c == 0x61C || (nat_le 0x200E c && nat_le c 0x200F)
+abbrev pub is_escaped : ℕ → Bool
+is_escaped c = nat_lt c 0x20 || (nat_le 0x7F c && nat_lt c 0xA0) || c == 0x61C || (nat_le 0x200E c && nat_le c 0x200F)
     || (nat_le 0x2028 c && nat_le c 0x202E) || (nat_le 0x2066 c && nat_le c 0x2069)
 
 abbrev pub digit : ℕ → List ℕ
@@ -19,7 +19,7 @@ unfoldable pub escape : ℕ → List ℕ
 escape c = codes "\\u" ++ digit (c / 4096) ++ digit (c / 256 % 16) ++ digit (c / 16 % 16) ++ digit (c % 16)
 
 abbrev pub visible_char : ℕ → List ℕ
-visible_char c = if is_hidden c then escape c else encode_utf8 c
+visible_char c = if is_escaped c then escape c else encode_utf8 c
 
 -- a text with the numbers of its hidden characters in their places
 unfoldable pub visible : List ℕ → List ℕ

@@ -1,14 +1,15 @@
-//! Texts that are shown without the characters that terminals act on.
+//! Texts without the characters that terminals act on, and texts in quotes, as JSON has them.
 ghost use Rattle.std.specs.Prelude.{◌≡◌, ◌<◌, ◌++◌, IfOk, OnOk, string_bytes};
 ghost use Rattle.std.specs.Prelude.{encode_utf8};
 ghost use Rattle.std.specs.Char.{digit_char};
-ghost use Rattle.toml_span_check.specs.Visible as spec;
+ghost use Rattle.toml_span_report.specs.Visible as spec;
 
+use serde_json::Value as Json;
 use std::alloc::{AllocError, Global};
 
 /// Whether this is a control character, one that ends a line, or one that turns the direction of the text.
-fn is_hidden(c: char) -> bool
-    ensures { result ≡ spec.is_hidden c }
+fn is_escaped(c: char) -> bool
+    ensures { result ≡ spec.is_escaped c }
 {
     matches!(
         c as u32,
@@ -36,19 +37,21 @@ fn push_code(out: &mut String, code: u32) -> Result<(), AllocError>
     push_digit(out, code % 16)
 }
 
-/// Adds a character, or its number where it is hidden.
+/// Adds a character, or its number where terminals act on it.
 fn push_char(out: &mut String, c: char) -> Result<(), AllocError>
     ensures { OnOk result (string_bytes out.new ≡ string_bytes out.old ++ spec.visible_char c) }
 {
-    if is_hidden(c) {
+    if is_escaped(c) {
         push_code(out, c as u32)
     } else {
         out.push(c)
     }
 }
 
-/// Adds a text with the numbers of its hidden characters.
-pub(crate) fn push_visible(out: &mut String, text: &str) -> Result<(), AllocError>
+/// Adds a text without the characters that terminals act on: a control character, one that ends a line (U+2028,
+/// U+2029) or one that turns the direction of the text stands by its number, as `\u202e`. Only want of memory is
+/// refused.
+pub fn push_visible(out: &mut String, text: &str) -> Result<(), AllocError>
     ensures { OnOk result (string_bytes out.new ≡ string_bytes out.old ++ spec.visible text.now) }
 {
     for c in text.chars() {
@@ -57,8 +60,8 @@ pub(crate) fn push_visible(out: &mut String, text: &str) -> Result<(), AllocErro
     Ok(())
 }
 
-/// A text with the numbers of its hidden characters.
-pub(crate) fn visible(alloc: Global, text: &str) -> Result<String, AllocError>
+/// A text as `push_visible` adds it.
+pub fn visible(alloc: Global, text: &str) -> Result<String, AllocError>
     ensures { IfOk result (λ out. string_bytes out ≡ spec.visible text.now) }
 {
     let mut out = String::new(alloc);
@@ -77,8 +80,8 @@ fn push_line_char(out: &mut String, c: char) -> Result<(), AllocError>
     }
 }
 
-/// Lines with the numbers of their hidden characters.
-pub(crate) fn visible_lines(alloc: Global, text: &str) -> Result<String, AllocError>
+/// The same of lines, which line feeds end.
+pub fn visible_lines(alloc: Global, text: &str) -> Result<String, AllocError>
     ensures { IfOk result (λ out. string_bytes out ≡ spec.visible_lines text.now) }
 {
     let mut out = String::new(alloc);
@@ -86,4 +89,14 @@ pub(crate) fn visible_lines(alloc: Global, text: &str) -> Result<String, AllocEr
         push_line_char(&mut out, c)?;
     }
     Ok(out)
+}
+
+/// Adds a text as a string of JSON, in quotes, in which characters that terminals act on stand by their numbers (see
+/// `push_visible`). Only want of memory is refused.
+pub fn push_quoted(alloc: Global, out: &mut String, text: &str) -> Result<(), AllocError>
+    ensures { OnOk result (string_bytes out.new ≡ string_bytes out.old ++ spec.quoted text.now) }
+{
+    let json = Json::String(String::from_str(alloc, text)?);
+    let quoted = json.to_string(alloc)?;
+    push_visible(out, quoted.as_str())
 }

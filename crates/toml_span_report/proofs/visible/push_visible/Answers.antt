@@ -2,8 +2,8 @@ use Rattle.std.proofs.Common.{sym, ap, ◌∙◌, map-id, string_bytes, ◌++◌
 use Rattle.std.proofs.lemmas.Iterator.{YieldsList-from_chars}
 use Rattle.std.proofs.lemmas.Iterator.Consumers.{YieldsList-end}
 use Rattle.std.specs.List.{flat_map}
-use Rattle.toml_span_check.specs.Visible.{visible, visible_char}
-use Rattle.toml_span_check.proofs.visible.push_visible.Goals as goal
+use Rattle.toml_span_report.specs.Visible.{visible, visible_char}
+use Rattle.toml_span_report.proofs.visible.push_visible.Goals as goal
 
 pub returns : goal.returns
 unfolding visible

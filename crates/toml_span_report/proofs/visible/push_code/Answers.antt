@@ -1,7 +1,7 @@
 use Rattle.std.proofs.Common.{◌≡◌, ℕ, ◌/◌, ◌%◌, List, ◌++◌, append_assoc, codes, string_bytes}
 use Rattle.std.proofs.lemmas.Result.{on_ok_weaker}
-use Rattle.toml_span_check.specs.Visible.{digit, escape}
-use Rattle.toml_span_check.proofs.visible.push_code.Goals as goal
+use Rattle.toml_span_report.specs.Visible.{digit, escape}
+use Rattle.toml_span_report.proofs.visible.push_code.Goals as goal
 
 five : (old a b c d e s t u v w : List ℕ) → s ≡ old ++ a → t ≡ s ++ b → u ≡ t ++ c → v ≡ u ++ d → w ≡ v ++ e → w ≡ old ++ (a ++ b ++ c ++ d ++ e)
 five old a b c d e s t u v w first second third fourth last = rw (last, fourth, third, second, first) (simp append_assoc)

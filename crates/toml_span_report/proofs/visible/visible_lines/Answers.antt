@@ -2,8 +2,8 @@ use Rattle.std.proofs.Common.{sym, ap, ◌∙◌, map-id}
 use Rattle.std.proofs.lemmas.Iterator.{YieldsList-from_chars}
 use Rattle.std.proofs.lemmas.Iterator.Consumers.{YieldsList-end}
 use Rattle.std.specs.List.{flat_map}
-use Rattle.toml_span_check.specs.Visible.{visible_lines, line_char}
-use Rattle.toml_span_check.proofs.visible.visible_lines.Goals as goal
+use Rattle.toml_span_report.specs.Visible.{visible_lines, line_char}
+use Rattle.toml_span_report.proofs.visible.visible_lines.Goals as goal
 
 pub returns : goal.returns
 unfolding visible_lines
