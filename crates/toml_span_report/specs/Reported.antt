@@ -9,7 +9,7 @@ use Rattle.toml_span_report.specs.Many.{AreReportTexts}
 use Rattle.toml_span_report.specs.Report.{ReportContent}
 use Rattle.toml_span_report.specs.declared.colours.Style.{Style}
 
--- a report of each error, in order, and the text of errors (`AreReports`) that these reports have
+-- a report of each error, in order, and the text of these reports
 abbrev pub AreReported : Style → List ℕ → List ℕ → List ErrorContent → List ReportContent → List ℕ → Type 0
 AreReported style name text errors reports out =
     TellErrors text errors reports × AreReportTexts style name text reports out
