@@ -1,5 +1,5 @@
 -- Why a file is not read as a type.
-use Rattle.std.specs.Prelude.{◌≡◌, ⊤, ℕ, List, Option, Some, None, Result, codes, map, string_bytes}
+use Rattle.std.specs.Prelude.{⊤, ℕ, List, Option, Some, None, Result, codes, map, string_bytes}
 use Rattle.toml_span_lex.specs.declared.stop.Stop.TheVariants as stops
 use Rattle.toml_span_tree.specs.Node.{Node}
 use Rattle.toml_span_typed.specs.Errors.{Errors, all}
