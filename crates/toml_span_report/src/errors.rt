@@ -1,5 +1,5 @@
 //! The reports of errors, and their text.
-ghost use Rattle.std.specs.Prelude.{◌≡◌, IfOk, OnOk, map, string_bytes};
+ghost use Rattle.std.specs.Prelude.{◌≡◌, [], IfOk, OnOk, map, string_bytes};
 ghost use Rattle.toml_span_tree.specs.Diagnostic.{label_content};
 ghost use Rattle.toml_span_tree.specs.Error.{content_of, kind_of};
 ghost use Rattle.toml_span_typed.specs.Errors.{all};
@@ -153,6 +153,20 @@ pub(crate) fn push_errors(
     Ok(())
 }
 
+/// The reports of all errors of a read.
+pub(crate) fn error_reports(
+    alloc: Global,
+    errors: &DeserError<'_>,
+    text: &str,
+) -> Result<Vec<Report>, AllocError>
+    ensures { IfOk result (λ made. AddsReports severities.Error text.now (all errors.now) []
+        (map report_content made.items)) }
+{
+    let mut reports = Vec::new(alloc);
+    push_errors(alloc, errors, text, &mut reports)?;
+    Ok(reports)
+}
+
 /// The text of all errors of a read: `render_all` of their reports. Only want of memory is refused.
 pub fn render_errors(
     alloc: Global,
@@ -163,8 +177,7 @@ pub fn render_errors(
 ) -> Result<String, AllocError>
     ensures { IfOk result (λ out. AreReports style name.now text.now (all errors.now) (string_bytes out)) }
 {
-    let mut reports = Vec::new(alloc);
-    push_errors(alloc, errors, text, &mut reports)?;
+    let reports = error_reports(alloc, errors, text)?;
     render_all(alloc, style, reports.as_slice(), name, text)
 }
 
