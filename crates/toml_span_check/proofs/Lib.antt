@@ -1,3 +1,5 @@
+pub mod Commas
+pub mod Pieces
 pub mod Rows
 pub mod Statuses
 pub mod Tellings

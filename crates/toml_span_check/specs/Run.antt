@@ -9,11 +9,12 @@ use Rattle.std.specs.declared.io.ErrorKind.{ErrorKind}
 use Rattle.std.specs.declared.io.ErrorKind.TheVariants as kind
 use Rattle.toml_span_lines.specs.Run.{HasRead, HasReadAll, HasWritten}
 use Rattle.toml_span_check.specs.Answer.{IsAnswer}
+use Rattle.toml_span_check.specs.Sarif.{document}
 use Rattle.toml_span_report.specs.Visible.{visible}
 use Rattle.toml_span_check.specs.Words.{shown_word}
 use Rattle.toml_span_check.specs.declared.answer.Task.{Task}
 use Rattle.toml_span_check.specs.declared.faults.Format.{Format}
-use Rattle.toml_span_check.specs.declared.faults.Format.TheVariants.{Text, Short, Json}
+use Rattle.toml_span_check.specs.declared.faults.Format.TheVariants.{Text, Sarif}
 
 -- what was found for a name: of a folder the names of the files below it, else the name alone
 abbrev pub Search : Type 0
@@ -97,8 +98,12 @@ counts files wrong = decimal files ++ file_word files ++ decimal wrong ++ codes 
 
 abbrev pub summary : Format → ℕ → ℕ → List ℕ
 summary (Text style) files wrong = if nat_lt 0 wrong then counts files wrong else []
-summary Short files wrong = []
-summary Json files wrong = []
+summary _ files wrong = []
+
+-- what is told of all files together
+abbrev pub whole : Format → List ℕ → List ℕ
+whole Sarif told = document told
+whole _ told = told
 
 -- what is written: in a quiet run nothing
 abbrev pub said : Bool → List ℕ → List ℕ
@@ -114,7 +119,7 @@ pub record Told (format : Format) (task : Task) (pointer : List ℕ) (names : Li
   pub complaints : List ℕ
   pub wrong : ℕ
   pub tells : Tells format task pointer files mid new all complaints status wrong
-  pub shown : out ≡ said is_quiet all
+  pub shown : out ≡ said is_quiet (whole format all)
   pub warned : errors ≡ said is_quiet (complaints ++ summary format (length files) wrong)
 
 -- A run: standard output before and after and whether writing it failed, the same of standard error, and the status.

@@ -6,6 +6,7 @@ ghost use Rattle.toml_span_check.specs.Run.{FindsAll, Runs, Tells, Told, complai
 use crate::answer::{Task, answer};
 use crate::faults::Format;
 use crate::input::Inputs;
+use crate::sarif::document;
 use crate::words::shown_word;
 use std::alloc::{AllocError, Global};
 use std::fmt::Write;
@@ -159,7 +160,17 @@ fn push_summary(
                 Ok(())
             }
         }
-        Format::Short | Format::Json => Ok(()),
+        Format::Short | Format::Json | Format::Github | Format::Sarif => Ok(()),
+    }
+}
+
+/// What is told of all files together.
+fn whole(alloc: Global, format: Format, told: Vec<u8>) -> Result<Vec<u8>, AllocError>
+    ensures { IfOk result (λ out. out.items ≡ spec.whole format told.items) }
+{
+    match format {
+        Format::Sarif => document(alloc, told.as_slice()),
+        Format::Text(_) | Format::Short | Format::Json | Format::Github => Ok(told),
     }
 }
 
@@ -185,6 +196,7 @@ fn tell_all<I: Inputs>(
         telling.errors = String::new(alloc);
         return Ok(telling);
     }
+    telling.out = whole(alloc, format, telling.out)?;
     push_summary(&mut telling.errors, format, files.len(), telling.wrong)?;
     Ok(telling)
 }

@@ -32,6 +32,6 @@ returns g c =
       complaints = string_bytes told.errors;
       wrong = told.wrong;
       tells = rw c.as_slice-files.ensures.value at tells;
-      shown = rw c.if-is_quiet.false refl;
+      shown = rw c.if-is_quiet.false c.in_ok-telling-2.ensures;
       warned = rw c.if-is_quiet.false (c.in_ok-push_summary.ensures ∙ counted);
     }
