@@ -222,11 +222,13 @@ fn kind_of(mistake: Mistake) -> ErrorKind
 /// A mistake in words.
 fn message_of(mistake: Mistake) -> &'static str {
     match mistake {
-        Mistake::Format => "the value of '--format' is 'text', 'short', 'json', 'github' or 'sarif'",
+        Mistake::Format =>
+            "the value of '--format' is 'text', 'short', 'json', 'github' or 'sarif'",
         Mistake::Color => "the value of '--color' is 'auto', 'always' or 'never'",
         Mistake::Forms => "the argument '--items' cannot be used with '--tagged'",
         Mistake::Pointer => "the value of '--get' is no UTF-8",
-        Mistake::Sarif => "the argument '--format sarif' cannot be used with '--get', '--tagged' or '--items'",
+        Mistake::Sarif =>
+            "the argument '--format sarif' cannot be used with '--get', '--tagged' or '--items'",
     }
 }
 

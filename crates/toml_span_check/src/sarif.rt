@@ -153,11 +153,7 @@ fn push_region(out: &mut String, text: &str, span: Span) -> Result<(), AllocErro
     ensures { OnOk result (string_bytes out.new ≡ string_bytes out.old ++ spec.region text.now span) }
 {
     let end = span.start.max(span.end);
-    push_lines(
-        out,
-        line_column(text, span.start),
-        line_column(text, end),
-    )?;
+    push_lines(out, line_column(text, span.start), line_column(text, end))?;
     push_bytes(out, span.start, end)
 }
 
@@ -220,12 +216,7 @@ fn push_other(
 }
 
 /// The places of the labels that are not primary, each behind a comma.
-fn others(
-    alloc: Global,
-    name: &str,
-    text: &str,
-    labels: &[Label<()>],
-) -> Result<String, AllocError>
+fn others(alloc: Global, name: &str, text: &str, labels: &[Label<()>]) -> Result<String, AllocError>
     ensures { IfOk result (λ out. string_bytes out
         ≡ flat_map (spec.other name.now text.now) (map label_content labels.now)) }
 {
@@ -323,12 +314,7 @@ pub(crate) fn sarif(
 }
 
 /// Elements of a list with a comma before each, as a list between two texts.
-fn between(
-    alloc: Global,
-    head: &str,
-    elements: &[u8],
-    tail: &str,
-) -> Result<Vec<u8>, AllocError>
+fn between(alloc: Global, head: &str, elements: &[u8], tail: &str) -> Result<Vec<u8>, AllocError>
     ensures { IfOk result (λ out. out.items ≡ head.now ++ spec.listed elements.now ++ tail.now) }
 {
     let mut out = Vec::from_slice(alloc, head.as_bytes())?;

@@ -5,8 +5,8 @@ use Rattle.toml_span_check.specs.Sarif.{BeginsWithComma}
 use Rattle.toml_span_check.proofs.sarif.push_listed.Goals as goal
 
 none : (out elements : List ℕ) → BeginsWithComma elements → ((rest : List ℕ) → elements ≢ 44 ∷ rest) → out ≡ out ++ drop 1 elements
-none out elements (inl is) no = rw is (sym (append-nil out))
-none out elements (inr (rest, is)) no = absurd (no rest is)
+none out elements (inl is) differs = rw is (sym (append-nil out))
+none out elements (inr (rest, is)) differs = absurd (differs rest is)
 
 pub returns-in-None : goal.returns-in-None
 returns-in-None c =
