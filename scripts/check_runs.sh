@@ -59,7 +59,7 @@ for document in runs/tagged/*.toml data/*.toml; do
     size=$(stat -c %s "$document")
     for ((at = 0; at < size; at += 7)); do
         head -c "$at" "$document" >"$work/cut"
-        for format in text short json; do
+        for format in text short json github sarif; do
             count=$((count + 1))
             timeout 60 "$program" --format "$format" "$work/cut" >"$work/written" 2>"$work/complaint"
             status=$?
@@ -219,6 +219,10 @@ if [ "$(wc -l <"$work/complaint")" -ne 2 ] || grep -q '^::' "$work/complaint"; t
     echo "check runs: a name with a line feed is told in more than a line"
 fi
 
+# the formats that other programs read, with awkward names and texts
+count=$((count + 1))
+if ! python3 ../../scripts/formats.py "$program"; then wrong=$((wrong + 1)); fi
+
 # each request for memory refused in turn: status 4 and nothing is written, or else the whole answer
 source ../../scripts/refuse.sh
 make_refusals "$work"
@@ -334,6 +338,9 @@ refuse --color always latin.toml settings.toml
 refuse --format short settings.toml
 refuse settings.toml nothing.toml
 refuse --format json settings.toml nothing.toml
+refuse --format github settings.toml latin.toml
+refuse --format sarif settings.toml nothing.toml latin.toml
+refuse --format sarif tree.toml
 refuse --tagged tree.toml
 refuse --items tree.toml
 refuse --get /list/3 tree.toml

@@ -70,7 +70,7 @@ begins-all format task pointer names old new told mid told' out errors held stat
     first = t.files;
     rest = [];
     parts = sym (append-nil t.files);
-    whole = inr refl;
+    all = inr refl;
     out = t.all;
     complaints = t.complaints;
     status = status;

@@ -2,12 +2,12 @@
 use Rattle.std.proofs.Common.{◌≡◌, ◌+◌, ◌++◌, ℕ, Bool, max, List, Option, Vec, Result, Ok, Err, IfOk, IsErrAnd, refl, sym, ap, subst, inl, inr}
 use Rattle.std.specs.Global.{Global}
 use Rattle.std.specs.declared.alloc.AllocError.{AllocError}
-use Rattle.toml_span_lines.specs.Held.{HoldsRest, Streams}
+use Rattle.toml_span_lines.specs.Held.{Streams}
 use Rattle.toml_span_lines.specs.declared.held.Unwritten.{Unwritten}
 use Rattle.toml_span_lines.specs.declared.held.Unwritten.TheVariants.{Failed, Memory}
 use Rattle.toml_span_lines.proofs.Fronts.{front-written}
 use Rattle.toml_span_check.specs.Answer.{IsAnswer}
-use Rattle.toml_span_check.specs.code.Telling.{Begun, BegunOne, TellsBytes, TellsOne, TextsOf}
+use Rattle.toml_span_check.specs.code.Telling.{Begun, BegunOne, Holds, TellsBytes, TellsOne, TextsOf}
 use Rattle.toml_span_check.specs.declared.answer.Form.{Form}
 use Rattle.toml_span_check.specs.declared.answer.Task.{Task}
 use Rattle.toml_span_check.specs.declared.answer.Task.TheVariants.{Show}
@@ -22,7 +22,7 @@ with-one (Ok out) text h = ap (λ (t : List ℕ). let a : ℕ × List ℕ = (1, 
 pub shows-bytes : (format : Format) (task : Task) (pointer name bytes : List ℕ) (form : Form) (answer : ℕ × List ℕ) (r : Result ℕ Unwritten) (a b : Option (List ℕ)) (failed : Bool) (held kept : List ℕ) →
     task ≡ Show form → IsAnswer format task pointer name bytes answer → IfOk r (λ s. s ≡ answer.0) → Streams r a b failed (held ++ answer.1) kept → TellsBytes format task pointer name bytes r a b failed held kept
 shows-bytes format task pointer name bytes form answer (Ok s) a b failed held kept shows is same st =
-    (st.0, inr (form, shows), (answer.1, subst (λ (n : ℕ). IsAnswer format task pointer name bytes (n, answer.1)) (sym same) is, st.1))
+    (st.0, inr (form, shows), (answer.1, subst (λ (n : ℕ). IsAnswer format task pointer name bytes (n, answer.1)) (sym same) is, (st.1, inr (form, shows))))
 shows-bytes format task pointer name bytes form answer (Err Memory) a b failed held kept shows is same st = (st.0, inr ((form, shows), (answer, is, st.1)))
 shows-bytes format task pointer name bytes form answer (Err Failed) a b failed held kept shows is same st = (st.0, ((form, shows), (answer, is, st.1)))
 
@@ -33,7 +33,7 @@ pub told-one : (format : Format) (task : Task) (pointer name bytes looked : List
 told-one format task pointer name bytes looked reading status a b failed t u kept read is told e0 e1 e2 e3 =
     let answer = subst (λ (x : List ℕ). IsAnswer format task pointer name x (status, told.2.0)) is told.2.1 in
     subst (λ (r : Result (List ℕ) (List ℕ)). TellsOne format task pointer name r (Ok tt) a b failed t u) (sym read)
-    (told.0, told.1, (t.0 ++ told.2.0, ((status, told.2.0), answer, refl, e1, e2, e3), subst (HoldsRest a b (t.0 ++ told.2.0)) (sym e0) told.2.2))
+    (told.0, told.1, (t.0 ++ told.2.0, ((status, told.2.0), answer, refl, e1, e2, e3), subst (Holds task a b (t.0 ++ told.2.0)) (sym e0) told.2.2))
 
 begun-one : (format : Format) (task : Task) (pointer name bytes : List ℕ) (a b : Option (List ℕ)) (t : TextsOf) → Begun format task pointer name bytes a b t.0 → BegunOne format task pointer name (Ok bytes) a b t
 begun-one format task pointer name bytes a b t begun =
@@ -60,7 +60,7 @@ counts-not : (format : Format) (task : Task) (pointer name bytes : List ℕ) (st
     TellsBytes format task pointer name bytes (Ok status) a b failed t.0 kept → TellsOne format task pointer name (Ok bytes) (Err Memory) a b failed t u
 counts-not format task pointer name bytes status a b failed t u kept (good, inl same, told) = (good, inl same)
 counts-not format task pointer name bytes status a b failed t u kept (good, inr shows, told) =
-    (good, inr (shows, ((t.0 ++ told.0, t.1, max t.2 status, t.3 + status), ((status, told.0), told.1, refl, refl, refl, refl), front-written a b (t.0 ++ told.0) kept told.2)))
+    (good, inr (shows, ((t.0 ++ told.0, t.1, max t.2 status, t.3 + status), ((status, told.0), told.1, refl, refl, refl, refl), front-written a b (t.0 ++ told.0) kept told.2.0)))
 
 -- it is not counted
 pub stops-count : (format : Format) (task : Task) (pointer name bytes looked : List ℕ) (reading : Result (List ℕ) (List ℕ)) (status : ℕ) (a b : Option (List ℕ)) (failed : Bool) (t u : TextsOf) (kept : List ℕ) (r : Result (Unit {0}) Unwritten) →

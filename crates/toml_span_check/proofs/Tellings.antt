@@ -1,10 +1,11 @@
 -- One more file that is told of.
-use Rattle.std.proofs.Common.{◌≡◌, ◌<◌, ◌+◌, ◌⊎◌, ℕ, Bool, false, List, [], ◌∷◌, ◌++◌, map, take, drop, get_or, length, Option, Some, None, Result, Ok, Err, IsErrAnd, refl, sym, ap, subst, inl, inr, ◌∙◌, append_assoc, take-append-drop, string_bytes}
+use Rattle.std.proofs.Common.{◌≡◌, ◌<◌, ◌+◌, ◌⊎◌, ℕ, Bool, false, List, [], ◌∷◌, ◌++◌, map, take, drop, get_or, length, Option, Some, None, Result, Ok, Err, IsErrAnd, refl, sym, ap, subst, inl, inr, ◌∙◌, append_assoc, take-append-drop, string_bytes, suc, arith, length-append}
 use Rattle.std.proofs.lemmas.List.{take_more, map-append, append-nil}
 use Rattle.toml_span_check.specs.declared.answer.Task.{Task}
+use Rattle.toml_span_check.specs.declared.answer.Task.TheVariants.{Check, Show}
 use Rattle.toml_span_check.specs.declared.faults.Format.{Format}
-use Rattle.toml_span_check.specs.Run.{Asked, Reading, Finds, FindsAll, no_name, one_more, Begins, Logs, Shows, Tells, TellsFirst, nothing, answered, unread}
-use Rattle.toml_span_check.specs.code.Telling.{Adds, BegunOne, TellsAll, TellsFiles, TellsOne, TextsOf}
+use Rattle.toml_span_check.specs.Run.{Asked, Reading, Finds, FindsAll, no_name, one_more, Begins, Logs, Shows, Tells, TellsFirst, nothing, answered, unread, together, whole}
+use Rattle.toml_span_check.specs.code.Telling.{Adds, BegunOne, Holds, TellsAll, TellsFiles, TellsOne, TextsOf}
 use Rattle.toml_span_check.specs.declared.run.Telling.{Telling}
 use Rattle.toml_span_lines.specs.Held.{HoldsRest}
 use Rattle.toml_span_lines.specs.Run.{HasWritten}
@@ -85,7 +86,31 @@ adds-behind format task pointer name (Err reason) held errors status wrong t fro
 -- what was told of the files so far, and is written or held
 abbrev pub Upto : Format → Task → List ℕ → List (List ℕ) → Option Asked → Option Asked → Option (List ℕ) → Option (List ℕ) → TextsOf → Type 0
 Upto format task pointer names old new a b t =
-    ((b ≡ a) ⊎ Shows task) × ((all : List ℕ) × Tells format task pointer names old new all t.1 t.2 t.3 × HoldsRest a b all t.0)
+    ((b ≡ a) ⊎ Shows task) × ((all : List ℕ) × Tells format task pointer names old new all t.1 t.2 t.3 × Holds task a b all t.0)
+
+-- where all is held nothing is before it
+no-front : (front held all : List ℕ) → front ++ held ≡ all → held ≡ all → front ≡ []
+no-front [] held all is same = refl
+no-front (x ∷ front) held all is same =
+    let longer : suc (length front) + length held ≡ length held = sym (length-append (x ∷ front) held) ∙ ap length is ∙ sym (ap length same) in
+    absurd (omega (arith, longer))
+
+holds-next : (task : Task) (all held text kept front : List ℕ) → front ++ held ≡ all → (held ≡ all) ⊎ Shows task → (kept ≡ text) ⊎ Shows task → (kept ≡ front ++ text) ⊎ Shows task
+holds-next task all held text kept front is (inr shows) k = inr shows
+holds-next task all held text kept front is (inl same) (inr shows) = inr shows
+holds-next task all held text kept front is (inl same) (inl more) = inl (more ∙ sym (ap (λ f. f ++ text) (no-front front held all is same)))
+
+-- of documents that are shown nothing stands round what is told
+whole-shown : (format : Format) (task : Task) (text : List ℕ) → Shows task → text ≡ whole format task text
+whole-shown format (Show form) text shows = refl
+whole-shown format Check text (form, is) = cc
+
+-- what is told of all files together is held
+pub whole-held : (format : Format) (task : Task) (a b : Option (List ℕ)) (all held kept : List ℕ) → Holds task a b all held → kept ≡ whole format task held → HoldsRest a b (whole format task all) kept
+whole-held format (Show form) a b all held kept h is = subst (HoldsRest a b all) (sym is) h.0
+whole-held format Check a b all held kept (h, inl same) is =
+    (h.0, h.1, ap (λ f. f ++ kept) (no-front h.0 held all h.2 same) ∙ is ∙ ap (together format) same)
+whole-held format Check a b all held kept (h, inr (form, wrong)) is = cc
 
 shows-next : (task : Task) (a b c : Option (List ℕ)) → (b ≡ a) ⊎ Shows task → (c ≡ b) ⊎ Shows task → (c ≡ a) ⊎ Shows task
 shows-next task a b c (inr shows) k = inr shows
@@ -94,17 +119,16 @@ shows-next task a b c (inl same) (inl more) = inl (more ∙ same)
 
 pub upto-next : (format : Format) (task : Task) (pointer : List ℕ) (names more : List (List ℕ)) (name : List ℕ) (old mid new : Option Asked) (reading : Result (List ℕ) (List ℕ)) (a b c : Option (List ℕ)) (t u : TextsOf) (text : List ℕ) →
     Upto format task pointer names old mid a b t → more ≡ names ++ name ∷ [] → Logs mid new ((name, reading) ∷ []) →
-    (c ≡ b) ⊎ Shows task → Adds format task pointer name reading t (text, u.1, u.2, u.3) → HoldsRest b c text u.0 →
+    (c ≡ b) ⊎ Shows task → Adds format task pointer name reading t (text, u.1, u.2, u.3) → Holds task b c text u.0 →
     Upto format task pointer more old new a c u
 upto-next format task pointer names more name old mid new reading a b c t u text before n l kept adds holds =
-    let h = before.1.2 in
-    (
+    let h = before.1.2.0 in (
       shows-next task a b c before.0 kept,
       (
         h.0 ++ text,
         tells-more format task pointer names more name old mid new reading before.1.0 t.1 t.2 t.3 (h.0 ++ text) u.1 u.2 u.3 before.1.1 n l
             (adds-behind format task pointer name reading t.0 t.1 t.2 t.3 (text, u.1, u.2, u.3) h.0 before.1.0 adds h.2),
-        holds-behind a b c before.1.0 t.0 text u.0 h holds,
+        (holds-behind a b c before.1.0 t.0 text u.0 h holds.0, holds-next task before.1.0 t.0 text u.0 h.0 h.2 before.1.2.1 holds.1),
       ),
     )
 
@@ -113,20 +137,20 @@ first-more : (format : Format) (task : Task) (pointer : List ℕ) (names more re
     Upto format task pointer names old mid a b t → more ≡ names ++ name ∷ [] → files ≡ more ++ rest → Logs mid new ((name, reading) ∷ []) →
     BegunOne format task pointer name reading b c t → TellsFirst format task pointer files old new a c
 first-more format task pointer names more rest files name old mid new reading a b c t before n parts l begun =
-    let h = before.1.2 in
+    let h = before.1.2.0 in
     let u = begun.1.0 in
     record {
       first = more;
       rest = rest;
       parts = parts;
-      whole = inl begun.0;
+      all = inl begun.0;
       out = h.0 ++ u.0;
       complaints = u.1;
       status = u.2;
       wrong = u.3;
       tells = tells-more format task pointer names more name old mid new reading before.1.0 t.1 t.2 t.3 (h.0 ++ u.0) u.1 u.2 u.3 before.1.1 n l
           (adds-behind format task pointer name reading t.0 t.1 t.2 t.3 u h.0 before.1.0 begun.1.1 h.2);
-      written = written-behind a b c before.1.0 t.0 u.0 h begun.1.2;
+      written = subst (HasWritten a c) (whole-shown format task (h.0 ++ u.0) begun.0) (written-behind a b c before.1.0 t.0 u.0 h begun.1.2);
     }
 
 -- the first files, and no more
@@ -134,18 +158,24 @@ first-upto : (format : Format) (task : Task) (pointer : List ℕ) (names rest fi
     Upto format task pointer names old new a b t → files ≡ names ++ rest → (b ≡ a) ⊎ (Shows task × ((last : Option Asked) × TellsFirst format task pointer files old last a b))
 first-upto format task pointer names rest files old new a b t (inl same, told) parts = inl same
 first-upto format task pointer names rest files old new a b t (inr shows, told) parts =
-    inr (shows, (new, record {
-      first = names;
-      rest = rest;
-      parts = parts;
-      whole = inl shows;
-      out = told.0;
-      complaints = t.1;
-      status = t.2;
-      wrong = t.3;
-      tells = told.1;
-      written = front-written a b told.0 t.0 told.2;
-    }))
+    inr (
+      shows,
+      (
+        new,
+        record {
+          first = names;
+          rest = rest;
+          parts = parts;
+          all = inl shows;
+          out = told.0;
+          complaints = t.1;
+          status = t.2;
+          wrong = t.3;
+          tells = told.1;
+          written = subst (HasWritten a b) (whole-shown format task told.0 shows) (front-written a b told.0 t.0 told.2.0);
+        },
+      ),
+    )
 
 -- memory is refused between two files
 pub stops-reading : (format : Format) (task : Task) (pointer : List ℕ) (names rest files : List (List ℕ)) (old mid new : Option Asked) (a b : Option (List ℕ)) (t : TextsOf) (failed : Bool) (r : Result Telling Unwritten) →
@@ -163,9 +193,11 @@ stops-with format task pointer names more rest files name old mid new reading a 
 stops-with format task pointer names more rest files name old mid new reading a b c t u failed Memory before n parts l (good, inr begun) =
     (good, inr (begun.0, (new, first-more format task pointer names more rest files name old mid new reading a b c t before n parts l begun)))
 stops-with format task pointer names more rest files name old mid new reading a b c t u failed Memory before n parts l (good, inl same) =
-    let all : files ≡ names ++ (name ∷ [] ++ rest) = parts ∙ ap (λ m. m ++ rest) n ∙ append_assoc names (name ∷ []) rest in
-    (good, subst (λ (o : Option (List ℕ)). (o ≡ a) ⊎ (Shows task × ((last : Option Asked) × TellsFirst format task pointer files old last a o))) (sym same)
-    (first-upto format task pointer names (name ∷ [] ++ rest) files old mid a b t before all))
+    let all : files ≡ names ++ (name ∷ [] ++ rest) = parts ∙ ap (λ m. m ++ rest) n ∙ append_assoc names (name ∷ []) rest in (
+      good,
+      subst (λ (o : Option (List ℕ)). (o ≡ a) ⊎ (Shows task × ((last : Option Asked) × TellsFirst format task pointer files old last a o))) (sym same)
+          (first-upto format task pointer names (name ∷ [] ++ rest) files old mid a b t before all),
+    )
 
 pub stops-telling : (format : Format) (task : Task) (pointer : List ℕ) (names more rest files : List (List ℕ)) (name : List ℕ) (old mid new : Option Asked) (reading : Result (List ℕ) (List ℕ)) (a b c : Option (List ℕ)) (t u : TextsOf) (failed : Bool) (e : Unwritten) (r : Result Telling Unwritten) →
     Upto format task pointer names old mid a b t → more ≡ names ++ name ∷ [] → files ≡ more ++ rest → Logs mid new ((name, reading) ∷ []) →

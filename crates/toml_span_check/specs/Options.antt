@@ -14,7 +14,7 @@ use Rattle.toml_span_check.specs.declared.answer.Task.{Task}
 use Rattle.toml_span_check.specs.declared.answer.Task.TheVariants.{Check, Show}
 use Rattle.toml_span_check.specs.declared.answer.Form.TheVariants as form
 use Rattle.toml_span_check.specs.declared.faults.Format.{Format}
-use Rattle.toml_span_check.specs.declared.faults.Format.TheVariants.{Text, Short, Json}
+use Rattle.toml_span_check.specs.declared.faults.Format.TheVariants.{Text, Short, Json, Github, Sarif}
 use Rattle.toml_span_check.specs.declared.options.Mistake.{Mistake}
 use Rattle.toml_span_check.specs.declared.options.Mistake.TheVariants as mistake
 use Rattle.toml_span_check.specs.Words.{is_bytes}
@@ -75,6 +75,8 @@ format_named name style =
     if bytes_eq name (codes "text") then Some (Text style)
     else if bytes_eq name (codes "short") then Some Short
     else if bytes_eq name (codes "json") then Some Json
+    else if bytes_eq name (codes "github") then Some Github
+    else if bytes_eq name (codes "sarif") then Some Sarif
     else None
 
 -- what is done with documents
@@ -87,12 +89,17 @@ task_of rows =
     else if is_some (first_of (codes "get") rows) then Ok (Show form.Plain)
     else Ok Check
 
-abbrev pub with_task : Format → Result Task Mistake → Result (Format × Task) Mistake
-with_task format (Ok task) = Ok (format, task)
-with_task format (Err mistake) = Err mistake
+-- where a document is shown, what is told can't be one as well
+abbrev pub with_task : Format → Task → Result (Format × Task) Mistake
+with_task Sarif (Show form) = Err mistake.Sarif
+with_task format task = Ok (format, task)
+
+abbrev pub asked_of : Format → Result Task Mistake → Result (Format × Task) Mistake
+asked_of format (Ok task) = with_task format task
+asked_of format (Err mistake) = Err mistake
 
 abbrev pub with_format : Option Format → Result Task Mistake → Result (Format × Task) Mistake
-with_format (Some format) task = with_task format task
+with_format (Some format) task = asked_of format task
 with_format None task = Err mistake.Format
 
 abbrev pub with_style : Option Style → List Row → Result (Format × Task) Mistake
@@ -123,6 +130,7 @@ kind_of mistake.Format = InvalidValue
 kind_of mistake.Color = InvalidValue
 kind_of mistake.Forms = ArgumentConflict
 kind_of mistake.Pointer = InvalidValue
+kind_of mistake.Sarif = ArgumentConflict
 
 abbrev pub mistake_kinds : Result (Format × Task) Mistake → Kinds
 mistake_kinds (Ok what) = []

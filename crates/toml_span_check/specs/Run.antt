@@ -9,13 +9,14 @@ use Rattle.std.specs.declared.io.ErrorKind.{ErrorKind}
 use Rattle.std.specs.declared.io.ErrorKind.TheVariants as kind
 use Rattle.toml_span_lines.specs.Run.{HasRead, HasReadAll, HasWritten}
 use Rattle.toml_span_check.specs.Answer.{IsAnswer}
+use Rattle.toml_span_check.specs.Sarif.{document}
 use Rattle.toml_span_report.specs.Visible.{visible}
 use Rattle.toml_span_check.specs.Words.{shown_word}
 use Rattle.toml_span_check.specs.declared.answer.Form.{Form}
 use Rattle.toml_span_check.specs.declared.answer.Task.{Task}
-use Rattle.toml_span_check.specs.declared.answer.Task.TheVariants.{Show}
+use Rattle.toml_span_check.specs.declared.answer.Task.TheVariants.{Check, Show}
 use Rattle.toml_span_check.specs.declared.faults.Format.{Format}
-use Rattle.toml_span_check.specs.declared.faults.Format.TheVariants.{Text, Short, Json}
+use Rattle.toml_span_check.specs.declared.faults.Format.TheVariants.{Text, Sarif}
 
 -- what was found for a name: of a folder the names of the files below it, else the name alone
 abbrev pub Search : Type 0
@@ -99,8 +100,16 @@ counts files wrong = decimal files ++ file_word files ++ decimal wrong ++ codes 
 
 abbrev pub summary : Format → ℕ → ℕ → List ℕ
 summary (Text style) files wrong = if nat_lt 0 wrong then counts files wrong else []
-summary Short files wrong = []
-summary Json files wrong = []
+summary _ files wrong = []
+
+-- what is told of all files together: where faults are told, a document in the format SARIF
+abbrev pub together : Format → List ℕ → List ℕ
+together Sarif told = document told
+together _ told = told
+
+abbrev pub whole : Format → Task → List ℕ → List ℕ
+whole format (Show form) told = told
+whole format Check told = together format told
 
 -- what is written: in a quiet run nothing
 abbrev pub said : Bool → List ℕ → List ℕ
@@ -116,7 +125,7 @@ pub record Told (format : Format) (task : Task) (pointer : List ℕ) (names : Li
   pub complaints : List ℕ
   pub wrong : ℕ
   pub tells : Tells format task pointer files mid new all complaints status wrong
-  pub shown : out ≡ said is_quiet all
+  pub shown : out ≡ said is_quiet (whole format task all)
   pub warned : errors ≡ said is_quiet (complaints ++ summary format (length files) wrong)
 
 -- documents are shown
@@ -129,13 +138,13 @@ pub record TellsFirst (format : Format) (task : Task) (pointer : List ℕ) (file
   pub first : List (List ℕ)
   pub rest : List (List ℕ)
   pub parts : files ≡ first ++ rest
-  pub whole : Shows task ⊎ (rest ≡ [])
+  pub all : Shows task ⊎ (rest ≡ [])
   pub out : List ℕ
   pub complaints : List ℕ
   pub status : ℕ
   pub wrong : ℕ
   pub tells : Tells format task pointer first old new out complaints status wrong
-  pub written : HasWritten told told' out
+  pub written : HasWritten told told' (whole format task out)
 
 -- so in a run, which is not quiet
 pub record Begins (format : Format) (task : Task) (pointer : List ℕ) (names : List (List ℕ)) (is_quiet : Bool)

@@ -3,6 +3,8 @@ ghost use Rattle.std.specs.Prelude.{◌≡◌, IfOk, string_bytes};
 ghost use Rattle.toml_span_report.specs.Report.{report_content};
 ghost use Rattle.toml_span_check.specs.Faults as spec;
 
+use crate::github::github;
+use crate::sarif::sarif;
 use std::alloc::{AllocError, Global};
 use toml_span_report::{Report, Style, render, render_json, render_line};
 
@@ -15,6 +17,10 @@ pub(crate) enum Format {
     Short,
     /// As one line of JSON.
     Json,
+    /// As one command of GitHub's workflows.
+    Github,
+    /// As one document for the run, in the format SARIF.
+    Sarif,
 }
 
 /// A report on a text, in a format.
@@ -32,5 +38,7 @@ pub(crate) fn fault_text(
         Format::Text(style) => render(alloc, style, report, name, text),
         Format::Short => render_line(alloc, report, name, text),
         Format::Json => render_json(alloc, report, name, text),
+        Format::Github => github(alloc, report, name, text),
+        Format::Sarif => sarif(alloc, report, name, text),
     }
 }

@@ -14,7 +14,7 @@ use toml_span_report::Style;
 
 /// How the program is used.
 pub(crate) const USAGE: &str = "\
-usage: toml_span_check [--format text|json|short] [--color auto|always|never]
+usage: toml_span_check [--format text|short|json|github|sarif] [--color auto|always|never]
                        [--get POINTER] [--tagged | --items] [--quiet] [FILE..]
 
 Tells the fault of each FILE that is no TOML document. Of a folder all files below it are looked at whose names end in
@@ -23,6 +23,8 @@ Tells the fault of each FILE that is no TOML document. Of a folder all files bel
   --format text    each fault in lines, with marks (the default)
   --format short   each fault in one line, as FILE:LINE:COLUMN: CODE: MESSAGE
   --format json    each fault as one line of JSON
+  --format github  each fault as one command of GitHub's workflows, which annotates the lines where it stands
+  --format sarif   all faults of the run in one document, as SARIF 2.1.0; not with --get, --tagged or --items
   --color WHEN     whether marks have colours: always, never, or auto (the default), on a terminal
                    whose TERM is not dumb; NO_COLOR=1 is for none, CLICOLOR_FORCE=1 for some everywhere
   --get POINTER    shows the value at POINTER, as /a/b/0, as JSON
@@ -61,6 +63,8 @@ enum Mistake {
     Forms,
     /// The pointer is no UTF-8.
     Pointer,
+    /// A document is to be shown, and what is told is one in the format SARIF.
+    Sarif,
 }
 
 /// A flag, which has no value.
@@ -120,6 +124,8 @@ fn format_named(name: &str, style: Style) -> Option<Format>
         "text" => Some(Format::Text(style)),
         "short" => Some(Format::Short),
         "json" => Some(Format::Json),
+        "github" => Some(Format::Github),
+        "sarif" => Some(Format::Sarif),
         _ => None,
     }
 }
@@ -177,6 +183,16 @@ fn task_of(matches: &ArgMatches<'_>) -> Result<Task, Mistake>
     }
 }
 
+/// How faults are told, with what is done with documents.
+fn with_task(format: Format, task: Task) -> Result<(Format, Task), Mistake>
+    ensures { result ≡ spec.with_task format task }
+{
+    match (format, task) {
+        (Format::Sarif, Task::Show(_)) => Err(Mistake::Sarif),
+        _ => Ok((format, task)),
+    }
+}
+
 /// How faults are told, and what is done with documents.
 fn asked(matches: &ArgMatches<'_>, is_terminal: bool) -> Result<(Format, Task), Mistake>
     ensures { result ≡ spec.asked (rows_of (found_of matches.now)) is_terminal }
@@ -188,7 +204,7 @@ fn asked(matches: &ArgMatches<'_>, is_terminal: bool) -> Result<(Format, Task), 
         return Err(Mistake::Format);
     };
     match task_of(matches) {
-        Ok(task) => Ok((format, task)),
+        Ok(task) => with_task(format, task),
         Err(mistake) => Err(mistake),
     }
 }
@@ -199,17 +215,20 @@ fn kind_of(mistake: Mistake) -> ErrorKind
 {
     match mistake {
         Mistake::Format | Mistake::Color | Mistake::Pointer => ErrorKind::InvalidValue,
-        Mistake::Forms => ErrorKind::ArgumentConflict,
+        Mistake::Forms | Mistake::Sarif => ErrorKind::ArgumentConflict,
     }
 }
 
 /// A mistake in words.
 fn message_of(mistake: Mistake) -> &'static str {
     match mistake {
-        Mistake::Format => "the value of '--format' is 'text', 'json' or 'short'",
+        Mistake::Format =>
+            "the value of '--format' is 'text', 'short', 'json', 'github' or 'sarif'",
         Mistake::Color => "the value of '--color' is 'auto', 'always' or 'never'",
         Mistake::Forms => "the argument '--items' cannot be used with '--tagged'",
         Mistake::Pointer => "the value of '--get' is no UTF-8",
+        Mistake::Sarif =>
+            "the argument '--format sarif' cannot be used with '--get', '--tagged' or '--items'",
     }
 }
 

@@ -9,6 +9,7 @@ use crate::answer::{Judged, Task, judge};
 use crate::document::show;
 use crate::faults::Format;
 use crate::input::Inputs;
+use crate::sarif::document;
 use crate::words::shown_word;
 use std::alloc::{AllocError, Global};
 use std::fmt::Write;
@@ -103,7 +104,16 @@ fn tell_one<O: Sink>(
     match reading {
         Ok(bytes) => {
             let held = &mut telling.held;
-            let status = tell_bytes(alloc, format, task, pointer, name, bytes.as_slice(), held, out)?;
+            let status = tell_bytes(
+                alloc,
+                format,
+                task,
+                pointer,
+                name,
+                bytes.as_slice(),
+                held,
+                out,
+            )?;
             telling.status = telling.status.max(status);
             telling.count(status)?;
         }
@@ -157,7 +167,16 @@ fn tell<I: Inputs, O: Sink>(
     for name in names {
         let name = name.as_str();
         let reading = inputs.read(alloc, name)?;
-        tell_one(alloc, format, task, pointer, name, reading, &mut telling, out)?;
+        tell_one(
+            alloc,
+            format,
+            task,
+            pointer,
+            name,
+            reading,
+            &mut telling,
+            out,
+        )?;
     }
     Ok(telling)
 }
@@ -197,7 +216,17 @@ fn push_summary(
                 Ok(())
             }
         }
-        Format::Short | Format::Json => Ok(()),
+        Format::Short | Format::Json | Format::Github | Format::Sarif => Ok(()),
+    }
+}
+
+/// What is told of all files together.
+fn whole(alloc: Global, format: Format, task: Task, told: Vec<u8>) -> Result<Vec<u8>, AllocError>
+    ensures { IfOk result (λ out. out.items ≡ spec.whole format task told.items) }
+{
+    match (format, task) {
+        (Format::Sarif, Task::Check) => document(alloc, told.as_slice()),
+        _ => Ok(told),
     }
 }
 
@@ -218,6 +247,7 @@ fn tell_all<I: Inputs, O: Sink>(
     let found = find_all(alloc, names, inputs)?;
     let files = found.as_slice();
     let mut telling = tell(alloc, format, task, pointer, files, inputs, out)?;
+    telling.held = whole(alloc, format, task, telling.held)?;
     push_summary(&mut telling.errors, format, files.len(), telling.wrong)?;
     Ok(telling)
 }

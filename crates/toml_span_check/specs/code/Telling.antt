@@ -12,6 +12,10 @@ use Rattle.toml_span_check.specs.declared.answer.Task.{Task}
 use Rattle.toml_span_check.specs.declared.faults.Format.{Format}
 use Rattle.toml_span_check.specs.declared.run.Telling.{Telling}
 
+-- Of a text a front was written, and the rest is held: all of it, where no document is shown.
+abbrev pub Holds : Task → Option (List ℕ) → Option (List ℕ) → List ℕ → List ℕ → Type 0
+Holds task old new text held = HoldsRest old new text held × ((held ≡ text) ⊎ Shows task)
+
 -- ---- the bytes of a file
 
 -- a document is shown, and the first bytes were written
@@ -26,7 +30,7 @@ abbrev pub TellsBytes : Format → Task → List ℕ → List ℕ → List ℕ �
     → Option (List ℕ) → Bool → List ℕ → List ℕ → Type 0
 TellsBytes format task pointer name bytes (Ok status) old new failed held held' =
     (failed ≡ false) × ((new ≡ old) ⊎ Shows task)
-    × ((text : List ℕ) × IsAnswer format task pointer name bytes (status, text) × HoldsRest old new (held ++ text) held')
+    × ((text : List ℕ) × IsAnswer format task pointer name bytes (status, text) × Holds task old new (held ++ text) held')
 TellsBytes format task pointer name bytes (Err Memory) old new failed held held' =
     (failed ≡ false) × ((new ≡ old) ⊎ Begun format task pointer name bytes old new held)
 TellsBytes format task pointer name bytes (Err Failed) old new failed held held' =
@@ -57,7 +61,7 @@ abbrev pub TellsOne : Format → Task → List ℕ → List ℕ → Result (List
 TellsOne format task pointer name reading (Ok done) old new failed held held' =
     (failed ≡ false) × ((new ≡ old) ⊎ Shows task)
     × ((text : List ℕ) × Adds format task pointer name reading held (text, held'.1, held'.2, held'.3)
-    × HoldsRest old new text held'.0)
+    × Holds task old new text held'.0)
 TellsOne format task pointer name reading (Err Memory) old new failed held held' =
     (failed ≡ false) × ((new ≡ old) ⊎ BegunOne format task pointer name reading old new held)
 TellsOne format task pointer name reading (Err Failed) old new failed held held' =
@@ -70,7 +74,7 @@ abbrev pub TellsFiles : Format → Task → List ℕ → List (List ℕ) → Res
 TellsFiles format task pointer names (Ok t) old new told told' failed =
     (failed ≡ false) × ((told' ≡ told) ⊎ Shows task)
     × ((all : List ℕ) × Tells format task pointer names old new all (string_bytes t.errors) t.status t.wrong
-    × HoldsRest told told' all t.held.items)
+    × Holds task told told' all t.held.items)
 TellsFiles format task pointer names (Err Memory) old new told told' failed =
     (failed ≡ false) × ((told' ≡ told)
     ⊎ (Shows task × ((last : Option Asked) × TellsFirst format task pointer names old last told told')))

@@ -8,7 +8,7 @@ use Rattle.toml_span_check.proofs.run.tell_bytes.Goals as goal
 pub returns-in_ok-append-in-Text : goal.returns-in_ok-append-in-Text
 returns-in_ok-append-in-Text g c =
     let judges = subst (λ (j : Judged). Judges c.args.format c.args.task c.args.pointer.now c.args.name.now c.args.bytes.now j) c.in-Text.is (c.in_ok-status.ensures c.args.pointer.now) in
-    (c.requires, inl refl, (c.in-Text.text.items, judges, ([], Appends-nil _, c.in_ok-append-in-Text.ensures.items)))
+    (c.requires, inl refl, (c.in-Text.text.items, judges, (([], Appends-nil _, c.in_ok-append-in-Text.ensures.items), inl c.in_ok-append-in-Text.ensures.items)))
 
 pub returns-in-Document : goal.returns-in-Document
 returns-in-Document g c =

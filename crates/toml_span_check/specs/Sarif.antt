@@ -1,0 +1,110 @@
+-- The faults of a run as one document in the Static Analysis Results Interchange Format (SARIF), version 2.1.0. It has
+-- the rules, which are a constant text, and a result for each fault, on a line of its own.
+use Rattle.std.specs.Prelude.{◌≡◌, ◌⊎◌, ℕ, ◌+◌, ◌/◌, ◌%◌, ◌-◌, max, Bool, ◌==◌, ◌&&◌, ◌||◌, nat_le, nat_lt, List, []}
+use Rattle.std.specs.Prelude.{◌∷◌, ◌++◌, codes, drop, if◌then◌else◌}
+use Rattle.std.specs.Fmt.{decimal}
+use Rattle.std.specs.List.{flat_map}
+use Rattle.toml_span_lex.specs.declared.span.Span.{Span}
+use Rattle.toml_span_report.specs.Report.{Place, ReportContent}
+use Rattle.toml_span_report.specs.declared.report.Severity.{Severity}
+use Rattle.toml_span_report.specs.declared.report.Severity.TheVariants.{Error, Warning, Note}
+use Rattle.toml_span_report.specs.Visible.{quoted}
+use Rattle.toml_span_check.specs.Github.{line_column}
+use Rattle.toml_span_check.specs.declared.sarif.TheConstants.{HEAD, TAIL}
+
+abbrev pub level_of : Severity → List ℕ
+level_of Error = codes "error"
+level_of Warning = codes "warning"
+level_of Note = codes "note"
+
+-- ---- the URI of a file
+
+-- unreserved = ALPHA / DIGIT / "-" / "." / "_" / "~"     (RFC 3986); and the slash between the parts of a path
+abbrev pub is_plain : ℕ → Bool
+is_plain byte =
+    (nat_le 65 byte && nat_le byte 90) || (nat_le 97 byte && nat_le byte 122) || (nat_le 48 byte && nat_le byte 57)
+    || byte == 45 || byte == 46 || byte == 95 || byte == 126 || byte == 47
+
+abbrev pub hex_digit : ℕ → ℕ
+hex_digit n = if nat_lt n 10 then 48 + n else 55 + n
+
+-- pct-encoded = "%" HEXDIG HEXDIG
+abbrev pub uri_byte : ℕ → List ℕ
+uri_byte byte = if is_plain byte then byte ∷ [] else 37 ∷ hex_digit (byte / 16) ∷ hex_digit (byte % 16) ∷ []
+
+-- a name that begins with a slash is a file of the system, any other stands in the folder of the run
+abbrev pub scheme_of : List ℕ → List ℕ
+scheme_of [] = []
+scheme_of (c ∷ cs) = if c == 47 then codes "file://" else []
+
+unfoldable pub uri : List ℕ → List ℕ
+uri name = scheme_of name ++ flat_map uri_byte name
+
+-- ---- places
+
+-- the front of a place
+unfoldable pub artifact : List ℕ → List ℕ
+artifact name = codes "{\"physicalLocation\":{\"artifactLocation\":{\"uri\":\"" ++ uri name ++ codes "\"}"
+
+-- Lines and columns count from 1, columns in characters. The end is behind the last character, and a reversed span is
+-- empty.
+unfoldable pub lines : ℕ × ℕ → ℕ × ℕ → List ℕ
+lines start end =
+    codes ",\"region\":{\"startLine\":" ++ decimal start.0 ++ codes ",\"startColumn\":" ++ decimal start.1
+    ++ codes ",\"endLine\":" ++ decimal end.0 ++ codes ",\"endColumn\":" ++ decimal end.1
+
+-- bytes count from 0
+unfoldable pub bytes : ℕ → ℕ → List ℕ
+bytes start end =
+    codes ",\"byteOffset\":" ++ decimal start ++ codes ",\"byteLength\":" ++ decimal (end - start) ++ codes "}"
+
+abbrev pub region : List ℕ → Span → List ℕ
+region text span =
+    lines (line_column text span.start) (line_column text (max span.start span.end))
+    ++ bytes span.start (max span.start span.end)
+
+unfoldable pub location : List ℕ → List ℕ → Place → List ℕ
+location name text label =
+    artifact name ++ region text label.span ++ codes "},\"message\":{\"text\":" ++ quoted label.message ++ codes "}}"
+
+-- the place of the first primary label, and else the file alone
+abbrev pub place_told : List ℕ → List ℕ → List Place → List ℕ
+place_told name text [] = artifact name ++ codes "}}"
+place_told name text (label ∷ labels) =
+    if label.primary then location name text label else place_told name text labels
+
+-- that of a label that is not primary, behind a comma
+abbrev pub other : List ℕ → List ℕ → Place → List ℕ
+other name text label = if label.primary then [] else codes "," ++ location name text label
+
+-- elements with a comma before each, without the first comma
+abbrev pub listed : List ℕ → List ℕ
+listed elements = drop 1 elements
+
+unfoldable pub related : List ℕ → List ℕ → List Place → List ℕ
+related name text labels = listed (flat_map (other name text) labels)
+
+unfoldable pub places : List ℕ → List ℕ → List Place → List ℕ
+places name text labels =
+    codes ",\"locations\":[" ++ place_told name text labels ++ codes "],\"relatedLocations\":["
+    ++ related name text labels ++ codes "]"
+
+-- ---- results
+
+unfoldable pub front : ReportContent → List ℕ
+front r =
+    codes ",\n{\"ruleId\":" ++ quoted r.code ++ codes ",\"level\":\"" ++ level_of r.severity
+    ++ codes "\",\"message\":{\"text\":" ++ quoted r.message ++ codes "}"
+
+-- a report as a result, behind a comma
+abbrev pub sarif : ReportContent → List ℕ → List ℕ → List ℕ
+sarif r name text = front r ++ places name text r.labels ++ codes "}"
+
+-- ---- the document
+
+unfoldable pub document : List ℕ → List ℕ
+document results = HEAD.now ++ listed results ++ TAIL.now
+
+-- for a private clause: elements with a comma before each begin with one
+abbrev pub BeginsWithComma : List ℕ → Type 0
+BeginsWithComma elements = (elements ≡ []) ⊎ ((rest : List ℕ) × (elements ≡ 44 ∷ rest))

@@ -1,0 +1,177 @@
+//! A fault as a command of GitHub's workflows, which annotates the lines where it stands.
+ghost use Rattle.std.specs.Prelude.{◌≡◌, ◌++◌, OnOk, IfOk, map, string_bytes};
+ghost use Rattle.std.specs.Fmt.{decimal};
+ghost use Rattle.toml_span_tree.specs.Diagnostic.{label_content};
+ghost use Rattle.toml_span_report.specs.Report.{report_content};
+ghost use Rattle.toml_span_check.specs.Github as spec;
+
+use std::alloc::{AllocError, Global};
+use std::fmt::Write;
+use toml_span::{Label, Span};
+use toml_span_report::visible::push_visible;
+use toml_span_report::{Report, Severity, line_column};
+
+/// The command of a severity.
+fn command_of(severity: Severity) -> &'static str
+    ensures { result.now ≡ spec.command_of severity }
+{
+    match severity {
+        Severity::Error => "::error",
+        Severity::Warning => "::warning",
+        Severity::Note => "::notice",
+    }
+}
+
+/// Adds a character of a message.
+fn push_message_char(out: &mut String, c: char) -> Result<(), AllocError>
+    ensures { OnOk result (string_bytes out.new ≡ string_bytes out.old ++ spec.message_char c) }
+{
+    match c {
+        '%' => out.push_str("%25"),
+        '\r' => out.push_str("%0D"),
+        '\n' => out.push_str("%0A"),
+        _ => out.push(c),
+    }
+}
+
+/// Adds a character of a property.
+fn push_property_char(out: &mut String, c: char) -> Result<(), AllocError>
+    ensures { OnOk result (string_bytes out.new ≡ string_bytes out.old ++ spec.property_char c) }
+{
+    match c {
+        ':' => out.push_str("%3A"),
+        ',' => out.push_str("%2C"),
+        _ => push_message_char(out, c),
+    }
+}
+
+/// A message without the characters that GitHub reads by their numbers.
+fn escaped_message(alloc: Global, text: &str) -> Result<String, AllocError>
+    ensures { IfOk result (λ out. string_bytes out ≡ spec.escaped_message text.now) }
+{
+    let mut out = String::new(alloc);
+    for c in text.chars() {
+        push_message_char(&mut out, c)?;
+    }
+    Ok(out)
+}
+
+/// The same of the value of a property.
+fn escaped_property(alloc: Global, text: &str) -> Result<String, AllocError>
+    ensures { IfOk result (λ out. string_bytes out ≡ spec.escaped_property text.now) }
+{
+    let mut out = String::new(alloc);
+    for c in text.chars() {
+        push_property_char(&mut out, c)?;
+    }
+    Ok(out)
+}
+
+/// Adds a message.
+fn push_message(alloc: Global, out: &mut String, text: &str) -> Result<(), AllocError>
+    ensures { OnOk result (string_bytes out.new ≡ string_bytes out.old ++ spec.message text.now) }
+{
+    let escaped = escaped_message(alloc, text)?;
+    push_visible(out, escaped.as_str())
+}
+
+/// Adds the value of a property.
+fn push_property(alloc: Global, out: &mut String, text: &str) -> Result<(), AllocError>
+    ensures { OnOk result (string_bytes out.new ≡ string_bytes out.old ++ spec.property text.now) }
+{
+    let escaped = escaped_property(alloc, text)?;
+    push_visible(out, escaped.as_str())
+}
+
+/// Adds a property that is a number.
+pub(crate) fn push_number(out: &mut String, title: &str, number: usize) -> Result<(), AllocError>
+    ensures { OnOk result (string_bytes out.new ≡ string_bytes out.old ++ title.now ++ decimal number) }
+{
+    out.push_str(title)?;
+    write!(out, "{number}")
+}
+
+/// Where what is marked ends: before a line feed at its end.
+fn marked_end(text: &str, span: Span) -> usize
+    ensures { result ≡ spec.marked_end text.now span }
+{
+    let bytes = text.as_bytes();
+    if span.start < span.end && span.end <= bytes.len() && bytes[span.end - 1] == b'\n' {
+        span.end - 1
+    } else {
+        span.start.max(span.end)
+    }
+}
+
+/// Adds the columns of what is marked, if it is on one line.
+#[tactic(auto, unfolding(crate::specs::Github::columns))]
+fn push_columns(
+    out: &mut String,
+    start: (usize, usize),
+    end: (usize, usize),
+) -> Result<(), AllocError>
+    ensures { OnOk result (string_bytes out.new ≡ string_bytes out.old ++ spec.columns start end) }
+{
+    if start.0 != end.0 {
+        return Ok(());
+    }
+    push_number(out, ",col=", start.1)?;
+    push_number(out, ",endColumn=", end.1)
+}
+
+/// Adds the lines of what is marked, and its columns, if it is on one line.
+#[tactic(auto, unfolding(crate::specs::Github::lines))]
+fn push_lines(
+    out: &mut String,
+    start: (usize, usize),
+    end: (usize, usize),
+) -> Result<(), AllocError>
+    ensures { OnOk result (string_bytes out.new ≡ string_bytes out.old ++ spec.lines start end) }
+{
+    push_number(out, ",line=", start.0)?;
+    push_number(out, ",endLine=", end.0)?;
+    push_columns(out, start, end)
+}
+
+/// Adds where a label stands.
+fn push_region(out: &mut String, text: &str, span: Span) -> Result<(), AllocError>
+    ensures { OnOk result (string_bytes out.new ≡ string_bytes out.old ++ spec.region text.now span) }
+{
+    let start = line_column(text, span.start);
+    let end = line_column(text, marked_end(text, span));
+    push_lines(out, start, end)
+}
+
+/// Adds where the first primary label stands, if there is one.
+fn push_place(out: &mut String, text: &str, labels: &[Label<()>]) -> Result<(), AllocError>
+    ensures { OnOk result (string_bytes out.new ≡ string_bytes out.old
+        ++ spec.place_told text.now (map label_content labels.now)) }
+{
+    for label in labels {
+        if label.primary {
+            return push_region(out, text, label.span);
+        }
+    }
+    Ok(())
+}
+
+/// A report as one line.
+pub(crate) fn github(
+    alloc: Global,
+    report: &Report,
+    name: &str,
+    text: &str,
+) -> Result<String, AllocError>
+    ensures { IfOk result (λ out. string_bytes out ≡ spec.github (report_content report.now) name.now text.now) }
+{
+    let mut out = String::from_str(alloc, command_of(report.severity))?;
+    out.push_str(" file=")?;
+    push_property(alloc, &mut out, name)?;
+    push_place(&mut out, text, report.labels.as_slice())?;
+    out.push_str(",title=")?;
+    push_property(alloc, &mut out, report.code.as_str())?;
+    out.push_str("::")?;
+    push_message(alloc, &mut out, report.message.as_str())?;
+    out.push_str("\n")?;
+    Ok(out)
+}

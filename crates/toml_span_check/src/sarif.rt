@@ -1,0 +1,332 @@
+//! The faults of a run as one document in the Static Analysis Results Interchange Format (SARIF), version 2.1.0.
+ghost use Rattle.std.specs.Prelude.{◌≡◌, ◌<◌, ◌≤◌, ◌++◌, OnOk, IfOk, map, string_bytes};
+ghost use Rattle.std.specs.List.{flat_map};
+ghost use Rattle.toml_span_tree.specs.Diagnostic.{label_content};
+ghost use Rattle.toml_span_report.specs.Report.{report_content};
+ghost use Rattle.toml_span_check.specs.Sarif as spec;
+ghost use Rattle.toml_span_check.specs.Sarif.{BeginsWithComma};
+
+use crate::github::push_number;
+use std::alloc::{AllocError, Global};
+use toml_span::{Label, Span};
+use toml_span_report::visible::push_quoted;
+use toml_span_report::{Report, Severity, line_column};
+
+/// What stands before the results: a rule for each code that the checker has.
+const HEAD: &str = r#"{
+"$schema":"https://docs.oasis-open.org/sarif/sarif/v2.1.0/errata01/os/schemas/sarif-schema-2.1.0.json",
+"version":"2.1.0",
+"runs":[{"tool":{"driver":{"name":"toml_span_check","version":"0.7.2","rules":[
+{"id":"unexpected","shortDescription":{"text":"A character that begins no token."}},
+{"id":"unterminated-string","shortDescription":{"text":"A string that the text ends in."}},
+{"id":"invalid-char-in-string","shortDescription":{"text":"A character that a string does not hold."}},
+{"id":"invalid-escape","shortDescription":{"text":"A character after a backslash that begins no escape."}},
+{"id":"invalid-hex-escape","shortDescription":{"text":"A character in the place of a hexadecimal digit."}},
+{"id":"invalid-escape-value","shortDescription":{"text":"Digits that give no character."}},
+{"id":"multiline-string-key","shortDescription":{"text":"A string of several lines as a key."}},
+{"id":"unquoted-string","shortDescription":{"text":"A word in the place of a value."}},
+{"id":"invalid-number","shortDescription":{"text":"What is due to be a number, and is none."}},
+{"id":"invalid-datetime","shortDescription":{"text":"What is due to be a date or a time, and is none."}},
+{"id":"unexpected-eof","shortDescription":{"text":"The end of the text in the place of a value."}},
+{"id":"wanted","shortDescription":{"text":"Another token than the one that is due."}},
+{"id":"exceeded-depth-limit","shortDescription":{"text":"What is nested deeper than 128."}},
+{"id":"dotted-key-invalid-type","shortDescription":{"text":"A key through a value."}},
+{"id":"duplicate-key","shortDescription":{"text":"A key that is there already."}},
+{"id":"duplicate-table","shortDescription":{"text":"A table that is there already."}},
+{"id":"redefine-as-array","shortDescription":{"text":"An array of tables where a table is already."}},
+{"id":"not-utf-8","shortDescription":{"text":"A file that is no UTF-8."}},
+{"id":"too-long","shortDescription":{"text":"A file that has more than 16 MiB."}}
+]}},"columnKind":"unicodeCodePoints","results":["#;
+
+/// What stands behind them.
+const TAIL: &str = "\n]}]}\n";
+
+/// The level of a severity.
+fn level_of(severity: Severity) -> &'static str
+    ensures { result.now ≡ spec.level_of severity }
+{
+    match severity {
+        Severity::Error => "error",
+        Severity::Warning => "warning",
+        Severity::Note => "note",
+    }
+}
+
+/// Whether a byte stands for itself in a path of a URI: the unreserved ones, and the slash.
+fn is_plain(byte: u8) -> bool
+    ensures { result ≡ spec.is_plain byte }
+{
+    matches!(byte, b'A'..=b'Z' | b'a'..=b'z' | b'0'..=b'9' | b'-' | b'.' | b'_' | b'~' | b'/')
+}
+
+/// The hexadecimal digit of a number below 16.
+fn hex_digit(number: u8) -> u8
+    requires { number < 16 }
+    ensures { result ≡ spec.hex_digit number }
+{
+    if number < 10 {
+        b'0' + number
+    } else {
+        b'A' - 10 + number
+    }
+}
+
+/// Adds a byte of a path.
+fn push_uri_byte(out: &mut String, byte: u8) -> Result<(), AllocError>
+    ensures { OnOk result (string_bytes out.new ≡ string_bytes out.old ++ spec.uri_byte byte) }
+{
+    if is_plain(byte) {
+        return out.push(byte as char);
+    }
+    out.push_str("%")?;
+    out.push(hex_digit(byte / 16) as char)?;
+    out.push(hex_digit(byte % 16) as char)
+}
+
+/// What stands before a name in its URI.
+fn scheme_of(name: &str) -> &'static str
+    ensures { result.now ≡ spec.scheme_of name.now }
+{
+    match name.as_bytes().first() {
+        Some(b'/') => "file://",
+        _ => "",
+    }
+}
+
+/// Adds the bytes of a path.
+fn push_path(out: &mut String, path: &[u8]) -> Result<(), AllocError>
+    ensures { OnOk result (string_bytes out.new ≡ string_bytes out.old ++ flat_map spec.uri_byte path.now) }
+{
+    for byte in path {
+        push_uri_byte(out, *byte)?;
+    }
+    Ok(())
+}
+
+/// Adds the URI of a file.
+#[tactic(auto, unfolding(crate::specs::Sarif::uri))]
+fn push_uri(out: &mut String, name: &str) -> Result<(), AllocError>
+    ensures { OnOk result (string_bytes out.new ≡ string_bytes out.old ++ spec.uri name.now) }
+{
+    out.push_str(scheme_of(name))?;
+    push_path(out, name.as_bytes())
+}
+
+/// Adds the front of a place: the file.
+fn push_artifact(out: &mut String, name: &str) -> Result<(), AllocError>
+    ensures { OnOk result (string_bytes out.new ≡ string_bytes out.old ++ spec.artifact name.now) }
+{
+    out.push_str("{\"physicalLocation\":{\"artifactLocation\":{\"uri\":\"")?;
+    push_uri(out, name)?;
+    out.push_str("\"}")?;
+    Ok(())
+}
+
+/// Adds the lines and columns of what is marked.
+fn push_lines(
+    out: &mut String,
+    start: (usize, usize),
+    end: (usize, usize),
+) -> Result<(), AllocError>
+    ensures { OnOk result (string_bytes out.new ≡ string_bytes out.old ++ spec.lines start end) }
+{
+    push_number(out, ",\"region\":{\"startLine\":", start.0)?;
+    push_number(out, ",\"startColumn\":", start.1)?;
+    push_number(out, ",\"endLine\":", end.0)?;
+    push_number(out, ",\"endColumn\":", end.1)?;
+    Ok(())
+}
+
+/// Adds the bytes of what is marked.
+#[tactic(auto, unfolding(crate::specs::Sarif::bytes))]
+fn push_bytes(out: &mut String, start: usize, end: usize) -> Result<(), AllocError>
+    requires { start ≤ end }
+    ensures { OnOk result (string_bytes out.new ≡ string_bytes out.old ++ spec.bytes start end) }
+{
+    push_number(out, ",\"byteOffset\":", start)?;
+    push_number(out, ",\"byteLength\":", end - start)?;
+    out.push_str("}")
+}
+
+/// Adds what is marked.
+fn push_region(out: &mut String, text: &str, span: Span) -> Result<(), AllocError>
+    ensures { OnOk result (string_bytes out.new ≡ string_bytes out.old ++ spec.region text.now span) }
+{
+    let end = span.start.max(span.end);
+    push_lines(out, line_column(text, span.start), line_column(text, end))?;
+    push_bytes(out, span.start, end)
+}
+
+/// Adds the place of a label, and what is said there.
+#[tactic(auto, unfolding(crate::specs::Sarif::location))]
+fn push_location(
+    alloc: Global,
+    out: &mut String,
+    name: &str,
+    text: &str,
+    label: &Label<()>,
+) -> Result<(), AllocError>
+    ensures { OnOk result (string_bytes out.new ≡ string_bytes out.old
+        ++ spec.location name.now text.now (label_content label.now)) }
+{
+    push_artifact(out, name)?;
+    push_region(out, text, label.span)?;
+    out.push_str("},\"message\":{\"text\":")?;
+    push_quoted(alloc, out, label.message.as_str())?;
+    out.push_str("}}")
+}
+
+/// Adds the place of the first primary label, or else the file alone.
+fn push_place(
+    alloc: Global,
+    out: &mut String,
+    name: &str,
+    text: &str,
+    labels: &[Label<()>],
+) -> Result<(), AllocError>
+    ensures { OnOk result (string_bytes out.new ≡ string_bytes out.old
+        ++ spec.place_told name.now text.now (map label_content labels.now)) }
+{
+    for label in labels {
+        if label.primary {
+            return push_location(alloc, out, name, text, label);
+        }
+    }
+    push_artifact(out, name)?;
+    out.push_str("}}")?;
+    Ok(())
+}
+
+/// Adds the place of a label that is not primary, behind a comma.
+fn push_other(
+    alloc: Global,
+    out: &mut String,
+    name: &str,
+    text: &str,
+    label: &Label<()>,
+) -> Result<(), AllocError>
+    ensures { OnOk result (string_bytes out.new ≡ string_bytes out.old
+        ++ spec.other name.now text.now (label_content label.now)) }
+{
+    if label.primary {
+        return Ok(());
+    }
+    out.push_str(",")?;
+    push_location(alloc, out, name, text, label)
+}
+
+/// The places of the labels that are not primary, each behind a comma.
+fn others(alloc: Global, name: &str, text: &str, labels: &[Label<()>]) -> Result<String, AllocError>
+    ensures { IfOk result (λ out. string_bytes out
+        ≡ flat_map (spec.other name.now text.now) (map label_content labels.now)) }
+{
+    let mut out = String::new(alloc);
+    for label in labels {
+        push_other(alloc, &mut out, name, text, label)?;
+    }
+    Ok(out)
+}
+
+/// Elements of a list with a comma before each, without the first comma.
+fn listed(elements: &[u8]) -> &[u8]
+    ensures { result.now ≡ spec.listed elements.now }
+{
+    match elements.split_first() {
+        Some((_comma, rest)) => rest,
+        None => elements,
+    }
+}
+
+/// Adds the code, the level and the message of a report, behind a comma.
+fn push_front(alloc: Global, out: &mut String, report: &Report) -> Result<(), AllocError>
+    ensures { OnOk result (string_bytes out.new ≡ string_bytes out.old ++ spec.front (report_content report.now)) }
+{
+    out.push_str(",\n{\"ruleId\":")?;
+    push_quoted(alloc, out, report.code.as_str())?;
+    out.push_str(",\"level\":\"")?;
+    out.push_str(level_of(report.severity))?;
+    out.push_str("\",\"message\":{\"text\":")?;
+    push_quoted(alloc, out, report.message.as_str())?;
+    out.push_str("}")?;
+    Ok(())
+}
+
+/// Adds elements of a list, without the first comma.
+fn push_listed(out: &mut String, elements: &str) -> Result<(), AllocError>
+    requires { BeginsWithComma elements.now }
+    ensures { OnOk result (string_bytes out.new ≡ string_bytes out.old ++ spec.listed elements.now) }
+{
+    match elements.strip_prefix(',') {
+        Some(rest) => out.push_str(rest),
+        None => Ok(()),
+    }
+}
+
+/// Adds the places of the labels that are not primary.
+fn push_related(
+    alloc: Global,
+    out: &mut String,
+    name: &str,
+    text: &str,
+    labels: &[Label<()>],
+) -> Result<(), AllocError>
+    ensures { OnOk result (string_bytes out.new ≡ string_bytes out.old
+        ++ spec.related name.now text.now (map label_content labels.now)) }
+{
+    let others = others(alloc, name, text, labels)?;
+    push_listed(out, others.as_str())?;
+    Ok(())
+}
+
+/// Adds the places of labels.
+fn push_places(
+    alloc: Global,
+    out: &mut String,
+    name: &str,
+    text: &str,
+    labels: &[Label<()>],
+) -> Result<(), AllocError>
+    ensures { OnOk result (string_bytes out.new ≡ string_bytes out.old
+        ++ spec.places name.now text.now (map label_content labels.now)) }
+{
+    out.push_str(",\"locations\":[")?;
+    push_place(alloc, out, name, text, labels)?;
+    out.push_str("],\"relatedLocations\":[")?;
+    push_related(alloc, out, name, text, labels)?;
+    out.push_str("]")?;
+    Ok(())
+}
+
+/// A report as a result of the run, behind a comma.
+pub(crate) fn sarif(
+    alloc: Global,
+    report: &Report,
+    name: &str,
+    text: &str,
+) -> Result<String, AllocError>
+    ensures { IfOk result (λ out. string_bytes out ≡ spec.sarif (report_content report.now) name.now text.now) }
+{
+    let mut out = String::new(alloc);
+    push_front(alloc, &mut out, report)?;
+    push_places(alloc, &mut out, name, text, report.labels.as_slice())?;
+    out.push_str("}")?;
+    Ok(out)
+}
+
+/// Elements of a list with a comma before each, as a list between two texts.
+fn between(alloc: Global, head: &str, elements: &[u8], tail: &str) -> Result<Vec<u8>, AllocError>
+    ensures { IfOk result (λ out. out.items ≡ head.now ++ spec.listed elements.now ++ tail.now) }
+{
+    let mut out = Vec::from_slice(alloc, head.as_bytes())?;
+    out.extend_from_slice(listed(elements))?;
+    out.extend_from_slice(tail.as_bytes())?;
+    Ok(out)
+}
+
+/// The document for the results of a run, which have a comma before each.
+#[tactic(auto, unfolding(crate::specs::Sarif::document))]
+pub(crate) fn document(alloc: Global, results: &[u8]) -> Result<Vec<u8>, AllocError>
+    ensures { IfOk result (λ out. out.items ≡ spec.document results.now) }
+{
+    between(alloc, HEAD, results, TAIL)
+}
