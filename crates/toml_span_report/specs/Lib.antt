@@ -12,3 +12,4 @@ pub mod Strips
 pub mod Tokens
 pub mod UnknownKeys
 pub mod Visible
+pub mod Reads
