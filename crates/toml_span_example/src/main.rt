@@ -78,6 +78,6 @@ fn main(rt: HostRuntime) -> io::Result<ExitCode> {
     print!(rt; "{shown}")?;
     match read {
         Ok(settings) => println!(rt; "{settings:#?}").map(|()| ExitCode::SUCCESS),
-        Err(_) => Ok(ExitCode::FAILURE),
+        Err(_stop) => Ok(ExitCode::FAILURE),
     }
 }
