@@ -6,8 +6,8 @@ use std::collections::BTreeMap;
 use std::io;
 use std::process::ExitCode;
 use toml_span::value::{Key, Table};
-use toml_span::{DeserError, Stop, Value, parse};
-use toml_span_report::{Report, Style, nearest, render_all, reports_of};
+use toml_span::{Value, parse};
+use toml_span_report::{Report, Style, nearest, render_all, render_stop};
 
 /// Adds what is to be said of the names of tables.
 fn tables(alloc: Global, root: &Table, said: &mut Vec<Report>) -> Result<(), AllocError> {
@@ -107,13 +107,17 @@ fn dependency(alloc: Global, value: &Value, said: &mut Vec<Report>) -> Result<()
     Ok(())
 }
 
-/// Adds what is to be said of a manifest.
-fn lint(alloc: Global, root: &Table, said: &mut Vec<Report>) -> Result<(), AllocError> {
-    tables(alloc, root, said)?;
+/// All that is to be said of a manifest.
+fn lint(alloc: Global, root: &Value) -> Result<Vec<Report>, AllocError> {
+    let mut said = Vec::new(alloc);
+    let Some(root) = root.as_table() else {
+        return Ok(said)
+    };
+    tables(alloc, root, &mut said)?;
     if let Some((key, value)) = root.get_key_value(&Key::named("package")) {
-        package(alloc, key, value, said)?;
+        package(alloc, key, value, &mut said)?;
         if let Some(list) = value.pointer("/keywords").and_then(|list| list.as_array()) {
-            keywords(alloc, list.as_slice(), said)?;
+            keywords(alloc, list.as_slice(), &mut said)?;
         }
     }
     if let Some(table) = root
@@ -121,22 +125,27 @@ fn lint(alloc: Global, root: &Table, said: &mut Vec<Report>) -> Result<(), Alloc
         .and_then(|it| it.as_table())
     {
         for value in table.values() {
-            dependency(alloc, value, said)?;
+            dependency(alloc, value, &mut said)?;
         }
     }
-    Ok(())
+    Ok(said)
+}
+
+/// What is printed of a text, which is nothing where all is well.
+fn shown(alloc: Global, text: &str) -> Result<String, AllocError> {
+    match parse(alloc, text) {
+        Ok(root) => {
+            let said = lint(alloc, &root)?;
+            render_all(alloc, Style::Plain, said.as_slice(), "Cargo.toml", text)
+        }
+        Err(stop) => render_stop(alloc, Style::Plain, stop.convert(), "Cargo.toml", text),
+    }
 }
 
 fn main(rt: HostRuntime) -> io::Result<ExitCode> {
     let alloc = rt.alloc();
     let input = io::read_to_string(alloc, rt.stdin())?;
-    let text = input.as_str();
-    let read = parse(alloc, text).map_err(Stop::convert::<DeserError>);
-    let mut said = reports_of(alloc, &read, &[], text)?;
-    if let Some(root) = read.as_ref().ok().and_then(|root| root.as_table()) {
-        lint(alloc, root, &mut said)?;
-    }
-    let shown = render_all(alloc, Style::Plain, said.as_slice(), "Cargo.toml", text)?;
+    let shown = shown(alloc, input.as_str())?;
     print!(rt; "{shown}")?;
-    Ok(ExitCode::from(u8::from(!said.is_empty())))
+    Ok(ExitCode::from(u8::from(!shown.is_empty())))
 }
