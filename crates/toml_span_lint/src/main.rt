@@ -107,35 +107,32 @@ fn dependency(alloc: Global, value: &Value, said: &mut Vec<Report>) -> Result<()
     Ok(())
 }
 
-/// All that is to be said of a manifest.
-fn lint(alloc: Global, root: &Value) -> Result<Vec<Report>, AllocError> {
-    let mut said = Vec::new(alloc);
-    let Some(root) = root.as_table() else {
-        return Ok(said)
-    };
-    tables(alloc, root, &mut said)?;
+/// Adds what is to be said of a manifest.
+fn lint(alloc: Global, root: &Table, said: &mut Vec<Report>) -> Result<(), AllocError> {
+    tables(alloc, root, said)?;
     if let Some((key, value)) = root.get_key_value(&Key::named("package")) {
-        package(alloc, key, value, &mut said)?;
+        package(alloc, key, value, said)?;
         if let Some(list) = value.pointer("/keywords").and_then(|list| list.as_array()) {
-            keywords(alloc, list.as_slice(), &mut said)?;
+            keywords(alloc, list.as_slice(), said)?;
         }
     }
-    if let Some(table) = root
-        .get(&Key::named("dependencies"))
-        .and_then(|it| it.as_table())
-    {
+    let dependencies = root.get(&Key::named("dependencies"));
+    if let Some(table) = dependencies.and_then(|it| it.as_table()) {
         for value in table.values() {
-            dependency(alloc, value, &mut said)?;
+            dependency(alloc, value, said)?;
         }
     }
-    Ok(said)
+    Ok(())
 }
 
 /// What is printed of a text, which is nothing where all is well.
 fn shown(alloc: Global, text: &str) -> Result<String, AllocError> {
     match parse(alloc, text) {
         Ok(root) => {
-            let said = lint(alloc, &root)?;
+            let mut said = Vec::new(alloc);
+            if let Some(root) = root.as_table() {
+                lint(alloc, root, &mut said)?;
+            }
             render_all(alloc, Style::Plain, said.as_slice(), "Cargo.toml", text)
         }
         Err(stop) => render_stop(alloc, Style::Plain, stop.convert(), "Cargo.toml", text),
