@@ -138,7 +138,11 @@ pub fn render_error(
 }
 
 /// The reports of all errors of a read.
-fn reports_of(alloc: Global, errors: &DeserError<'_>, text: &str) -> Result<Vec<Report>, AllocError>
+fn told_errors(
+    alloc: Global,
+    errors: &DeserError<'_>,
+    text: &str,
+) -> Result<Vec<Report>, AllocError>
     ensures { IfOk result (λ made. TellErrors text.now (all errors.now) (map report_content made.items)) }
 {
     let mut reports = Vec::new(alloc);
@@ -159,7 +163,7 @@ pub fn render_errors(
 ) -> Result<String, AllocError>
     ensures { IfOk result (λ out. AreReports style name.now text.now (all errors.now) (string_bytes out)) }
 {
-    let reports = reports_of(alloc, errors, text)?;
+    let reports = told_errors(alloc, errors, text)?;
     render_all(alloc, style, reports.as_slice(), name, text)
 }
 

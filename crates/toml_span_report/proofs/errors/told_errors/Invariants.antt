@@ -2,7 +2,7 @@ use Rattle.std.proofs.Common.{List, ◌++◌, map}
 use Rattle.toml_span_typed.specs.Errors.{all}
 use Rattle.toml_span_report.specs.Errors.{TellErrors}
 use Rattle.toml_span_report.specs.Report.{ReportContent, report_content}
-use Rattle.toml_span_report.proofs.errors.reports_of.Given as goal
+use Rattle.toml_span_report.proofs.errors.told_errors.Given as goal
 
 abbrev pub invariant-loop-error : goal.invariant-loop-error
 invariant-loop-error l =

@@ -4,7 +4,7 @@ use Rattle.toml_span_tree.specs.Error.{ErrorContent}
 use Rattle.toml_span_typed.specs.Errors.{all}
 use Rattle.toml_span_report.specs.Errors.{TellErrors}
 use Rattle.toml_span_report.specs.Report.{ReportContent, report_content}
-use Rattle.toml_span_report.proofs.errors.reports_of.Goals as goal
+use Rattle.toml_span_report.proofs.errors.told_errors.Goals as goal
 
 pub loop-error-preserved : goal.loop-error-preserved
 loop-error-preserved c =
