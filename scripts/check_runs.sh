@@ -267,6 +267,68 @@ refuse() {
     fi
 }
 
+# What is shown of documents is written as it is made. Where a write fails or memory is refused, what was written before
+# is a front of it, and nothing is complained of.
+# front NAME STATUS: one more run that is to end so, with more written than before and less than all
+front() {
+    local size
+    count=$((count + 1))
+    size=$(stat -c %s "$work/written")
+    if [ "$status" -ne "$2" ] || [ -s "$work/complaint" ] || [ "$size" -le "$least" ] ||
+        [ "$size" -ge "$(stat -c %s "$work/whole")" ] || ! cmp -s -n "$size" "$work/written" "$work/whole"; then
+        wrong=$((wrong + 1))
+        echo "check runs: $1: it ended with status $status (wanted: $2), and wrote $size bytes"
+    fi
+    least=$size
+}
+make_failures "$work"
+cp "$work/files/many.toml" "$work/files/more.toml"
+printf '[z.%020000d]\na = 1\n' 0 >>"$work/files/more.toml"
+long=("$work/files/once.toml" "$work/files/many.toml" "$work/files/more.toml")
+for form in --items --tagged; do
+    ask 0 "$form" "${long[@]}"
+    cp "$work/written" "$work/whole"
+    least=-1
+    for at in 1 2; do
+        timeout 60 env LD_PRELOAD="$work/fail.so" FAILED=$at "$program" "$form" "${long[@]}" \
+            >"$work/written" 2>"$work/complaint"
+        status=$?
+        front "$form, where write $at fails" 3
+    done
+    least=65535
+    ask "$(<"$work/made")" "$form" "${long[@]}"
+    front "$form, with the last request refused" 4
+done
+
+# lines that are far longer than the text take no more memory than other texts
+count=$((count + 1))
+if ! python3 - "$program" <<'PYTHON'; then wrong=$((wrong + 1)); fi
+import resource
+import subprocess
+import sys
+
+KEY, COUNT, ROOM = b"k" * 20000, 5000, 64 << 20
+members = [b"a%04d" % number for number in range(COUNT)]
+text = b"[" + KEY + b"]\n" + b"".join(member + b" = 1\n" for member in members)
+start = len(KEY) + 3
+run = subprocess.Popen(
+    [sys.argv[1], "--items"],
+    stdin=subprocess.PIPE,
+    stdout=subprocess.PIPE,
+    preexec_fn=lambda: resource.setrlimit(resource.RLIMIT_AS, (ROOM, ROOM)),
+)
+run.stdin.write(text)
+run.stdin.close()
+right = run.stdout.readline() == b"root table 0..%d\n" % len(text)
+right &= run.stdout.readline() == b"/%b table 0..%d\n" % (KEY, len(text) - 1)
+for number, member in enumerate(members):
+    at = start + number * len(b"a0000 = 1\n") + len(b"a0000 = ")
+    right &= run.stdout.readline() == b"/%b/%b integer %d..%d\n" % (KEY, member, at, at + 1)
+right &= run.stdout.read() == b""
+if run.wait() != 0 or not right:
+    sys.exit(f"check runs: within 64 MB of memory 100 MB of lines are written otherwise (status {run.returncode})")
+PYTHON
+
 refuse settings.toml
 refuse --color always latin.toml settings.toml
 refuse --format short settings.toml

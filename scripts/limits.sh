@@ -64,6 +64,7 @@ write("memory.2 dotted keys of 128 parts", filled(f"k%d.{path(127, 'a')} = 1"))
 write("memory.3 headers of 2 parts", filled("[k%d.a]"))
 write("memory.4 assignments", filled("k%d = 1"))
 write("memory.5 an array of integers", "a = [" + "1," * ((BYTES - 6) // 2) + "]\n")
+write("memory.6 an array of integers, its key of 1,000 bytes", "k" * 1000 + " = [" + "1," * ((BYTES - 1005) // 2) + "]\n")
 PYTHON
 
 # works KB PROGRAM WORD..: whether the program ends by itself on the document, with this much stack, four times (where

@@ -1,5 +1,5 @@
-# For scripts that run a native program with one of its requests for memory refused, or with its reads and writes
-# interrupted; they source this file.
+# For scripts that run a native program with one of its requests for memory refused, with its reads and writes
+# interrupted, or with a write that fails; they source this file.
 
 # make_refusals FOLDER: makes FOLDER/refuse.so, by the kit's clang. A program that is run with it (LD_PRELOAD) has its
 # request number $REFUSED refused, none for 0, and tells file descriptor 9 how many it made. They are counted before
@@ -42,6 +42,25 @@ long read(int file, void *at, unsigned long size) { return is_interrupted() ? -1
 long write(int file, const void *at, unsigned long size) { return is_interrupted() ? -1 : syscall(1, file, at, size); }
 END
     make_library "$1" interrupt
+}
+
+# make_failures FOLDER: makes FOLDER/fail.so likewise. The write number $FAILED of a program that is run with it fails as
+# on a full disk, and each later one.
+make_failures() {
+    cat >"$1/fail.c" <<'END'
+extern long syscall(long, ...);
+extern int *__errno_location(void);
+extern char *getenv(const char *);
+static long made;
+long write(int file, const void *at, unsigned long size) {
+    long failed = 0;
+    for (const char *digit = getenv("FAILED"); *digit; digit++) failed = failed * 10 + (*digit - '0');
+    if (++made < failed) return syscall(1, file, at, size);
+    *__errno_location() = 28;
+    return -1;
+}
+END
+    make_library "$1" fail
 }
 
 # make_library FOLDER NAME: makes FOLDER/NAME.so of FOLDER/NAME.c

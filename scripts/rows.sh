@@ -17,5 +17,5 @@ work=$(mktemp -d)
 trap 'rm -rf "$work"' EXIT
 grep -v '^    ' stdout >"$work/stdin"
 cmp -s "$work/stdin" stdin || cp "$work/stdin" stdin
-"$program" <stdin >"$work/stdout" || true
+(cd data && exec "$program" <../stdin) >"$work/stdout" || true
 diff stdout "$work/stdout"

@@ -7,7 +7,7 @@
 # says what to do.
 #
 # All lines are held in memory before the first is printed, and each has the whole path: 25,000 values under one key of
-# 100 KB, a text of 200 KB, took 4.9 GB.
+# 100 KB, a text of 200 KB, took 2.4 GB.
 #
 # What runs is a native build that is kept (scripts/native.sh): the proved one where it is no older than the sources;
 # else one without the proofs, which is made once, with a word on standard error. Otherwise nothing is printed there.

@@ -1,3 +1,5 @@
+pub mod Endings
+pub mod Judged
 pub mod Rows
 pub mod Statuses
 pub mod Tellings

@@ -7,3 +7,4 @@ pub mod Run
 pub mod Shown
 pub mod Start
 pub mod Words
+pub mod code

@@ -1,7 +1,7 @@
 -- What the program writes for the files that it reads.
-use Rattle.std.specs.Prelude.{◌≡◌, ◌↔◌, ◌≤◌, ⊤, ℕ, ◌+◌, ◌==◌, nat_lt, max, Bool, ◌||◌, IsTrue, List, [], ◌∷◌, ◌++◌, map}
-use Rattle.std.specs.Prelude.{length, codes, if◌then◌else◌, Option, Some, None, Result, Ok, Err, String, Vec}
-use Rattle.std.specs.Prelude.{string_bytes}
+use Rattle.std.specs.Prelude.{◌≡◌, ◌↔◌, ◌≤◌, ◌⊎◌, ⊤, ℕ, ◌+◌, ◌==◌, nat_lt, max, Bool, true, false, ◌||◌, IsTrue, List}
+use Rattle.std.specs.Prelude.{[], ◌∷◌, ◌++◌, map, length, codes, if◌then◌else◌, Option, Some, None, Result, Ok, Err}
+use Rattle.std.specs.Prelude.{String, Vec, string_bytes}
 use Rattle.std.specs.Fmt.{decimal}
 use Rattle.std.specs.Global.{Global}
 use Rattle.std.specs.Io.KnownBytes.{Appends, Keeps}
@@ -11,7 +11,9 @@ use Rattle.toml_span_lines.specs.Run.{HasRead, HasReadAll, HasWritten}
 use Rattle.toml_span_check.specs.Answer.{IsAnswer}
 use Rattle.toml_span_report.specs.Visible.{visible}
 use Rattle.toml_span_check.specs.Words.{shown_word}
+use Rattle.toml_span_check.specs.declared.answer.Form.{Form}
 use Rattle.toml_span_check.specs.declared.answer.Task.{Task}
+use Rattle.toml_span_check.specs.declared.answer.Task.TheVariants.{Show}
 use Rattle.toml_span_check.specs.declared.faults.Format.{Format}
 use Rattle.toml_span_check.specs.declared.faults.Format.TheVariants.{Text, Short, Json}
 
@@ -117,29 +119,50 @@ pub record Told (format : Format) (task : Task) (pointer : List ℕ) (names : Li
   pub shown : out ≡ said is_quiet all
   pub warned : errors ≡ said is_quiet (complaints ++ summary format (length files) wrong)
 
+-- documents are shown
+abbrev pub Shows : Task → Type 0
+Shows task = (form : Form) × (task ≡ Show form)
+
+-- The first files were read, all of them where faults are told, and the first bytes of what is told of them were written.
+pub record TellsFirst (format : Format) (task : Task) (pointer : List ℕ) (files : List (List ℕ))
+    (old new : Option Asked) (told told' : Option (List ℕ)) : Type 0 where
+  pub first : List (List ℕ)
+  pub rest : List (List ℕ)
+  pub parts : files ≡ first ++ rest
+  pub whole : Shows task ⊎ (rest ≡ [])
+  pub out : List ℕ
+  pub complaints : List ℕ
+  pub status : ℕ
+  pub wrong : ℕ
+  pub tells : Tells format task pointer first old new out complaints status wrong
+  pub written : HasWritten told told' out
+
+-- so in a run, which is not quiet
+pub record Begins (format : Format) (task : Task) (pointer : List ℕ) (names : List (List ℕ)) (is_quiet : Bool)
+    (old new : Option Asked) (told told' : Option (List ℕ)) : Type 0 where
+  pub aloud : is_quiet ≡ false
+  pub files : List (List ℕ)
+  pub mid : Option Asked
+  pub found : FindsAll names old mid files
+  pub tells : TellsFirst format task pointer files mid new told told'
+
 -- A run: standard output before and after and whether writing it failed, the same of standard error, and the status.
 pub record Runs (format : Format) (task : Task) (pointer : List ℕ) (names : List (List ℕ)) (is_quiet : Bool)
     (old new : Option Asked) (told told' : Option (List ℕ)) (untold : Bool) (warned warned' : Option (List ℕ))
     (unwarned : Bool) (status : ℕ) : Type 0 where
   -- status 3 exactly where a write failed
   pub failed : (status ≡ 3) ↔ IsTrue (untold || unwarned)
-  -- without memory nothing is written
-  pub silent : status ≡ 4 → Keeps told told' × Keeps warned warned'
-  -- after a failed write the first bytes of what is told are written
-  pub cut : status ≡ 3 → (out errors : List ℕ) × (answered : ℕ)
-      × Told format task pointer names is_quiet old new out errors answered × HasWritten told told' out
+  -- without memory nothing is written, or where documents are shown the first bytes of what is told of the first files
+  pub silent : status ≡ 4 → Keeps warned warned' × (Keeps told told'
+      ⊎ (Shows task × ((last : Option Asked) × Begins format task pointer names is_quiet old last told told')))
+  -- so after a failed write of standard output
+  pub cut : untold ≡ true → Keeps warned warned' × Begins format task pointer names is_quiet old new told told'
+  -- after one of standard error all of standard output is written
+  pub warns : unwarned ≡ true → (out errors : List ℕ) × (answered : ℕ)
+      × Told format task pointer names is_quiet old new out errors answered × Appends told told' out
       × HasWritten warned warned' errors
   -- else all files are looked at, and what is told is written
   pub tells : ¬ (status ≡ 3) → ¬ (status ≡ 4) → (out errors : List ℕ)
       × Told format task pointer names is_quiet old new out errors status × Appends told told' out
       × Appends warned warned' errors
   pub known : status ≤ 4
-
--- for a private clause: what one more reading adds
-abbrev pub Adds : Format → Task → List ℕ → List ℕ → Result (List ℕ) (List ℕ) → List ℕ × List ℕ × ℕ × ℕ
-    → List ℕ × List ℕ × ℕ × ℕ → Type 0
-Adds format task pointer name (Ok bytes) old new =
-    (answer : ℕ × List ℕ) × IsAnswer format task pointer name bytes answer
-    × (new.0 ≡ old.0 ++ answer.1) × (new.1 ≡ old.1) × (new.2 ≡ max old.2 answer.0) × (new.3 ≡ old.3 + answer.0)
-Adds format task pointer name (Err reason) old new =
-    (new.0 ≡ old.0) × (new.1 ≡ old.1 ++ complaint (shown_word name) reason) × (new.2 ≡ 2) × (new.3 ≡ old.3 + 1)

@@ -1,14 +1,12 @@
 //! What is told of the bytes of a file.
-ghost use Rattle.std.specs.Prelude.{◌≡◌, IfOk, option_map};
-ghost use Rattle.toml_span_tree.specs.Value.{view};
+ghost use Rattle.std.specs.Prelude.{◌≡◌, IfOk, ℕ, List};
 ghost use Rattle.toml_span_check.specs.Answer as spec;
+ghost use Rattle.toml_span_check.specs.code.Judged.{Judges, JudgesText};
 
 use crate::faults::{Format, fault_text};
-use crate::shown::shown;
 use std::alloc::{AllocError, Global};
 use toml_span::de::parse;
 use toml_span::{Error, Stop, Value};
-use toml_span_lines::lines::tree_lines;
 use toml_span_lines::run::BOUND;
 use toml_span_report::Report;
 
@@ -60,133 +58,88 @@ fn error_text(
     Ok(fault_text(alloc, format, &report, name, text)?.into_bytes())
 }
 
-/// The status and the text where a pointer names nothing.
-fn nothing_there(
+/// The text where a pointer names nothing.
+pub(crate) fn nothing_there(
     alloc: Global,
     format: Format,
     pointer: &str,
     name: &str,
-) -> Result<(u8, Vec<u8>), AllocError>
-    ensures { IfOk result (λ a. (a.0, a.1.items) ≡ spec.nothing_there format pointer.now name.now) }
+) -> Result<Vec<u8>, AllocError>
+    ensures { IfOk result (λ out. (1, out.items) ≡ spec.nothing_there format pointer.now name.now) }
 {
     let mut message = String::from_str(alloc, "nothing stands at `")?;
     message.push_str(pointer)?;
     message.push_str("`")?;
-    let out = plain_fault(alloc, format, "nothing-there", message.as_str(), name)?;
-    Ok((1, out))
+    plain_fault(alloc, format, "nothing-there", message.as_str(), name)
 }
 
-/// The status and the text for a file that is longer than the bound.
-fn too_long(alloc: Global, format: Format, name: &str) -> Result<(u8, Vec<u8>), AllocError>
-    ensures { IfOk result (λ a. (a.0, a.1.items) ≡ spec.too_long format name.now) }
+/// The text for a file that is longer than the bound.
+fn too_long(alloc: Global, format: Format, name: &str) -> Result<Vec<u8>, AllocError>
+    ensures { IfOk result (λ out. (1, out.items) ≡ spec.too_long format name.now) }
 {
-    let out = plain_fault(
+    plain_fault(
         alloc,
         format,
         "too-long",
         "the file has more than 16 MiB",
         name,
-    )?;
-    Ok((1, out))
+    )
 }
 
-/// The status and the text for a file that is no text.
-fn not_utf8(alloc: Global, format: Format, name: &str) -> Result<(u8, Vec<u8>), AllocError>
-    ensures { IfOk result (λ a. (a.0, a.1.items) ≡ spec.not_utf8 format name.now) }
+/// The text for a file that is no text.
+fn not_utf8(alloc: Global, format: Format, name: &str) -> Result<Vec<u8>, AllocError>
+    ensures { IfOk result (λ out. (1, out.items) ≡ spec.not_utf8 format name.now) }
 {
-    let out = plain_fault(alloc, format, "not-utf-8", "the file is no UTF-8", name)?;
-    Ok((1, out))
+    plain_fault(alloc, format, "not-utf-8", "the file is no UTF-8", name)
 }
 
-/// A value in a form.
-fn formed(alloc: Global, form: Form, value: &Value<'_>) -> Result<Vec<u8>, AllocError>
-    ensures { IfOk result (λ out. out.items ≡ spec.formed form (view value.now)) }
-{
-    if form == Form::Items {
-        return tree_lines(alloc, value);
-    }
-    let mut out = shown(alloc, value, form == Form::Tagged)?;
-    out.push_str("\n")?;
-    Ok(out.into_bytes())
+/// What is told of the bytes of a file, once they are judged.
+pub(crate) enum Judged<'t> {
+    /// A status and a text.
+    Text(u8, Vec<u8>),
+    /// A document, which is to be shown in a form.
+    Document(Form, Value<'t>),
 }
 
-/// The status and the text for what a pointer names, if it names something.
-fn found(
-    alloc: Global,
-    format: Format,
-    form: Form,
-    pointer: &str,
-    name: &str,
-    value: Option<&Value<'_>>,
-) -> Result<(u8, Vec<u8>), AllocError>
-    ensures { IfOk result (λ a. (a.0, a.1.items)
-        ≡ spec.found format form pointer.now name.now (option_map (λ v. view v.now) value.entry)) }
-{
-    match value {
-        Some(value) => Ok((0, formed(alloc, form, value)?)),
-        None => nothing_there(alloc, format, pointer, name),
-    }
-}
-
-/// The status and the text for a document.
-fn given<'t>(
+/// Judges a text.
+fn judge_text<'t>(
     alloc: Global,
     format: Format,
     task: Task,
-    pointer: &'t str,
-    name: &str,
-    root: &Value<'t>,
-) -> Result<(u8, Vec<u8>), AllocError>
-    ensures { IfOk result (λ a. (a.0, a.1.items) ≡ spec.given format task pointer.now name.now (view root.now)) }
-{
-    match task {
-        Task::Check => Ok((0, Vec::new(alloc))),
-        Task::Show(form) => found(alloc, format, form, pointer, name, root.pointer(pointer)),
-    }
-}
-
-/// The status and the text for a text.
-fn answer_text<'t>(
-    alloc: Global,
-    format: Format,
-    task: Task,
-    pointer: &'t str,
     name: &str,
     text: &'t str,
-) -> Result<(u8, Vec<u8>), AllocError>
-    ensures { IfOk result (λ a. spec.IsRead format task pointer.now name.now text.now (a.0, a.1.items)) }
+) -> Result<Judged<'t>, AllocError>
+    ensures { IfOk result (λ a. (pointer : List ℕ) → JudgesText format task pointer name.now text.now a) }
 {
     match parse(alloc, text) {
-        Ok(root) => {
-            let answer = given(alloc, format, task, pointer, name, &root);
-            drop(root);
-            answer
-        }
+        Ok(root) => match task {
+            Task::Check => Ok(Judged::Text(0, Vec::new(alloc))),
+            Task::Show(form) => Ok(Judged::Document(form, root)),
+        },
         Err(Stop::Fault(error)) => {
             let out = error_text(alloc, format, &error, name, text);
             drop(error);
-            Ok((1, out?))
+            Ok(Judged::Text(1, out?))
         }
         Err(Stop::Memory(error)) => Err(error),
     }
 }
 
-/// The status and the text for the bytes of a file.
-pub(crate) fn answer<'t>(
+/// Judges the bytes of a file.
+pub(crate) fn judge<'t>(
     alloc: Global,
     format: Format,
     task: Task,
-    pointer: &'t str,
     name: &str,
     bytes: &'t [u8],
-) -> Result<(u8, Vec<u8>), AllocError>
-    ensures { IfOk result (λ a. spec.IsAnswer format task pointer.now name.now bytes.now (a.0, a.1.items)) }
+) -> Result<Judged<'t>, AllocError>
+    ensures { IfOk result (λ a. (pointer : List ℕ) → Judges format task pointer name.now bytes.now a) }
 {
     if bytes.len() > BOUND {
-        return too_long(alloc, format, name);
+        return Ok(Judged::Text(1, too_long(alloc, format, name)?));
     }
     match str::from_utf8(bytes) {
-        Ok(text) => answer_text(alloc, format, task, pointer, name, text),
-        Err(_) => not_utf8(alloc, format, name),
+        Ok(text) => judge_text(alloc, format, task, name, text),
+        Err(_) => Ok(Judged::Text(1, not_utf8(alloc, format, name)?)),
     }
 }

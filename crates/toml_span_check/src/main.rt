@@ -6,6 +6,7 @@ ghost use Rattle.std.specs.Prelude.{◌≤◌, IfOk};
 mod answer;
 mod colours;
 mod dates;
+mod document;
 mod faults;
 mod folder;
 mod input;

@@ -1,4 +1,5 @@
 pub mod Known
+pub mod Fronts
 pub mod Walks
 pub mod Entries
 pub mod EntryLines

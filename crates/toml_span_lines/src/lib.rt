@@ -2,6 +2,7 @@
 //! writes them.
 #![tactic(auto)]
 
+pub mod held;
 pub mod laws;
 pub mod lines;
 pub mod run;

@@ -1,10 +1,14 @@
 //! The lines that are shown.
-ghost use Rattle.std.specs.Prelude.{◌≡◌, ◌<◌, ◌++◌, OnOk, IfOk};
+ghost use Rattle.std.specs.Prelude.{◌≡◌, ◌<◌, ◌++◌, OnOk, IfOk, false};
 ghost use Rattle.std.specs.Fmt.{decimal};
 ghost use Rattle.toml_span_tree.specs.Value.{view, items_view, members_view};
 ghost use Rattle.toml_span_tree.specs.Error.{content_of};
+ghost use Rattle.toml_span_lines.specs.Held.{Streams};
 ghost use Rattle.toml_span_lines.specs.Lines as spec;
 
+use crate::held::{Unwritten, write_held};
+use crate::sink::Sink;
+use crate::told::Told;
 use std::alloc::{AllocError, Global};
 use toml_span::value::{Table, Value, ValueInner};
 use toml_span::{Error, Span};
@@ -87,102 +91,135 @@ fn push_position(path: &mut Vec<u8>, position: usize) -> Result<(), AllocError>
     push_number(path, position)
 }
 
-/// The lines so far, and the path of the node that is shown next.
-#[derive(Drop)]
-struct Shown {
-    out: Vec<u8>,
-    /// Empty at the root.
-    path: Vec<u8>,
-}
-
-impl Shown {
-    /// Adds the line of a node.
-    fn push_line(&mut self, kind: &str, span: Span) -> Result<(), AllocError>
-        ensures out { OnOk result (self.new.out.items ≡ self.old.out.items
-            ++ spec.line self.old.path.items kind.now span.start span.end) }
-        ensures path { self.new.path.items ≡ self.old.path.items }
-    {
-        if self.path.is_empty() {
-            self.out.extend_from_slice(b"root")?;
-        } else {
-            self.out.extend_from_slice(self.path.as_slice())?;
-        }
-        self.out.push(b' ')?;
-        self.out.extend_from_slice(kind.as_bytes())?;
-        self.out.push(b' ')?;
-        push_span(&mut self.out, span)?;
-        self.out.push(b'\n')?;
-        Ok(())
+/// Adds the line of a node.
+fn push_line(out: &mut Vec<u8>, path: &[u8], kind: &str, span: Span) -> Result<(), AllocError>
+    ensures { OnOk result (out.new.items ≡ out.old.items ++ spec.line path.now kind.now span.start span.end) }
+{
+    if path.is_empty() {
+        out.extend_from_slice(b"root")?;
+    } else {
+        out.extend_from_slice(path)?;
     }
+    out.push(b' ')?;
+    out.extend_from_slice(kind.as_bytes())?;
+    out.push(b' ')?;
+    push_span(out, span)?;
+    out.push(b'\n')?;
+    Ok(())
 }
 
-/// Adds the lines of a value, its own before those of what it holds. A value that is taken has none.
-#[cycle(push_value)]
-fn push_value(shown: &mut Shown, value: &Value<'_>) -> Result<(), AllocError>
-    ensures out { OnOk result (shown.new.out.items ≡ shown.old.out.items
-        ++ spec.node_lines shown.old.path.items (view value.now)) }
-    ensures path { OnOk result (shown.new.path.items ≡ shown.old.path.items) }
+/// Adds the line of a node, and writes what is held where that is much.
+fn write_line<W: Sink>(
+    writer: &mut W,
+    held: &mut Vec<u8>,
+    path: &[u8],
+    kind: &str,
+    span: Span,
+) -> Result<(), Unwritten>
+    requires { W.failed writer.old ≡ false }
+    ensures { Streams result (W.contents writer.old) (W.contents writer.new) (W.failed writer.new)
+        (held.old.items ++ spec.line path.now kind.now span.start span.end) held.new.items }
+{
+    push_line(held, path, kind, span)?;
+    write_held(writer, held)
+}
+
+/// Writes the lines of a value, its own before those of what it holds. A value that is taken has none.
+#[cycle(write_value)]
+fn write_value<W: Sink>(
+    writer: &mut W,
+    held: &mut Vec<u8>,
+    path: &mut Vec<u8>,
+    value: &Value<'_>,
+) -> Result<(), Unwritten>
+    requires { W.failed writer.old ≡ false }
+    ensures out { Streams result (W.contents writer.old) (W.contents writer.new) (W.failed writer.new)
+        (held.old.items ++ spec.node_lines path.old.items (view value.now)) held.new.items }
+    ensures path { OnOk result (path.new.items ≡ path.old.items) }
 {
     if value.is_taken() {
         return Ok(());
     }
     let inner = value.as_ref();
-    shown.push_line(inner.type_str(), value.span)?;
+    write_line(writer, held, path.as_slice(), inner.type_str(), value.span)?;
     match inner {
-        ValueInner::Array(elements) => {
-            push_elements(shown, elements.as_slice())?;
-            Ok(())
-        }
-        ValueInner::Table(table) => {
-            push_entries(shown, table)?;
-            Ok(())
-        }
+        ValueInner::Array(elements) => write_elements(writer, held, path, elements.as_slice()),
+        ValueInner::Table(table) => write_entries(writer, held, path, table),
         _ => Ok(()),
     }
 }
 
-/// Adds the lines of an array's elements.
-#[cycle(push_value)]
-fn push_elements(shown: &mut Shown, elements: &[Value<'_>]) -> Result<(), AllocError>
-    ensures out { OnOk result (shown.new.out.items ≡ shown.old.out.items
-        ++ spec.items_lines shown.old.path.items 0 (items_view elements.now)) }
-    ensures path { OnOk result (shown.new.path.items ≡ shown.old.path.items) }
+/// Writes the lines of an array's elements.
+#[cycle(write_value)]
+fn write_elements<W: Sink>(
+    writer: &mut W,
+    held: &mut Vec<u8>,
+    path: &mut Vec<u8>,
+    elements: &[Value<'_>],
+) -> Result<(), Unwritten>
+    requires { W.failed writer.old ≡ false }
+    ensures out { Streams result (W.contents writer.old) (W.contents writer.new) (W.failed writer.new)
+        (held.old.items ++ spec.items_lines path.old.items 0 (items_view elements.now)) held.new.items }
+    ensures path { OnOk result (path.new.items ≡ path.old.items) }
 {
-    let length = shown.path.len();
+    let length = path.len();
     for (position, element) in elements.iter().enumerate() {
-        push_position(&mut shown.path, position)?;
-        push_value(shown, element)?;
-        shown.path.truncate(length);
+        push_position(path, position)?;
+        write_value(writer, held, path, element)?;
+        path.truncate(length);
     }
     Ok(())
 }
 
-/// Adds the lines of a table's entries.
-#[cycle(push_value)]
-fn push_entries(shown: &mut Shown, table: &Table<'_>) -> Result<(), AllocError>
-    ensures out { OnOk result (shown.new.out.items ≡ shown.old.out.items
-        ++ spec.members_lines shown.old.path.items (members_view table.now.entries)) }
-    ensures path { OnOk result (shown.new.path.items ≡ shown.old.path.items) }
+/// Writes the lines of a table's entries.
+#[cycle(write_value)]
+fn write_entries<W: Sink>(
+    writer: &mut W,
+    held: &mut Vec<u8>,
+    path: &mut Vec<u8>,
+    table: &Table<'_>,
+) -> Result<(), Unwritten>
+    requires { W.failed writer.old ≡ false }
+    ensures out { Streams result (W.contents writer.old) (W.contents writer.new) (W.failed writer.new)
+        (held.old.items ++ spec.members_lines path.old.items (members_view table.now.entries)) held.new.items }
+    ensures path { OnOk result (path.new.items ≡ path.old.items) }
 {
-    let length = shown.path.len();
+    let length = path.len();
     for (key, value) in table.iter() {
-        push_key(&mut shown.path, key.name.as_ref())?;
-        push_value(shown, value)?;
-        shown.path.truncate(length);
+        push_key(path, key.name.as_ref())?;
+        write_value(writer, held, path, value)?;
+        path.truncate(length);
     }
     Ok(())
+}
+
+/// Writes what is held and then the lines of a tree: one for each node, in the order of the paths. The last lines, fewer
+/// than 64 KiB, are held. After an error a front of what is held and of the lines was written.
+pub fn write_lines<W: Sink>(
+    alloc: Global,
+    writer: &mut W,
+    held: &mut Vec<u8>,
+    root: &Value<'_>,
+) -> Result<(), Unwritten>
+    requires { W.failed writer.old ≡ false }
+    ensures { Streams result (W.contents writer.old) (W.contents writer.new) (W.failed writer.new)
+        (held.old.items ++ spec.tree_lines (view root.now)) held.new.items }
+{
+    write_value(writer, held, &mut Vec::new(alloc), root)
 }
 
 /// The lines of a tree: one for each node, in the order of the paths. Only want of memory is refused.
 pub fn tree_lines(alloc: Global, root: &Value<'_>) -> Result<Vec<u8>, AllocError>
     ensures { IfOk result (λ out. out.items ≡ spec.tree_lines (view root.now)) }
 {
-    let mut shown = Shown {
-        out: Vec::new(alloc),
-        path: Vec::new(alloc),
-    };
-    push_value(&mut shown, root)?;
-    Ok(shown.out)
+    let mut writer = Told::new(Vec::new(alloc));
+    let mut held = Vec::new(alloc);
+    if write_lines(alloc, &mut writer, &mut held, root).is_err() {
+        return Err(AllocError);
+    }
+    let mut out = writer.into_inner();
+    out.append(&mut held)?;
+    Ok(out)
 }
 
 /// The line of an error.

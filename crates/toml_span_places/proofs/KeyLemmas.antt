@@ -1,16 +1,13 @@
 -- The keys of headers, of assignments and of sections, a key at a time.
-use Rattle.std.proofs.Common.{◌≡◌, ℕ, ◌+◌, ◌<◌, List, [], ◌∷◌, ◌++◌, map, drop, length, get_or, refl, ap, sym, append_assoc, ◌∙◌, arith}
+use Rattle.std.proofs.Common.{◌≡◌, ℕ, ◌<◌, List, [], ◌∷◌, ◌++◌, map, length, get_or, refl, ap, sym, append_assoc, ◌∙◌, arith}
 use Rattle.std.proofs.Common.{◌≤◌, ◌==◌, false, Result, Ok, Err, OnOk}
-use Rattle.std.proofs.lemmas.List.{drop_more}
 use Rattle.toml_span_lex.specs.declared.key.Key.{Key}
 use Rattle.toml_span_tree.specs.Path.{Path}
 use Rattle.toml_span_read.specs.Keys.{SimpleKey, simple_key}
-use Rattle.toml_span_read.specs.Data.{block}
-use Rattle.toml_span_read.specs.declared.section.Section.{Section}
 use Rattle.toml_span.specs.Paths.{enter, with_key}
 use Rattle.toml_span_places.specs.declared.keys.Role.TheVariants as roles
 use Rattle.toml_span_places.proofs.PathLemmas.{behind_first, keys_first, keys_some}
-use Rattle.toml_span_places.specs.Keys.{Standing, header_keys, key_at, opened_behind, parts_keys, section_keys, sections_keys}
+use Rattle.toml_span_places.specs.Keys.{Standing, header_keys, key_at, parts_keys}
 
 -- what is listed before, then these, then the rest's
 pub listed_next : {A : Type 0} (before now keys rest left all : List A) →
@@ -35,18 +32,6 @@ pub parts_keys_more : (text : List ℕ) (p : Path) (k : SimpleKey) (ks : List Si
     ≡ key_at text p k roles.Dotted ∷ parts_keys text (with_key p k) (ks ++ (last ∷ []))
 parts_keys_more text p k [] last = refl
 parts_keys_more text p k (l ∷ more) last = refl
-
--- behind a section
-pub sections_next : (text : List ℕ) (i : ℕ) (ss : List Section) (s : Section) (opened opened' : List Path) (before now all : List Standing) →
-    i < length ss → get_or ss i s ≡ s → now ≡ before ++ section_keys text opened (block s) → opened' ≡ opened_behind opened (block s) →
-    before ++ sections_keys text opened (map block (drop i ss)) ≡ all →
-    now ++ sections_keys text opened' (map block (drop (i + 1) ss)) ≡ all
-sections_next text i ss s opened opened' before now all below here more behind was =
-    let split : drop i ss ≡ s ∷ drop (i + 1) ss = drop_more ss i s below ∙ ap (λ x. x ∷ drop (i + 1) ss) here in
-    let rest = map block (drop (i + 1) ss) in
-    let left : sections_keys text opened (map block (drop i ss)) ≡ section_keys text opened (block s) ++ sections_keys text opened' rest =
-    ap (λ l. sections_keys text opened (map block l)) split ∙ ap (λ o. section_keys text opened (block s) ++ sections_keys text o rest) (sym behind) in
-    listed_next before now _ (sections_keys text opened' rest) _ all more left was
 
 -- ---- what a call has listed
 

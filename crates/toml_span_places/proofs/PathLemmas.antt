@@ -1,12 +1,11 @@
 -- Paths of headers, and the elements of arrays of tables, a step at a time.
-use Rattle.std.proofs.Common.{◌≡◌, ℕ, zero, suc, ◌+◌, ◌-◌, ◌<◌, true, false, List, [], ◌∷◌, ◌++◌, Vec, Global, map, take, drop, length, get_or, refl, ap, sym, ◌∙◌, arith}
+use Rattle.std.proofs.Common.{◌≡◌, ℕ, zero, suc, ◌-◌, ◌<◌, true, false, List, [], ◌∷◌, ◌++◌, Vec, Global, map, take, drop, length, get_or, refl, ap, sym, ◌∙◌, arith}
 use Rattle.std.proofs.Common.{◌≤◌, ◌==◌, take_all, eqb-true, true≢false, Result, Ok, Err, IfOk}
-use Rattle.std.proofs.lemmas.List.{drop_more}
 use Rattle.toml_span_lex.specs.declared.key.Key.{Key}
 use Rattle.toml_span_tree.specs.declared.nodes.Step.{Step as Lent}
 use Rattle.toml_span_tree.specs.Path.{Path, position}
 use Rattle.toml_span_read.specs.Keys.{SimpleKey, simple_key}
-use Rattle.toml_span.specs.Paths.{elements_added, enter, same_path, target, with_key}
+use Rattle.toml_span.specs.Paths.{enter, target, with_key}
 use Rattle.toml_span_places.specs.Keys.{steps_of}
 
 -- into the latest element, or nowhere
@@ -33,19 +32,6 @@ pub target_more : (counts : Path → ℕ) (p : Path) (k : SimpleKey) (ks : List 
 unfolding target
 target_more counts p k [] some = absurd (omega arith)
 target_more counts p k (l ∷ more) some = refl
-
--- one path more among those that are counted
-pub added_same : (q : Path) (qs : List Path) (p : Path) → same_path q p ≡ true → elements_added (q ∷ qs) p ≡ 1 + elements_added qs p
-added_same q qs p same = rw same (omega arith)
-
-pub added_other : (q : Path) (qs : List Path) (p : Path) → same_path q p ≡ false → elements_added (q ∷ qs) p ≡ elements_added qs p
-added_other q qs p same = rw same refl
-
--- the paths from one on, one of which is that at i
-pub paths_from : (i : ℕ) (opened : List (Vec Lent Global)) (v : Vec Lent Global) →
-    i < length opened → get_or opened i v ≡ v → map steps_of (drop i opened) ≡ steps_of v ∷ map steps_of (drop (i + 1) opened)
-paths_from i opened v below here =
-    ap (λ vs. map steps_of vs) (drop_more opened i v below ∙ ap (λ x. x ∷ drop (i + 1) opened) here)
 
 -- ---- lists of keys, of which one is taken
 

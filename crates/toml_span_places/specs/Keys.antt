@@ -95,11 +95,11 @@ header_keys text counts p (k ∷ l ∷ more) =
 abbrev pub assigned_below : (Path → ℕ) → Bool → Path → Path
 assigned_below counts doubled p = if doubled then with_position p (counts p) else p
 
--- a section's header and its assignments, where these arrays of tables were added to so far
-abbrev pub section_keys : List ℕ → List Path → Block → List Standing
-section_keys text opened b =
-    header_keys text (elements_added opened) [] b.header
-    ++ pair_keys text (section_path (elements_added opened) b) (pairs_onto b.key_values no_pairs)
+-- a section's header and its assignments, where `counts` counts the elements of each array of tables before it
+abbrev pub section_keys : List ℕ → (Path → ℕ) → Block → List Standing
+section_keys text counts b =
+    header_keys text counts [] b.header
+    ++ pair_keys text (section_path counts b) (pairs_onto b.key_values no_pairs)
 
 -- the arrays to which an element was added, with this one if its header stands in double brackets
 abbrev pub with_opened : List Path → Bool → Path → List Path
@@ -111,7 +111,7 @@ opened_behind opened b = with_opened opened b.array (target (elements_added open
 abbrev pub sections_keys : List ℕ → List Path → List Block → List Standing
 sections_keys text opened [] = []
 sections_keys text opened (b ∷ bs) =
-    section_keys text opened b ++ sections_keys text (opened_behind opened b) bs
+    section_keys text (elements_added opened) b ++ sections_keys text (opened_behind opened b) bs
 
 -- all keys of the sections
 abbrev pub document_keys : List ℕ → List Block → List Standing

@@ -8,3 +8,4 @@ pub mod Sections
 pub mod Spelled
 pub mod Spots
 pub mod Tables
+pub mod code

@@ -72,15 +72,15 @@ abbrev mutual
 
 -- ---- sections
 
--- a section's header and its assignments, where these arrays of tables were added to so far
-abbrev pub section_tables : List Path → Block → List StandingTable
-section_tables opened b =
-    header_tables (elements_added opened) b [] b.header
-    ++ pair_tables (section_path (elements_added opened) b) (pairs_onto b.key_values no_pairs)
+-- a section's header and its assignments, where `counts` counts the elements of each array of tables before it
+abbrev pub section_tables : (Path → ℕ) → Block → List StandingTable
+section_tables counts b =
+    header_tables counts b [] b.header ++ pair_tables (section_path counts b) (pairs_onto b.key_values no_pairs)
 
 abbrev pub sections_tables : List Path → List Block → List StandingTable
 sections_tables opened [] = []
-sections_tables opened (b ∷ bs) = section_tables opened b ++ sections_tables (opened_behind opened b) bs
+sections_tables opened (b ∷ bs) =
+    section_tables (elements_added opened) b ++ sections_tables (opened_behind opened b) bs
 
 -- all tables of the sections
 abbrev pub document_tables : List Block → List StandingTable

@@ -3,13 +3,15 @@ ghost use Rattle.std.specs.Prelude.{◌≡◌, ◌++◌, ◌∷◌, [], IfOk, On
 ghost use Rattle.toml_span_read.specs.Data.{block};
 ghost use Rattle.toml_span_read.specs.Keys.{simple_key};
 ghost use Rattle.toml_span_tree.specs.Nodes.{step_of};
-ghost use Rattle.toml_span.specs.Paths.{target, elements_added};
+ghost use Rattle.toml_span.specs.Paths.{target};
 ghost use Rattle.toml_span.specs.Paths as paths;
 ghost use Rattle.toml_span_places.specs.Keys as spec;
-ghost use Rattle.toml_span_places.specs.Keys.{key_at, header_keys, section_keys, opened_behind, document_keys};
+ghost use Rattle.toml_span_places.specs.Keys.{key_at, header_keys, section_keys, document_keys};
 ghost use Rattle.toml_span_places.specs.Keys.{standing, steps_of};
+ghost use Rattle.toml_span_places.specs.code.Opened.{counts_of, counts_behind, with_counted};
 
-use crate::paths::{elements_of, enter, extended, with_key};
+use crate::opened::{Opened, add, elements_of};
+use crate::paths::{enter, extended, with_key};
 use crate::values::push_pairs;
 use std::alloc::{AllocError, Global};
 use toml_span_lex::key::Key;
@@ -101,14 +103,14 @@ fn push_header<'t, 'de>(
     alloc: Global,
     text: &str,
     parts: &'t [Key<'de>],
-    opened: &[Vec<Step<'t>>],
+    opened: &Opened<'t>,
     path: Vec<Step<'t>>,
     out: &mut Vec<KeyPlace<'t>>,
 ) -> Result<Vec<Step<'t>>, AllocError>
     ensures keys { OnOk result (map standing out.new.items ≡ map standing out.old.items
-        ++ header_keys text.now (elements_added (map steps_of opened.now)) (steps_of path.entry)
+        ++ header_keys text.now (counts_of opened.now) (steps_of path.entry)
         (map simple_key parts.now)) }
-    ensures path { IfOk result (λ below. steps_of below ≡ target (elements_added (map steps_of opened.now))
+    ensures path { IfOk result (λ below. steps_of below ≡ target (counts_of opened.now)
         (steps_of path.entry) (map simple_key parts.now)) }
 {
     let [key, rest @ ..] = parts else {
@@ -118,7 +120,7 @@ fn push_header<'t, 'de>(
         return push_key(alloc, text, key, Role::HeaderLast, path, out);
     }
     let below = push_key(alloc, text, key, Role::Header, path, out)?;
-    let inside = enter(opened, below)?;
+    let inside = enter(alloc, opened, below)?;
     push_header(alloc, text, rest, opened, inside, out)
 }
 
@@ -127,19 +129,18 @@ pub(crate) fn section_path<'t>(
     alloc: Global,
     array: bool,
     path: Vec<Step<'t>>,
-    opened: &mut Vec<Vec<Step<'t>>>,
+    opened: &mut Opened<'t>,
 ) -> Result<Vec<Step<'t>>, AllocError>
     ensures path { IfOk result (λ below. steps_of below
-        ≡ spec.assigned_below (elements_added (map steps_of opened.old.items)) array (steps_of path.entry)) }
-    ensures opened { OnOk result (map steps_of opened.new.items
-        ≡ spec.with_opened (map steps_of opened.old.items) array (steps_of path.entry)) }
+        ≡ spec.assigned_below (counts_of opened.old) array (steps_of path.entry)) }
+    ensures opened { OnOk result (counts_of opened.new
+        ≡ with_counted (counts_of opened.old) array (steps_of path.entry)) }
 {
     if !array {
         return Ok(path);
     }
-    let position = elements_of(opened.as_slice(), path.as_slice());
-    let kept = Vec::from_slice(alloc, path.as_slice())?;
-    opened.push(kept)?;
+    let position = elements_of(alloc, opened, path.as_slice())?;
+    add(alloc, opened, path.as_slice())?;
     extended(path, Step::Position(position))
 }
 
@@ -148,17 +149,16 @@ fn push_section<'t, 'de>(
     alloc: Global,
     text: &str,
     section: &'t Section<'de>,
-    opened: &mut Vec<Vec<Step<'t>>>,
+    opened: &mut Opened<'t>,
     out: &mut Vec<KeyPlace<'t>>,
 ) -> Result<(), AllocError>
     ensures keys { OnOk result (map standing out.new.items ≡ map standing out.old.items
-        ++ section_keys text.now (map steps_of opened.old.items) (block section.now)) }
-    ensures opened { OnOk result (map steps_of opened.new.items
-        ≡ opened_behind (map steps_of opened.old.items) (block section.now)) }
+        ++ section_keys text.now (counts_of opened.old) (block section.now)) }
+    ensures opened { OnOk result (counts_of opened.new ≡ counts_behind (counts_of opened.old) (block section.now)) }
 {
     let root = Vec::new(alloc);
     let parts = section.header.as_slice();
-    let header = push_header(alloc, text, parts, opened.as_slice(), root, out)?;
+    let header = push_header(alloc, text, parts, opened, root, out)?;
     let below = section_path(alloc, section.array, header, opened)?;
     push_pairs(
         alloc,
@@ -172,8 +172,8 @@ fn push_section<'t, 'de>(
 /// The keys of these sections where they stand in the text, in its order: the parts of each header, and
 /// those of each assignment, before the ones in its value.
 ///
-/// `sections` are those that `read_sections` gives of the text. Takes memory for the list and the steps, and
-/// for each array of tables time that grows with the number of elements that were added before.
+/// `sections` are those that `read_sections` gives of the text. Takes memory for the list and the steps, and for the
+/// path of each array of tables.
 pub fn key_places<'t, 'de>(
     alloc: Global,
     text: &str,
@@ -181,7 +181,7 @@ pub fn key_places<'t, 'de>(
 ) -> Result<Vec<KeyPlace<'t>>, AllocError>
     ensures { IfOk result (λ places. map standing places.items ≡ document_keys text.now (map block sections.now)) }
 {
-    let mut opened = Vec::new(alloc);
+    let mut opened = Opened::new(alloc);
     let mut out = Vec::new(alloc);
     for section in sections {
         push_section(alloc, text, section, &mut opened, &mut out)?;

@@ -6,6 +6,7 @@ mod cuts;
 mod keys;
 mod lines;
 mod literals;
+mod opened;
 mod paths;
 mod points;
 mod quoted;

@@ -1,11 +1,12 @@
-//! Paths, and the elements of arrays of tables.
+//! Paths.
 ghost use Rattle.std.specs.Prelude.{◌≡◌, ◌++◌, ◌∷◌, [], IfOk, map};
 ghost use Rattle.toml_span_tree.specs.Nodes.{step_of};
 ghost use Rattle.toml_span_read.specs.Keys.{simple_key};
 ghost use Rattle.toml_span.specs.Paths as spec;
-ghost use Rattle.toml_span.specs.Paths.{elements_added};
 ghost use Rattle.toml_span_places.specs.Keys.{steps_of};
+ghost use Rattle.toml_span_places.specs.code.Opened.{counts_of};
 
+use crate::opened::{Opened, elements_of};
 use std::alloc::{AllocError, Global};
 use toml_span_lex::key::Key;
 use toml_span_tree::nodes::Step;
@@ -81,29 +82,17 @@ pub(crate) fn same_path(path: &[Step<'_>], other: &[Step<'_>]) -> bool
     same_step(step, other_step) && same_path(path_rest, other_rest)
 }
 
-/// How many elements of the array of tables at a path were added so far.
-pub(crate) fn elements_of(opened: &[Vec<Step<'_>>], path: &[Step<'_>]) -> usize
-    ensures { result ≡ elements_added (map steps_of opened.now) (map step_of path.now) }
-{
-    let mut added = 0;
-    for array in opened {
-        if same_path(array.as_slice(), path) {
-            added += 1;
-        }
-    }
-    added
-}
-
 #[tactic(auto, using(crate::proofs::PathLemmas::enter_latest, crate::proofs::PathLemmas::enter_none))]
 /// The path into the latest element of an array of tables, where one stands there.
 pub(crate) fn enter<'t>(
-    opened: &[Vec<Step<'t>>],
+    alloc: Global,
+    opened: &Opened<'t>,
     path: Vec<Step<'t>>,
 ) -> Result<Vec<Step<'t>>, AllocError>
-    ensures { IfOk result (λ inside. steps_of inside ≡ spec.enter (elements_added (map steps_of opened.now)
-        (steps_of path.entry)) (steps_of path.entry)) }
+    ensures { IfOk result (λ inside. steps_of inside ≡ spec.enter (counts_of opened.now (steps_of path.entry))
+        (steps_of path.entry)) }
 {
-    let added = elements_of(opened, path.as_slice());
+    let added = elements_of(alloc, opened, path.as_slice())?;
     if added == 0 {
         return Ok(path);
     }

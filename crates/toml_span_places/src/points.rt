@@ -1,11 +1,14 @@
 //! Where an assignment can be put into a table.
-ghost use Rattle.std.specs.Prelude.{◌≡◌, IfOk, map};
+ghost use Rattle.std.specs.Prelude.{◌≡◌, IfOk, OnOk, Some, if◌then◌else◌, map};
 ghost use Rattle.toml_span_read.specs.Data.{block};
 ghost use Rattle.toml_span_tree.specs.Nodes.{step_of};
+ghost use Rattle.toml_span.specs.Paths as paths;
+ghost use Rattle.toml_span_places.specs.code.Opened.{counts_of, counts_behind};
 ghost use Rattle.toml_span_places.specs.Points as spec;
 
 use crate::lines::body_end;
 use crate::literals::byte_before;
+use crate::opened::Opened;
 use crate::paths::same_path;
 use crate::sections::path_of;
 use std::alloc::{AllocError, Global};
@@ -56,6 +59,28 @@ fn behind_section(text: &str, section: &Section<'_>) -> InsertionPoint
     }
 }
 
+/// The place behind the last line of a section, if it assigns in the table at a path, or else this one.
+fn point_behind<'t, 'de>(
+    alloc: Global,
+    text: &str,
+    section: &'t Section<'de>,
+    path: &[Step<'_>],
+    opened: &mut Opened<'t>,
+    point: Option<InsertionPoint>,
+) -> Result<Option<InsertionPoint>, AllocError>
+    ensures point { IfOk result (λ next. next
+        ≡ (if paths.same_path (paths.section_path (counts_of opened.old) (block section.now)) (map step_of path.now)
+        then Some (spec.behind_section text.now (block section.now)) else point)) }
+    ensures opened { OnOk result (counts_of opened.new ≡ counts_behind (counts_of opened.old) (block section.now)) }
+{
+    let below = path_of(alloc, section, opened)?;
+    if same_path(below.as_slice(), path) {
+        Ok(Some(behind_section(text, section)))
+    } else {
+        Ok(point)
+    }
+}
+
 /// Where a line `key = value` can be put in at the end of the own body of the table at a path: behind the last line of
 /// the section that has its header, or behind the header's line where that has no assignment.
 ///
@@ -74,13 +99,10 @@ pub fn insertion_point<'t, 'de>(
     ensures { IfOk result (λ point. point
         ≡ spec.insertion_point text.now (map step_of path.now) (map block sections.now)) }
 {
-    let mut opened = Vec::new(alloc);
+    let mut opened = Opened::new(alloc);
     let mut point = without_section(text, path);
     for section in sections {
-        let below = path_of(alloc, section, &mut opened)?;
-        if same_path(below.as_slice(), path) {
-            point = Some(behind_section(text, section));
-        }
+        point = point_behind(alloc, text, section, path, &mut opened, point)?;
     }
     Ok(point)
 }

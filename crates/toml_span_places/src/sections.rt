@@ -1,15 +1,17 @@
 //! Sections, each with the path of the table in which it assigns.
-ghost use Rattle.std.specs.Prelude.{◌≡◌, IfOk, OnOk, map};
+ghost use Rattle.std.specs.Prelude.{◌≡◌, ◌++◌, ◌∷◌, [], IfOk, OnOk, map};
 ghost use Rattle.toml_span_read.specs.Data.{block};
 ghost use Rattle.toml_span_read.specs.Keys.{simple_key};
-ghost use Rattle.toml_span.specs.Paths.{elements_added, target};
+ghost use Rattle.toml_span.specs.Paths.{target};
 ghost use Rattle.toml_span.specs.Paths as paths;
-ghost use Rattle.toml_span_places.specs.Keys.{steps_of, opened_behind};
+ghost use Rattle.toml_span_places.specs.Keys.{steps_of};
+ghost use Rattle.toml_span_places.specs.code.Opened.{counts_of, counts_behind};
 ghost use Rattle.toml_span_places.specs.Sections as spec;
-ghost use Rattle.toml_span_places.specs.Sections.{standing_section, sections_from, document_sections};
+ghost use Rattle.toml_span_places.specs.Sections.{standing_section, document_sections};
 
 use crate::keys::section_path;
 use crate::lines::{blanks_start, body_end};
+use crate::opened::Opened;
 use crate::paths::{enter, with_key};
 use std::alloc::{AllocError, Global};
 use toml_span_lex::key::Key;
@@ -45,11 +47,12 @@ pub struct SectionPlace<'t> {
 
 /// The path of a header, from one of its parts on.
 fn header_path<'t, 'de>(
+    alloc: Global,
     parts: &'t [Key<'de>],
-    opened: &[Vec<Step<'t>>],
+    opened: &Opened<'t>,
     path: Vec<Step<'t>>,
 ) -> Result<Vec<Step<'t>>, AllocError>
-    ensures { IfOk result (λ below. steps_of below ≡ target (elements_added (map steps_of opened.now))
+    ensures { IfOk result (λ below. steps_of below ≡ target (counts_of opened.now)
         (steps_of path.entry) (map simple_key parts.now)) }
 {
     let [key, rest @ ..] = parts else {
@@ -59,23 +62,22 @@ fn header_path<'t, 'de>(
     if rest.is_empty() {
         return Ok(below);
     }
-    let inside = enter(opened, below)?;
-    header_path(rest, opened, inside)
+    let inside = enter(alloc, opened, below)?;
+    header_path(alloc, rest, opened, inside)
 }
 
 /// The path below which a section assigns. An element that it adds is put on record.
 pub(crate) fn path_of<'t, 'de>(
     alloc: Global,
     section: &'t Section<'de>,
-    opened: &mut Vec<Vec<Step<'t>>>,
+    opened: &mut Opened<'t>,
 ) -> Result<Vec<Step<'t>>, AllocError>
     ensures path { IfOk result (λ below. steps_of below
-        ≡ paths.section_path (elements_added (map steps_of opened.old.items)) (block section.now)) }
-    ensures opened { OnOk result (map steps_of opened.new.items
-        ≡ opened_behind (map steps_of opened.old.items) (block section.now)) }
+        ≡ paths.section_path (counts_of opened.old) (block section.now)) }
+    ensures opened { OnOk result (counts_of opened.new ≡ counts_behind (counts_of opened.old) (block section.now)) }
 {
     let root = Vec::new(alloc);
-    let header = header_path(section.header.as_slice(), opened.as_slice(), root)?;
+    let header = header_path(alloc, section.header.as_slice(), opened, root)?;
     section_path(alloc, section.array, header, opened)
 }
 
@@ -105,6 +107,29 @@ fn body_of(text: &str, section: &Section<'_>) -> Span
     Span { start, end }
 }
 
+/// Puts a section into the list.
+fn push_section<'t, 'de>(
+    alloc: Global,
+    text: &str,
+    section: &'t Section<'de>,
+    opened: &mut Opened<'t>,
+    out: &mut Vec<SectionPlace<'t>>,
+) -> Result<(), AllocError>
+    ensures sections { OnOk result (map standing_section out.new.items ≡ map standing_section out.old.items
+        ++ (spec.section_at text.now (paths.section_path (counts_of opened.old) (block section.now)) (block section.now)
+        ∷ [])) }
+    ensures opened { OnOk result (counts_of opened.new ≡ counts_behind (counts_of opened.old) (block section.now)) }
+{
+    let path = path_of(alloc, section, opened)?;
+    out.push(SectionPlace {
+        path,
+        form: form_of(section),
+        header: section.header_span,
+        body: body_of(text, section),
+    })?;
+    Ok(())
+}
+
 /// These sections where they stand in the text, in its order, each with the path of its table.
 ///
 /// `sections` are those that `read_sections` gives of the text. There is none for the root where no assignment stands
@@ -117,16 +142,10 @@ pub fn section_places<'t, 'de>(
     ensures { IfOk result (λ places. map standing_section places.items
         ≡ document_sections text.now (map block sections.now)) }
 {
-    let mut opened = Vec::new(alloc);
-    let mut places = Vec::new(alloc);
+    let mut opened = Opened::new(alloc);
+    let mut out = Vec::new(alloc);
     for section in sections {
-        let path = path_of(alloc, section, &mut opened)?;
-        places.push(SectionPlace {
-            path,
-            form: form_of(section),
-            header: section.header_span,
-            body: body_of(text, section),
-        })?;
+        push_section(alloc, text, section, &mut opened, &mut out)?;
     }
-    Ok(places)
+    Ok(out)
 }

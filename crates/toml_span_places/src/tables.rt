@@ -3,13 +3,14 @@ ghost use Rattle.std.specs.Prelude.{◌≡◌, ◌++◌, ◌∷◌, [], IfOk, On
 ghost use Rattle.toml_span_read.specs.Data.{block, view, key_value, onto, no_items, pairs_onto, no_pairs};
 ghost use Rattle.toml_span_read.specs.Keys.{simple_key};
 ghost use Rattle.toml_span_tree.specs.Nodes.{step_of};
-ghost use Rattle.toml_span.specs.Paths.{elements_added};
-ghost use Rattle.toml_span_places.specs.Keys.{steps_of, below, opened_behind};
+ghost use Rattle.toml_span_places.specs.Keys.{steps_of, below};
+ghost use Rattle.toml_span_places.specs.code.Opened.{counts_of, counts_behind};
 ghost use Rattle.toml_span_places.specs.Tables as spec;
 ghost use Rattle.toml_span_places.specs.Tables.{standing_table, header_tables, section_tables, document_tables};
 ghost use Rattle.toml_span_places.specs.Tables.{dotted_tables, value_tables, item_tables, pair_tables};
 
-use crate::paths::{copied, element_path, elements_of, enter, extended, same_path, with_key};
+use crate::opened::{Opened, elements_of};
+use crate::paths::{copied, element_path, enter, extended, same_path, with_key};
 use crate::sections::path_of;
 use std::alloc::{AllocError, Global};
 use toml_span_lex::key::Key;
@@ -64,17 +65,17 @@ fn push_last<'t>(
     alloc: Global,
     array: bool,
     span: Span,
-    opened: &[Vec<Step<'t>>],
+    opened: &Opened<'t>,
     path: Vec<Step<'t>>,
     out: &mut Vec<TablePlace<'t>>,
 ) -> Result<(), AllocError>
     ensures { OnOk result (map standing_table out.new.items ≡ map standing_table out.old.items
-        ++ (spec.last_table (elements_added (map steps_of opened.now)) array span (steps_of path.entry) ∷ [])) }
+        ++ (spec.last_table (counts_of opened.now) array span (steps_of path.entry) ∷ [])) }
 {
     if !array {
         return push_table(alloc, path.as_slice(), TableForm::Header, span, out);
     }
-    let position = elements_of(opened, path.as_slice());
+    let position = elements_of(alloc, opened, path.as_slice())?;
     let element = extended(path, Step::Position(position))?;
     push_table(alloc, element.as_slice(), TableForm::Element, span, out)
 }
@@ -84,12 +85,12 @@ fn push_header<'t, 'de>(
     alloc: Global,
     section: &Section<'_>,
     parts: &'t [Key<'de>],
-    opened: &[Vec<Step<'t>>],
+    opened: &Opened<'t>,
     path: Vec<Step<'t>>,
     out: &mut Vec<TablePlace<'t>>,
 ) -> Result<(), AllocError>
     ensures { OnOk result (map standing_table out.new.items ≡ map standing_table out.old.items
-        ++ header_tables (elements_added (map steps_of opened.now)) (block section.now) (steps_of path.entry)
+        ++ header_tables (counts_of opened.now) (block section.now) (steps_of path.entry)
         (map simple_key parts.now)) }
 {
     let [key, rest @ ..] = parts else {
@@ -100,7 +101,7 @@ fn push_header<'t, 'de>(
     if rest.is_empty() {
         return push_last(alloc, section.array, span, opened, below, out);
     }
-    let inside = enter(opened, below)?;
+    let inside = enter(alloc, opened, below)?;
     push_table(alloc, inside.as_slice(), TableForm::Passed, span, out)?;
     push_header(alloc, section, rest, opened, inside, out)
 }
@@ -209,23 +210,15 @@ fn push_items<'t, 'de>(
 fn push_section<'t, 'de>(
     alloc: Global,
     section: &'t Section<'de>,
-    opened: &mut Vec<Vec<Step<'t>>>,
+    opened: &mut Opened<'t>,
     out: &mut Vec<TablePlace<'t>>,
 ) -> Result<(), AllocError>
     ensures tables { OnOk result (map standing_table out.new.items ≡ map standing_table out.old.items
-        ++ section_tables (map steps_of opened.old.items) (block section.now)) }
-    ensures opened { OnOk result (map steps_of opened.new.items
-        ≡ opened_behind (map steps_of opened.old.items) (block section.now)) }
+        ++ section_tables (counts_of opened.old) (block section.now)) }
+    ensures opened { OnOk result (counts_of opened.new ≡ counts_behind (counts_of opened.old) (block section.now)) }
 {
     let root = Vec::new(alloc);
-    push_header(
-        alloc,
-        section,
-        section.header.as_slice(),
-        opened.as_slice(),
-        root,
-        out,
-    )?;
+    push_header(alloc, section, section.header.as_slice(), opened, root, out)?;
     let below = path_of(alloc, section, opened)?;
     push_pairs(alloc, section.assignments.as_slice(), below.as_slice(), out)
 }
@@ -241,7 +234,7 @@ pub fn table_places<'t, 'de>(
 ) -> Result<Vec<TablePlace<'t>>, AllocError>
     ensures { IfOk result (λ places. map standing_table places.items ≡ document_tables (map block sections.now)) }
 {
-    let mut opened = Vec::new(alloc);
+    let mut opened = Opened::new(alloc);
     let mut out = Vec::new(alloc);
     for section in sections {
         push_section(alloc, section, &mut opened, &mut out)?;

@@ -1,5 +1,5 @@
 -- The reports of errors, and their text.
-use Rattle.std.specs.Prelude.{◌≡◌, ℕ, List, [], ◌∷◌, map}
+use Rattle.std.specs.Prelude.{◌≡◌, ℕ, List, [], ◌∷◌, ◌++◌, map}
 use Rattle.std.specs.Option.{option_to_list}
 use Rattle.toml_span_lex.specs.declared.span.Span.{Span}
 use Rattle.toml_span_lex.specs.declared.stop.Stop.{Stop}
@@ -58,17 +58,18 @@ IsReport style name text error out =
     (report : ReportContent) × TellsError severities.Error text error report
     × (out ≡ report_text style report name text)
 
--- the reports of errors, one of each, in their order
-abbrev pub TellErrors : List ℕ → List ErrorContent → List ReportContent → Type 0
-TellErrors text [] reports = reports ≡ []
-TellErrors text (error ∷ errors) reports =
-    (first : ReportContent) × (rest : List ReportContent) × TellsError severities.Error text error first
-    × TellErrors text errors rest × (reports ≡ first ∷ rest)
+-- the report of each error comes behind those before it
+abbrev pub AddsReports : Severity → List ℕ → List ErrorContent → List ReportContent → List ReportContent → Type 0
+AddsReports severity text [] before after = after ≡ before
+AddsReports severity text (error ∷ errors) before after =
+    (report : ReportContent) × TellsError severity text error report
+    × AddsReports severity text errors (before ++ report ∷ []) after
 
 -- the text of errors: that of their reports
 abbrev pub AreReports : Style → List ℕ → List ℕ → List ErrorContent → List ℕ → Type 0
 AreReports style name text errors out =
-    (reports : List ReportContent) × TellErrors text errors reports × AreReportTexts style name text reports out
+    (reports : List ReportContent) × AddsReports severities.Error text errors [] reports
+    × AreReportTexts style name text reports out
 
 -- Want of memory has no text.
 abbrev pub AreShown : Style → List ℕ → List ℕ → Stop Errors → List ℕ → Type 0

@@ -18,6 +18,15 @@ wanted_help message =
     then Some (codes "a value begins on the line of its key")
     else None
 
+-- by the message, of a float that a type does not hold
+unfoldable pub float_help : List ℕ → Option (List ℕ)
+float_help message =
+    if bytes_eq message (codes "out of range of 'f32'")
+    then Some (codes "an f32 is finite, from -3.4028235e38 to 3.4028235e38")
+    else if bytes_eq message (codes "out of range of 'f64'")
+    then Some (codes "an f64 is finite, from -1.7976931348623157e308 to 1.7976931348623157e308")
+    else None
+
 -- by the message, of a number that a type does not hold
 unfoldable pub range_help : List ℕ → Option (List ℕ)
 range_help message =
@@ -30,7 +39,7 @@ range_help message =
     then Some (codes "an i32 is from -2147483648 to 2147483647")
     else if bytes_eq message (codes "out of range of 'u64'") then Some (codes "a u64 is at least 0")
     else if bytes_eq message (codes "out of range of 'usize'") then Some (codes "a usize is at least 0")
-    else None
+    else float_help message
 
 -- by the code alone
 unfoldable pub form_help : List ℕ → Option (List ℕ)

@@ -9,6 +9,7 @@ pub mod Places
 pub mod Rendering
 pub mod Reads
 pub mod Report
+pub mod Reported
 pub mod Strips
 pub mod Tokens
 pub mod UnknownKeys

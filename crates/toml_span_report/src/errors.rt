@@ -1,10 +1,10 @@
 //! The reports of errors, and their text.
-ghost use Rattle.std.specs.Prelude.{◌≡◌, IfOk, map, string_bytes};
+ghost use Rattle.std.specs.Prelude.{◌≡◌, [], IfOk, OnOk, map, string_bytes};
 ghost use Rattle.toml_span_tree.specs.Diagnostic.{label_content};
 ghost use Rattle.toml_span_tree.specs.Error.{content_of, kind_of};
 ghost use Rattle.toml_span_typed.specs.Errors.{all};
 ghost use Rattle.toml_span_report.specs.Errors as spec;
-ghost use Rattle.toml_span_report.specs.Errors.{AreReports, AreShown, IsReport, TellErrors, TellsError};
+ghost use Rattle.toml_span_report.specs.Errors.{AddsReports, AreReports, AreShown, IsReport, TellsError};
 ghost use Rattle.toml_span_report.specs.Report.{report_content};
 ghost use Rattle.toml_span_report.specs.declared.report.Severity.TheVariants as severities;
 
@@ -137,19 +137,33 @@ pub fn render_error(
     render(alloc, style, &report, name, text)
 }
 
+/// Adds the reports of errors.
+pub(crate) fn push_errors(
+    alloc: Global,
+    errors: &DeserError<'_>,
+    text: &str,
+    reports: &mut Vec<Report>,
+) -> Result<(), AllocError>
+    ensures { OnOk result (AddsReports severities.Error text.now (all errors.now)
+        (map report_content reports.old.items) (map report_content reports.new.items)) }
+{
+    for error in errors.iter() {
+        reports.push(Report::from_error(alloc, error, text)?)?;
+    }
+    Ok(())
+}
+
 /// The reports of all errors of a read.
-fn told_errors(
+pub(crate) fn error_reports(
     alloc: Global,
     errors: &DeserError<'_>,
     text: &str,
 ) -> Result<Vec<Report>, AllocError>
-    ensures { IfOk result (λ made. TellErrors text.now (all errors.now) (map report_content made.items)) }
+    ensures { IfOk result (λ made. AddsReports severities.Error text.now (all errors.now) []
+        (map report_content made.items)) }
 {
     let mut reports = Vec::new(alloc);
-    for error in errors.iter() {
-        let report = Report::from_error(alloc, error, text)?;
-        reports.push(report)?;
-    }
+    push_errors(alloc, errors, text, &mut reports)?;
     Ok(reports)
 }
 
@@ -163,7 +177,7 @@ pub fn render_errors(
 ) -> Result<String, AllocError>
     ensures { IfOk result (λ out. AreReports style name.now text.now (all errors.now) (string_bytes out)) }
 {
-    let reports = told_errors(alloc, errors, text)?;
+    let reports = error_reports(alloc, errors, text)?;
     render_all(alloc, style, reports.as_slice(), name, text)
 }
 

@@ -23,6 +23,20 @@ fn wanted_help(message: &str) -> Option<&'static str>
     }
 }
 
+/// The help line for a float that a type does not hold.
+#[tactic(auto, unfolding(crate::specs::Help::float_help))]
+fn float_help(message: &str) -> Option<&'static str>
+    ensures { option_map (λ help. help.now) result ≡ spec.float_help message.now }
+{
+    match message {
+        "out of range of 'f32'" => Some("an f32 is finite, from -3.4028235e38 to 3.4028235e38"),
+        "out of range of 'f64'" => {
+            Some("an f64 is finite, from -1.7976931348623157e308 to 1.7976931348623157e308")
+        }
+        _ => None,
+    }
+}
+
 /// The help line for a number that a type does not hold.
 #[tactic(auto, unfolding(crate::specs::Help::range_help))]
 fn range_help(message: &str) -> Option<&'static str>
@@ -37,7 +51,7 @@ fn range_help(message: &str) -> Option<&'static str>
         "out of range of 'i32'" => Some("an i32 is from -2147483648 to 2147483647"),
         "out of range of 'u64'" => Some("a u64 is at least 0"),
         "out of range of 'usize'" => Some("a usize is at least 0"),
-        _ => None,
+        _ => float_help(message),
     }
 }
 

@@ -1,11 +1,12 @@
 //! The reports of a read.
 ghost use Rattle.std.specs.Prelude.{IfOk, OnOk, map};
 ghost use Rattle.toml_span_tree.specs.Error.{content_of};
-ghost use Rattle.toml_span_typed.specs.Errors.{all};
-ghost use Rattle.toml_span_report.specs.Reads.{AddsReports, AreReportsOf};
+ghost use Rattle.toml_span_report.specs.Errors.{AddsReports};
+ghost use Rattle.toml_span_report.specs.Reads.{AreReportsOf};
 ghost use Rattle.toml_span_report.specs.Report.{report_content};
 ghost use Rattle.toml_span_report.specs.declared.report.Severity.TheVariants as severities;
 
+use crate::errors::push_errors;
 use crate::report::Report;
 use std::alloc::{AllocError, Global};
 use toml_span_lex::stop::Stop;
@@ -24,22 +25,6 @@ fn push_warnings(
 {
     for warning in warnings {
         reports.push(Report::from_warning(alloc, warning, text)?)?;
-    }
-    Ok(())
-}
-
-/// Adds the reports of errors.
-fn push_errors(
-    alloc: Global,
-    errors: &DeserError<'_>,
-    text: &str,
-    reports: &mut Vec<Report>,
-) -> Result<(), AllocError>
-    ensures { OnOk result (AddsReports severities.Error text.now (all errors.now)
-        (map report_content reports.old.items) (map report_content reports.new.items)) }
-{
-    for error in errors.iter() {
-        reports.push(Report::from_error(alloc, error, text)?)?;
     }
     Ok(())
 }

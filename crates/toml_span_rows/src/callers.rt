@@ -8,12 +8,14 @@
 //! - `servers_of`: the ports of the servers of the document, or all their errors.
 //! - `with_value POINTER`: the tree with the number 7 where the pointer leads, if it leads anywhere.
 //! - `write_second`: whether the number 7 is put at `/b/x`, and the tree then.
+//! - `load TYPE`: what is read of the document as of a file whose text is let go.
 //! - `warned TYPE`: what is read of the document, and each warning.
 //! - `holders`: fields of the document that are an `Option`, what `FromStr` makes of a string, and an array of two.
 use crate::Row;
 use crate::holders::Holders;
 use crate::told::{known, push_told, push_told_line};
 use crate::trees::shown::push_lines;
+use crate::typed::owned::push_loaded;
 use crate::typed::warned::push_warned;
 use crate::uses::first::port_told;
 use crate::uses::servers::{Server, servers_of};
@@ -32,16 +34,23 @@ pub fn answer(alloc: Global, row: Row<'_>, out: &mut String) -> Result<bool, All
         "integer_at" => push_told(integer_at(alloc, text, row.word(0)), out),
         "refused_at" => push_told(refused_at(alloc, text), out),
         "port_of" => push_told(port_of(alloc, text), out),
-        "port_told" => push_told(port_told(alloc, text), out),
+        "port_told" => push_port(alloc, text, out),
         "settings_of" => push_settings(settings_of(alloc, text), out),
         "servers_of" => push_servers(servers_of(alloc, text), out),
         "with_value" => push_changed(alloc, row, out),
         "write_second" => push_second(alloc, text, out),
         "holders" => push_told(from_str::<Holders>(alloc, text), out),
+        "load" => return push_loaded(alloc, row.word(0), text, out),
         "warned" => return push_warned(alloc, row.word(0), text, out),
         _ => return Ok(false),
     };
     known(pushed)
+}
+
+/// Answers `port_told`.
+fn push_port(alloc: Global, text: &str, out: &mut String) -> Result<(), AllocError> {
+    let told = port_told(alloc, text)?;
+    out.push_str(told.as_str())
 }
 
 /// Answers `settings_of`: the settings, or the errors.

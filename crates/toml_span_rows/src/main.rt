@@ -3,6 +3,8 @@
 //! Each line of standard input is a row: `CALL WORDS: TEXT`. The program writes each line as it is, and
 //! under a row its answer, each line of it behind four spaces. Empty lines and lines that begin with `#`
 //! are titles. A row that can't be read answers `no such row`, and the status is then 1.
+//!
+//! `load_file NAME` is the row that needs more than an allocator: what is read of that file of `data`.
 #![tactic(auto)]
 
 mod callers;
@@ -27,6 +29,7 @@ use escapes::{push_text, push_words};
 use std::alloc::{AllocError, Global};
 use std::io;
 use std::process::ExitCode;
+use typed::owned::push_file;
 
 /// The answer to a row that can't be read.
 const NO_SUCH_ROW: &str = "no such row";
@@ -79,7 +82,12 @@ fn push_answer(alloc: Global, row: Row<'_>, out: &mut String) -> Result<bool, Al
 }
 
 /// Adds the answer to a row. Whether it can be read.
-fn push_answered(alloc: Global, line: &str, out: &mut String) -> Result<bool, AllocError> {
+fn push_answered(
+    rt: &HostRuntime,
+    alloc: Global,
+    line: &str,
+    out: &mut String,
+) -> Result<bool, AllocError> {
     let Some((call, front, source)) = parts_of(line) else {
         return Ok(false);
     };
@@ -89,7 +97,11 @@ fn push_answered(alloc: Global, line: &str, out: &mut String) -> Result<bool, Al
         return Ok(false);
     }
     let (words, text) = (words.as_slice(), text.as_str());
-    push_answer(alloc, Row { call, words, text }, out)
+    let row = Row { call, words, text };
+    if call == "load_file" {
+        return push_file(rt, row.word(0), out);
+    }
+    push_answer(alloc, row, out)
 }
 
 /// Adds each line of a text, behind four spaces.
@@ -101,20 +113,30 @@ fn push_indented(out: &mut String, text: &str) -> Result<(), AllocError> {
 }
 
 /// Adds what is said to a row. Whether it can be read.
-fn push_row(alloc: Global, line: &str, out: &mut String) -> Result<bool, AllocError> {
+fn push_row(
+    rt: &HostRuntime,
+    alloc: Global,
+    line: &str,
+    out: &mut String,
+) -> Result<bool, AllocError> {
     let mut answer = String::new(alloc);
-    let known = push_answered(alloc, line, &mut answer)?;
+    let known = push_answered(rt, alloc, line, &mut answer)?;
     push_indented(out, if known { answer.as_str() } else { NO_SUCH_ROW })?;
     Ok(known)
 }
 
 /// Adds all lines with what is said to them. Whether each row of them can be read.
-fn push_lines(alloc: Global, input: &str, out: &mut String) -> Result<bool, AllocError> {
+fn push_lines(
+    rt: &HostRuntime,
+    alloc: Global,
+    input: &str,
+    out: &mut String,
+) -> Result<bool, AllocError> {
     let mut readable = true;
     for line in input.lines() {
         writeln!(out, "{line}")?;
         if !line.is_empty() && !line.starts_with('#') {
-            readable = push_row(alloc, line, out)? && readable;
+            readable = push_row(rt, alloc, line, out)? && readable;
         }
     }
     Ok(readable)
@@ -124,7 +146,7 @@ fn main(rt: HostRuntime) -> io::Result<ExitCode> {
     let alloc = rt.alloc();
     let input = io::read_to_string(alloc, rt.stdin())?;
     let mut out = String::new(alloc);
-    let readable = push_lines(alloc, input.as_str(), &mut out)?;
+    let readable = push_lines(&rt, alloc, input.as_str(), &mut out)?;
     print!(rt; "{out}")?;
     Ok(if readable {
         ExitCode::SUCCESS

@@ -12,6 +12,7 @@ mod fields;
 mod lists;
 mod marked;
 mod odd;
+pub mod owned;
 mod ported;
 mod reads;
 mod structs;

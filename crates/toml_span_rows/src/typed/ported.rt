@@ -50,7 +50,7 @@ impl<'de> Deserialize<'de> for Names {
             }
         }
         match DeserError::from_list(errors) {
-            Some(errors) => Err(Stop::Fault(errors)),
+            Some(errors) => Err(errors.into()),
             None => Ok(Names(names)),
         }
     }
@@ -110,7 +110,7 @@ fn range_of<'s>(
     let (low, high) = (low.unwrap_or(0), high.unwrap_or(255));
     if low > high {
         let kind = ErrorKind::Custom(CowStr::Borrowed("low above high"));
-        return Err(Stop::Fault(Error::from((kind, span)).into()));
+        return Err(Error::from((kind, span)).into());
     }
     Ok(Range { low, high })
 }
@@ -134,7 +134,7 @@ impl<'de> Deserialize<'de> for Port {
     #[tactic(auto, using(toml_span_typed::proofs::Whole::found_whole))]
     fn deserialize(alloc: Global, value: &mut Value<'de>) -> Result<Port, Stop<DeserError<'de>>> {
         let mut helper = TableHelper::new(alloc, value)?;
-        let port: u16 = helper.required("port").map_err(Stop::convert)?;
+        let port: u16 = helper.require("port")?;
         helper.finish()?;
         Ok(Port(port))
     }
@@ -149,7 +149,7 @@ impl<'de> Deserialize<'de> for Length {
         _alloc: Global,
         value: &mut Value<'de>,
     ) -> Result<Length, Stop<DeserError<'de>>> {
-        let text = value.take_string(None).map_err(DeserError::from)?;
+        let text = value.take_string(None)?;
         Ok(Length(text.as_str().len()))
     }
 }

@@ -2,10 +2,11 @@
 use crate::told::push_told;
 use crate::typed::marked::{Held, Placed};
 use crate::typed::odd::{Half, Odd, Untouched};
+use crate::typed::owned::Name;
 use crate::typed::ported::push_ported;
 use crate::typed::structs::{Config, Hosts, Server};
 use std::alloc::{AllocError, Global};
-use std::collections::BTreeMap;
+use std::collections::{BTreeMap, HashMap};
 use std::fmt::Debug;
 use toml_span::value::{DateText, FloatText, Value};
 use toml_span::{DeserError, Deserialize, Parsed, Stop};
@@ -85,6 +86,7 @@ fn push_held<'de>(
 ) -> Result<bool, AllocError> {
     match name {
         "BTreeMap<String,u8>" => push_as::<BTreeMap<String, u8>>(alloc, value, out),
+        "HashMap<String,u8>" => push_as::<HashMap<String, u8>>(alloc, value, out),
         "Box<u8>" => push_as::<Box<u8>>(alloc, value, out),
         "char" => push_as::<char>(alloc, value, out),
         "Parsed<u8>" => push_as::<Parsed<u8>>(alloc, value, out),
@@ -107,6 +109,7 @@ fn push_own<'de>(
         "Server" => push_as::<Server<'de>>(alloc, value, out),
         "Config" => push_as::<Config<'de>>(alloc, value, out),
         "Hosts" => push_as::<Hosts>(alloc, value, out),
+        "Name" => push_as::<Name>(alloc, value, out),
         _ => push_ported(alloc, name, value, out),
     }
 }

@@ -109,7 +109,7 @@ impl<'de> Deserialize<'de> for Ratio {
             return Ok(Ratio(ratio));
         }
         let kind = ErrorKind::Custom(CowStr::Borrowed("a ratio is from 0 to 1"));
-        Err(Stop::Fault(Error::from((kind, value.span)).into()))
+        Err(Error::from((kind, value.span)).into())
     }
 }
 

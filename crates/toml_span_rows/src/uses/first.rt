@@ -1,9 +1,9 @@
-//! The README's first example: parse a text, point at a value, and show a fault.
+//! The README's first example: parse a text, point at a value, and show what is wrong.
 use std::alloc::{AllocError, Global};
 use toml_span::parse;
 use toml_span_report::{Style, render_stop};
 
-/// Where the port of a server stands, or what is wrong with the text and where.
+/// Where the port of a server stands, or what is wrong with the text.
 pub fn port_told(alloc: Global, text: &str) -> Result<String, AllocError> {
     match parse(alloc, text) {
         Ok(root) => match root.pointer("/server/port") {
@@ -13,6 +13,6 @@ pub fn port_told(alloc: Global, text: &str) -> Result<String, AllocError> {
             ),
             None => format!(in alloc; "there is no port"),
         },
-        Err(stop) => render_stop(alloc, Style::Plain, stop.convert(), "a.toml", text),
+        Err(stop) => render_stop(alloc, Style::Plain, stop.convert(), "server.toml", text),
     }
 }

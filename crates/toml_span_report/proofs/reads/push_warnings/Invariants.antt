@@ -1,6 +1,6 @@
 use Rattle.std.proofs.Common.{List, drop, map}
 use Rattle.toml_span_tree.specs.Error.{content_of}
-use Rattle.toml_span_report.specs.Reads.{AddsReports}
+use Rattle.toml_span_report.specs.Errors.{AddsReports}
 use Rattle.toml_span_report.specs.Report.{ReportContent, report_content}
 use Rattle.toml_span_report.specs.declared.report.Severity.TheVariants as severities
 use Rattle.toml_span_report.proofs.reads.push_warnings.Given as goal

@@ -1,9 +1,9 @@
 use Rattle.std.proofs.Common.{List, map}
 use Rattle.toml_span_typed.specs.Errors.{all}
-use Rattle.toml_span_report.specs.Reads.{AddsReports}
+use Rattle.toml_span_report.specs.Errors.{AddsReports}
 use Rattle.toml_span_report.specs.Report.{ReportContent, report_content}
 use Rattle.toml_span_report.specs.declared.report.Severity.TheVariants as severities
-use Rattle.toml_span_report.proofs.reads.push_errors.Given as goal
+use Rattle.toml_span_report.proofs.errors.push_errors.Given as goal
 
 abbrev pub invariant-loop-error : goal.invariant-loop-error
 invariant-loop-error l =

@@ -1,0 +1,44 @@
+use Rattle.std.proofs.Common.{◌≡◌, ◌≤◌, ◌<◌, ℕ, List, Result, Ok, Err, IfOk, IsUtf8, length, subst, arith}
+use Rattle.std.specs.declared.alloc.AllocError.{AllocError}
+use Rattle.toml_span_check.specs.declared.answer.Judged.{Judged}
+use Rattle.toml_span_check.specs.declared.answer.Judged.TheVariants.{Text, Document}
+use Rattle.toml_span_check.specs.declared.answer.Task.{Task}
+use Rattle.toml_span_check.specs.declared.faults.Format.{Format}
+use Rattle.toml_span_lines.specs.Run.{bound}
+use Rattle.toml_span_check.specs.Answer.{too_long, not_utf8, IsRead, IsAnswer}
+use Rattle.toml_span_check.specs.code.Judged.{Judges, JudgesText}
+use Rattle.toml_span_check.proofs.answer.judge.Goals as goal
+
+long : (format : Format) (task : Task) (pointer name bytes : List ℕ) (answer : ℕ × List ℕ) → bound < length bytes → answer ≡ too_long format name → IsAnswer format task pointer name bytes answer
+long format task pointer name bytes answer above h = record {
+  long = λ _. h;
+  no_text = λ short. absurd (omega arith);
+  read = λ short. absurd (omega arith);
+}
+
+no_text : (format : Format) (task : Task) (pointer name bytes : List ℕ) (answer : ℕ × List ℕ) → length bytes ≤ bound → ¬ (IsUtf8 bytes) → answer ≡ not_utf8 format name → IsAnswer format task pointer name bytes answer
+no_text format task pointer name bytes answer small none h = record {
+  long = λ above. absurd (omega arith);
+  no_text = λ _ _. h;
+  read = λ _ some. absurd (none some);
+}
+
+read : (format : Format) (task : Task) (pointer name bytes text : List ℕ) (answer : ℕ × List ℕ) → length bytes ≤ bound → IsUtf8 bytes → text ≡ bytes → IsRead format task pointer name text answer → IsAnswer format task pointer name bytes answer
+read format task pointer name bytes text answer small utf8 is h = record {
+  long = λ above. absurd (omega arith);
+  no_text = λ _ none. absurd (none utf8);
+  read = λ _ _. subst (λ (b : List ℕ). IsRead format task pointer name b answer) is h;
+}
+
+judged : (r : Result Judged AllocError) (format : Format) (task : Task) (name bytes text : List ℕ) → length bytes ≤ bound → IsUtf8 bytes → text ≡ bytes →
+    IfOk r (λ a. (pointer : List ℕ) → JudgesText format task pointer name text a) → IfOk r (λ a. (pointer : List ℕ) → Judges format task pointer name bytes a)
+judged (Err e) format task name bytes text small utf8 is h = tt
+judged (Ok (Text status out)) format task name bytes text small utf8 is h = λ pointer. read format task pointer name bytes text _ small utf8 is (h pointer)
+judged (Ok (Document form root)) format task name bytes text small utf8 is h =
+    λ pointer. let both = h pointer in (both.0, read format task pointer name bytes text _ small utf8 is both.1)
+
+pub returns-in-Ok : goal.returns-in-Ok
+returns-in-Ok c = judged _ _ _ _ _ _ c.if-bytes-gt-BOUND.false c.in-Ok.ensures.cases.1 c.in-Ok.ensures.cases.0 c.judge_text.ensures
+
+pub returns-in_ok-not_utf8-in-Err : goal.returns-in_ok-not_utf8-in-Err
+returns-in_ok-not_utf8-in-Err c = λ pointer. no_text _ c.args.task pointer _ _ _ c.if-bytes-gt-BOUND.false c.in-Err.ensures.cases.0 c.in_ok-not_utf8-in-Err.ensures

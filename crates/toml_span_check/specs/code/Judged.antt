@@ -1,0 +1,23 @@
+-- What is told of the bytes of a file once they are judged: a text, or a document that is to be shown.
+use Rattle.std.specs.Prelude.{◌≡◌, ℕ, List}
+use Rattle.toml_span_tree.specs.Pointer.{pointed}
+use Rattle.toml_span_tree.specs.Value.{view}
+use Rattle.toml_span_check.specs.Answer.{found, IsAnswer, IsRead}
+use Rattle.toml_span_check.specs.declared.answer.Judged.{Judged}
+use Rattle.toml_span_check.specs.declared.answer.Judged.TheVariants.{Text, Document}
+use Rattle.toml_span_check.specs.declared.answer.Task.{Task}
+use Rattle.toml_span_check.specs.declared.answer.Task.TheVariants.{Show}
+use Rattle.toml_span_check.specs.declared.faults.Format.{Format}
+
+-- of a text
+abbrev pub JudgesText : Format → Task → List ℕ → List ℕ → List ℕ → Judged → Type 0
+JudgesText format task pointer name text (Text status out) = IsRead format task pointer name text (status, out.items)
+JudgesText format task pointer name text (Document form root) =
+    (task ≡ Show form) × IsRead format task pointer name text (found format form pointer name (pointed pointer (view root)))
+
+-- of bytes
+abbrev pub Judges : Format → Task → List ℕ → List ℕ → List ℕ → Judged → Type 0
+Judges format task pointer name bytes (Text status out) = IsAnswer format task pointer name bytes (status, out.items)
+Judges format task pointer name bytes (Document form root) =
+    (task ≡ Show form)
+    × IsAnswer format task pointer name bytes (found format form pointer name (pointed pointer (view root)))

@@ -1,0 +1,39 @@
+-- How many elements headers added to each array of tables, as it is kept.
+use Rattle.std.specs.Prelude.{ℕ, suc, Bool, if◌then◌else◌, List, [], map, unwrap_or, Vec}
+use Rattle.std.specs.Global.{Global}
+use Rattle.std.specs.Map.{lookup}
+use Rattle.toml_span_tree.specs.Path.{Path, Step, key, position}
+use Rattle.toml_span_read.specs.Data.{Block}
+use Rattle.toml_span.specs.Paths.{same_path, target}
+use Rattle.toml_span_places.specs.declared.opened.Opened.{Opened}
+use Rattle.toml_span_places.specs.declared.opened.SortedStep.{SortedStep}
+use Rattle.toml_span_places.specs.declared.opened.SortedStep.TheVariants as sorted
+
+abbrev pub sorted_step : SortedStep → Step
+sorted_step (sorted.Key name) = key name.now
+sorted_step (sorted.Position i) = position i
+
+abbrev pub sorted_steps : Vec SortedStep Global → Path
+sorted_steps v = map sorted_step v.items
+
+-- how many elements the array at a path has
+abbrev pub counts_in : List (Vec SortedStep Global × ℕ) → Path → ℕ
+counts_in es p = unwrap_or (lookup (λ k. same_path p (sorted_steps k)) es) 0
+
+abbrev pub counts_of : Opened → Path → ℕ
+counts_of o = counts_in o.elements.entries
+
+abbrev pub no_counts : Path → ℕ
+no_counts p = 0
+
+-- one more at a path
+abbrev pub one_more : (Path → ℕ) → Path → (Path → ℕ)
+one_more counts q p = if same_path q p then suc (counts p) else counts p
+
+-- and behind a header with this path, if it stands in double brackets
+abbrev pub with_counted : (Path → ℕ) → Bool → Path → (Path → ℕ)
+with_counted counts doubled p = if doubled then one_more counts p else counts
+
+-- and behind a section
+abbrev pub counts_behind : (Path → ℕ) → Block → (Path → ℕ)
+counts_behind counts b = with_counted counts b.array (target counts [] b.header)

@@ -1,0 +1,86 @@
+//! How many elements headers added to each array of tables.
+ghost use Rattle.std.specs.Prelude.{◌≡◌, ◌∷◌, [], IfOk, OnOk, map};
+ghost use Rattle.toml_span_tree.specs.Nodes.{step_of};
+ghost use Rattle.toml_span_places.specs.Keys.{steps_of};
+ghost use Rattle.toml_span_places.specs.code.Opened as spec;
+ghost use Rattle.toml_span_places.specs.code.Opened.{counts_of};
+
+use std::alloc::{AllocError, Global};
+use std::collections::BTreeMap;
+use toml_span_tree::nodes::Step;
+
+/// A step, in an order by which paths are looked up.
+#[derive(Clone, Copy, PartialEq, Eq, PartialOrd, Ord)]
+enum SortedStep<'t> {
+    Key(&'t str),
+    Position(usize),
+}
+
+/// How many elements were added to each array of tables so far, by its path.
+#[derive(Drop)]
+pub(crate) struct Opened<'t> {
+    elements: BTreeMap<Vec<SortedStep<'t>>, usize>,
+}
+
+fn sorted_step<'t>(step: Step<'t>) -> SortedStep<'t>
+    ensures { spec.sorted_step result ≡ step_of step.entry }
+{
+    match step {
+        Step::Key(name) => SortedStep::Key(name),
+        Step::Position(position) => SortedStep::Position(position),
+    }
+}
+
+/// The path as it is looked up.
+fn sorted_path<'t>(alloc: Global, path: &[Step<'t>]) -> Result<Vec<SortedStep<'t>>, AllocError>
+    ensures { IfOk result (λ sorted. map spec.sorted_step sorted.items ≡ map step_of path.now) }
+{
+    let mut sorted = Vec::new(alloc);
+    for step in path {
+        sorted.push(sorted_step(*step))?;
+    }
+    Ok(sorted)
+}
+
+impl<'t> Opened<'t> {
+    /// No elements yet.
+    pub fn new(alloc: Global) -> Self
+        ensures { counts_of result ≡ spec.no_counts }
+    {
+        Opened {
+            elements: BTreeMap::new(alloc),
+        }
+    }
+}
+
+/// How many elements of the array of tables at a path were added so far.
+pub(crate) fn elements_of<'t>(
+    alloc: Global,
+    opened: &Opened<'t>,
+    path: &[Step<'t>],
+) -> Result<usize, AllocError>
+    ensures { IfOk result (λ added. added ≡ counts_of opened.now (map step_of path.now)) }
+{
+    let sorted = sorted_path(alloc, path)?;
+    match opened.elements.get(sorted.as_slice()) {
+        Some(added) => Ok(*added),
+        None => Ok(0),
+    }
+}
+
+/// Puts one more element of the array of tables at a path on record. Behind an error nothing is known of it.
+pub(crate) fn add<'t>(
+    alloc: Global,
+    opened: &mut Opened<'t>,
+    path: &[Step<'t>],
+) -> Result<(), AllocError>
+    ensures { OnOk result (counts_of opened.new ≡ spec.one_more (counts_of opened.old) (map step_of path.now)) }
+{
+    let added = elements_of(alloc, opened, path)?;
+    let Some(more) = added.checked_add(1) else {
+        return Err(AllocError);
+    };
+    let sorted = sorted_path(alloc, path)?;
+    opened.elements.insert(sorted, more)?;
+    Ok(())
+}

@@ -1,0 +1,21 @@
+-- The reports of a text that outlive it.
+use Rattle.std.specs.Prelude.{ℕ, List, []}
+use Rattle.toml_span_lex.specs.declared.stop.Stop.{Stop}
+use Rattle.toml_span_lex.specs.declared.stop.Stop.TheVariants as stop
+use Rattle.toml_span_tree.specs.Error.{ErrorContent}
+use Rattle.toml_span_typed.specs.Errors.{Errors, all}
+use Rattle.toml_span_report.specs.Errors.{AddsReports}
+use Rattle.toml_span_report.specs.Many.{AreReportTexts}
+use Rattle.toml_span_report.specs.Report.{ReportContent}
+use Rattle.toml_span_report.specs.declared.colours.Style.{Style}
+use Rattle.toml_span_report.specs.declared.report.Severity.TheVariants as severities
+
+-- a report of each error, in order, and the text of these reports
+abbrev pub AreReported : Style → List ℕ → List ℕ → List ErrorContent → List ReportContent → List ℕ → Type 0
+AreReported style name text errors reports out =
+    AddsReports severities.Error text errors [] reports × AreReportTexts style name text reports out
+
+-- Want of memory has no report.
+abbrev pub AreTold : Style → List ℕ → List ℕ → Stop Errors → List ReportContent → List ℕ → Type 0
+AreTold style name text (stop.Fault faults) reports out = AreReported style name text (all faults) reports out
+AreTold style name text (stop.Memory e) reports out = ⊥

@@ -1,0 +1,100 @@
+//! Types that own their text, and errors that outlive the text that is read.
+//!
+//! - `Name`: a name that a function makes of a string.
+//! - `load Listener`: what is read of the document as of a file, `a.toml`, whose text is let go: the answer, or the
+//!   text of the errors, and how many reports there are.
+//! - `load_file NAME`: the same of a file that is there.
+use crate::told::push_told;
+use std::alloc::{AllocError, Global};
+use toml_span::de_helpers::parse_with;
+use toml_span::{DeserError, Deserialize, Stop, Value};
+use toml_span_load::{LoadError, TextFile};
+use toml_span_typed::read_table;
+
+/// A name.
+#[derive(Debug, Drop)]
+pub struct Name(String);
+
+/// The name that a text is.
+fn name_of(alloc: Global, text: &str) -> Result<Name, Stop<&'static str>> {
+    if text.is_empty() {
+        return Err(Stop::Fault("a name is not empty"));
+    }
+    Ok(Name(String::from_str(alloc, text)?))
+}
+
+impl<'de> Deserialize<'de> for Name {
+    fn deserialize(alloc: Global, value: &mut Value<'de>) -> Result<Name, Stop<DeserError<'de>>> {
+        parse_with(alloc, value, |text| name_of(alloc, text))
+    }
+}
+
+/// Who listens, and how much it bears.
+#[derive(Debug, Drop)]
+pub struct Listener {
+    pub host: Name,
+    pub port: u16,
+    pub load: Option<f32>,
+    pub weight: Option<f64>,
+}
+
+impl<'de> Deserialize<'de> for Listener {
+    fn deserialize(
+        alloc: Global,
+        value: &mut Value<'de>,
+    ) -> Result<Listener, Stop<DeserError<'de>>> {
+        read_table!(alloc, value, Listener {
+            host: Name;
+            port: u16, or(80);
+            load: Option<f32>;
+            weight: Option<f64>;
+        })
+    }
+}
+
+/// The listener of a text, which is let go.
+fn listener_of(alloc: Global, text: &str) -> Result<Listener, LoadError> {
+    let file = TextFile {
+        name: String::from_str(alloc, "a.toml")?,
+        text: String::from_str(alloc, text)?,
+    };
+    file.read::<Listener>(alloc)
+}
+
+/// The listener of a file.
+fn load(rt: &HostRuntime, name: &str) -> Result<Listener, LoadError> {
+    let file = TextFile::open(rt, name)?;
+    file.read::<Listener>(rt.alloc())
+}
+
+/// Adds a listener, or why there is none.
+fn push_listener(read: Result<Listener, LoadError>, out: &mut String) -> Result<(), AllocError> {
+    match read {
+        Ok(listener) => push_told(listener, out),
+        Err(LoadError::Reported(reported)) => {
+            let count = reported.reports.len();
+            writeln!(out, "{reported}{count}")
+        }
+        Err(other) => writeln!(out, "{other}"),
+    }
+}
+
+/// Answers `load`.
+pub fn push_loaded(
+    alloc: Global,
+    name: &str,
+    text: &str,
+    out: &mut String,
+) -> Result<bool, AllocError> {
+    if name != "Listener" {
+        return Ok(false);
+    }
+    push_listener(listener_of(alloc, text), out)?;
+    Ok(true)
+}
+
+/// Answers `load_file`.
+pub fn push_file(rt: &HostRuntime, name: &str, out: &mut String) -> Result<bool, AllocError> {
+    push_listener(load(rt, name), out)?;
+    Ok(true)
+}
