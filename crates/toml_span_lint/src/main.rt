@@ -6,8 +6,8 @@ use std::collections::BTreeMap;
 use std::io;
 use std::process::ExitCode;
 use toml_span::value::{Key, Table};
-use toml_span::{DeserError, Stop, Value, parse};
-use toml_span_report::{Report, Style, nearest, render_all, reports_of};
+use toml_span::{Value, parse};
+use toml_span_report::{Report, Style, nearest, render_all, render_stop};
 
 /// Adds what is to be said of the names of tables.
 fn tables(alloc: Global, root: &Table, said: &mut Vec<Report>) -> Result<(), AllocError> {
@@ -116,10 +116,8 @@ fn lint(alloc: Global, root: &Table, said: &mut Vec<Report>) -> Result<(), Alloc
             keywords(alloc, list.as_slice(), said)?;
         }
     }
-    if let Some(table) = root
-        .get(&Key::named("dependencies"))
-        .and_then(|it| it.as_table())
-    {
+    let dependencies = root.get(&Key::named("dependencies"));
+    if let Some(table) = dependencies.and_then(|it| it.as_table()) {
         for value in table.values() {
             dependency(alloc, value, said)?;
         }
@@ -127,16 +125,24 @@ fn lint(alloc: Global, root: &Table, said: &mut Vec<Report>) -> Result<(), Alloc
     Ok(())
 }
 
+/// What is printed of a text, which is nothing where all is well.
+fn shown(alloc: Global, text: &str) -> Result<String, AllocError> {
+    match parse(alloc, text) {
+        Ok(root) => {
+            let mut said = Vec::new(alloc);
+            if let Some(root) = root.as_table() {
+                lint(alloc, root, &mut said)?;
+            }
+            render_all(alloc, Style::Plain, said.as_slice(), "Cargo.toml", text)
+        }
+        Err(stop) => render_stop(alloc, Style::Plain, stop.convert(), "Cargo.toml", text),
+    }
+}
+
 fn main(rt: HostRuntime) -> io::Result<ExitCode> {
     let alloc = rt.alloc();
     let input = io::read_to_string(alloc, rt.stdin())?;
-    let text = input.as_str();
-    let read = parse(alloc, text).map_err(Stop::convert::<DeserError>);
-    let mut said = reports_of(alloc, &read, &[], text)?;
-    if let Some(root) = read.as_ref().ok().and_then(|root| root.as_table()) {
-        lint(alloc, root, &mut said)?;
-    }
-    let shown = render_all(alloc, Style::Plain, said.as_slice(), "Cargo.toml", text)?;
+    let shown = shown(alloc, input.as_str())?;
     print!(rt; "{shown}")?;
-    Ok(ExitCode::from(u8::from(!said.is_empty())))
+    Ok(ExitCode::from(u8::from(!shown.is_empty())))
 }

@@ -22,9 +22,10 @@ loop-name-preserved c =
     let said : map content_of c.push_repeated.new.errors.items ≡ map content_of c.loop-name.errors.items ++ spec.told n (lookup (λ name. bytes_eq name n.0) before) =
     c.in_ok-push_repeated.ensures ∙ ap (λ bs. map content_of c.loop-name.errors.items ++ spec.told (bs, n.1) c.in_ok-before.before) text
     ∙ ap (λ at. map content_of c.loop-name.errors.items ++ spec.told n at) held in
-    let left = ap (λ names. map content_of c.loop-name.errors.items ++ spec.repeated_behind before (map (λ name. named name.now) names)) (sym step) ∙ c.loop-name.invariant.2 in
-    (n ∷ before,
-    (λ q. btree_map_updates_str c.as_str-text.result.now c.loop-name.places c.insert.new.self _ c.in_ok-before.ensures.updates q
-    ∙ ap (λ (at : Option Span). cond (bytes_eq c.as_str-text.result.now q) (Some n.1) at) (c.loop-name.invariant.1 q)
-    ∙ ap (λ bs. cond (bytes_eq bs q) (Some n.1) (lookup (λ name. bytes_eq name q) before)) text),
-    repeated_more before n rest _ _ _ said left)
+    let left = ap (λ names. map content_of c.loop-name.errors.items ++ spec.repeated_behind before (map (λ name. named name.now) names)) (sym step) ∙ c.loop-name.invariant.2 in (
+      n ∷ before,
+      (λ q. btree_map_updates_str c.as_str-text.result.now c.loop-name.places c.insert.new.self _ c.in_ok-before.ensures.updates q
+          ∙ ap (λ (at : Option Span). cond (bytes_eq c.as_str-text.result.now q) (Some n.1) at) (c.loop-name.invariant.1 q)
+          ∙ ap (λ bs. cond (bytes_eq bs q) (Some n.1) (lookup (λ name. bytes_eq name q) before)) text),
+      repeated_more before n rest _ _ _ said left,
+    )
