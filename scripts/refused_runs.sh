@@ -123,7 +123,7 @@ for document in "$(printf '%40000s' '#')" "$tree" "$clash" '# x\n'; do
     silent 4 0 "$show" "$work/document"
 done
 silent 1 15 "$example" crates/toml_span_example/stdin
-grep -E '^(nodes|text_order|key_places|quote_key|quote_string|replaced|write[^:]*(look|at)=)' crates/toml_span_rows/stdin >"$work/rows"
+grep -E '^(nodes|text_order|key_places|section_places|table_forms a|insertion_point bin|node_at 1[0-5]|quote_key|quote_string|replaced|write[^:]*(look|at)=)' crates/toml_span_rows/stdin >"$work/rows"
 silent 1 0 "$rows" "$work/rows"
 if [ "$silenced" -lt 200 ]; then told "programs made $silenced requests"; fi
 

@@ -1,5 +1,7 @@
 -- The elements of arrays of tables, as they are kept in a map.
-use Rattle.std.proofs.Common.{◌≡◌, ◌∙◌, ℕ, suc, ◌+◌, Bool, true, false, cond, ◌&&◌, nat_eq, List, [], ◌∷◌, ◌++◌, map, filter, length, Option, Some, unwrap_or, Vec, Global, refl, ap, sym, subst, Ordering, Less, Equal, Greater, true≢false, length-append, arith}
+use Rattle.std.proofs.Common.{◌≡◌, ◌∙◌, ℕ, suc, ◌+◌, Bool, true, false, cond, ◌&&◌, nat_eq, List}
+use Rattle.std.proofs.Common.{[], ◌∷◌, ◌++◌, map, filter, length, Option, Some, unwrap_or, Vec, Global, refl}
+use Rattle.std.proofs.Common.{ap, sym, subst, Ordering, Less, Equal, Greater, true≢false, length-append, arith}
 use Rattle.std.specs.Ordering.{is_eq, ordering_then, match_ordering, nat_cmp}
 use Rattle.std.specs.Map.{lookup}
 use Rattle.std.specs.BTreeMap.{insert_entry}
@@ -13,7 +15,8 @@ use Rattle.toml_span.proofs.EachClaim.{same_path-eq}
 use Rattle.toml_span.proofs.Grafts.{same_step-self}
 use Rattle.toml_span_read.specs.Data.{Block}
 use Rattle.toml_span_places.specs.Keys.{opened_behind, with_opened}
-use Rattle.toml_span_places.specs.code.Opened.{counts_behind, counts_in, one_more, sorted_step, sorted_steps, with_counted}
+use Rattle.toml_span_places.specs.code.Opened.{counts_behind, counts_in, one_more, sorted_step}
+use Rattle.toml_span_places.specs.code.Opened.{sorted_steps, with_counted}
 use Rattle.toml_span_places.specs.declared.opened.SortedStep.{SortedStep}
 use Rattle.toml_span_places.specs.declared.opened.SortedStep.TheVariants as sorted
 use Rattle.toml_span_places.specs.contracts.opened.SortedStepOrd.TheImpl as order
@@ -61,7 +64,8 @@ then_tie Less r = refl
 then_tie Equal r = refl
 then_tie Greater r = refl
 
-pub path_tie : (xs ys : List SortedStep) → is_eq (slice_cmp order.ghosts.cmp xs ys) ≡ same_path (map sorted_step xs) (map sorted_step ys)
+pub path_tie : (xs ys : List SortedStep) →
+    is_eq (slice_cmp order.ghosts.cmp xs ys) ≡ same_path (map sorted_step xs) (map sorted_step ys)
 unfolding same_path
 path_tie [] [] = refl
 path_tie [] (y ∷ ys) = refl
@@ -90,7 +94,8 @@ equal_case false false v w l same = refl
 equal_case true false v w l same = absurd (true≢false same)
 equal_case false true v w l same = absurd (true≢false (sym same))
 
-other_case : (a b : Bool) (v w l rest : Option ℕ) → (a ≡ true → b ≡ false) → rest ≡ cond b v l → cond a w rest ≡ cond b v (cond a w l)
+other_case : (a b : Bool) (v w l rest : Option ℕ) → (a ≡ true → b ≡ false) → rest ≡ cond b v l →
+    cond a w rest ≡ cond b v (cond a w l)
 other_case true true v w l rest apart so = absurd (true≢false (apart refl))
 other_case true false v w l rest apart so = refl
 other_case false b v w l rest apart so = so
@@ -139,14 +144,16 @@ if_counted : (b : Bool) (n : ℕ) (q : Path) → n + length (filter (λ x. b) (q
 if_counted true n q = omega arith
 if_counted false n q = omega arith
 
-pub added_more : (opened : List Path) (p : Path) → elements_added (opened ++ (p ∷ [])) ≡ one_more (elements_added opened) p
+pub added_more : (opened : List Path) (p : Path) →
+    elements_added (opened ++ (p ∷ [])) ≡ one_more (elements_added opened) p
 added_more opened p =
     fun_ext (λ q.
     ap length (filter-append (λ x. same_path x q) opened (p ∷ []))
     ∙ length-append (filter (λ x. same_path x q) opened) (filter (λ x. same_path x q) (p ∷ []))
     ∙ if_counted (same_path p q) (elements_added opened q) p)
 
-with_added : (opened : List Path) (doubled : Bool) (p : Path) → with_counted (elements_added opened) doubled p ≡ elements_added (with_opened opened doubled p)
+with_added : (opened : List Path) (doubled : Bool) (p : Path) →
+    with_counted (elements_added opened) doubled p ≡ elements_added (with_opened opened doubled p)
 with_added opened true p = sym (added_more opened p)
 with_added opened false p = refl
 

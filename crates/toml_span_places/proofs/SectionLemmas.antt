@@ -14,7 +14,8 @@ use Rattle.toml_span_places.proofs.KeyLemmas.{listed_next}
 use Rattle.toml_span_places.proofs.OpenedLemmas.{counts_next}
 use Rattle.toml_span_places.proofs.PointLemmas.{last_or, point_from}
 
-first_of : (i : ℕ) (ss : List Section) (s : Section) → i < length ss → get_or ss i s ≡ s → drop i ss ≡ s ∷ drop (i + 1) ss
+first_of : (i : ℕ) (ss : List Section) (s : Section) → i < length ss → get_or ss i s ≡ s →
+    drop i ss ≡ s ∷ drop (i + 1) ss
 first_of i ss s under here = drop_more ss i s under ∙ ap (λ x. x ∷ drop (i + 1) ss) here
 
 -- lists to which each section adds a part
@@ -22,7 +23,8 @@ pub listed_section : {A : Type 0} (each : (Path → ℕ) → Block → List A) (
     ((opened : List Path) (b : Block) (bs : List Block) →
     from opened (b ∷ bs) ≡ each (elements_added opened) b ++ from (opened_behind opened b) bs) →
     (i : ℕ) (ss : List Section) (s : Section) (counts counts' : Path → ℕ) (before now all : List A) →
-    i < length ss → get_or ss i s ≡ s → now ≡ before ++ each counts (block s) → counts' ≡ counts_behind counts (block s) →
+    i < length ss → get_or ss i s ≡ s → now ≡ before ++ each counts (block s) →
+    counts' ≡ counts_behind counts (block s) →
     ((opened : List Path) × (counts ≡ elements_added opened) × (before ++ from opened (map block (drop i ss)) ≡ all)) →
     (opened : List Path) × (counts' ≡ elements_added opened) × (now ++ from opened (map block (drop (i + 1) ss)) ≡ all)
 listed_section each from more i ss s counts counts' before now all under here added behind was =
@@ -42,8 +44,10 @@ pub point_next : (text : List ℕ) (p : Path) (i : ℕ) (ss : List Section) (s :
     i < length ss → get_or ss i s ≡ s →
     point' ≡ (if same_path (section_path counts (block s)) p then Some (behind_section text (block s)) else point) →
     counts' ≡ counts_behind counts (block s) →
-    ((opened : List Path) × (counts ≡ elements_added opened) × (point_from text p opened (map block (drop i ss)) point ≡ all)) →
-    (opened : List Path) × (counts' ≡ elements_added opened) × (point_from text p opened (map block (drop (i + 1) ss)) point' ≡ all)
+    ((opened : List Path) × (counts ≡ elements_added opened) ×
+    (point_from text p opened (map block (drop i ss)) point ≡ all)) →
+    (opened : List Path) × (counts' ≡ elements_added opened) ×
+    (point_from text p opened (map block (drop (i + 1) ss)) point' ≡ all)
 point_next text p i ss s counts counts' point point' all under here point_is behind was =
     let opened = was.0 in
     let rest = map block (drop (i + 1) ss) in

@@ -88,8 +88,8 @@ fn point_behind<'t, 'de>(
 /// none, behind a byte order mark. The path of an array's element ends with its position. None where the table has no
 /// body of its own: one that only longer headers or dotted keys name, one in braces, an array, and where no table is.
 ///
-/// Write the line with a line end behind it, and one before it where `needs_line_end` says so. `sections` are those that
-/// `read_sections` gives of the text.
+/// Write the line with a line end behind it, and one before it where `needs_line_end` says so. `sections` are those
+/// that `read_sections` gives of the text.
 pub fn insertion_point<'t, 'de>(
     alloc: Global,
     text: &str,

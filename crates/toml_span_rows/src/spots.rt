@@ -1,7 +1,7 @@
 //! Sections, tables and insertion points of a text, and what stands at a byte of it.
 //!
-//! - `section_places: TEXT` tells of each section the steps to its table, how it begins, and the spans of its header and
-//!   of its body.
+//! - `section_places: TEXT` tells of each section the steps to its table, how it begins, and the spans of its header
+//!   and of its body.
 //! - `insertion_point STEP ..: TEXT` tells where a line can be put into the table at these steps, and the text with
 //!   `new = 0` there.
 //! - `table_places: TEXT` tells of each place that names a table the steps to it, in which way, and where.

@@ -9,7 +9,8 @@ pub loop-section-init : goal.loop-section-init
 loop-section-init c = (
   [],
   c.new-opened.ensures,
-  ap (point_from c.args.text.now (map step_of c.args.path.now) [] (map block c.args.sections.now)) c.without_section-point.ensures,
+  ap (point_from c.args.text.now (map step_of c.args.path.now) [] (map block c.args.sections.now))
+      c.without_section-point.ensures,
 )
 
 pub loop-section-preserved : goal.loop-section-preserved

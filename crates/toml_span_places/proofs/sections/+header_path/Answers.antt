@@ -11,7 +11,8 @@ returns-in_default t c =
 pub returns-then-is_empty : goal.returns-then-is_empty
 returns-then-is_empty t c =
     c.in_ok-below.ensures
-    ∙ header_last (counts_of c.args.opened.now) (steps_of c.args.path) c.args.parts.now c.key-item.result _ c.in-len1-up.len_at_least c.key-item.is (sym c.if-is_empty.ensures)
+    ∙ header_last (counts_of c.args.opened.now) (steps_of c.args.path) c.args.parts.now c.key-item.result _
+    c.in-len1-up.len_at_least c.key-item.is (sym c.if-is_empty.ensures)
 
 pub returns : goal.returns
 returns t c =

@@ -5,10 +5,15 @@ use Rattle.toml_span_places.proofs.SectionLemmas.{listed_section}
 use Rattle.toml_span_places.proofs.tables.table_places.Goals as goal
 
 pub loop-section-init : goal.loop-section-init
-loop-section-init c = ([], c.new-opened.ensures, ap (λ l. map standing_table l ++ sections_tables [] (map block c.args.sections.now)) c.new-out.ensures.items)
+loop-section-init c = (
+  [],
+  c.new-opened.ensures,
+  ap (λ l. map standing_table l ++ sections_tables [] (map block c.args.sections.now)) c.new-out.ensures.items,
+)
 
 pub loop-section-preserved : goal.loop-section-preserved
 loop-section-preserved c =
     listed_section section_tables sections_tables (λ opened b bs. refl)
     c.loop-section.section-index c.args.sections.now c.section-item.result _ _ _ _ _ c.loop-section-test.true
-    (sym c.section-item.is) c.in_ok-push_section.ensures.tables c.in_ok-push_section.ensures.opened c.loop-section.invariant
+    (sym c.section-item.is) c.in_ok-push_section.ensures.tables c.in_ok-push_section.ensures.opened
+    c.loop-section.invariant
