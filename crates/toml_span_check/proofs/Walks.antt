@@ -1,5 +1,5 @@
 -- One more element or entry of a walk.
-use Rattle.std.proofs.Common.{ℕ, ◌+◌, ◌<◌, ◌≡◌, refl, List, ◌∷◌, ◌++◌, codes, map, drop, length, get_or, sym, ap, ◌∙◌, append_assoc, Bool, true}
+use Rattle.std.proofs.Common.{ℕ, ◌+◌, ◌<◌, ◌≡◌, refl, List, ◌∷◌, ◌++◌, codes, drop, length, get_or, sym, ap, ◌∙◌, append_assoc, Bool, true}
 use Rattle.std.proofs.lemmas.List.{drop_more}
 use Rattle.std.specs.Cow.{cow_str_bytes}
 use Rattle.toml_span_report.specs.Visible.{quoted}
