@@ -122,7 +122,7 @@ fn push_header<'t, 'de>(
 }
 
 /// The path below which a section assigns, of its header's. One in double brackets is put on record.
-fn section_path<'t>(
+pub(crate) fn section_path<'t>(
     alloc: Global,
     array: bool,
     path: Vec<Step<'t>>,

@@ -56,7 +56,8 @@ fn same_step(step: &Step<'_>, other: &Step<'_>) -> bool
 }
 
 #[tactic(auto, unfolding(toml_span::specs::Paths::same_path))]
-fn same_path(path: &[Step<'_>], other: &[Step<'_>]) -> bool
+/// Whether two paths have the same steps.
+pub(crate) fn same_path(path: &[Step<'_>], other: &[Step<'_>]) -> bool
     ensures { result ≡ spec.same_path (map step_of path.now) (map step_of other.now) }
 {
     let [step, path_rest @ ..] = path else {

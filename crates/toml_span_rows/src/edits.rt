@@ -87,7 +87,7 @@ fn push_places(
 }
 
 /// Adds the text at a span, and a line end.
-fn push_cut(text: &str, span: Span, out: &mut String) -> Result<(), AllocError> {
+pub fn push_cut(text: &str, span: Span, out: &mut String) -> Result<(), AllocError> {
     push_told_line(text.get(span.start..span.end).unwrap_or("no place"), out)
 }
 

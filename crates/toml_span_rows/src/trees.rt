@@ -5,6 +5,7 @@ ghost use Rattle.std.specs.Prelude.{◌≤◌, IfSome};
 
 use crate::edits::{push_literals, push_spelled};
 use crate::faults::push_twice;
+use crate::spots::push_node_at;
 use crate::told::{known, push_told_line};
 use crate::{Row, typed};
 use shown::{push_fault, push_lines};
@@ -69,6 +70,7 @@ fn push_call<'t>(
         "text_order" => orders::push_order(alloc, root, out),
         "nodes" => orders::push_nodes(alloc, root, out),
         "diagnostics" => out.push_str("no fault"),
+        "node_at" => return push_node_at(alloc, row, root, out),
         "write" => return writes::push_writes(alloc, row.words, root, out),
         _ => return typed::answer(alloc, row, root, out),
     };
