@@ -1,5 +1,6 @@
 -- Where an assignment can be put into a table.
-use Rattle.std.specs.Prelude.{ℕ, not, ◌==◌, List, [], ◌∷◌, if◌then◌else◌, Option, Some, None}
+use Rattle.std.specs.Prelude.{ℕ, false, not, ◌==◌, ◌&&◌, List, [], ◌∷◌, slice_index, if◌then◌else◌, Option, Some, None}
+use Rattle.std.specs.Prelude.{option_map}
 use Rattle.toml_span_lex.specs.Bytes.{line_feed}
 use Rattle.toml_span_tree.specs.Path.{Path}
 use Rattle.toml_span_read.specs.Data.{Block}
@@ -12,8 +13,8 @@ use Rattle.toml_span_places.specs.declared.points.InsertionPoint.{InsertionPoint
 
 -- where a text begins, behind a byte order mark (EF BB BF)
 abbrev pub text_start : List ℕ → ℕ
-text_start (0xEF ∷ 0xBB ∷ 0xBF ∷ rest) = 3
-text_start _ = 0
+text_start text =
+    if slice_index text 0 == 0xEF && (slice_index text 1 == 0xBB && slice_index text 2 == 0xBF) then 3 else 0
 
 -- Behind the last line of a section. One that has no line end is the last of the text.
 abbrev pub behind_section : List ℕ → Block → InsertionPoint

@@ -1,7 +1,6 @@
 -- What stands at a byte of a text: keys and values of its tree.
 use Rattle.std.specs.Prelude.{ℕ, suc, Bool, ◌&&◌, nat_le, nat_lt, if◌then◌else◌, List, [], ◌∷◌, ◌++◌, map}
-use Rattle.std.specs.Prelude.{Option, Some, None}
-use Rattle.std.specs.List.{foldl}
+use Rattle.std.specs.Prelude.{Option, Some, None, fold}
 use Rattle.toml_span_lex.specs.declared.span.Span.{Span}
 use Rattle.toml_span_tree.specs.Node.{Node, node, Inner, taken, scalar, array, table, Items, no_items, item, Members}
 use Rattle.toml_span_tree.specs.Node.{no_members, member}
@@ -74,4 +73,4 @@ later (Some t) s = if nat_lt s.span.start t.span.start then Some t else Some s
 
 -- the innermost of those that hold the offset
 abbrev pub node_at : List ℕ → ℕ → Node → Option Spot
-node_at text offset n = foldl later None (value_spots text offset [] n)
+node_at text offset n = fold later None (value_spots text offset [] n)

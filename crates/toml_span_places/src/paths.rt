@@ -1,11 +1,13 @@
 //! Paths, and the elements of arrays of tables.
 ghost use Rattle.std.specs.Prelude.{◌≡◌, ◌++◌, ◌∷◌, [], IfOk, map};
 ghost use Rattle.toml_span_tree.specs.Nodes.{step_of};
+ghost use Rattle.toml_span_read.specs.Keys.{simple_key};
 ghost use Rattle.toml_span.specs.Paths as spec;
 ghost use Rattle.toml_span.specs.Paths.{elements_added};
 ghost use Rattle.toml_span_places.specs.Keys.{steps_of};
 
 use std::alloc::{AllocError, Global};
+use toml_span_lex::key::Key;
 use toml_span_tree::nodes::Step;
 
 /// The path with one more step.
@@ -17,6 +19,16 @@ pub(crate) fn extended<'t>(
 {
     path.push(step)?;
     Ok(path)
+}
+
+/// The path with a key.
+pub(crate) fn with_key<'t, 'de>(
+    path: Vec<Step<'t>>,
+    key: &'t Key<'de>,
+) -> Result<Vec<Step<'t>>, AllocError>
+    ensures { IfOk result (λ below. steps_of below ≡ spec.with_key (steps_of path.entry) (simple_key key.now)) }
+{
+    extended(path, Step::Key(key.name.as_ref()))
 }
 
 /// A copy of the steps.

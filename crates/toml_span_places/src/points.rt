@@ -10,6 +10,7 @@ use crate::paths::same_path;
 use crate::sections::path_of;
 use std::alloc::{AllocError, Global};
 use toml_span_read::Section;
+use toml_span_read::gaps::byte_at;
 use toml_span_tree::nodes::Step;
 
 /// A place at which a line can be put in.
@@ -25,7 +26,10 @@ pub struct InsertionPoint {
 fn text_start(text: &str) -> usize
     ensures { result ≡ spec.text_start text.now }
 {
-    if text.starts_with('\u{feff}') { 3 } else { 0 }
+    let is_marked = byte_at(text, 0) == 0xEF
+        && byte_at(text, 1) == 0xBB
+        && byte_at(text, 2) == 0xBF;
+    if is_marked { 3 } else { 0 }
 }
 
 /// Where a line can be put in where no section assigns: at the root the beginning of the text.

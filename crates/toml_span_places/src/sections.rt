@@ -10,7 +10,7 @@ ghost use Rattle.toml_span_places.specs.Sections.{standing_section, sections_fro
 
 use crate::keys::section_path;
 use crate::lines::{blanks_start, body_end};
-use crate::paths::{enter, extended};
+use crate::paths::{enter, with_key};
 use std::alloc::{AllocError, Global};
 use toml_span_lex::key::Key;
 use toml_span_lex::span::Span;
@@ -55,7 +55,7 @@ fn header_path<'t, 'de>(
     let [key, rest @ ..] = parts else {
         return Ok(path);
     };
-    let below = extended(path, Step::Key(key.name.as_ref()))?;
+    let below = with_key(path, key)?;
     if rest.is_empty() {
         return Ok(below);
     }

@@ -1,8 +1,8 @@
 //! What stands at a byte of a text.
-ghost use Rattle.std.specs.Prelude.{◌≡◌, ◌++◌, IfOk, OnOk, map, None, option_map};
-ghost use Rattle.std.specs.List.{foldl};
+ghost use Rattle.std.specs.Prelude.{◌≡◌, ◌++◌, IfOk, OnOk, map, None, Some, fold, option_map};
 ghost use Rattle.toml_span_tree.specs.Value.{items_view, members_view, view};
 ghost use Rattle.toml_span_tree.specs.Nodes.{step_of};
+ghost use Rattle.toml_span_places.specs.Keys.{steps_of};
 ghost use Rattle.toml_span_places.specs.Spots as spec;
 ghost use Rattle.toml_span_places.specs.Spots.{spot, value_spots, items_spots, members_spots};
 
@@ -10,6 +10,7 @@ use crate::keys::with_quotes;
 use crate::literals::literal_span;
 use crate::paths::{copied, element_path, extended};
 use std::alloc::{AllocError, Global};
+use toml_span_lex::key::Key;
 use toml_span_lex::span::Span;
 use toml_span_tree::nodes::Step;
 use toml_span_tree::{Table, Value, ValueInner};
@@ -52,6 +53,29 @@ fn push_spot<'t, 'de>(
         out.push(place)?;
     }
     Ok(())
+}
+
+/// Puts the key of a value into the list, if it holds the offset. The path is the value's.
+fn push_key<'t, 'de>(
+    text: &str,
+    offset: usize,
+    key: &'t Key<'de>,
+    value: &'t Value<'de>,
+    path: Vec<Step<'t>>,
+    out: &mut Vec<NodePlace<'t, 'de>>,
+) -> Result<(), AllocError>
+    ensures { OnOk result (map spot out.new.items ≡ map spot out.old.items
+        ++ spec.if_held offset (spec.key_at text.now (steps_of path.entry) key.now.span (view value.now))) }
+{
+    let span = with_quotes(text, key.span);
+    let part = Part::Key;
+    let place = NodePlace {
+        path,
+        part,
+        span,
+        value,
+    };
+    push_spot(offset, place, out)
 }
 
 /// Puts those of a value and of what is in it into the list that hold the offset.
@@ -111,7 +135,7 @@ fn push_elements<'t, 'de>(
     Ok(())
 }
 
-/// Puts those in a table into the list, each key before its value.
+/// Puts those in a table into the list.
 #[cycle(push_value)]
 fn push_entries<'t, 'de>(
     alloc: Global,
@@ -125,14 +149,10 @@ fn push_entries<'t, 'de>(
         ++ members_spots text.now offset (map step_of path.now) (members_view table.now.entries)) }
 {
     for (key, value) in table.iter() {
-        let steps = extended(copied(alloc, path)?, Step::Key(key.name.as_ref()))?;
-        let place = NodePlace {
-            path: copied(alloc, steps.as_slice())?,
-            part: Part::Key,
-            span: with_quotes(text, key.span),
-            value,
-        };
-        push_spot(offset, place, out)?;
+        let start = copied(alloc, path)?;
+        let steps = extended(start, Step::Key(key.name.as_ref()))?;
+        let key_steps = copied(alloc, steps.as_slice())?;
+        push_key(text, offset, key, value, key_steps, out)?;
         push_value(alloc, text, offset, value, steps.as_slice(), out)?;
     }
     Ok(())
@@ -140,12 +160,23 @@ fn push_entries<'t, 'de>(
 
 /// The one that starts last, and the second where both start at one place.
 fn later<'t, 'de>(best: Option<NodePlace<'t, 'de>>, place: NodePlace<'t, 'de>) -> NodePlace<'t, 'de>
-    ensures { spot result ≡ spec.later (option_map spot best.entry) (spot place.entry) }
+    ensures { Some (spot result) ≡ spec.later (option_map spot best.entry) (spot place.entry) }
 {
     match best {
         Some(best) if place.span.start < best.span.start => best,
         _ => place,
     }
+}
+
+/// The innermost of these.
+fn innermost<'t, 'de>(held: Vec<NodePlace<'t, 'de>>) -> Option<NodePlace<'t, 'de>>
+    ensures { option_map spot result ≡ fold spec.later None (map spot held.entry.items) }
+{
+    let mut best = None;
+    for place in held {
+        best = Some(later(best, place));
+    }
+    best
 }
 
 /// The innermost key or value of a tree at a byte of the text, with its path. None behind the end of the text.
@@ -163,9 +194,5 @@ pub fn node_at<'t, 'de>(
 {
     let mut held = Vec::new(alloc);
     push_value(alloc, text, offset, root, &[], &mut held)?;
-    let mut best = None;
-    for place in held {
-        best = Some(later(best, place));
-    }
-    Ok(best)
+    Ok(innermost(held))
 }

@@ -9,7 +9,7 @@ ghost use Rattle.toml_span_places.specs.Tables as spec;
 ghost use Rattle.toml_span_places.specs.Tables.{standing_table, header_tables, section_tables, document_tables};
 ghost use Rattle.toml_span_places.specs.Tables.{dotted_tables, value_tables, item_tables, pair_tables};
 
-use crate::paths::{copied, element_path, elements_of, enter, extended, same_path};
+use crate::paths::{copied, element_path, elements_of, enter, extended, same_path, with_key};
 use crate::sections::path_of;
 use std::alloc::{AllocError, Global};
 use toml_span_lex::key::Key;
@@ -95,7 +95,7 @@ fn push_header<'t, 'de>(
     let [key, rest @ ..] = parts else {
         return Ok(());
     };
-    let below = extended(path, Step::Key(key.name.as_ref()))?;
+    let below = with_key(path, key)?;
     let span = section.header_span;
     if rest.is_empty() {
         return push_last(alloc, section.array, span, opened, below, out);
@@ -120,9 +120,9 @@ fn push_dotted<'t, 'de>(
         ≡ below (steps_of path.entry) (map simple_key inner.now ++ (simple_key last.now ∷ []))) }
 {
     let [key, rest @ ..] = inner else {
-        return extended(path, Step::Key(last.name.as_ref()));
+        return with_key(path, last);
     };
-    let table = extended(path, Step::Key(key.name.as_ref()))?;
+    let table = with_key(path, key)?;
     push_table(alloc, table.as_slice(), TableForm::Dotted, extent, out)?;
     push_dotted(alloc, extent, rest, last, table, out)
 }
@@ -249,6 +249,24 @@ pub fn table_places<'t, 'de>(
     Ok(out)
 }
 
+/// In which ways these places name the table at a path.
+fn forms_of(
+    alloc: Global,
+    places: &[TablePlace<'_>],
+    path: &[Step<'_>],
+) -> Result<Vec<TableForm>, AllocError>
+    ensures { IfOk result (λ forms. forms.items
+        ≡ spec.forms_at (map step_of path.now) (map standing_table places.now)) }
+{
+    let mut forms = Vec::new(alloc);
+    for place in places {
+        if same_path(place.path.as_slice(), path) {
+            forms.push(place.form)?;
+        }
+    }
+    Ok(forms)
+}
+
 /// In which ways the text names the table at a path, in its order, one for each place. Empty at the root and where no
 /// table stands.
 ///
@@ -258,15 +276,9 @@ pub fn table_forms<'t, 'de>(
     sections: &'t [Section<'de>],
     path: &[Step<'_>],
 ) -> Result<Vec<TableForm>, AllocError>
-    ensures { IfOk result (λ forms. forms.items ≡ spec.forms_at (map step_of path.now)
-        (document_tables (map block sections.now))) }
+    ensures { IfOk result (λ forms. forms.items
+        ≡ spec.forms_at (map step_of path.now) (document_tables (map block sections.now))) }
 {
     let places = table_places(alloc, sections)?;
-    let mut forms = Vec::new(alloc);
-    for place in &places {
-        if same_path(place.path.as_slice(), path) {
-            forms.push(place.form)?;
-        }
-    }
-    Ok(forms)
+    forms_of(alloc, places.as_slice(), path)
 }
