@@ -1,13 +1,12 @@
 //! Changes a TOML file in one place, and leaves its other bytes as they are.
 #![tactic(auto)]
 
-ghost use Rattle.std.specs.Prelude.{◌≤◌, IfOk};
-
 mod changes;
 mod files;
 mod given;
 mod paths;
 mod reason;
+mod status;
 mod tasks;
 mod texts;
 mod words;
@@ -15,6 +14,7 @@ mod words;
 use clap::Error;
 use clap::error::ErrorKind as Kind;
 use reason::Reason;
+use status::{Status, code_of};
 use std::alloc::{AllocError, Global};
 use std::io::ErrorKind;
 use std::process::ExitCode;
@@ -25,12 +25,21 @@ use toml_span_lines::run::{BOUND, write_bytes};
 use toml_span_lines::told::Told;
 use words::{Options, USAGE, VERSION, options_of};
 
-/// Writes to standard output. Answers the status: 0, or 3 where the write fails.
-fn say(rt: &HostRuntime, text: &str) -> u8 {
+/// Writes to standard output.
+fn say(rt: &HostRuntime, text: &str) -> Status {
     if write_bytes(&mut Told::new(rt.stdout()), text.as_bytes()) {
-        0
+        Status::Done
     } else {
-        3
+        Status::Unwritten
+    }
+}
+
+/// Writes to standard error. Answers this status, unless the write fails.
+fn say_error(rt: &HostRuntime, text: &str, status: Status) -> Status {
+    if write_bytes(&mut Told::new(rt.stderr()), text.as_bytes()) {
+        status
+    } else {
+        Status::Unwritten
     }
 }
 
@@ -42,22 +51,21 @@ fn push_plain(text: &str, out: &mut String) -> Result<(), AllocError> {
     Ok(())
 }
 
-/// Complains of a file on standard error. Answers the status: the one that is given, or 3 where the write fails.
+/// Complains of a file on standard error, and answers this status.
 fn complain(
     rt: &HostRuntime,
     file: &str,
     reason: &str,
     detail: &str,
-    status: u8,
-) -> Result<u8, AllocError> {
+    status: Status,
+) -> Result<Status, AllocError> {
     let mut line = String::from_str(rt.alloc(), "toml_span_edit: ")?;
     push_plain(file, &mut line)?;
     line.push_str(": ")?;
     line.push_str(reason)?;
     push_plain(detail, &mut line)?;
     line.push('\n')?;
-    let is_written = write_bytes(&mut Told::new(rt.stderr()), line.as_bytes());
-    Ok(if is_written { status } else { 3 })
+    Ok(say_error(rt, line.as_str(), status))
 }
 
 /// Complains of a file that can't be read or written.
@@ -65,8 +73,8 @@ fn complain_of(
     rt: &HostRuntime,
     file: &str,
     error: &io::Error,
-    status: u8,
-) -> Result<u8, AllocError> {
+    status: Status,
+) -> Result<Status, AllocError> {
     if error.kind() == ErrorKind::OutOfMemory {
         return Err(AllocError);
     }
@@ -86,55 +94,60 @@ fn outcome_of(alloc: Global, bytes: &[u8], options: Options<'_>) -> Result<Outco
 }
 
 /// Shows or stores what a task gives.
-fn deliver(rt: &HostRuntime, file: &str, outcome: Outcome) -> Result<u8, AllocError> {
+fn deliver(rt: &HostRuntime, file: &str, outcome: Outcome) -> Result<Status, AllocError> {
     match outcome {
         Outcome::Shown(mut value) => {
             value.push('\n')?;
             Ok(say(rt, value.as_str()))
         }
         Outcome::Edited(text) => match files::replace(rt, file, text.as_str()) {
-            Ok(()) => Ok(0),
-            Err(error) => complain_of(rt, file, &error, 3),
+            Ok(()) => Ok(Status::Done),
+            Err(error) => complain_of(rt, file, &error, Status::Unwritten),
         },
     }
 }
 
 /// Does what the words ask for.
-fn run(rt: &HostRuntime, options: Options<'_>) -> Result<u8, AllocError> {
+fn run(rt: &HostRuntime, options: Options<'_>) -> Result<Status, AllocError> {
     let file = options.file;
     let bytes = match files::bytes_of(rt, file) {
         Ok(bytes) => bytes,
-        Err(error) => return complain_of(rt, file, &error, 2),
+        Err(error) => return complain_of(rt, file, &error, Status::Unread),
     };
     match outcome_of(rt.alloc(), bytes.as_slice(), options) {
         Ok(outcome) => deliver(rt, file, outcome),
-        Err(Stop::Fault(reason)) => complain(rt, file, reason.text(), reason.detail(), 1),
+        Err(Stop::Fault(reason)) => {
+            complain(rt, file, reason.text(), reason.detail(), Status::Refused)
+        }
         Err(Stop::Memory(refused)) => Err(refused),
     }
 }
 
 /// Tells the usage or the version, or what is wrong with the words.
-fn refuse(rt: &HostRuntime, error: &Error) -> Result<u8, AllocError> {
+fn refuse(rt: &HostRuntime, error: &Error) -> Result<Status, AllocError> {
     match error.kind() {
         Kind::OutOfMemory => Err(AllocError),
         Kind::DisplayHelp => Ok(say(rt, USAGE)),
         Kind::DisplayVersion => Ok(say(rt, VERSION)),
         _ => {
             let told = error.to_string(rt.alloc())?;
-            let is_written = write_bytes(&mut Told::new(rt.stderr()), told.as_bytes());
-            Ok(if is_written { 2 } else { 3 })
+            Ok(say_error(rt, told.as_str(), Status::Unread))
         }
     }
 }
 
-/// Runs the program, and answers its status.
-fn status_of(rt: &HostRuntime) -> Result<u8, AllocError>
-    ensures { IfOk result (λ status. status ≤ 4) }
-{
-    let words: Vec<String> = match env::args(rt) {
-        Ok(words) => words.collect(rt.alloc())?,
+/// The words of the command line, of which the first is the program's name.
+fn words_of(rt: &HostRuntime) -> io::Result<Vec<String>> {
+    let words = env::args(rt)?.collect(rt.alloc())?;
+    Ok(words)
+}
+
+/// Runs the program.
+fn status_of(rt: &HostRuntime) -> Result<Status, AllocError> {
+    let words = match words_of(rt) {
+        Ok(words) => words,
         Err(error) if error.kind() == ErrorKind::OutOfMemory => return Err(AllocError),
-        Err(_) => return complain(rt, "a word", "it is no UTF-8", "", 2),
+        Err(_) => return complain(rt, "the words", "one is no UTF-8", "", Status::Unread),
     };
     match options_of(rt.alloc(), words.as_slice()) {
         Ok(options) => run(rt, options),
@@ -143,8 +156,6 @@ fn status_of(rt: &HostRuntime) -> Result<u8, AllocError>
 }
 
 fn main(rt: HostRuntime) -> ExitCode {
-    match status_of(&rt) {
-        Ok(status) => ExitCode::from(status),
-        Err(_) => ExitCode::from(4),
-    }
+    let status = status_of(&rt).unwrap_or(Status::NoMemory);
+    ExitCode::from(code_of(status))
 }
