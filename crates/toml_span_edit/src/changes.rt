@@ -1,5 +1,11 @@
 //! Trees as lines without spans, and what an edit makes of them.
-use crate::paths::is_below;
+ghost use Rattle.std.specs.Prelude.{◌≡◌, ◌++◌, IfOk, OnOk, map, string_bytes};
+ghost use Rattle.std.specs.List.{flat_map};
+ghost use Rattle.toml_span_tree.specs.Nodes.{step_of, seen};
+ghost use Rattle.toml_span_tree.specs.Value.{view};
+ghost use Rattle.toml_span_edit.specs.Changes as spec;
+
+use crate::paths::{is_below, same_step};
 use std::alloc::{AllocError, Global};
 use std::fmt::Write;
 use toml_span::value::{Step, Value, Visited};
@@ -18,123 +24,157 @@ pub(crate) enum Kind<'c> {
     Renamed(&'c str),
 }
 
-/// A change of a tree at a path.
-#[derive(Clone, Copy)]
-pub(crate) struct Change<'c> {
-    pub(crate) path: &'c [Step<'c>],
-    pub(crate) kind: Kind<'c>,
-}
-
 /// Adds a key to a path.
-fn push_name(alloc: Global, name: &str, out: &mut String) -> Result<(), AllocError> {
-    out.push('/')?;
-    out.push_str(quote_string(alloc, name)?.as_str())
+pub(crate) fn push_name(alloc: Global, name: &str, out: &mut String) -> Result<(), AllocError>
+    ensures { OnOk result (string_bytes out.new ≡ string_bytes out.old ++ spec.name_text name.now) }
+{
+    let quoted = quote_string(alloc, name)?;
+    out.push_str("/")?;
+    out.push_str(quoted.as_str())
 }
 
 /// Adds a position to a path.
-fn push_position(position: usize, out: &mut String) -> Result<(), AllocError> {
-    write!(out, "/{position}")
+fn push_position(position: usize, out: &mut String) -> Result<(), AllocError>
+    ensures { OnOk result (string_bytes out.new ≡ string_bytes out.old ++ spec.position_text position) }
+{
+    out.push_str("/")?;
+    write!(out, "{position}")
 }
 
 /// Adds a step to a path.
-fn push_step(alloc: Global, step: &Step<'_>, out: &mut String) -> Result<(), AllocError> {
+fn push_step(alloc: Global, step: &Step<'_>, out: &mut String) -> Result<(), AllocError>
+    ensures { OnOk result (string_bytes out.new ≡ string_bytes out.old ++ spec.step_text (step_of step.now)) }
+{
     match step {
         Step::Key(name) => push_name(alloc, *name, out),
         Step::Position(position) => push_position(*position, out),
     }
 }
 
-impl Change<'_> {
-    /// Whether what stands at a path goes.
-    fn takes_out(&self, path: &[Step<'_>]) -> bool {
-        match self.kind {
-            Kind::Cleared | Kind::Removed => is_below(path, self.path),
-            Kind::Kept | Kind::Renamed(_) => false,
-        }
+/// Adds steps to a path.
+fn push_steps(alloc: Global, path: &[Step<'_>], out: &mut String) -> Result<(), AllocError>
+    ensures { OnOk result (string_bytes out.new ≡ string_bytes out.old
+        ++ flat_map spec.step_text (map step_of path.now)) }
+{
+    for step in path {
+        push_step(alloc, step, out)?;
     }
+    Ok(())
+}
 
-    /// Adds the step of a path that stands where the last one of the change does.
-    fn push_changed(
-        &self,
-        alloc: Global,
-        last: &Step<'_>,
-        step: &Step<'_>,
-        out: &mut String,
-    ) -> Result<(), AllocError> {
-        match (self.kind, last, step) {
-            (Kind::Renamed(name), Step::Key(old), Step::Key(key)) if *old == *key => {
-                push_name(alloc, name, out)
-            }
-            (Kind::Removed, Step::Position(gone), Step::Position(at)) if *gone < *at => {
-                push_position(*at - 1, out)
-            }
-            _ => push_step(alloc, step, out),
+/// Adds the step of a path that stands where the last one of a change does.
+fn push_changed_step(
+    alloc: Global,
+    kind: Kind<'_>,
+    last: &Step<'_>,
+    step: &Step<'_>,
+    out: &mut String,
+) -> Result<(), AllocError>
+    ensures { OnOk result (string_bytes out.new ≡ string_bytes out.old
+        ++ spec.changed_step kind.entry (step_of last.now) (step_of step.now)) }
+{
+    match (kind, last, step) {
+        (Kind::Renamed(name), _, _) if same_step(last, step) => push_name(alloc, name, out),
+        (Kind::Removed, Step::Position(gone), Step::Position(at)) if *gone < *at => {
+            push_position(*at - 1, out)
         }
+        _ => push_step(alloc, step, out),
     }
+}
 
-    /// Adds a path as it is behind the change.
-    fn push_path(
-        &self,
-        alloc: Global,
-        path: &[Step<'_>],
-        out: &mut String,
-    ) -> Result<(), AllocError> {
-        let (parent, last) = match self.path {
-            [parent @ .., last] if is_below(path, parent) => (parent.len(), last),
-            _ => (path.len(), &Step::Position(0)),
-        };
-        for (at, step) in path.iter().enumerate() {
-            if at == parent {
-                self.push_changed(alloc, last, step, out)?;
-            } else {
-                push_step(alloc, step, out)?;
-            }
-        }
-        Ok(())
+/// Adds a path as it is behind a change at another one.
+fn push_changed_path(
+    alloc: Global,
+    kind: Kind<'_>,
+    changed: &[Step<'_>],
+    path: &[Step<'_>],
+    out: &mut String,
+) -> Result<(), AllocError>
+    ensures { OnOk result (string_bytes out.new ≡ string_bytes out.old
+        ++ spec.changed_path kind.entry (map step_of changed.now) (map step_of path.now)) }
+{
+    let ([first, more @ ..], [step, rest @ ..]) = (changed, path) else {
+        return push_steps(alloc, path, out);
+    };
+    if more.is_empty() {
+        push_changed_step(alloc, kind, first, step, out)?;
+        return push_steps(alloc, rest, out);
+    }
+    if !same_step(first, step) {
+        return push_steps(alloc, path, out);
+    }
+    push_step(alloc, step, out)?;
+    push_changed_path(alloc, kind, more, rest, out)
+}
+
+/// Whether what stands at a path goes, by a change at another one.
+fn takes_out(kind: Kind<'_>, changed: &[Step<'_>], path: &[Step<'_>]) -> bool
+    ensures { result ≡ spec.takes_out kind.entry (map step_of changed.now) (map step_of path.now) }
+{
+    match kind {
+        Kind::Cleared | Kind::Removed => is_below(path, changed),
+        Kind::Kept | Kind::Renamed(_) => false,
     }
 }
 
 /// Adds what a value is: the text of a scalar, or the word of what holds others.
-fn push_what(alloc: Global, value: &Value<'_>, out: &mut String) -> Result<(), AllocError> {
+fn push_what(alloc: Global, value: &Value<'_>, out: &mut String) -> Result<(), AllocError>
+    ensures { OnOk result (string_bytes out.new ≡ string_bytes out.old ++ spec.what (view value.now)) }
+{
     if value.as_table().is_some() {
         return out.push_str("table");
     }
     if value.as_array().is_some() {
         return out.push_str("array");
     }
-    out.push_str(to_toml(alloc, value)?.as_str())
+    let text = to_toml(alloc, value)?;
+    out.push_str(text.as_str())
 }
 
-/// Adds a line for each value that stays: where it stands behind the change, and what it is.
-pub(crate) fn push_lines(
-    alloc: Global,
-    front: &[Step<'_>],
-    nodes: &[Visited<'_, '_>],
-    change: &Change<'_>,
-    lines: &mut Vec<String>,
-) -> Result<(), AllocError> {
-    for node in nodes {
-        let path = node.path.as_slice();
-        if !change.takes_out(path) {
-            lines.push(line(alloc, front, node, change)?)?;
-        }
-    }
-    Ok(())
+/// A path as a text.
+pub(crate) fn path_text(alloc: Global, path: &[Step<'_>]) -> Result<String, AllocError>
+    ensures { IfOk result (λ text. string_bytes text ≡ flat_map spec.step_text (map step_of path.now)) }
+{
+    let mut out = String::new(alloc);
+    push_steps(alloc, path, &mut out)?;
+    Ok(out)
 }
 
-/// The line of a value.
+/// The line of a value: where it stands behind a change, below a front, and what it is.
 fn line(
     alloc: Global,
-    front: &[Step<'_>],
+    front: &str,
+    kind: Kind<'_>,
+    changed: &[Step<'_>],
     node: &Visited<'_, '_>,
-    change: &Change<'_>,
-) -> Result<String, AllocError> {
-    let mut out = String::new(alloc);
-    for step in front {
-        push_step(alloc, step, &mut out)?;
-    }
-    change.push_path(alloc, node.path.as_slice(), &mut out)?;
+) -> Result<String, AllocError>
+    ensures { IfOk result (λ line. string_bytes line
+        ≡ spec.line front.now kind.entry (map step_of changed.now) (seen node.now)) }
+{
+    let mut out = String::from_str(alloc, front)?;
+    push_changed_path(alloc, kind, changed, node.path.as_slice(), &mut out)?;
     out.push_str(" = ")?;
     push_what(alloc, node.value, &mut out)?;
     Ok(out)
+}
+
+/// Adds a line for each value that stays.
+pub(crate) fn push_lines(
+    alloc: Global,
+    front: &str,
+    kind: Kind<'_>,
+    changed: &[Step<'_>],
+    nodes: &[Visited<'_, '_>],
+    lines: &mut Vec<String>,
+) -> Result<(), AllocError>
+    ensures { OnOk result (map spec.text_of lines.new.items ≡ map spec.text_of lines.old.items
+        ++ spec.lines front.now kind.entry (map step_of changed.now) (map seen nodes.now)) }
+{
+    for node in nodes {
+        if !takes_out(kind, changed, node.path.as_slice()) {
+            let line = line(alloc, front, kind, changed, node)?;
+            lines.push(line)?;
+        }
+    }
+    Ok(())
 }

@@ -1,4 +1,9 @@
 //! Paths of trees, and pointers that name them.
+ghost use Rattle.std.specs.Prelude.{◌≡◌, map};
+ghost use Rattle.toml_span_tree.specs.Nodes.{step_of};
+ghost use Rattle.toml_span.specs.Paths as paths;
+ghost use Rattle.toml_span_edit.specs.Changes as spec;
+
 use toml_span::value::{Step, Visited};
 use toml_span_places::{KeyPlace, Role};
 
@@ -43,23 +48,32 @@ pub(crate) fn find<'n, 't, 'de>(
         .find(|node| is_named(pointer, node.path.as_slice()))
 }
 
-fn same_step(step: &Step<'_>, other: &Step<'_>) -> bool {
-    match (step, other) {
-        (Step::Key(name), Step::Key(other)) => *name == *other,
-        (Step::Position(at), Step::Position(other)) => *at == *other,
-        _ => false,
+pub(crate) fn same_step(step: &Step<'_>, other: &Step<'_>) -> bool
+    ensures { result ≡ paths.same_step (step_of step.now) (step_of other.now) }
+{
+    match step {
+        Step::Key(name) => match other {
+            Step::Key(other_name) => *name == *other_name,
+            Step::Position(_) => false,
+        },
+        Step::Position(position) => match other {
+            Step::Key(_) => false,
+            Step::Position(other_position) => *position == *other_position,
+        },
     }
 }
 
 /// Whether a path begins with the steps of another one.
-pub(crate) fn is_below(path: &[Step<'_>], front: &[Step<'_>]) -> bool {
-    let [step, rest @ ..] = front else {
+pub(crate) fn is_below(path: &[Step<'_>], front: &[Step<'_>]) -> bool
+    ensures { result ≡ spec.is_below (map step_of path.now) (map step_of front.now) }
+{
+    let [other, rest @ ..] = front else {
         return true;
     };
-    let [first, behind @ ..] = path else {
+    let [step, behind @ ..] = path else {
         return false;
     };
-    same_step(first, step) && is_below(behind, rest)
+    same_step(step, other) && is_below(behind, rest)
 }
 
 /// Whether two paths have the same steps.

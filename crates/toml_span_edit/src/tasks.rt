@@ -1,11 +1,19 @@
 //! What is done with the text of a file.
-use crate::changes::{Change, Kind, push_lines};
+ghost use Rattle.std.specs.Prelude.{◌≡◌, IfOk, map, string_bytes};
+ghost use Rattle.toml_span_tree.specs.declared.value.Value.{Value};
+ghost use Rattle.toml_span_tree.specs.Value.{view};
+ghost use Rattle.toml_span_read.specs.Limits.{depth_limit};
+ghost use Rattle.toml_span.specs.Parsing.{IsTree};
+ghost use Rattle.toml_span_edit.specs.Changes as spec;
+ghost use Rattle.toml_span_edit.specs.Changes.{IsMeant};
+
+use crate::changes::{Kind, path_text, push_lines, push_name};
 use crate::given::{given_nodes, probe_text, probed};
 use crate::paths::find;
 use crate::reason::Reason;
 use crate::texts::{with_line, with_name, with_value, without};
 use std::alloc::{AllocError, Global};
-use toml_span::value::{Step, Value, Visited, nodes};
+use toml_span::value::{Value, Visited, nodes};
 use toml_span::{Error, Stop, parse};
 use toml_span_places::{quote_key, to_toml};
 use toml_span_read::{Section, read_sections};
@@ -42,7 +50,9 @@ fn fault_text(alloc: Global, fault: &Error<'_>) -> Result<String, AllocError> {
 }
 
 /// The tree of a text, or its fault in words.
-fn tree<'t>(alloc: Global, text: &'t str) -> Result<Result<Value<'t>, String>, AllocError> {
+fn tree<'t>(alloc: Global, text: &'t str) -> Result<Result<Value<'t>, String>, AllocError>
+    ensures { IfOk result (λ read. IfOk read (λ root. IsTree text.now depth_limit root)) }
+{
     match parse(alloc, text) {
         Ok(root) => Ok(Ok(root)),
         Err(Stop::Fault(fault)) => {
@@ -66,32 +76,48 @@ fn sections_of<'t>(alloc: Global, text: &'t str) -> Result<Vec<Section<'t>>, All
     }
 }
 
-/// The lines of a text's tree, in the order of their bytes, or the text's fault in words.
-fn lines_of(alloc: Global, text: &str) -> Result<Vec<String>, Stop<Reason>> {
-    match tree(alloc, text)? {
-        Ok(root) => {
-            let list = nodes(alloc, &root)?;
-            let mut lines = Vec::new(alloc);
-            let kept = Change {
-                path: &[],
-                kind: Kind::Kept,
-            };
-            push_lines(alloc, &[], list.as_slice(), &kept, &mut lines)?;
-            Ok(lines)
-        }
-        Err(fault) => Err(Stop::Fault(Reason::WouldBeNone(fault))),
-    }
+/// The lines of a text's tree, or the text's fault in words.
+fn lines_of(alloc: Global, text: &str) -> Result<Vec<String>, Stop<Reason>>
+    ensures { IfOk result (λ lines. (root : Value) × IsTree text.now depth_limit root
+        × (map spec.text_of lines.items ≡ spec.tree_lines (view root))) }
+{
+    let root = match tree(alloc, text)? {
+        Ok(root) => root,
+        Err(fault) => return Err(Stop::Fault(Reason::WouldBeNone(fault))),
+    };
+    let list = nodes(alloc, &root)?;
+    let mut lines = Vec::new(alloc);
+    push_lines(alloc, "", Kind::Kept, &[], list.as_slice(), &mut lines)?;
+    Ok(lines)
 }
 
-/// The new text, where its tree has these lines.
-fn checked(alloc: Global, new: String, mut meant: Vec<String>) -> Result<Outcome, Stop<Reason>> {
+/// The new text, where its tree has these lines, in any order.
+fn checked(alloc: Global, new: String, meant: Vec<String>) -> Result<String, Stop<Reason>>
+    ensures { IfOk result (λ text. IsMeant (string_bytes text) (map spec.text_of meant.items)) }
+{
+    let mut meant = meant;
     let mut lines = lines_of(alloc, new.as_str())?;
     lines.sort_unstable();
     meant.sort_unstable();
-    if lines != meant {
-        return Err(Stop::Fault(Reason::WouldDiffer));
+    if lines == meant {
+        Ok(new)
+    } else {
+        Err(Stop::Fault(Reason::WouldDiffer))
     }
-    Ok(Outcome::Edited(new))
+}
+
+/// Adds the lines of a value that is given, below a front.
+fn push_given(
+    alloc: Global,
+    front: &str,
+    value: &str,
+    lines: &mut Vec<String>,
+) -> Result<(), Stop<Reason>> {
+    let probe = probe_text(alloc, value)?;
+    let root = probed(alloc, probe.as_str())?;
+    let given = given_nodes(alloc, probe.as_str(), &root)?;
+    push_lines(alloc, front, Kind::Kept, &[], given.as_slice(), lines)?;
+    Ok(())
 }
 
 /// A text that is read, and the value that a path names in it.
@@ -107,61 +133,52 @@ impl Place<'_, '_, '_> {
     /// The lines of the tree behind a change at the path.
     fn changed(&self, alloc: Global, kind: Kind<'_>) -> Result<Vec<String>, AllocError> {
         let mut lines = Vec::new(alloc);
-        let change = Change {
-            path: self.node.path.as_slice(),
-            kind,
-        };
-        push_lines(alloc, &[], self.nodes, &change, &mut lines)?;
+        let path = self.node.path.as_slice();
+        push_lines(alloc, "", kind, path, self.nodes, &mut lines)?;
         Ok(lines)
     }
 
-    fn set(&self, alloc: Global, value: &str) -> Result<Outcome, Stop<Reason>> {
+    fn set(&self, alloc: Global, value: &str) -> Result<String, Stop<Reason>> {
         let new = with_value(alloc, self.text, self.sections, self.node, value)?;
         let mut meant = self.changed(alloc, Kind::Cleared)?;
-        push_given(alloc, self.node.path.as_slice(), value, &mut meant)?;
+        let front = path_text(alloc, self.node.path.as_slice())?;
+        push_given(alloc, front.as_str(), value, &mut meant)?;
         checked(alloc, new, meant)
     }
 
-    fn rename(&self, alloc: Global, name: &str) -> Result<Outcome, Stop<Reason>> {
+    fn rename(&self, alloc: Global, name: &str) -> Result<String, Stop<Reason>> {
         let path = self.node.path.as_slice();
         let new = with_name(alloc, self.text, self.sections, path, name)?;
         checked(alloc, new, self.changed(alloc, Kind::Renamed(name))?)
     }
 
-    fn remove(&self, alloc: Global) -> Result<Outcome, Stop<Reason>> {
+    fn remove(&self, alloc: Global) -> Result<String, Stop<Reason>> {
         let path = self.node.path.as_slice();
         let new = without(alloc, self.text, self.sections, path)?;
         checked(alloc, new, self.changed(alloc, Kind::Removed)?)
     }
 
-    fn add(&self, alloc: Global, name: &str, value: &str) -> Result<Outcome, Stop<Reason>> {
+    fn add(&self, alloc: Global, name: &str, value: &str) -> Result<String, Stop<Reason>> {
         let table = self.node.path.as_slice();
         let key = quote_key(alloc, name)?;
         let new = with_line(alloc, self.text, self.sections, table, key.as_str(), value)?;
         let mut meant = self.changed(alloc, Kind::Kept)?;
-        let mut path = Vec::from_slice(alloc, table)?;
-        path.push(Step::Key(name))?;
-        push_given(alloc, path.as_slice(), value, &mut meant)?;
+        let mut front = path_text(alloc, table)?;
+        push_name(alloc, name, &mut front)?;
+        push_given(alloc, front.as_str(), value, &mut meant)?;
         checked(alloc, new, meant)
     }
-}
 
-/// Adds the lines of a value that is given, at a path.
-fn push_given(
-    alloc: Global,
-    path: &[Step<'_>],
-    value: &str,
-    lines: &mut Vec<String>,
-) -> Result<(), Stop<Reason>> {
-    let probe = probe_text(alloc, value)?;
-    let root = probed(alloc, probe.as_str())?;
-    let given = given_nodes(alloc, probe.as_str(), &root)?;
-    let kept = Change {
-        path: &[],
-        kind: Kind::Kept,
-    };
-    push_lines(alloc, path, given.as_slice(), &kept, lines)?;
-    Ok(())
+    fn perform(&self, alloc: Global, task: Task<'_>) -> Result<Outcome, Stop<Reason>> {
+        let new = match task {
+            Task::Get => return Ok(Outcome::Shown(to_toml(alloc, self.node.value)?)),
+            Task::Set(value) => self.set(alloc, value)?,
+            Task::Rename(name) => self.rename(alloc, name)?,
+            Task::Remove => self.remove(alloc)?,
+            Task::Add(key, value) => self.add(alloc, key, value)?,
+        };
+        Ok(Outcome::Edited(new))
+    }
 }
 
 /// Does a task at a pointer in a text.
@@ -186,11 +203,5 @@ pub(crate) fn perform(
         nodes: list.as_slice(),
         node,
     };
-    match task {
-        Task::Get => Ok(Outcome::Shown(to_toml(alloc, node.value)?)),
-        Task::Set(value) => place.set(alloc, value),
-        Task::Rename(name) => place.rename(alloc, name),
-        Task::Remove => place.remove(alloc),
-        Task::Add(key, value) => place.add(alloc, key, value),
-    }
+    place.perform(alloc, task)
 }

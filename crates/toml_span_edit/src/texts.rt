@@ -71,20 +71,22 @@ pub(crate) fn with_name(
     with_spans(alloc, text, spans.as_slice(), key.as_str())
 }
 
+/// Whether a step leads to a key.
+fn leads_to(step: &Step<'_>, key: &Key<'_>) -> bool {
+    match step {
+        Step::Key(name) => *name == key.name.as_ref(),
+        Step::Position(_) => false,
+    }
+}
+
 /// Whether keys, and a last one behind them, begin with the steps of a path.
-fn begin_with(keys: &[Key<'_>], last: &Key<'_>, path: &[Step<'_>]) -> bool {
+fn begin_with(inner: &[Key<'_>], last: &Key<'_>, path: &[Step<'_>]) -> bool {
     let [step, rest @ ..] = path else {
         return true;
     };
-    let (key, behind) = match keys {
-        [key, behind @ ..] => (key, behind),
-        [] => (last, keys),
-    };
-    match step {
-        Step::Key(name) if *name == key.name.as_ref() => {
-            rest.is_empty() || (!keys.is_empty() && begin_with(behind, last, rest))
-        }
-        _ => false,
+    match inner {
+        [key, behind @ ..] => leads_to(step, key) && begin_with(behind, last, rest),
+        [] => rest.is_empty() && leads_to(step, last),
     }
 }
 
