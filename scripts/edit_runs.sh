@@ -4,9 +4,9 @@
 # A run is a file crates/toml_span_edit/runs/NAME.args, a word a line, the first of which names a file of the folder
 # data/. The program edits a copy of it in a folder of its own, which then has to be as NAME.edited, or as it was where
 # there is none. Beside these stand, where they are wanted, NAME.stdout, what it has to write, NAME.stderr, what it has
-# to complain of, and NAME.status, how it has to end where that is not 0. Nothing else may be left in the folder, and the
-# file keeps its permissions. Some runs are made once more with each request for memory refused in turn: the program then
-# ends with status 4, and the file is as it was. PROGRAM is the proved build unless another is named.
+# to complain of, and NAME.status, how it has to end where that is not 0. Nothing else may be left in the folder, and
+# the file keeps its permissions. Some runs are made once more with each request for memory refused in turn: the program
+# then ends with status 4, and the file is as it was. PROGRAM is the proved build unless another is named.
 set -uo pipefail
 unset CDPATH
 script=$(readlink -f -- "${BASH_SOURCE[0]}")
@@ -72,7 +72,9 @@ for list in runs/*.args; do
     wanted=0
     if [ -f "$name.status" ]; then wanted=$(<"$name.status"); fi
     if [ "$status" -ne "$wanted" ]; then told "$name" "status $status (wanted: $wanted)"; fi
-    if [ -f "$name.stdout" ]; then same "$name" "$name.stdout" "$work/written"; else same "$name" "$work/empty" "$work/written"; fi
+    output=$work/empty
+    if [ -f "$name.stdout" ]; then output=$name.stdout; fi
+    same "$name" "$output" "$work/written"
     if [ -f "$name.stderr" ]; then same "$name" "$name.stderr" "$work/complaint"; fi
     if [ ! -f "data/$file" ]; then continue; fi
     edited=data/$file
@@ -91,7 +93,8 @@ fresh child.toml
 ln -s folder/child.toml "$work/link.toml"
 count=$((count + 1))
 edit "$work/link.toml" rename /dependencies/a dependencies
-[ "$status" -eq 0 ] && [ -L "$work/link.toml" ] && grep -q '^\[dependencies.dependencies\]$' "$work/folder/child.toml" ||
+[ "$status" -eq 0 ] && [ -L "$work/link.toml" ] &&
+    grep -q '^\[dependencies.dependencies\]$' "$work/folder/child.toml" ||
     told "a link" "status $status"
 
 # writes that fail: the new file is there already, as of another run, or standard output is full
@@ -107,7 +110,7 @@ timeout 60 "$program" data/child.toml get '' >/dev/full || status=$?
 
 # each request for memory refused in turn; one of them is a guess of how many words there are, which costs nothing
 make_refusals "$work" || exit 1
-for list in runs/{get_root,set_odd,rename_quoted,remove_dotted,add_to_empty,add_there,no_document}.args; do
+for list in runs/{get_root,set_odd,rename_quoted,remove_dotted,add_to_empty,no_document}.args; do
     mapfile -t words <"$list"
     file=${words[0]}
     made=1
@@ -130,7 +133,7 @@ for list in runs/{get_root,set_odd,rename_quoted,remove_dotted,add_to_empty,add_
         if [ "$status" -eq "$usual" ] && holds "$file" "$work/usual"; then
             guesses=$((guesses + 1))
         elif [ "$status" -ne 4 ] || ! holds "$file" "data/$file" || [ -s "$work/written" ]; then
-            told "${list%.args}, request $request of $made refused" "status $status (wanted: 4), or the file is otherwise"
+            told "${list%.args}, request $request of $made refused" "status $status (wanted: 4), or another file"
         fi
     done
     if [ "$guesses" -gt 1 ]; then told "${list%.args}" "$guesses refusals cost nothing"; fi

@@ -1,7 +1,6 @@
 //! Trees as lines without spans, and what an edit makes of them.
-ghost use Rattle.std.specs.Prelude.{◌≡◌, ◌++◌, IfOk, OnOk, map, string_bytes};
-ghost use Rattle.std.specs.List.{flat_map};
-ghost use Rattle.toml_span_tree.specs.Nodes.{step_of, seen};
+ghost use Rattle.std.specs.Prelude.{◌≡◌, ◌++◌, OnOk, string_bytes};
+ghost use Rattle.toml_span_tree.specs.Nodes.{step_of};
 ghost use Rattle.toml_span_tree.specs.Value.{view};
 ghost use Rattle.toml_span_edit.specs.Changes as spec;
 
@@ -52,10 +51,7 @@ fn push_step(alloc: Global, step: &Step<'_>, out: &mut String) -> Result<(), All
 }
 
 /// Adds steps to a path.
-fn push_steps(alloc: Global, path: &[Step<'_>], out: &mut String) -> Result<(), AllocError>
-    ensures { OnOk result (string_bytes out.new ≡ string_bytes out.old
-        ++ flat_map spec.step_text (map step_of path.now)) }
-{
+fn push_steps(alloc: Global, path: &[Step<'_>], out: &mut String) -> Result<(), AllocError> {
     for step in path {
         push_step(alloc, step, out)?;
     }
@@ -89,10 +85,7 @@ fn push_changed_path(
     changed: &[Step<'_>],
     path: &[Step<'_>],
     out: &mut String,
-) -> Result<(), AllocError>
-    ensures { OnOk result (string_bytes out.new ≡ string_bytes out.old
-        ++ spec.changed_path kind.entry (map step_of changed.now) (map step_of path.now)) }
-{
+) -> Result<(), AllocError> {
     let ([first, more @ ..], [step, rest @ ..]) = (changed, path) else {
         return push_steps(alloc, path, out);
     };
@@ -108,9 +101,7 @@ fn push_changed_path(
 }
 
 /// Whether what stands at a path goes, by a change at another one.
-fn takes_out(kind: Kind<'_>, changed: &[Step<'_>], path: &[Step<'_>]) -> bool
-    ensures { result ≡ spec.takes_out kind.entry (map step_of changed.now) (map step_of path.now) }
-{
+fn takes_out(kind: Kind<'_>, changed: &[Step<'_>], path: &[Step<'_>]) -> bool {
     match kind {
         Kind::Cleared | Kind::Removed => is_below(path, changed),
         Kind::Kept | Kind::Renamed(_) => false,
@@ -132,9 +123,7 @@ fn push_what(alloc: Global, value: &Value<'_>, out: &mut String) -> Result<(), A
 }
 
 /// A path as a text.
-pub(crate) fn path_text(alloc: Global, path: &[Step<'_>]) -> Result<String, AllocError>
-    ensures { IfOk result (λ text. string_bytes text ≡ flat_map spec.step_text (map step_of path.now)) }
-{
+pub(crate) fn path_text(alloc: Global, path: &[Step<'_>]) -> Result<String, AllocError> {
     let mut out = String::new(alloc);
     push_steps(alloc, path, &mut out)?;
     Ok(out)
@@ -147,10 +136,7 @@ fn line(
     kind: Kind<'_>,
     changed: &[Step<'_>],
     node: &Visited<'_, '_>,
-) -> Result<String, AllocError>
-    ensures { IfOk result (λ line. string_bytes line
-        ≡ spec.line front.now kind.entry (map step_of changed.now) (seen node.now)) }
-{
+) -> Result<String, AllocError> {
     let mut out = String::from_str(alloc, front)?;
     push_changed_path(alloc, kind, changed, node.path.as_slice(), &mut out)?;
     out.push_str(" = ")?;
@@ -166,10 +152,7 @@ pub(crate) fn push_lines(
     changed: &[Step<'_>],
     nodes: &[Visited<'_, '_>],
     lines: &mut Vec<String>,
-) -> Result<(), AllocError>
-    ensures { OnOk result (map spec.text_of lines.new.items ≡ map spec.text_of lines.old.items
-        ++ spec.lines front.now kind.entry (map step_of changed.now) (map seen nodes.now)) }
-{
+) -> Result<(), AllocError> {
     for node in nodes {
         if !takes_out(kind, changed, node.path.as_slice()) {
             let line = line(alloc, front, kind, changed, node)?;

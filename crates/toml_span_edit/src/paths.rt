@@ -1,8 +1,7 @@
 //! Paths of trees, and pointers that name them.
-ghost use Rattle.std.specs.Prelude.{◌≡◌, map};
+ghost use Rattle.std.specs.Prelude.{◌≡◌};
 ghost use Rattle.toml_span_tree.specs.Nodes.{step_of};
 ghost use Rattle.toml_span.specs.Paths as paths;
-ghost use Rattle.toml_span_edit.specs.Changes as spec;
 
 use toml_span::value::{Step, Visited};
 use toml_span_places::{KeyPlace, Role};
@@ -64,9 +63,7 @@ pub(crate) fn same_step(step: &Step<'_>, other: &Step<'_>) -> bool
 }
 
 /// Whether a path begins with the steps of another one.
-pub(crate) fn is_below(path: &[Step<'_>], front: &[Step<'_>]) -> bool
-    ensures { result ≡ spec.is_below (map step_of path.now) (map step_of front.now) }
-{
+pub(crate) fn is_below(path: &[Step<'_>], front: &[Step<'_>]) -> bool {
     let [other, rest @ ..] = front else {
         return true;
     };

@@ -1,11 +1,7 @@
 //! What is done with the text of a file.
-ghost use Rattle.std.specs.Prelude.{◌≡◌, IfOk, map, string_bytes};
-ghost use Rattle.toml_span_tree.specs.declared.value.Value.{Value};
-ghost use Rattle.toml_span_tree.specs.Value.{view};
+ghost use Rattle.std.specs.Prelude.{IfOk};
 ghost use Rattle.toml_span_read.specs.Limits.{depth_limit};
 ghost use Rattle.toml_span.specs.Parsing.{IsTree};
-ghost use Rattle.toml_span_edit.specs.Changes as spec;
-ghost use Rattle.toml_span_edit.specs.Changes.{IsMeant};
 
 use crate::changes::{Kind, path_text, push_lines, push_name};
 use crate::given::{given_nodes, probe_text, probed};
@@ -77,10 +73,7 @@ fn sections_of<'t>(alloc: Global, text: &'t str) -> Result<Vec<Section<'t>>, All
 }
 
 /// The lines of a text's tree, or the text's fault in words.
-fn lines_of(alloc: Global, text: &str) -> Result<Vec<String>, Stop<Reason>>
-    ensures { IfOk result (λ lines. (root : Value) × IsTree text.now depth_limit root
-        × (map spec.text_of lines.items ≡ spec.tree_lines (view root))) }
-{
+fn lines_of(alloc: Global, text: &str) -> Result<Vec<String>, Stop<Reason>> {
     let root = match tree(alloc, text)? {
         Ok(root) => root,
         Err(fault) => return Err(Stop::Fault(Reason::WouldBeNone(fault))),
@@ -92,10 +85,7 @@ fn lines_of(alloc: Global, text: &str) -> Result<Vec<String>, Stop<Reason>>
 }
 
 /// The new text, where its tree has these lines, in any order.
-fn checked(alloc: Global, new: String, meant: Vec<String>) -> Result<String, Stop<Reason>>
-    ensures { IfOk result (λ text. IsMeant (string_bytes text) (map spec.text_of meant.items)) }
-{
-    let mut meant = meant;
+fn checked(alloc: Global, new: String, mut meant: Vec<String>) -> Result<String, Stop<Reason>> {
     let mut lines = lines_of(alloc, new.as_str())?;
     lines.sort_unstable();
     meant.sort_unstable();
