@@ -29,8 +29,8 @@ fn fill(rt: &HostRuntime, file: File, name: &str, text: &str) -> io::Result<()> 
     out.into_inner().sync_all()
 }
 
-/// Puts a text into the place of a file: it is written whole into a new file beside it, which then takes its name. Where
-/// that fails the file is as it was. Of a link, what it leads to is replaced.
+/// Puts a text into the place of a file: it is written whole into a new file beside it, which then takes its name.
+/// Where that fails the file is as it was. Of a link, what it leads to is replaced.
 pub(crate) fn replace(rt: &HostRuntime, name: &str, text: &str) -> io::Result<()> {
     let place = fs::canonicalize(rt, name)?;
     let mut new = String::from_str(rt.alloc(), place.as_str())?;
