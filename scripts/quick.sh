@@ -5,9 +5,10 @@
 # Each crate with `#[test]` functions by `rt try --test`; each program by `rt try` on its file stdin and on the files of
 # its folder runs, its output and status compared with those that stand beside them (stdout and status, NAME.stdout and
 # NAME.status). So it sees a wrong answer, an index out of range, an overflow or a bad access on these inputs, and no
-# more: what holds on all inputs is for the whole test (scripts/test.sh). The runs of the checker, which have words and
-# files, are made with a native build (scripts/check_runs.sh). As many side by side as there are processors, or as
-# QUICK_JOBS says. The last line counts. Without the toolchain one line says so, and the status is 5.
+# more: what holds on all inputs is for the whole test (scripts/test.sh). The runs of the checker and of the editor,
+# which have words and files, are made with native builds (scripts/check_runs.sh, scripts/edit_runs.sh). As many side by
+# side as there are processors, or as QUICK_JOBS says. The last line counts. Without the toolchain one line says so, and
+# the status is 5.
 set -uo pipefail
 unset CDPATH
 script=$(readlink -f -- "${BASH_SOURCE[0]}")
@@ -33,7 +34,10 @@ program() {
     cd "crates/$1" || return
     if compgen -G 'runs/*.args' >/dev/null; then
         native=$(bash ../../scripts/native.sh "$1") || return
-        bash ../../scripts/check_runs.sh "$native"
+        case $1 in
+        toml_span_edit) bash ../../scripts/edit_runs.sh "$native" ;;
+        *) bash ../../scripts/check_runs.sh "$native" ;;
+        esac
         return
     fi
     mkdir "$work/cases"

@@ -69,6 +69,7 @@ run "no handles" grep -qx 'Handles allowed: none.' HANDLES
 # These run side by side, each on a processor of its own where there are two, and are told of in this order
 start "stored runs of the program" bash scripts/runs.sh
 start "stored runs of the checker" bash scripts/check_runs.sh
+start "stored runs of the editor" bash scripts/edit_runs.sh
 start "runs with each request for memory refused" bash scripts/refused_runs.sh
 start "scripts that people start" bash scripts/scripts_test.sh
 start "the repository stands alone" bash scripts/stands_alone.sh
