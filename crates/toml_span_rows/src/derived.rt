@@ -1,12 +1,13 @@
 //! Rows of reads by derive.
 //!
-//! - `settings`, `device` and `tagged` read the document as the struct of that name, `limits` its tree as numbers by
-//!   their names: what is read, or the code and the place of what is refused, the path to it, and why.
-//! - `shown`: the settings, or the error with its lines.
+//! - `settings`, `device`, `tagged` and `attributes` read the document as the struct of that name, `limits` its tree as
+//!   numbers by their names: what is read, or the code and the place of what is refused, the path to it, and why.
+//! - `shown`: the settings, or the error with its lines; `shown_device` the error of a device.
 //!
 //! What there is no memory for is tried once more.
 use crate::Row;
 use crate::told::{known, push_told, push_told_line};
+use attributes::Attributes;
 use device::{Device, Tagged};
 use serde::Deserialize;
 use settings::{Settings, shown};
@@ -14,8 +15,9 @@ use std::alloc::{AllocError, Global};
 use std::collections::BTreeMap;
 use std::fmt::Debug;
 use toml_span::{Span, Stop, parse};
-use toml_span_serde::{Error, Spanned, from_str, from_value};
+use toml_span_serde::{Error, Spanned, Style, from_str, from_value, render_stop};
 
+mod attributes;
 mod device;
 mod settings;
 
@@ -29,8 +31,10 @@ pub fn answer(alloc: Global, row: Row<'_>, out: &mut String) -> Result<bool, All
         "settings" => push_read::<Settings<'_>>(alloc, text, out),
         "device" => push_read::<Device>(alloc, text, out),
         "tagged" => push_read::<Tagged<'_>>(alloc, text, out),
+        "attributes" => push_read::<Attributes>(alloc, text, out),
         "limits" => push_limits(alloc, text, out),
         "shown" => push_shown(alloc, text, out),
+        "shown_device" => push_device(alloc, text, out),
         _ => return Ok(false),
     };
     known(pushed)
@@ -108,6 +112,26 @@ fn push_shown(alloc: Global, text: &str, out: &mut String) -> Result<(), AllocEr
         Err(refused) => {
             push_told_line(refused, out)?;
             shown(alloc, text)?
+        }
+    };
+    out.push_str(written.as_str())
+}
+
+/// The device, or why there is none.
+fn device_shown(alloc: Global, text: &str) -> Result<String, AllocError> {
+    match from_str::<Device>(alloc, text) {
+        Ok(device) => format!(in alloc; "{device:?}"),
+        Err(stop) => render_stop(alloc, Style::Plain, stop, "device.toml", text),
+    }
+}
+
+/// Answers `shown_device`.
+fn push_device(alloc: Global, text: &str, out: &mut String) -> Result<(), AllocError> {
+    let written = match device_shown(alloc, text) {
+        Ok(written) => written,
+        Err(refused) => {
+            push_told_line(refused, out)?;
+            device_shown(alloc, text)?
         }
     };
     out.push_str(written.as_str())

@@ -3,6 +3,8 @@ pub mod Tasks
 pub mod Asks
 pub mod Reads
 pub mod Ahead
+pub mod Names
+pub mod Twice
 pub mod Misfits
 pub mod Misreads
 pub mod Stops

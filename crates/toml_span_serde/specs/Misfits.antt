@@ -1,9 +1,11 @@
 -- What is told of a value that is not read as a type, and where.
-use Rattle.std.specs.Prelude.{◌≡◌, ◌≤◌, ◌⊎◌, ⊤, ℕ, List, ◌++◌, map, length, Some, codes, string_bytes}
+use Rattle.std.specs.Prelude.{◌≡◌, ◌≤◌, ◌⊎◌, ⊤, ℕ, List, [], ◌∷◌, ◌++◌, map, length, Option, None, Some, codes}
+use Rattle.std.specs.Prelude.{decimal, string_bytes}
 use Rattle.toml_span_lex.specs.declared.span.Span.{Span}
 use Rattle.toml_span_lex.specs.declared.stop.Stop.{Stop}
 use Rattle.toml_span_lex.specs.declared.stop.Stop.TheVariants as stop
-use Rattle.toml_span_tree.specs.Error.{ErrorContent, Kind, content_of, custom, missing_field, wanted}
+use Rattle.toml_span_tree.specs.Error.{ErrorContent, Kind, content_of, custom, duplicate_key, marked, missing_field}
+use Rattle.toml_span_tree.specs.Error.{wanted}
 use Rattle.toml_span_tree.specs.Node.{Node}
 use Rattle.toml_span_tree.specs.Path.{Place, place_at}
 use Rattle.toml_span_tree.specs.Path as tree
@@ -11,6 +13,8 @@ use Rattle.toml_span_tree.specs.Value.{view}
 use Rattle.toml_span_tree.specs.declared.value.Value.{Value}
 use Rattle.toml_span_read.specs.Places.{IsLineInfo}
 use Rattle.toml_span_read.specs.Limits.{depth_limit}
+use Rattle.toml_span_report.specs.Names.{nearest}
+use Rattle.toml_span_report.specs.UnknownKeys.{listed, named}
 use Rattle.toml_span.specs.Parsing.{IsRefusal, IsTree}
 use Rattle.toml_span_serde.specs.declared.misfit.Expected.{Expected}
 use Rattle.toml_span_serde.specs.declared.misfit.Expected.TheVariants as expected
@@ -49,23 +53,51 @@ name_of found.Table = codes "table"
 name_of found.Key = codes "key"
 name_of found.Nothing = codes "nothing"
 
+-- the names that are expected, or what is said where there are none
+abbrev pub expected_text : List ℕ → List (List ℕ) → List ℕ
+expected_text none [] = none
+expected_text none (a ∷ []) = codes "expected " ++ named a
+expected_text none (a ∷ b ∷ names) = codes "expected one of " ++ listed (a ∷ b ∷ names)
+
 -- the text of a reason
 abbrev pub reason_text : Reason → List ℕ
 reason_text (is.Wanted e f) = codes "expected " ++ words_of e ++ codes ", found " ++ name_of f
-reason_text (is.MissingField name) = codes "missing field '" ++ string_bytes name ++ codes "'"
-reason_text (is.DuplicateField name) = codes "duplicate field '" ++ string_bytes name ++ codes "'"
-reason_text (is.UnknownField name) = codes "unknown field '" ++ string_bytes name ++ codes "'"
-reason_text (is.UnknownVariant name) = codes "unknown variant '" ++ string_bytes name ++ codes "'"
-reason_text is.Length = codes "wrong number of elements"
+reason_text (is.Unexpected f) = codes "unexpected " ++ name_of f
+reason_text (is.MissingField name) = codes "missing field " ++ named (string_bytes name)
+reason_text (is.DuplicateField name first) = codes "duplicate field " ++ named (string_bytes name)
+reason_text (is.UnknownField name expected) = codes "unknown field " ++ named (string_bytes name) ++ codes ", "
+    ++ expected_text (codes "there are no fields") (map string_bytes expected.items)
+reason_text (is.UnknownVariant name expected) = codes "unknown variant " ++ named (string_bytes name) ++ codes ", "
+    ++ expected_text (codes "there are no variants") (map string_bytes expected.items)
+reason_text (is.Length count) = codes "wrong number of elements: " ++ decimal count
+reason_text (is.TooLong count) = codes "too many elements, expected " ++ decimal count
 reason_text is.OutOfRange = codes "number is out of range"
+reason_text is.Negative = codes "number is out of range, expected 0 or more"
 reason_text is.Invalid = codes "invalid value"
 reason_text (is.Custom message) = string_bytes message
+
+-- the kind of error that tells a field which comes twice, by its text where the earlier place is not known
+abbrev pub kind_of_twice : List ℕ → List ℕ → Option Span → Kind
+kind_of_twice text name None = custom text
+kind_of_twice text name (Some first) = duplicate_key name first
 
 -- the kind of error that tells a reason
 abbrev pub kind_of_reason : Reason → Kind
 kind_of_reason (is.Wanted e f) = wanted (words_of e) (name_of f)
 kind_of_reason (is.MissingField name) = missing_field (string_bytes name)
+kind_of_reason (is.DuplicateField name first) =
+    kind_of_twice (reason_text (is.DuplicateField name first)) (string_bytes name) first
+kind_of_reason (is.UnknownField name expected) =
+    marked (codes "unexpected-keys") (reason_text (is.UnknownField name expected)) []
+kind_of_reason (is.UnknownVariant name expected) =
+    marked (codes "unexpected-value") (reason_text (is.UnknownVariant name expected)) []
 kind_of_reason reason = custom (reason_text reason)
+
+-- the expected name that may be meant by an unknown one
+abbrev pub meant_by : Reason → Option (List ℕ)
+meant_by (is.UnknownField name expected) = nearest (string_bytes name) (map string_bytes expected.items)
+meant_by (is.UnknownVariant name expected) = nearest (string_bytes name) (map string_bytes expected.items)
+meant_by reason = None
 
 -- the error that tells a misfit
 abbrev pub content_of_misfit : Misfit → ErrorContent

@@ -1,16 +1,22 @@
 -- What a reader tells of a step that read nothing: why, and at which piece of its row.
 use Rattle.std.specs.Prelude.{◌≡◌, ◌⊎◌, ⊤, ℕ, ℤ, pos, negsuc, Bool, false, nat_lt, not, if◌then◌else◌}
-use Rattle.std.specs.Prelude.{List, [], ◌∷◌, String, string_bytes, Option, None, Some, slice_get}
+use Rattle.std.specs.Prelude.{List, [], ◌∷◌, ◌==◌, String, Vec, string_bytes, Option, None, Some, length, map}
+use Rattle.std.specs.Prelude.{reverse, slice_get, take}
 use Rattle.std.specs.Global.{Global}
 use Rattle.serde.specs.declared.format.Kind.{Kind}
 use Rattle.serde.specs.declared.format.Kind.TheVariants as kind
+use Rattle.serde.specs.declared.name.Name.{Name}
+use Rattle.toml_span_lex.specs.declared.span.Span.{Span}
 use Rattle.toml_span_lex.specs.declared.stop.Stop.{Stop}
 use Rattle.toml_span_lex.specs.declared.stop.Stop.TheVariants as stop
 use Rattle.toml_span_tree.specs.Node as tree
 use Rattle.toml_span_serde.specs.Ahead.{laid}
 use Rattle.toml_span_serde.specs.Pieces.{Content, Piece, value, nothing, array_begins, array_ends, table_begins}
 use Rattle.toml_span_serde.specs.Pieces.{table_ends, key}
+use Rattle.toml_span_serde.specs.Names.{all_forms, forms_of}
 use Rattle.toml_span_serde.specs.Reads.{IsText}
+use Rattle.toml_span_serde.specs.Twice.{earlier, key_place}
+use Rattle.toml_span_serde.specs.Walk.{elements_in}
 use Rattle.toml_span_serde.specs.declared.misfit.Expected.{Expected}
 use Rattle.toml_span_serde.specs.declared.misfit.Found.{Found}
 use Rattle.toml_span_serde.specs.declared.misfit.Found.TheVariants as found
@@ -71,6 +77,12 @@ abbrev pub IsMisread : (Reason → Type 0) → ℕ → Stop Misread → Type 0
 IsMisread Why at (stop.Memory e) = ⊤
 IsMisread Why at (stop.Fault m) = Why m.reason × (m.at ≡ at)
 
+-- the reason has this text and these names
+abbrev pub Lists : (String Global → Vec (String Global) Global → Reason) → List ℕ → List (List ℕ) → Reason → Type 0
+Lists reason text names why =
+    (s : String Global) × (all : Vec (String Global) Global) × (why ≡ reason s all) × (string_bytes s ≡ text)
+    × (map string_bytes all.items ≡ names)
+
 -- the reason has this text
 abbrev pub Says : (String Global → Reason) → List ℕ → Reason → Type 0
 Says reason text why = (s : String Global) × (why ≡ reason s) × (string_bytes s ≡ text)
@@ -95,9 +107,22 @@ abbrev pub refusal_in : Option Piece → Reason
 refusal_in None = is.Invalid
 refusal_in (Some p) = refusal p.content
 
--- why it does not take what was looked at last: an integer that was read is out of range
+-- what is of no kind that the type reads
+abbrev pub unexpected_in : Option Piece → Reason
+unexpected_in None = is.Invalid
+unexpected_in (Some p) = is.Unexpected (found_of p.content)
+
+-- Why it does not take what was looked at last. What was not read is of no kind that it reads, and an integer that was
+-- is out of range.
 abbrev pub invalid_reason : Reader → Reason
-invalid_reason r = if nat_lt r.at r.next then refusal_in (slice_get (laid r) r.at) else is.Invalid
+invalid_reason r =
+    if nat_lt r.at r.next then refusal_in (slice_get (laid r) r.at) else unexpected_in (slice_get (laid r) r.at)
+
+-- why an array has not as many elements as the type: it has ended, or goes on
+abbrev pub length_reason : Reader → Reason
+length_reason r =
+    if nat_lt r.at r.next then is.Length (elements_in (take r.at (laid r)))
+    else is.TooLong (elements_in (take r.at (laid r)))
 
 -- whether a key stands for none of so many names, where one was read
 abbrev pub is_unknown : Option ℕ → ℕ → Bool
@@ -108,3 +133,57 @@ is_unknown (Some at) count = not (nat_lt at count)
 -- as the name of a variant
 abbrev pub variant_place : Reader → ℕ
 variant_place r = if r.is_unknown then r.at else r.variant
+
+-- ---- the names that a key or a text was held against
+
+abbrev pub fields : Reader → List (List ℕ)
+fields r = map string_bytes r.fields.items
+
+abbrev pub variants : Reader → List (List ℕ)
+variants r = map string_bytes r.variants.items
+
+-- what an unknown variant was held against
+abbrev pub variant_names : Reader → List (List ℕ)
+variant_names r = if r.is_unknown then fields r else variants r
+
+-- what is kept behind a step that found this one of the names: where it is none, all that would have been one
+abbrev pub held : List Name → ℕ → List (List ℕ) → List (List ℕ)
+held names at before = if nat_lt at (length names) then before else all_forms names
+
+-- the same behind a step that may have found the end of a table
+abbrev pub held_by : List Name → Option ℕ → List (List ℕ) → List (List ℕ)
+held_by names None before = before
+held_by names (Some at) before = held names at before
+
+-- ---- two keys that name one field
+
+-- the last key whose name has aliases, and the texts that stand for the name
+abbrev pub Twin : Type 0
+Twin = (ℕ × Span) × List (List ℕ)
+
+abbrev pub twin : Reader → Twin
+twin r = (key_place r.key, map string_bytes r.forms.items)
+
+-- behind a key at this place, which stands for this name, if for any
+abbrev pub twin_behind : Option Name → ℕ × Span → Twin → Twin
+twin_behind None place before = before
+twin_behind (Some n) place before = if length n.aliases.now == 0 then before else (place, forms_of n)
+
+-- of two keys the later one in the text, and the bytes of the earlier one
+abbrev pub later_of : ℕ × Span → ℕ × Span → ℕ × Option Span
+later_of own other = if nat_lt own.1.start other.1.start then (other.0, Some own.1) else (own.0, Some other.1)
+
+-- where there is another key for the name
+abbrev pub twice_of : ℕ → ℕ × Span → Option (ℕ × Span) → ℕ × Option Span
+twice_of at own None = (at, None)
+twice_of at own (Some other) = later_of own other
+
+-- Which piece of the row a field stands at that comes twice, and the bytes of the key that names it too. Where no key
+-- before the last one whose name has aliases is of that name, the piece that was looked at last, and none.
+abbrev pub twice : Reader → ℕ × Option Span
+twice r = twice_of r.at (key_place r.key)
+    (earlier (map string_bytes r.forms.items) 0 (reverse (take r.key.at (laid r))))
+
+-- what a step that only looks keeps
+abbrev pub kept : Reader → List (List ℕ) × (List (List ℕ) × Twin)
+kept r = (fields r, (variants r, twin r))

@@ -1,19 +1,14 @@
--- What private clauses say: the pieces of the code as those of a tree, and how deep they stand; what is left to go
--- through while a tree becomes a row of pieces; and the reasons that have a text.
-use Rattle.std.specs.Prelude.{ℕ, ◌+◌, ◌-◌, List, [], ◌∷◌, ◌++◌, String, map, reverse}
-use Rattle.std.specs.Global.{Global}
+-- What private clauses say: the pieces of the code as those of a tree, and how deep they stand, and what is left to go
+-- through while a tree becomes a row of pieces.
+use Rattle.std.specs.Prelude.{ℕ, ◌+◌, ◌-◌, List, [], ◌∷◌, ◌++◌, map, reverse}
 use Rattle.toml_span_tree.specs.Node.{text, integer, float, boolean, datetime}
 use Rattle.toml_span_tree.specs.Value.{view, float_value}
 use Rattle.toml_span_serde.specs.Pieces as spec
-use Rattle.toml_span_serde.specs.declared.misfit.Reason.{Reason}
-use Rattle.toml_span_serde.specs.declared.misfit.Reason.TheVariants as reason
 use Rattle.toml_span_serde.specs.declared.pieces.Content.{Content}
 use Rattle.toml_span_serde.specs.declared.pieces.Content.TheVariants as is
 use Rattle.toml_span_serde.specs.declared.pieces.Piece.{Piece}
 use Rattle.toml_span_serde.specs.declared.pieces.Task.{Task}
 use Rattle.toml_span_serde.specs.declared.pieces.Task.TheVariants as task
-use Rattle.toml_span_serde.specs.declared.reader.TextReason.{TextReason}
-use Rattle.toml_span_serde.specs.declared.reader.TextReason.TheVariants as told
 
 abbrev pub piece_content : Content → spec.Content
 piece_content (is.Text s) = spec.value (text s.now)
@@ -42,13 +37,6 @@ all_pieces (t ∷ ts) = task_pieces t ++ all_pieces ts
 -- the pieces that were put down from the last to the first
 abbrev pub turned : List Piece → List spec.Piece
 turned ps = map piece_of (reverse ps)
-
-abbrev pub reason_of : TextReason → String Global → Reason
-reason_of told.MissingField words = reason.MissingField words
-reason_of told.DuplicateField words = reason.DuplicateField words
-reason_of told.UnknownField words = reason.UnknownField words
-reason_of told.UnknownVariant words = reason.UnknownVariant words
-reason_of told.Custom words = reason.Custom words
 
 -- how many arrays and tables are open behind a piece
 abbrev pub depth_behind : spec.Content → ℕ → ℕ

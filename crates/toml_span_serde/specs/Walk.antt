@@ -1,5 +1,6 @@
--- The way to each piece of a row; for private clauses. A way is a path from its last step to its first.
-use Rattle.std.specs.Prelude.{⊤, ◌+◌, List, [], ◌∷◌, map, reverse}
+-- The way to each piece of a row, and how many elements an array has before it. A way is a path from its last step to
+-- its first.
+use Rattle.std.specs.Prelude.{⊤, ℕ, ◌+◌, List, [], ◌∷◌, map, reverse}
 use Rattle.toml_span_tree.specs.Node.{Node}
 use Rattle.toml_span_tree.specs.Path.{Step, key, position}
 use Rattle.toml_span_serde.specs.Misfits.{Names}
@@ -35,6 +36,15 @@ behind (row.key name) way = key name ∷ way
 abbrev pub walked : List row.Piece → Way → Way
 walked [] way = way
 walked (p ∷ ps) way = walked ps (behind p.content way)
+
+-- the position of what is next in an array
+abbrev pub next_position : Way → ℕ
+next_position (position i ∷ way) = i
+next_position way = 0
+
+-- how many elements of the array that is open behind these pieces are among them
+abbrev pub elements_in : List row.Piece → ℕ
+elements_in before = next_position (walked before [])
 
 -- the way to the value of a piece, or to that of its key
 abbrev pub way_at : row.Content → Way → Way

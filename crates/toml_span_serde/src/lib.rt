@@ -3,6 +3,7 @@
 
 pub mod laws;
 mod misfit;
+mod names;
 mod path;
 mod pieces;
 mod read;
@@ -10,6 +11,7 @@ mod reader;
 mod row;
 mod shown;
 mod spanned;
+mod twice;
 
 pub use misfit::{Error, Expected, Found, Misfit, Reason};
 pub use path::Step;

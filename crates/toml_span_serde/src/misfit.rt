@@ -1,14 +1,16 @@
 //! Why a value is not read as a type.
 ghost use Rattle.std.specs.Fmt.{WritesOnOk};
 ghost use Rattle.std.specs.List.{flat_map};
-ghost use Rattle.std.specs.Prelude.{◌≡◌, IfOk, Some, map, string_bytes};
-ghost use Rattle.toml_span_tree.specs.Error.{content_of, kind_of};
+ghost use Rattle.std.specs.Prelude.{◌≡◌, ◌++◌, [], IfOk, Some, codes, map, option_map, string_bytes};
+ghost use Rattle.toml_span_tree.specs.Error.{content_of, custom, kind_of, marked};
 ghost use Rattle.toml_span_tree.specs.Diagnostic.{labels_of, label_content, message_of};
 ghost use Rattle.toml_span_tree.specs.Message.{code_of};
-ghost use Rattle.toml_span_serde.specs.Misfits.{content_of_error, content_of_misfit, kind_of_reason, name_of};
-ghost use Rattle.toml_span_serde.specs.Misfits.{reason_text, words_of};
+ghost use Rattle.toml_span_report.specs.UnknownKeys.{named};
+ghost use Rattle.toml_span_serde.specs.Misfits.{content_of_error, content_of_misfit, expected_text, kind_of_reason};
+ghost use Rattle.toml_span_serde.specs.Misfits.{kind_of_twice, meant_by, name_of, reason_text, words_of};
 ghost use Rattle.toml_span_serde.specs.Texts.{read_error_text, further_text, misfit_text, place_text};
 
+use crate::names::meant;
 use crate::path::Step;
 use std::alloc::{AllocError, Global};
 use std::borrow::CowStr;
@@ -92,22 +94,53 @@ impl Found {
 pub enum Reason {
     /// A value of another kind was expected.
     Wanted { expected: Expected, found: Found },
+    /// No kind that the type reads is this one.
+    Unexpected(Found),
     /// A table has no key for this field.
     MissingField(String),
-    /// Two keys of a table name this field.
-    DuplicateField(String),
-    /// A table has this key, which names no field.
-    UnknownField(String),
-    /// This text names no variant.
-    UnknownVariant(String),
-    /// An array has too many or too few elements.
-    Length,
+    /// Two keys of a table name this field. The misfit stands at the later one; `first` has the bytes of the earlier.
+    DuplicateField { name: String, first: Option<Span> },
+    /// A table has this key, which names no field. The keys that do are those expected.
+    UnknownField { name: String, expected: Vec<String> },
+    /// This text names no variant. The texts that do are those expected.
+    UnknownVariant { name: String, expected: Vec<String> },
+    /// An array ends behind so many elements, and the type has another number.
+    Length(usize),
+    /// An array goes on behind so many elements, which are all that the type has.
+    TooLong(usize),
     /// The type does not hold this number.
     OutOfRange,
+    /// The number is less than 0, and the type holds none that is.
+    Negative,
     /// The type refuses the value.
     Invalid,
     /// The type refuses the value with a message of its own.
     Custom(String),
+}
+
+/// Writes further names, each behind a comma.
+fn write_more<W: Write>(f: &mut Formatter<W>, names: &[String]) -> fmt::Result
+    ensures { WritesOnOk W.write_str_gives f.old result
+        (flat_map (λ name. codes ", " ++ named name) (map string_bytes names.now)) f.new }
+{
+    for name in names {
+        write!(f, ", `{name}`")?;
+    }
+    Ok(())
+}
+
+/// Writes the names that are expected, or what is said where there are none.
+fn write_expected<W: Write>(f: &mut Formatter<W>, none: &str, names: &[String]) -> fmt::Result
+    ensures { WritesOnOk W.write_str_gives f.old result (expected_text none.now (map string_bytes names.now)) f.new }
+{
+    match names.split_first() {
+        None => f.write_str(none),
+        Some((first, [])) => write!(f, "expected `{first}`"),
+        Some((first, more)) => {
+            write!(f, "expected one of `{first}`")?;
+            write_more(f, more)
+        }
+    }
 }
 
 impl Display for Reason {
@@ -119,12 +152,24 @@ impl Display for Reason {
                 let (expected, found) = (expected.words(), found.name());
                 write!(f, "expected {expected}, found {found}")
             }
-            Reason::MissingField(name) => write!(f, "missing field '{name}'"),
-            Reason::DuplicateField(name) => write!(f, "duplicate field '{name}'"),
-            Reason::UnknownField(name) => write!(f, "unknown field '{name}'"),
-            Reason::UnknownVariant(name) => write!(f, "unknown variant '{name}'"),
-            Reason::Length => f.write_str("wrong number of elements"),
+            Reason::Unexpected(found) => {
+                let found = found.name();
+                write!(f, "unexpected {found}")
+            }
+            Reason::MissingField(name) => write!(f, "missing field `{name}`"),
+            Reason::DuplicateField { name, .. } => write!(f, "duplicate field `{name}`"),
+            Reason::UnknownField { name, expected } => {
+                write!(f, "unknown field `{name}`, ")?;
+                write_expected(f, "there are no fields", expected.as_slice())
+            }
+            Reason::UnknownVariant { name, expected } => {
+                write!(f, "unknown variant `{name}`, ")?;
+                write_expected(f, "there are no variants", expected.as_slice())
+            }
+            Reason::Length(count) => write!(f, "wrong number of elements: {count}"),
+            Reason::TooLong(count) => write!(f, "too many elements, expected {count}"),
             Reason::OutOfRange => f.write_str("number is out of range"),
+            Reason::Negative => f.write_str("number is out of range, expected 0 or more"),
             Reason::Invalid => f.write_str("invalid value"),
             Reason::Custom(message) => f.write_str(message.as_str()),
         }
@@ -142,8 +187,64 @@ impl Reason {
                 found: found.name(),
             },
             Reason::MissingField(name) => ErrorKind::MissingField(name.as_str()),
-            _ => ErrorKind::Custom(CowStr::Owned(self.to_string(alloc)?)),
+            Reason::DuplicateField { name, first } => self.twice(alloc, name.as_str(), *first)?,
+            Reason::UnknownField { .. } => self.marked(alloc, "unexpected-keys")?,
+            Reason::UnknownVariant { .. } => self.marked(alloc, "unexpected-value")?,
+            _ => self.custom(alloc)?,
         })
+    }
+
+    /// The kind of error that tells the text of the reason.
+    fn custom<'c>(&self, alloc: Global) -> Result<ErrorKind<'c>, AllocError>
+        ensures { IfOk result (λ kind. kind_of kind ≡ custom (reason_text self.now)) }
+    {
+        Ok(ErrorKind::Custom(CowStr::Owned(self.to_string(alloc)?)))
+    }
+
+    /// The kind of error that tells a field which comes twice: its text, where the earlier place is not known.
+    fn twice<'c>(
+        &self,
+        alloc: Global,
+        name: &str,
+        first: Option<Span>,
+    ) -> Result<ErrorKind<'c>, AllocError>
+        ensures { IfOk result (λ kind. kind_of kind ≡ kind_of_twice (reason_text self.now) name.now first) }
+    {
+        match first {
+            Some(first) => Ok(ErrorKind::DuplicateKey {
+                key: String::from_str(alloc, name)?,
+                first,
+            }),
+            None => self.custom(alloc),
+        }
+    }
+
+    /// The kind of error that tells the reason under this code.
+    fn marked<'c>(&self, alloc: Global, code: &'c str) -> Result<ErrorKind<'c>, AllocError>
+        ensures { IfOk result (λ kind. kind_of kind ≡ marked code.now (reason_text self.now) []) }
+    {
+        Ok(ErrorKind::Marked {
+            code,
+            message: CowStr::Owned(self.to_string(alloc)?),
+            places: Vec::new(alloc),
+        })
+    }
+
+    /// The expected name that is nearest to an unknown one, if it is near enough (`toml_span_report::nearest`).
+    pub fn meant(&self, alloc: Global) -> Result<Option<&str>, AllocError>
+        ensures { IfOk result (λ found. option_map (λ name. name.now) found ≡ meant_by self.now) }
+    {
+        match self {
+            Reason::UnknownField { name, expected } => meant(
+                alloc,
+                name.as_str(),
+                expected.as_slice(),
+            ),
+            Reason::UnknownVariant { name, expected } => {
+                meant(alloc, name.as_str(), expected.as_slice())
+            }
+            _ => Ok(None),
+        }
     }
 }
 

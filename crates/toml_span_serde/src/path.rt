@@ -3,7 +3,7 @@ ghost use Rattle.std.specs.Prelude.{◌≡◌, [], IfOk, OnOk, Some, map, revers
 ghost use Rattle.toml_span_serde.specs.Misfits.{path_of, step_of};
 ghost use Rattle.toml_span_serde.specs.Tasks.{piece_content, piece_of};
 ghost use Rattle.toml_span_serde.specs.Texts.{step_text};
-ghost use Rattle.toml_span_serde.specs.Walk.{behind, down_of, ended, outer, walked, way_at, way_of};
+ghost use Rattle.toml_span_serde.specs.Walk.{behind, down_of, elements_in, ended, outer, walked, way_at, way_of};
 
 use crate::pieces::{Content, Piece};
 use std::alloc::{AllocError, Global};
@@ -36,20 +36,39 @@ enum Down<'v> {
 }
 
 /// The path to the value of a piece, or to that of its key, from all pieces before it.
-pub(crate) fn path_to(
+pub(crate) fn path_to<'v>(
     alloc: Global,
-    before: &[Piece<'_>],
-    content: Content<'_>,
+    before: &[Piece<'v>],
+    content: Content<'v>,
 ) -> Result<Vec<Step>, AllocError>
     ensures { IfOk result (λ path. path_of path.items
         ≡ reverse (way_at (piece_content content.entry) (walked (map piece_of before.now) []))) }
+{
+    let mut downs = way_behind(alloc, before)?;
+    turn_to(&mut downs, content)?;
+    steps_of(alloc, downs.as_slice())
+}
+
+/// How many elements of the array that is open behind all these pieces are among them.
+pub(crate) fn elements_in(alloc: Global, before: &[Piece<'_>]) -> Result<usize, AllocError>
+    ensures { IfOk result (λ count. count ≡ elements_in (map piece_of before.now)) }
+{
+    let mut downs = way_behind(alloc, before)?;
+    match downs.pop() {
+        Some(Down::Position(count)) => Ok(count),
+        _ => Ok(0),
+    }
+}
+
+/// The way to what stands behind all these pieces.
+fn way_behind<'v>(alloc: Global, before: &[Piece<'v>]) -> Result<Vec<Down<'v>>, AllocError>
+    ensures { IfOk result (λ downs. way_of downs.items ≡ walked (map piece_of before.now) []) }
 {
     let mut downs = Vec::new(alloc);
     for piece in before {
         pass(&mut downs, piece.content)?;
     }
-    turn_to(&mut downs, content)?;
-    steps_of(alloc, downs.as_slice())
+    Ok(downs)
 }
 
 /// The way to what stands behind a piece, from the way that leads there.

@@ -1,21 +1,29 @@
 //! A tree as a `Format` of serde's.
-ghost use Rattle.std.specs.Prelude.{◌≡◌, ◌+◌, ◌-◌, ◌<◌, ◌^◌, ◌∷◌, ◌++◌, ◌↔◌, [], false, true, IfErr, IfOk, IsOk};
-ghost use Rattle.std.specs.Prelude.{IsTrue, List, MatchOption, OnOk, drop, length, map, slice_get};
+ghost use Rattle.std.specs.Option.{option_and_then};
+ghost use Rattle.std.specs.Prelude.{◌≡◌, ◌+◌, ◌-◌, ◌<◌, ◌^◌, ◌∷◌, ◌++◌, ◌↔◌, ◌||◌, [], false, true, not, IfErr, IfOk};
+ghost use Rattle.std.specs.Prelude.{IsOk, IsTrue, List, MatchOption, Ok, OnOk, drop, length, map, nat_lt, slice_get};
+ghost use Rattle.std.specs.Prelude.{string_bytes, take};
 ghost use Rattle.serde.specs.Event as event;
 ghost use Rattle.toml_span_lex.specs.declared.stop.Stop.TheVariants as stop;
 ghost use Rattle.toml_span_tree.specs.Node.{Node, integer};
 ghost use Rattle.toml_span_serde.specs.Ahead.{ahead, laid};
-ghost use Rattle.toml_span_serde.specs.Misreads.{IsAnyInteger, IsAnyText, IsMisread, IsOpening, Misses, Says, found_of};
-ghost use Rattle.toml_span_serde.specs.Misreads.{invalid_reason, is_unknown, kind_ahead, told_text_in, variant_place};
+ghost use Rattle.toml_span_serde.specs.Asks.{AsksEnd, AsksStart};
+ghost use Rattle.toml_span_serde.specs.Misreads.{IsAnyInteger, IsAnyText, IsMisread, IsOpening, Lists, Misses, Says};
+ghost use Rattle.toml_span_serde.specs.Misreads.{fields, found_of, held, held_by, invalid_reason, is_unknown, kept};
+ghost use Rattle.toml_span_serde.specs.Misreads.{kind_ahead, length_reason, told_text_in, twice, twin, twin_behind};
+ghost use Rattle.toml_span_serde.specs.Misreads.{variant_names, variant_place, variants};
 ghost use Rattle.toml_span_serde.specs.Pieces.{Piece as Laid, pieces, value};
 ghost use Rattle.toml_span_serde.specs.Reads.{IsText, Picks, Reads, Sees, TakesPiece};
-ghost use Rattle.toml_span_serde.specs.Tasks.{piece_content, piece_of, reason_of};
+ghost use Rattle.toml_span_serde.specs.Tasks.{piece_content, piece_of};
 ghost use Rattle.toml_span_serde.specs.declared.misfit.Expected.TheVariants as expected;
 ghost use Rattle.toml_span_serde.specs.declared.misfit.Reason.TheVariants as is;
 
 use crate::misfit::{Expected, Reason};
+use crate::names::{all_forms, copied, forms_of};
+use crate::path::elements_in;
 use crate::pieces::{Content, Piece, count_value};
 use crate::spanned::{END, START};
+use crate::twice::{KeyPlace, earlier};
 use serde::{Format, Kind, Name, find};
 use std::alloc::{AllocError, Global};
 use std::num::{nearest_i64_to_f32, nearest_i64_to_f64};
@@ -27,30 +35,6 @@ use toml_span_lex::stop::Stop;
 pub struct Misread {
     pub(crate) reason: Reason,
     pub(crate) at: usize,
-}
-
-/// The reasons that have a text.
-#[derive(Clone, Copy)]
-enum TextReason {
-    MissingField,
-    DuplicateField,
-    UnknownField,
-    UnknownVariant,
-    Custom,
-}
-
-impl TextReason {
-    fn of(self, text: String) -> Reason
-        ensures { result ≡ reason_of self text }
-    {
-        match self {
-            TextReason::MissingField => Reason::MissingField(text),
-            TextReason::DuplicateField => Reason::DuplicateField(text),
-            TextReason::UnknownField => Reason::UnknownField(text),
-            TextReason::UnknownVariant => Reason::UnknownVariant(text),
-            TextReason::Custom => Reason::Custom(text),
-        }
-    }
 }
 
 /// Goes through a tree step by step.
@@ -66,6 +50,14 @@ pub struct Reader<'p, 'v> {
     variant: usize,
     /// Whether the last step read a key that stands for none of the names.
     is_unknown: bool,
+    /// The texts that would have stood for one of the names, where a key last stood for none.
+    fields: Vec<String>,
+    /// The same for the texts that are read as the name of a variant.
+    variants: Vec<String>,
+    /// The last key that stands for a name with aliases.
+    key: KeyPlace,
+    /// The texts that stand for that name.
+    forms: Vec<String>,
 }
 
 impl<'p, 'v> Reader<'p, 'v> {
@@ -80,6 +72,13 @@ impl<'p, 'v> Reader<'p, 'v> {
             at: 0,
             variant: 0,
             is_unknown: false,
+            fields: Vec::new(alloc),
+            variants: Vec::new(alloc),
+            key: KeyPlace {
+                at: 0,
+                span: Span::default(),
+            },
+            forms: Vec::new(alloc),
         }
     }
 
@@ -93,6 +92,7 @@ impl<'p, 'v> Reader<'p, 'v> {
         ensures stays { (self.new.next ≡ self.old.next) × (self.new.pieces ≡ self.old.pieces) }
         ensures notes { (self.new.at ≡ self.old.next) × (self.new.variant ≡ self.old.variant)
             × (self.new.is_unknown ≡ false) }
+        ensures kept { kept self.new ≡ kept self.old }
     {
         self.at = self.next;
         self.is_unknown = false;
@@ -108,6 +108,7 @@ impl<'p, 'v> Reader<'p, 'v> {
         ensures none { IfErr result (λ e. (ahead self.old ≡ []) × IsMisread (λ why. why ≡ is.Invalid) self.old.next e) }
         ensures notes { (self.new.at ≡ self.old.next) × (self.new.variant ≡ self.old.variant)
             × (self.new.is_unknown ≡ false) }
+        ensures kept { kept self.new ≡ kept self.old }
     {
         let piece = self.look()?;
         self.next += 1;
@@ -124,31 +125,13 @@ impl<'p, 'v> Reader<'p, 'v> {
         })
     }
 
-    /// The misread of this piece that tells a text.
-    fn told_at(&self, at: usize, reason: TextReason, text: &str) -> Stop<Misread>
-        ensures { IsMisread (Says (reason_of reason) text.now) at result }
+    /// The text of this piece, and a second list of the names.
+    fn named(&self, at: usize, names: &[String]) -> Result<(String, Vec<String>), AllocError>
+        ensures { IfOk result (λ told. (string_bytes told.0 ≡ told_text_in (slice_get (laid self.now) at))
+            × (map string_bytes told.1.items ≡ map string_bytes names.now)) }
     {
-        match String::from_str(self.alloc, text) {
-            Ok(text) => Stop::Fault(Misread {
-                reason: reason.of(text),
-                at,
-            }),
-            Err(e) => Stop::Memory(e),
-        }
-    }
-
-    /// The misread of the piece that was looked at last, which tells a text.
-    fn told(&self, reason: TextReason, text: &str) -> Stop<Misread>
-        ensures { IsMisread (Says (reason_of reason) text.now) self.now.at result }
-    {
-        self.told_at(self.at, reason, text)
-    }
-
-    /// The misread of this piece that tells the piece's text.
-    fn told_of(&self, at: usize, reason: TextReason) -> Stop<Misread>
-        ensures { IsMisread (Says (reason_of reason) (told_text_in (slice_get (laid self.now) at))) at result }
-    {
-        self.told_at(at, reason, self.text_at(at))
+        let name = String::from_str(self.alloc, self.text_at(at))?;
+        Ok((name, copied(self.alloc, names)?))
     }
 
     /// The piece that names an unknown variant.
@@ -160,6 +143,66 @@ impl<'p, 'v> Reader<'p, 'v> {
         } else {
             self.variant
         }
+    }
+
+    /// What an unknown variant was held against.
+    fn variant_names(&self) -> &[String]
+        ensures { map string_bytes result.now ≡ variant_names self.now }
+    {
+        if self.is_unknown {
+            self.fields.as_slice()
+        } else {
+            self.variants.as_slice()
+        }
+    }
+
+    /// The pieces before this one.
+    fn before(&self, at: usize) -> &[Piece<'v>]
+        ensures { map piece_of result.now ≡ take at (laid self.now) }
+    {
+        self.pieces.get(..at).unwrap_or(self.pieces)
+    }
+
+    /// Which piece the later of two keys is, in the order of the text, and the bytes of the earlier one, where the last
+    /// key whose name has aliases is a second one of that name. Else the piece that was looked at last, and nothing.
+    fn twice(&self) -> (usize, Option<Span>)
+        ensures { result ≡ twice self.now }
+    {
+        let key = self.key;
+        match earlier(self.before(key.at), self.forms.as_slice()) {
+            Some(other) if key.span.start < other.span.start => (other.at, Some(key.span)),
+            Some(other) => (key.at, Some(other.span)),
+            None => (self.at, None),
+        }
+    }
+
+    /// Notes of a key that is none of the names what they are, and of one whose name has aliases where it stands.
+    fn note_key(
+        &mut self,
+        span: Span,
+        names: &[Name<'_>],
+        found: usize,
+    ) -> Result<(), Stop<Misread>>
+        ensures stays { ahead self.new ≡ ahead self.old }
+        ensures notes { OnOk result ((self.new.at ≡ self.old.at) × (self.new.variant ≡ self.old.variant)
+            × (self.new.is_unknown ≡ (self.old.is_unknown || not (nat_lt found (length names.now))))) }
+        ensures fields { OnOk result (fields self.new ≡ held names.now found (fields self.old)) }
+        ensures twin { OnOk result (twin self.new
+            ≡ twin_behind (slice_get names.now found) (self.old.at, span) (twin self.old)) }
+        ensures variants { variants self.new ≡ variants self.old }
+    {
+        match names.get(found) {
+            None => {
+                self.is_unknown = true;
+                self.fields = owned(all_forms(self.alloc, names))?;
+            }
+            Some(name) if !name.aliases.is_empty() => {
+                self.key = KeyPlace { at: self.at, span };
+                self.forms = owned(forms_of(self.alloc, name))?;
+            }
+            Some(_) => {}
+        }
+        Ok(())
     }
 
     fn wanted(&self, expected: Expected, found: Content<'_>) -> Stop<Misread>
@@ -187,6 +230,7 @@ impl<'p, 'v> Reader<'p, 'v> {
         ensures text { IfOk result (λ text. TakesPiece (IsText text.now) (ahead self.old) (ahead self.new)) }
         ensures misses { IfErr result (IsMisread (Misses IsAnyText expected (ahead self.old)) self.old.next) }
         ensures notes { (self.new.variant ≡ self.old.variant) × (self.new.is_unknown ≡ false) }
+        ensures kept { kept self.new ≡ kept self.old }
     {
         match self.take()?.content {
             Content::Text(text) | Content::Key(text) => Ok(text),
@@ -232,7 +276,7 @@ impl Format for Reader<'_, '_> {
         let number = self.integer()?;
         match u64::try_from(number) {
             Ok(number) => Ok(number),
-            Err(_) => Err(self.invalid()),
+            Err(_) => Err(self.misread(Reason::Negative)),
         }
     }
 
@@ -244,7 +288,7 @@ impl Format for Reader<'_, '_> {
         let number = self.integer()?;
         match u128::try_from(number) {
             Ok(number) => Ok(number),
-            Err(_) => Err(self.invalid()),
+            Err(_) => Err(self.misread(Reason::Negative)),
         }
     }
 
@@ -359,11 +403,16 @@ impl Format for Reader<'_, '_> {
             (λ at. Picks (ahead self.old) true names.now at (ahead self.new))) }
         ensures notes { IfOk result (λ o. (self.new.at ≡ self.old.next) × (self.new.variant ≡ self.old.variant)
             × (self.new.is_unknown ≡ is_unknown o (length names.now))) }
+        ensures fields { IfOk result (λ o. fields self.new ≡ held_by names.now o (fields self.old)) }
+        ensures twin { IfOk result (λ o. (p : Laid) (rest : List Laid) → ahead self.old ≡ p ∷ rest → twin self.new
+            ≡ twin_behind (option_and_then (slice_get names.now) o) (self.old.next, p.span) (twin self.old)) }
+        ensures variants { variants self.new ≡ variants self.old }
     {
-        match self.take()?.content {
+        let Piece { content, span } = self.take()?;
+        match content {
             Content::Key(key) => {
                 let found = find(names, key);
-                self.is_unknown = found >= names.len();
+                self.note_key(span, names, found)?;
                 Ok(Some(found))
             }
             Content::TableEnds => Ok(None),
@@ -385,6 +434,8 @@ impl Format for Reader<'_, '_> {
     fn variant(&mut self, _input: &[u8], names: &[Name<'_>]) -> Result<usize, Stop<Misread>>
         ensures picks { IfOk result (λ at. Picks (ahead self.old) false names.now at (ahead self.new)) }
         ensures notes { OnOk result ((self.new.variant ≡ self.old.next) × (self.new.is_unknown ≡ false)) }
+        ensures variants { IfOk result (λ at. ¬ AsksStart names.now → ¬ AsksEnd names.now
+            → variants self.new ≡ held names.now at (variants self.old)) }
     {
         self.variant = self.next;
         if let [name] = names {
@@ -395,7 +446,12 @@ impl Format for Reader<'_, '_> {
             }
         }
         let text = self.text(Expected::Variant)?;
-        Ok(find(names, text))
+        let found = find(names, text);
+        if found < names.len() {
+            return Ok(found);
+        }
+        self.variants = owned(all_forms(self.alloc, names))?;
+        Ok(found)
     }
 
     /// Passes a whole value, or a key.
@@ -404,7 +460,7 @@ impl Format for Reader<'_, '_> {
             → IsOk result × (ahead self.new ≡ rest) }
         ensures single { (p : Laid) (rest : List Laid) → ahead self.old ≡ p ∷ rest → ¬ IsOpening p.content
             → IsOk result × (ahead self.new ≡ rest) }
-        ensures notes { self.new.variant ≡ self.old.variant }
+        ensures notes { (self.new.variant ≡ self.old.variant) × (variants self.new ≡ variants self.old) }
     {
         self.look()?;
         match count_value(&self.pieces[self.next..]) {
@@ -443,45 +499,76 @@ impl Format for Reader<'_, '_> {
     fn missing(&self, name: &str) -> Stop<Misread>
         ensures { IsMisread (Says is.MissingField name.now) self.now.at result }
     {
-        self.told(TextReason::MissingField, name)
+        match String::from_str(self.alloc, name) {
+            Ok(name) => Stop::Fault(Misread {
+                reason: Reason::MissingField(name),
+                at: self.at,
+            }),
+            Err(e) => Stop::Memory(e),
+        }
     }
 
+    /// Two keys of a table name a field only where one of them is an alias.
     fn duplicate(&self, name: &str) -> Stop<Misread>
-        ensures { IsMisread (Says is.DuplicateField name.now) self.now.at result }
+        ensures { IsMisread (Says (λ s. is.DuplicateField s (twice self.now).1) name.now) (twice self.now).0 result }
     {
-        self.told(TextReason::DuplicateField, name)
+        let (at, first) = self.twice();
+        match String::from_str(self.alloc, name) {
+            Ok(name) => Stop::Fault(Misread {
+                reason: Reason::DuplicateField { name, first },
+                at,
+            }),
+            Err(e) => Stop::Memory(e),
+        }
     }
 
     fn unknown_key(&self) -> Stop<Misread>
-        ensures { IsMisread (Says is.UnknownField (told_text_in (slice_get (laid self.now) self.now.at)))
-            self.now.at result }
+        ensures { IsMisread (Lists is.UnknownField (told_text_in (slice_get (laid self.now) self.now.at))
+            (fields self.now)) self.now.at result }
     {
-        self.told_of(self.at, TextReason::UnknownField)
+        match self.named(self.at, self.fields.as_slice()) {
+            Ok((name, expected)) => Stop::Fault(Misread {
+                reason: Reason::UnknownField { name, expected },
+                at: self.at,
+            }),
+            Err(e) => Stop::Memory(e),
+        }
     }
 
-    /// A tag is held against the names before its table is read again, so its place is kept.
+    /// A tag is held against the names before its table is read again, so its place is kept, and so are they.
     fn unknown_variant(&self) -> Stop<Misread>
-        ensures { IsMisread (Says is.UnknownVariant (told_text_in (slice_get (laid self.now) (variant_place self.now))))
+        ensures { IsMisread (Lists is.UnknownVariant
+            (told_text_in (slice_get (laid self.now) (variant_place self.now))) (variant_names self.now))
             (variant_place self.now) result }
     {
-        self.told_of(self.variant_place(), TextReason::UnknownVariant)
+        let at = self.variant_place();
+        match self.named(at, self.variant_names()) {
+            Ok((name, expected)) => Stop::Fault(Misread {
+                reason: Reason::UnknownVariant { name, expected },
+                at,
+            }),
+            Err(e) => Stop::Memory(e),
+        }
     }
 
+    /// Where the array has ended, it was read whole, and else it has more elements than the type.
     fn wrong_len(&self) -> Stop<Misread>
-        ensures { IsMisread (λ why. why ≡ is.Length) self.now.at result }
+        ensures { IsMisread (λ why. why ≡ length_reason self.now) self.now.at result }
     {
-        self.misread(Reason::Length)
+        match elements_in(self.alloc, self.before(self.at)) {
+            Ok(count) if self.at < self.next => self.misread(Reason::Length(count)),
+            Ok(count) => self.misread(Reason::TooLong(count)),
+            Err(e) => Stop::Memory(e),
+        }
     }
 
-    /// An integer that was read is out of the type's range. One that was only looked at is no unit.
+    /// An integer that was read is out of the type's range. What was only looked at is of no kind that it reads.
     fn invalid(&self) -> Stop<Misread>
         ensures { IsMisread (λ why. why ≡ invalid_reason self.now) self.now.at result }
     {
-        if self.at >= self.next {
-            return self.misread(Reason::Invalid);
-        }
         match self.pieces.get(self.at) {
-            Some(piece) => self.misread(piece.content.refusal()),
+            Some(piece) if self.at < self.next => self.misread(piece.content.refusal()),
+            Some(piece) => self.misread(Reason::Unexpected(piece.content.kind())),
             None => self.misread(Reason::Invalid),
         }
     }
@@ -495,6 +582,22 @@ impl Format for Reader<'_, '_> {
     fn custom(&self, message: &str) -> Stop<Misread>
         ensures { IsMisread (Says is.Custom message.now) self.now.at result }
     {
-        self.told(TextReason::Custom, message)
+        match String::from_str(self.alloc, message) {
+            Ok(message) => Stop::Fault(Misread {
+                reason: Reason::Custom(message),
+                at: self.at,
+            }),
+            Err(e) => Stop::Memory(e),
+        }
+    }
+}
+
+/// Names, or want of memory as a reader tells it.
+fn owned(names: Result<Vec<String>, AllocError>) -> Result<Vec<String>, Stop<Misread>>
+    ensures { IfOk result (λ all. names ≡ Ok all) }
+{
+    match names {
+        Ok(names) => Ok(names),
+        Err(e) => Err(Stop::Memory(e)),
     }
 }

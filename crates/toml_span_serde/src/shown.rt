@@ -1,14 +1,16 @@
 //! Errors as people read them.
-ghost use Rattle.std.specs.Prelude.{IfOk, string_bytes};
-ghost use Rattle.toml_span_serde.specs.Shown.{IsErrorText};
+ghost use Rattle.std.specs.Prelude.{◌≡◌, IfOk, option_map, string_bytes};
+ghost use Rattle.toml_span_report.specs.Report.{report_content};
+ghost use Rattle.toml_span_serde.specs.Shown.{IsErrorText, IsMisfitText, with_meant};
 
-use crate::misfit::Error;
+use crate::misfit::{Error, Misfit};
 use std::alloc::{AllocError, Global};
 use toml_span_lex::stop::Stop;
-use toml_span_report::{Style, render_error};
+use toml_span_report::{Report, Style, render, render_error};
 
 /// The text that shows why `from_str` read nothing: a message, the line at which the read stopped, and marks
-/// under it. `style` is that of the report, `name` that of the file. Want of memory has no such text, and comes back.
+/// under it, and of a name that is not known the one that may be meant. `style` is that of the report, `name` that of
+/// the file. Want of memory has no such text, and comes back.
 pub fn render_stop(
     alloc: Global,
     style: Style,
@@ -21,8 +23,36 @@ pub fn render_stop(
     match stop {
         Stop::Memory(e) => Err(e),
         Stop::Fault(Error::Refused(error)) => render_error(alloc, style, &error, name, text),
-        Stop::Fault(Error::Misfit(misfit)) => {
-            render_error(alloc, style, &misfit.to_error(alloc)?, name, text)
+        Stop::Fault(Error::Misfit(misfit)) => render_misfit(alloc, style, &misfit, name, text),
+    }
+}
+
+/// The text of a misfit.
+fn render_misfit(
+    alloc: Global,
+    style: Style,
+    misfit: &Misfit,
+    name: &str,
+    text: &str,
+) -> Result<String, AllocError>
+    ensures { IfOk result (λ out. IsMisfitText style misfit.now name.now text.now (string_bytes out)) }
+{
+    let error = misfit.to_error(alloc)?;
+    let report = Report::from_error(alloc, &error, text)?;
+    let report = helped(alloc, misfit.reason.meant(alloc)?, report)?;
+    render(alloc, style, &report, name, text)
+}
+
+/// The report with help that tells the name which may be meant.
+fn helped(alloc: Global, meant: Option<&str>, report: Report) -> Result<Report, AllocError>
+    ensures { IfOk result (λ made. report_content made
+        ≡ with_meant (option_map (λ name. name.now) meant.entry) (report_content report)) }
+{
+    match meant {
+        Some(name) => {
+            let help = format!(in alloc; "did you mean `{name}`?")?;
+            report.help(help.as_str())
         }
+        None => Ok(report),
     }
 }

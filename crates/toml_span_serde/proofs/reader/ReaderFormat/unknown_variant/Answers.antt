@@ -1,10 +1,18 @@
-use Rattle.std.proofs.Common.{slice_get, subst}
+use Rattle.std.proofs.Common.{◌∙◌, ap, refl, slice_get}
 use Rattle.toml_span_serde.specs.Ahead.{laid}
-use Rattle.toml_span_serde.specs.Misreads.{Says, IsMisread, told_text_in}
-use Rattle.toml_span_serde.specs.declared.misfit.Reason.TheVariants as is
+use Rattle.toml_span_serde.specs.Misreads.{told_text_in}
 use Rattle.toml_span_serde.proofs.reader.ReaderFormat.unknown_variant.Goals as goal
 
-pub returns : goal.returns
-returns c =
-    subst (λ at. IsMisread (Says is.UnknownVariant (told_text_in (slice_get (laid c.args.self.now) at))) at c.told_of.result)
-    c.variant_place.ensures c.told_of.ensures
+pub returns-in-Ok : goal.returns-in-Ok
+returns-in-Ok c =
+    let told = c.in-Ok.ensures in
+    let place = c.variant_place-at.ensures in (
+      (
+        c.in-Ok.name,
+        c.in-Ok.expected,
+        refl,
+        told.0 ∙ ap (λ at. told_text_in (slice_get (laid c.args.self.now) at)) place,
+        told.1 ∙ c.variant_names.ensures,
+      ),
+      place,
+    )

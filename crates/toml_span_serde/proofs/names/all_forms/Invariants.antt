@@ -1,0 +1,7 @@
+use Rattle.std.proofs.Common.{◌≡◌, map, take, string_bytes}
+use Rattle.std.specs.List.{flat_map}
+use Rattle.toml_span_serde.specs.Names.{forms_read}
+use Rattle.toml_span_serde.proofs.names.all_forms.Given as goal
+
+abbrev pub invariant-loop-name : goal.invariant-loop-name
+invariant-loop-name l = map string_bytes l.texts.items ≡ flat_map forms_read (take l.name-index l.names)
