@@ -132,7 +132,8 @@ pub record Told (format : Format) (task : Task) (pointer : List ℕ) (names : Li
 abbrev pub Shows : Task → Type 0
 Shows task = (form : Form) × (task ≡ Show form)
 
--- The first files were read, all of them where faults are told, and the first bytes of what is told of them were written.
+-- The first files were read, all of them where faults are told, and the first bytes of what is told of them were
+-- written.
 pub record TellsFirst (format : Format) (task : Task) (pointer : List ℕ) (files : List (List ℕ))
     (old new : Option Asked) (told told' : Option (List ℕ)) : Type 0 where
   pub first : List (List ℕ)

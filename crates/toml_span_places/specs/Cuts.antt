@@ -12,4 +12,5 @@ replaced text with from (s ∷ ss) = slice_range text from s.start ++ (with ++ r
 abbrev pub AreParts : List ℕ → ℕ → List Span → Type 0
 AreParts text from [] = IsCharBoundary text from
 AreParts text from (s ∷ ss) =
-    IsCharBoundary text from × IsCharBoundary text s.start × (from ≤ s.start) × (s.start ≤ s.end) × AreParts text s.end ss
+    IsCharBoundary text from × IsCharBoundary text s.start × (from ≤ s.start) × (s.start ≤ s.end)
+    × AreParts text s.end ss

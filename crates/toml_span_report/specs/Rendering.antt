@@ -1,8 +1,9 @@
 -- The text of a report.
 use Rattle.std.specs.Prelude.{ℕ, ◌-◌, max, Bool, true, false, nat_lt, nat_le, List, [], ◌∷◌, ◌++◌, codes, length}
-use Rattle.std.specs.Prelude.{Option, Some, None, if◌then◌else◌, replicate, take}
+use Rattle.std.specs.Prelude.{Option, Some, None, if◌then◌else◌, replicate, take, nat_eq}
 use Rattle.std.specs.Fmt.{decimal}
-use Rattle.std.specs.List.{fold, flat_map}
+use Rattle.std.specs.List.{fold, flat_map, starts_with}
+use Rattle.std.specs.Str.{trim_start}
 use Rattle.toml_span_report.specs.Characters.{shown, columns}
 use Rattle.toml_span_report.specs.Colours.{painted}
 use Rattle.toml_span_report.specs.Places.{place}
@@ -167,10 +168,14 @@ grade Error = []
 grade Warning = codes "warning: "
 grade Note = codes "note: "
 
+-- before a name that begins like a command of GitHub's workflows, so that no line does
+abbrev pub unlike_command : List ℕ → List ℕ
+unlike_command name = if starts_with nat_eq (trim_start name) (codes "::") then codes "./" else []
+
 -- one line: `name:line:column: code: message`, with `warning: ` or `note: ` before the code
 abbrev pub brief : ReportContent → List ℕ → List MarkedLine → List ℕ
 brief r name parts =
-    told name ++ place_told (main_part parts) ++ codes ": " ++ grade r.severity
+    unlike_command name ++ told name ++ place_told (main_part parts) ++ codes ": " ++ grade r.severity
     ++ before (codes ": ") (told r.code) ++ told r.message ++ codes "\n"
 
 abbrev pub report_line : ReportContent → List ℕ → List ℕ → List ℕ

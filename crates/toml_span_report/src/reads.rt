@@ -29,8 +29,8 @@ fn push_warnings(
     Ok(())
 }
 
-/// The reports of the warnings of a read, and of its errors where it failed, each in their order, for `render_all`. Want
-/// of memory, of the read too, comes back.
+/// The reports of the warnings of a read, and of its errors where it failed, each in their order, for `render_all`.
+/// Want of memory, of the read too, comes back.
 pub fn reports_of<T>(
     alloc: Global,
     read: &Result<T, Stop<DeserError<'_>>>,

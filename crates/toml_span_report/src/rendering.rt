@@ -442,6 +442,17 @@ fn grade(severity: Severity) -> &'static str
     }
 }
 
+/// What stands before a name that begins like a command of GitHub's workflows, so that no line does.
+fn unlike_command(name: &str) -> &'static str
+    ensures { result.now ≡ spec.unlike_command name.now }
+{
+    if name.trim_start().as_bytes().starts_with(b"::") {
+        "./"
+    } else {
+        ""
+    }
+}
+
 /// The one line for strips.
 fn brief(
     alloc: Global,
@@ -452,7 +463,7 @@ fn brief(
     ensures { IfOk result (λ out. string_bytes out
         ≡ spec.brief (report_content report.now) name.now (map marked_line_of strips.now)) }
 {
-    let mut out = String::new(alloc);
+    let mut out = String::from_str(alloc, unlike_command(name))?;
     push_told(&mut out, name)?;
     push_place(&mut out, main_strip(strips))?;
     out.push_str(": ")?;
@@ -466,7 +477,8 @@ fn brief(
 
 /// The one line `name:line:column: code: message` that tells a report on this text, which editors read, with
 /// `warning: ` or `note: ` before the code where it is no error. The place is that of `render`, and is left out where
-/// there is no label, as the code is where it is empty. Only want of memory is refused.
+/// there is no label, as the code is where it is empty. Before a name that begins with `::`, as commands of GitHub's
+/// workflows do, stands `./`. Only want of memory is refused.
 pub fn render_line(
     alloc: Global,
     report: &Report,

@@ -13,8 +13,8 @@ use std::fmt::{Display, Formatter, Write};
 use toml_span_lex::stop::Stop;
 use toml_span_typed::DeserError;
 
-/// Why a text was not read. It owns what it tells, so it outlives the text, from which a `DeserError` borrows: a function
-/// that reads a file and lets its text go can return it.
+/// Why a text was not read. It owns what it tells, so it outlives the text, from which a `DeserError` borrows: a
+/// function that reads a file and lets its text go can return it.
 #[derive(Debug, Drop)]
 pub struct Reported {
     /// The reports of the errors, in their order.
@@ -24,8 +24,8 @@ pub struct Reported {
 }
 
 impl Reported {
-    /// The reports of all errors for which `from_str` read nothing, and the text that `render_stop` gives. Want of memory
-    /// has no report, and comes back.
+    /// The reports of all errors for which `from_str` read nothing, and the text that `render_stop` gives. Want of
+    /// memory has no report, and comes back.
     pub fn of(
         alloc: Global,
         style: Style,

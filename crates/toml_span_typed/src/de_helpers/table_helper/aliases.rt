@@ -2,8 +2,8 @@
 ghost use Rattle.std.specs.Prelude.{◌≡◌, ◌+◌, ◌≤◌, [], ◌∷◌, ◌++◌, IfOk, IfSome, IsTrue, OnOk, Some, map, option_map};
 ghost use Rattle.toml_span_tree.specs.Error.{content_of};
 ghost use Rattle.toml_span_tree.specs.Value.{is_whole, view};
-ghost use Rattle.toml_span_typed.specs.Aliases.{AsksEither, ReadsMoved, TriesEither, again, asked_both, either, lacks, older};
-ghost use Rattle.toml_span_typed.specs.Aliases.{outdated, outdated_at, twice};
+ghost use Rattle.toml_span_typed.specs.Aliases.{AsksEither, ReadsMoved, TriesEither, again, asked_both, either};
+ghost use Rattle.toml_span_typed.specs.Aliases.{lacks, older, outdated, outdated_at, twice};
 ghost use Rattle.toml_span_typed.specs.Fields.{kept, lacking};
 ghost use Rattle.toml_span_typed.specs.TableHelper.{AllWhole, noted, state_of};
 
