@@ -10,7 +10,7 @@
  * threads may call it at once, and the records stay good as long as the caller keeps its own arrays and the text.
  *
  * - No pointer may be null, also where its length or room is 0, and none of the arrays may overlap.
- * - A call takes up to 1 MB of stack. It must not be made from a signal handler.
+ * - A call takes less than 512 KB of stack. It must not be made from a signal handler.
  * - Offsets are in bytes of the text and count from 0; an end is exclusive. Lines and columns count from 0 too, and a
  *   column is in bytes.
  * - It runs on x86-64 processors of the level x86-64-v2 or above (any since about 2009).

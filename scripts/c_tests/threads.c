@@ -7,7 +7,7 @@
 #include <stdlib.h>
 #include <string.h>
 
-enum { THREADS = 8, ROUNDS = 50, ROOM = 4096, STACK = 1 << 20 };
+enum { THREADS = 8, ROUNDS = 50, ROOM = 4096, STACK = 1 << 20, MOST = 1 << 19 };
 
 typedef struct {
     const char *text;
@@ -73,6 +73,14 @@ static size_t stack_of(const char *text) {
     return one.status == TOML_SPAN_READ ? STACK - low : STACK;
 }
 
+/* Writes a header of as many parts as may be, and the front of an assignment. */
+static char *header(char *text) {
+    char *end = text;
+    *end++ = '[';
+    for (int level = 0; level < 127; level++) end += sprintf(end, "a.");
+    return end + sprintf(end, "a]\nb=");
+}
+
 int main(int argc, char **argv) {
     static char text[1 << 16];
     int right = 0;
@@ -83,23 +91,23 @@ int main(int argc, char **argv) {
         fclose(file);
         right += same_everywhere(text, length);
     }
-    /* as deep as a value may be: arrays in arrays, and inline tables below a header and a dotted key */
-    char *end = text;
-    end += sprintf(end, "a=");
+    /* as deep as a value may be: arrays in arrays, and inline tables or a dotted key below a header */
+    char *end = text + sprintf(text, "a=");
     for (int level = 0; level < 126; level++) *end++ = '[';
     for (int level = 0; level < 126; level++) *end++ = ']';
     *end = 0;
     size_t arrays = stack_of(text);
-    end = text;
-    *end++ = '[';
-    for (int level = 0; level < 127; level++) end += sprintf(end, "a.");
-    end += sprintf(end, "a]\nb=");
+    end = header(text);
     for (int level = 0; level < 63; level++) end += sprintf(end, "{a=");
     end += sprintf(end, "1");
     for (int level = 0; level < 63; level++) *end++ = '}';
     *end = 0;
     size_t tables = stack_of(text);
-    printf("threads: %d of %d documents the same in %d threads; the deepest take %zu and %zu bytes of stack\n", right,
-           argc - 1, THREADS, arrays, tables);
-    return right != argc - 1 || arrays > STACK / 4 * 3 || tables > STACK / 4 * 3;
+    end = header(text) - strlen("b=");
+    for (int level = 0; level < 127; level++) end += sprintf(end, "b.");
+    sprintf(end, "b=1");
+    size_t dotted = stack_of(text);
+    printf("threads: %d of %d documents the same in %d threads; the deepest take %zu, %zu and %zu bytes of stack\n",
+           right, argc - 1, THREADS, arrays, tables, dotted);
+    return right != argc - 1 || arrays > MOST || tables > MOST || dotted > MOST;
 }

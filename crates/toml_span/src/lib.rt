@@ -22,7 +22,9 @@ pub use toml_span_typed::{
 
 /// Typed reads of a table's fields.
 pub mod de_helpers {
-    pub use toml_span_typed::de_helpers::{TableHelper, Unfinished, expected, parse, parsed};
+    pub use toml_span_typed::de_helpers::{
+        TableHelper, Unfinished, expected, parse, parse_with, parsed,
+    };
 }
 
 /// Places in a text.

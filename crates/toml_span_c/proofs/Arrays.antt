@@ -10,17 +10,6 @@ laid-none (suc at) [] = refl
 laid-none zero (y ∷ ys) = refl
 laid-none (suc at) (y ∷ ys) = ap (λ l. y ∷ l) (laid-none at ys)
 
-pub length-laid : {A : Type 0} (at : ℕ) (xs ys : List A) → length (laid at xs ys) ≡ length ys
-length-laid zero xs [] = refl
-length-laid (suc at) xs [] = refl
-length-laid zero [] (y ∷ ys) = refl
-length-laid zero (x ∷ xs) (y ∷ ys) = ap (λ n. suc n) (length-laid zero xs ys)
-length-laid (suc at) xs (y ∷ ys) = ap (λ n. suc n) (length-laid at xs ys)
-
-laid-empty : {A : Type 0} (at : ℕ) (xs : List A) → laid at xs [] ≡ []
-laid-empty zero xs = refl
-laid-empty (suc at) xs = refl
-
 -- one list behind the other
 pub laid-append : {A : Type 0} (at n : ℕ) (xs zs ys : List A) → n ≡ at + length xs → laid n zs (laid at xs ys) ≡ laid at (xs ++ zs) ys
 laid-append zero zero xs zs [] e = refl

@@ -1,5 +1,5 @@
 -- What a tree costs, by its names and by what stands in it, it costs by its claims too.
-use Rattle.std.proofs.Common.{◌≡◌, ◌≤◌, ◌<◌, ◌+◌, ℕ, suc, false, List, [], ◌∷◌, ◌++◌, length, Option, Some, None, option_map, refl, sym, ap, subst, ◌∙◌, inl, inr, arith}
+use Rattle.std.proofs.Common.{◌≡◌, ◌≤◌, ◌<◌, ◌+◌, ℕ, suc, false, List, [], ◌∷◌, ◌++◌, Option, Some, None, option_map, refl, sym, ap, subst, ◌∙◌, inl, inr, arith}
 use Rattle.std.specs.Prelude.{option_and_then}
 use Rattle.std.specs.Str.{bytes_eq}
 use Rattle.std.proofs.Common.{nat_eq}
@@ -49,11 +49,6 @@ abbrev pub place_cost : Cost → ℕ → Path → Place → ℕ
 place_cost c e [] x = e + c.shape x.shape
 place_cost c e (key name ∷ p) x = place_cost c (c.name name) p x
 place_cost c e (position i ∷ p) x = place_cost c 0 p x
-
--- what a step costs
-abbrev pub step_cost : Cost → Step → ℕ
-step_cost c (key name) = c.name name
-step_cost c (position i) = 0
 
 -- what a path finds behind a step
 abbrev found : Path → Option (Option Span × Node) → Option Place

@@ -1,11 +1,10 @@
 -- What values hold.
-use Rattle.std.proofs.Common.{◌≡◌, ◌<◌, ◌*◌, ℕ, suc, List, [], ◌∷◌, Some, None, length, refl, ap, arith}
+use Rattle.std.proofs.Common.{◌≡◌, ℕ, suc, List, [], ◌∷◌, Some, None, length, refl, ap}
 use Rattle.std.proofs.lemmas.Option.{none-some, same_Some}
 use Rattle.toml_span_lex.specs.declared.key.Key.{Key}
 use Rattle.toml_span_tree.specs.Node.{Node, node, Inner, taken, scalar, array, table, Items, Members}
 use Rattle.toml_span_tree.specs.Value.{inner_of, span_of, items_in, members_in, items_view, members_view}
 use Rattle.toml_span_tree.specs.declared.value.Value.{Value}
-use Rattle.toml_span_tree.proofs.Sizes.{node_size, inner_size, items_size, members_size}
 use Rattle.toml_span_c.specs.Records.{items_count, members_count, held_entries, items_entries, members_entries}
 
 -- how many values are held
@@ -35,22 +34,6 @@ held-nothing k taken h g = refl
 held-nothing k (scalar s) h g = refl
 held-nothing k (array ns) h g = cc
 held-nothing k (table ms) h g = cc
-
--- what is held is smaller
-pub smaller-items : (i : Inner) (ns : Items) → items_in i ≡ Some ns → suc (2 * items_size ns) < suc (2 * inner_size i)
-smaller-items taken ns h = absurd (none-some ns h)
-smaller-items (scalar s) ns h = absurd (none-some ns h)
-smaller-items (array ms) ns h = let same = ap items_size (same_Some ms ns h) in omega (arith, same)
-smaller-items (table ms) ns h = absurd (none-some ns h)
-
-pub smaller-members : (i : Inner) (ms : Members) → members_in i ≡ Some ms → suc (2 * members_size ms) < suc (2 * inner_size i)
-smaller-members taken ms h = absurd (none-some ms h)
-smaller-members (scalar s) ms h = absurd (none-some ms h)
-smaller-members (array ns) ms h = absurd (none-some ms h)
-smaller-members (table ns) ms h = let same = ap members_size (same_Some ns ms h) in omega (arith, same)
-
-pub smaller-inner : (n : Node) → suc (2 * inner_size (inner_of n)) < 2 * node_size n
-smaller-inner (node i span) = omega arith
 
 pub node-whole : (n : Node) → n ≡ node (inner_of n) (span_of n)
 node-whole (node i span) = refl

@@ -97,8 +97,7 @@ pub upto-next : (format : Format) (task : Task) (pointer : List ℕ) (names more
     (c ≡ b) ⊎ Shows task → Adds format task pointer name reading t (text, u.1, u.2, u.3) → HoldsRest b c text u.0 →
     Upto format task pointer more old new a c u
 upto-next format task pointer names more name old mid new reading a b c t u text before n l kept adds holds =
-    let h = before.1.2 in
-    (
+    let h = before.1.2 in (
       shows-next task a b c before.0 kept,
       (
         h.0 ++ text,
@@ -134,18 +133,24 @@ first-upto : (format : Format) (task : Task) (pointer : List ℕ) (names rest fi
     Upto format task pointer names old new a b t → files ≡ names ++ rest → (b ≡ a) ⊎ (Shows task × ((last : Option Asked) × TellsFirst format task pointer files old last a b))
 first-upto format task pointer names rest files old new a b t (inl same, told) parts = inl same
 first-upto format task pointer names rest files old new a b t (inr shows, told) parts =
-    inr (shows, (new, record {
-      first = names;
-      rest = rest;
-      parts = parts;
-      whole = inl shows;
-      out = told.0;
-      complaints = t.1;
-      status = t.2;
-      wrong = t.3;
-      tells = told.1;
-      written = front-written a b told.0 t.0 told.2;
-    }))
+    inr (
+      shows,
+      (
+        new,
+        record {
+          first = names;
+          rest = rest;
+          parts = parts;
+          whole = inl shows;
+          out = told.0;
+          complaints = t.1;
+          status = t.2;
+          wrong = t.3;
+          tells = told.1;
+          written = front-written a b told.0 t.0 told.2;
+        },
+      ),
+    )
 
 -- memory is refused between two files
 pub stops-reading : (format : Format) (task : Task) (pointer : List ℕ) (names rest files : List (List ℕ)) (old mid new : Option Asked) (a b : Option (List ℕ)) (t : TextsOf) (failed : Bool) (r : Result Telling Unwritten) →
@@ -163,9 +168,11 @@ stops-with format task pointer names more rest files name old mid new reading a 
 stops-with format task pointer names more rest files name old mid new reading a b c t u failed Memory before n parts l (good, inr begun) =
     (good, inr (begun.0, (new, first-more format task pointer names more rest files name old mid new reading a b c t before n parts l begun)))
 stops-with format task pointer names more rest files name old mid new reading a b c t u failed Memory before n parts l (good, inl same) =
-    let all : files ≡ names ++ (name ∷ [] ++ rest) = parts ∙ ap (λ m. m ++ rest) n ∙ append_assoc names (name ∷ []) rest in
-    (good, subst (λ (o : Option (List ℕ)). (o ≡ a) ⊎ (Shows task × ((last : Option Asked) × TellsFirst format task pointer files old last a o))) (sym same)
-    (first-upto format task pointer names (name ∷ [] ++ rest) files old mid a b t before all))
+    let all : files ≡ names ++ (name ∷ [] ++ rest) = parts ∙ ap (λ m. m ++ rest) n ∙ append_assoc names (name ∷ []) rest in (
+      good,
+      subst (λ (o : Option (List ℕ)). (o ≡ a) ⊎ (Shows task × ((last : Option Asked) × TellsFirst format task pointer files old last a o))) (sym same)
+          (first-upto format task pointer names (name ∷ [] ++ rest) files old mid a b t before all),
+    )
 
 pub stops-telling : (format : Format) (task : Task) (pointer : List ℕ) (names more rest files : List (List ℕ)) (name : List ℕ) (old mid new : Option Asked) (reading : Result (List ℕ) (List ℕ)) (a b c : Option (List ℕ)) (t u : TextsOf) (failed : Bool) (e : Unwritten) (r : Result Telling Unwritten) →
     Upto format task pointer names old mid a b t → more ≡ names ++ name ∷ [] → files ≡ more ++ rest → Logs mid new ((name, reading) ∷ []) →

@@ -1,14 +1,12 @@
--- One more element, entry or label of a walk.
+-- One more element or entry of a walk.
 use Rattle.std.proofs.Common.{ℕ, ◌+◌, ◌<◌, ◌≡◌, refl, List, ◌∷◌, ◌++◌, codes, map, drop, length, get_or, sym, ap, ◌∙◌, append_assoc, Bool, true}
 use Rattle.std.proofs.lemmas.List.{drop_more}
 use Rattle.std.specs.Cow.{cow_str_bytes}
-use Rattle.toml_span_check.specs.Visible.{quoted}
+use Rattle.toml_span_report.specs.Visible.{quoted}
 use Rattle.toml_span_lex.specs.declared.key.Key.{Key}
 use Rattle.toml_span_tree.specs.declared.value.Value.{Value}
-use Rattle.toml_span_report.specs.Report.{Place}
 use Rattle.toml_span_tree.specs.Node.{Node, node, taken, scalar, array, table}
 use Rattle.toml_span_tree.specs.Value.{view, items_view, members_view, is_taken}
-use Rattle.toml_span_check.specs.Faults.{label_json, labels_json}
 use Rattle.toml_span_check.specs.Shown.{shown, items_shown, members_shown, comma_if}
 
 -- a value that is taken
@@ -51,19 +49,3 @@ members_shown-next t later es rest key value out comma name colon after all spli
     let whole : after ≡ out ++ comma_if later ++ title ++ codes ":" ++ mine =
     step ∙ ap (λ o. o ++ mine) (third ∙ ap (λ o. o ++ codes ":") (second ∙ ap (λ o. o ++ title) first)) in
     ap (λ o. o ++ last) whole ∙ (simp append_assoc) ∙ opened
-
--- the text of the labels from one on
-pub labels_json-next : {X : Type 0} (f : X → Place) (text : List ℕ) (later : Bool) (i : ℕ) (xs : List X) (x : X) (out comma after all : List ℕ) →
-    i < length xs → get_or xs i x ≡ x →
-    out ++ labels_json text later (map f (drop i xs)) ≡ all →
-    comma ≡ out ++ comma_if later →
-    after ≡ comma ++ label_json text (f x) →
-    after ++ labels_json text true (map f (drop (i + 1) xs)) ≡ all
-labels_json-next f text later i xs x out comma after all below here before first step =
-    let split : drop i xs ≡ x ∷ drop (i + 1) xs = drop_more xs i x below ∙ ap (λ y. y ∷ drop (i + 1) xs) here in
-    let rest = labels_json text true (map f (drop (i + 1) xs)) in
-    let mine = label_json text (f x) in
-    let opened : out ++ (comma_if later ++ mine ++ rest) ≡ all = ap (λ l. out ++ labels_json text later (map f l)) (sym split) ∙ before in
-    let joined : after ++ rest ≡ (out ++ comma_if later ++ mine) ++ rest = ap (λ o. o ++ rest) (step ∙ ap (λ o. o ++ mine) first) in
-    joined ∙ append_assoc (out ++ comma_if later) mine rest ∙ append_assoc out (comma_if later) (mine ++ rest)
-    ∙ ap (λ o. out ++ o) (sym (append_assoc (comma_if later) mine rest)) ∙ opened

@@ -6,6 +6,5 @@ pub mod Options
 pub mod Run
 pub mod Shown
 pub mod Start
-pub mod Visible
 pub mod Words
 pub mod code

@@ -9,7 +9,7 @@ use Rattle.std.specs.declared.io.ErrorKind.{ErrorKind}
 use Rattle.std.specs.declared.io.ErrorKind.TheVariants as kind
 use Rattle.toml_span_lines.specs.Run.{HasRead, HasReadAll, HasWritten}
 use Rattle.toml_span_check.specs.Answer.{IsAnswer}
-use Rattle.toml_span_check.specs.Visible.{visible}
+use Rattle.toml_span_report.specs.Visible.{visible}
 use Rattle.toml_span_check.specs.Words.{shown_word}
 use Rattle.toml_span_check.specs.declared.answer.Form.{Form}
 use Rattle.toml_span_check.specs.declared.answer.Task.{Task}
@@ -123,7 +123,8 @@ pub record Told (format : Format) (task : Task) (pointer : List ℕ) (names : Li
 abbrev pub Shows : Task → Type 0
 Shows task = (form : Form) × (task ≡ Show form)
 
--- The first files were read, all of them where faults are told, and the first bytes of what is told of them were written.
+-- The first files were read, all of them where faults are told, and the first bytes of what is told of them were
+-- written.
 pub record TellsFirst (format : Format) (task : Task) (pointer : List ℕ) (files : List (List ℕ))
     (old new : Option Asked) (told told' : Option (List ℕ)) : Type 0 where
   pub first : List (List ℕ)

@@ -1,7 +1,7 @@
 -- The JSON text that is shown of a tree: as it is, or with the type of each scalar, as toml-test reads it.
 use Rattle.std.specs.Prelude.{ℕ, Bool, true, false, List, [], ◌++◌, codes, if◌then◌else◌}
 use Rattle.std.specs.Fmt.{signed_decimal}
-use Rattle.toml_span_check.specs.Visible.{quoted}
+use Rattle.toml_span_report.specs.Visible.{quoted}
 use Rattle.toml_span_tree.specs.Float.{float_text}
 use Rattle.toml_span_tree.specs.Node.{Scalar, text, integer, float, boolean, datetime, Node, node, Inner, taken, scalar}
 use Rattle.toml_span_tree.specs.Node.{array, table, Items, no_items, item, Members, no_members, member}

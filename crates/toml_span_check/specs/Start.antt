@@ -6,7 +6,7 @@ use Rattle.clap.specs.declared.error.kind.ErrorKind.{ErrorKind}
 use Rattle.clap.specs.declared.error.kind.ErrorKind.TheVariants.{DisplayHelp, DisplayVersion, OutOfMemory}
 use Rattle.toml_span_lines.specs.Run.{HasWritten}
 use Rattle.toml_span_check.specs.Options.{Asks, faults}
-use Rattle.toml_span_check.specs.Visible.{visible_lines}
+use Rattle.toml_span_report.specs.Visible.{visible_lines}
 use Rattle.toml_span_check.specs.Run.{Asked, Runs}
 use Rattle.toml_span_check.specs.declared.options.TheConstants.{USAGE, VERSION}
 use Rattle.toml_span_check.specs.declared.answer.Task.{Task}

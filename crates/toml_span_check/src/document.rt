@@ -62,7 +62,8 @@ pub(crate) fn show<'t, W: Sink>(
     writer: &mut W,
 ) -> Result<u8, Unwritten>
     requires { W.failed writer.old ≡ false }
-    ensures status { IfOk result (λ s. s ≡ (found format form pointer.now name.now (pointed pointer.now (view root.now))).0) }
+    ensures status { IfOk result (λ s. s
+        ≡ (found format form pointer.now name.now (pointed pointer.now (view root.now))).0) }
     ensures out { Streams result (W.contents writer.old) (W.contents writer.new) (W.failed writer.new)
         (held.old.items ++ (found format form pointer.now name.now (pointed pointer.now (view root.now))).1)
         held.new.items }

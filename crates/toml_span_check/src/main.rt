@@ -14,7 +14,6 @@ mod options;
 mod run;
 mod shown;
 mod start;
-mod visible;
 mod words;
 
 use crate::colours::has_colours;

@@ -1,6 +1,5 @@
 //! The run of the program.
-ghost use Rattle.std.specs.Prelude.{◌≡◌, ◌+◌, ◌++◌, IfOk, OnOk, false, true, map, string_bytes};
-ghost use Rattle.std.specs.Io.KnownBytes.{Keeps};
+ghost use Rattle.std.specs.Prelude.{◌≡◌, ◌+◌, ◌++◌, IfOk, OnOk, false, map, string_bytes};
 ghost use Rattle.toml_span_check.specs.Run as spec;
 ghost use Rattle.toml_span_check.specs.Run.{FindsAll, Runs, complaint};
 ghost use Rattle.toml_span_check.specs.code.Telling.{EndsQuiet, TellsAll, TellsBytes, TellsFiles, TellsOne};
@@ -9,7 +8,6 @@ use crate::answer::{Judged, Task, judge};
 use crate::document::show;
 use crate::faults::Format;
 use crate::input::Inputs;
-use crate::visible::push_visible;
 use crate::words::shown_word;
 use std::alloc::{AllocError, Global};
 use std::fmt::Write;
@@ -18,6 +16,7 @@ use toml_span_lines::held::Unwritten;
 use toml_span_lines::run::write_bytes;
 use toml_span_lines::sink::Sink;
 use toml_span_lines::told::Told;
+use toml_span_report::visible::push_visible;
 
 /// What is told of files.
 #[derive(Drop)]
@@ -103,7 +102,16 @@ fn tell_one<O: Sink>(
     match reading {
         Ok(bytes) => {
             let held = &mut telling.held;
-            let status = tell_bytes(alloc, format, task, pointer, name, bytes.as_slice(), held, out)?;
+            let status = tell_bytes(
+                alloc,
+                format,
+                task,
+                pointer,
+                name,
+                bytes.as_slice(),
+                held,
+                out,
+            )?;
             telling.status = telling.status.max(status);
             telling.count(status)?;
         }
@@ -157,7 +165,16 @@ fn tell<I: Inputs, O: Sink>(
     for name in names {
         let name = name.as_str();
         let reading = inputs.read(alloc, name)?;
-        tell_one(alloc, format, task, pointer, name, reading, &mut telling, out)?;
+        tell_one(
+            alloc,
+            format,
+            task,
+            pointer,
+            name,
+            reading,
+            &mut telling,
+            out,
+        )?;
     }
     Ok(telling)
 }

@@ -1,23 +1,12 @@
 //! The JSON text of a tree.
 ghost use Rattle.std.specs.Prelude.{◌≡◌, ◌++◌, false, true, OnOk, IfOk, string_bytes, codes};
-ghost use Rattle.toml_span_check.specs.Visible.{quoted};
 ghost use Rattle.toml_span_tree.specs.Value.{view, inner_view, items_view, members_view};
 ghost use Rattle.toml_span_check.specs.Shown as spec;
 
 use crate::dates::{date_type, with_seconds};
-use crate::visible::push_visible;
-use serde_json::Value as Json;
 use std::alloc::{AllocError, Global};
 use toml_span::value::{Table, Value, ValueInner};
-
-/// Adds a text in quotes, as JSON has it, with the numbers of its hidden characters.
-pub(crate) fn push_quoted(alloc: Global, out: &mut String, text: &str) -> Result<(), AllocError>
-    ensures { OnOk result (string_bytes out.new ≡ string_bytes out.old ++ quoted text.now) }
-{
-    let json = Json::String(String::from_str(alloc, text)?);
-    let quoted = json.to_string(alloc)?;
-    push_visible(out, quoted.as_str())
-}
+use toml_span_report::visible::push_quoted;
 
 /// `true` or `false`.
 pub(crate) fn truth(is_true: bool) -> &'static str

@@ -1,19 +1,19 @@
 //! The program on the words of its command line.
 ghost use Rattle.std.specs.Prelude.{◌≡◌, IfOk, List, ℕ, false, map, string_bytes};
 ghost use Rattle.clap.specs.Values.{kind_of};
-ghost use Rattle.toml_span_check.specs.Visible.{visible_lines};
+ghost use Rattle.toml_span_report.specs.Visible.{visible_lines};
 ghost use Rattle.toml_span_check.specs.Start.{Refuses, Says, Starts};
 
 use crate::input::Inputs;
 use crate::options::{USAGE, VERSION, options_of};
 use crate::run::run;
-use crate::visible::{visible, visible_lines};
 use crate::words::shown_word;
 use clap::Error;
 use clap::error::ErrorKind;
 use std::alloc::{AllocError, Global};
 use toml_span_lines::run::write_bytes;
 use toml_span_lines::sink::Sink;
+use toml_span_report::visible::{visible, visible_lines};
 
 /// Writes a text. Answers the status, which is 3 where the write fails.
 fn say<W: Sink>(writer: &mut W, text: &str, status: u8) -> u8

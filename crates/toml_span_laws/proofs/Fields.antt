@@ -20,7 +20,7 @@ use Rattle.toml_span_tree.specs.Value.{is_filled}
 use Rattle.toml_span_typed.specs.declared.de_helpers.table_helper.TableHelper.{TableHelper}
 use Rattle.toml_span_typed.specs.declared.de_helpers.table_helper.Unfinished.{Unfinished}
 use Rattle.toml_span_typed.specs.declared.de_helpers.table_helper.Unfinished.TheVariants as unfinished
-use Rattle.toml_span_typed.specs.TableHelper.{State, OpensTable, Requires, Tries, Refuses, Starved, found, fresh, keeping, noted, unasked, unexpected_entries, where_filled, without}
+use Rattle.toml_span_typed.specs.TableHelper.{State, OpensTable, Requires, Tries, Refuses, Starved, found, fresh, noted, unasked, unexpected_entries, where_filled, without}
 use Rattle.toml_span_laws.specs.Document.{subtree, IsValueOf}
 use Rattle.toml_span_laws.specs.Helpers.{hide, except, IsOver, table_of, RequiresAt, TriesAt, EndsWith, HasNoKeyBut}
 use Rattle.toml_span.proofs.Ordered.{same-name, first-entry, later-entry}
@@ -88,9 +88,6 @@ except-more (a ∷ names) name places p = except-more names name (hide a places)
 over-noted : (places : Path → Option Place) (name : List ℕ) (s : State) → IsOver places s → IsOver places (noted name s)
 over-noted places name s h =
     (ordered-without name s.members h.0, λ p. shows-without name s.members s.span (except s.asked places) h.0 h.1 p ∙ sym (except-more s.asked name places p))
-
-over-kept : (places : Path → Option Place) (faults : List ErrorContent) (s : State) → IsOver places s → IsOver places (keeping faults s)
-over-kept places faults s h = h
 
 found-value : (places : Path → Option Place) (name : List ℕ) (s : State) (value : Node) → IsOver places s → found name s ≡ Some value → IsValueOf (subtree (except s.asked places) (key name ∷ [])) value
 found-value places name s value h is =

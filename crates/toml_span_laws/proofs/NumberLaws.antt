@@ -6,7 +6,7 @@ use Rattle.std.specs.Char.{digit_value}
 use Rattle.std.proofs.lemmas.Bool.{cases_lt, false≢true}
 use Rattle.std.proofs.lemmas.List.{get_or_past, length-drop, length-take-le}
 use Rattle.toml_span_lex.specs.Bytes.{is_keylike, MaximalRun}
-use Rattle.toml_span_tree.specs.Node.{finite, infinite, not_a_number, Scalar, text as text_scalar, integer, float, boolean, datetime}
+use Rattle.toml_span_tree.specs.Node.{text as text_scalar, finite, infinite, not_a_number, Scalar, integer, float, boolean, datetime}
 use Rattle.toml_span_read.specs.declared.fault.Fault.{Fault}
 use Rattle.toml_span_read.specs.Numbers.{is_digit_in, is_figure, Digits, magnitude, behind_sign, is_negative, IsSigned, UnsignedDecimal, goes_on, radix_at, RadixInteger, is_exponent, Exponent, Fraction, FloatLiteral, SpecialFloat, IsNumber}
 use Rattle.toml_span_read.specs.code.Numbers.{NumberGives, IsReadAs}
@@ -17,7 +17,7 @@ use Rattle.toml_span_lex.specs.Tokens.{RunAt}
 use Rattle.toml_span_read.specs.declared.value.ValKind.{ValKind}
 use Rattle.toml_span_read.specs.Data.{scalar}
 use Rattle.std.specs.Char.{is_ascii_digit}
-use Rattle.toml_span_read.proofs.NumberLemmas.{is_false, clash, byte_is, same_byte, bool_cases, digit_keylike, digit_figure, underscore_figure, figure_keylike, digit_no_underscore, run_stops, run_part, no_sign, behind_either, plus_negative, behind_plus_sign, sign_on, slice_first, slice_some, none_some, or_true, and_right, and_left}
+use Rattle.toml_span_read.proofs.NumberLemmas.{is_false, clash, byte_is, same_byte, bool_cases, digit_keylike, digit_figure, underscore_figure, digit_no_underscore, run_stops, run_part, no_sign, behind_either, plus_negative, behind_plus_sign, sign_on, slice_first, slice_some, none_some, or_true, and_right, and_left}
 
 -- ---- runs
 
@@ -216,9 +216,6 @@ ends_with_run text k j b p n f u = elim (cases_lt j b) [
   | inl l ↦ absurd (false≢true (sym n ∙ u.passes j f l))
   | inr g ↦ elim (cases_lt b j) [ inl l ↦ absurd (false≢true (sym (run_stops text k b u) ∙ p b u.forward l)) | inr h ↦ omega arith ]
 ]
-
-digits_keylike : (radix : ℕ) (text : List ℕ) (k j l : ℕ) → Digits radix text k j → k ≤ l → l < j → is_keylike (get_or text l 0) ≡ true
-digits_keylike radix text k j l d a b = figure_keylike radix (get_or text l 0) (d.run.passes l a b)
 
 signed_or_outside : (negative : Bool) (m : ℕ) (n : ℤ) → IsSigned negative m n → IsOutside negative m → ⊥
 signed_or_outside false m n s o = let l = s.1 in omega arith

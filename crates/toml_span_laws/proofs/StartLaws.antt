@@ -20,10 +20,6 @@ rising_wide : (ns : List ℕ) (h i j k : ℕ) → h ≤ i → j ≤ k → Rising
 rising_wide [] h i j k a b r = omega (arith, a, b, r)
 rising_wide (n ∷ ns) h i j k a b (x, r) = (omega arith, rising_wide ns (n + 1) (n + 1) j k (omega arith) b r)
 
-rising_forward : (ns : List ℕ) (i j : ℕ) → Rising ns i j → i ≤ j
-rising_forward [] i j r = r
-rising_forward (n ∷ ns) i j (x, r) = omega (arith, x, rising_forward ns (n + 1) j r)
-
 rising_on : (ns ms : List ℕ) (i j k : ℕ) → Rising ns i j → Rising ms j k → Rising (ns ++ ms) i k
 rising_on [] ms i j k r s = rising_wide ms i j k k r (omega arith) s
 rising_on (n ∷ ns) ms i j k (x, r) s = (x, rising_on ns ms (n + 1) j k r s)

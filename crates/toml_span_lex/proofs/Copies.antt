@@ -36,12 +36,6 @@ content_fits q m text v from to end h =
       c.within,
     )
 
--- a value is shorter than the text behind the opening quote
-pub value_fits : (text : List ℕ) (i j : ℕ) (s : Span) (src v : List ℕ) (m : Bool) → IsString text i j s src v m → i + length v < length text
-value_fits text i j s src v m h =
-    let f = content_fits (get_or text i 0) m text v h.from h.to j h.content_is in
-    omega (arith, f.0, f.1, f.2, content_from_after m text i h.from h.begins)
-
 -- ---- copies
 
 -- whatever the content is cut into, it is no longer than the whole content

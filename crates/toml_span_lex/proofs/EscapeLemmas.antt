@@ -21,8 +21,5 @@ past_escape c h = rw (past_simple c h, past_hex_len c h) refl
 pub simple_ascii : (b c : ℕ) → simple_escape b ≡ Some c → b < 128
 simple_ascii b c e = elim (cases_lt b 128) [ inl lt ↦ lt | inr ge ↦ let n : simple_escape b ≡ None = past_simple b ge in absurd (cc) ]
 
-pub escape_ascii : (c : ℕ) → 0 < hex_len c → c < 128
-escape_ascii b h = elim (cases_lt b 128) [ inl lt ↦ lt | inr ge ↦ let n : hex_len b ≡ 0 = past_hex_len b ge in absurd (omega arith) ]
-
 pub closed : (b n : ℕ) → simple_escape b ≡ None → n ≡ hex_len b → n ≤ 0 → opens_escape b ≡ false
 closed b n e l h = let z : n ≡ 0 = omega arith in rw (e, sym l ∙ z) refl

@@ -85,9 +85,6 @@ pub char_boundary : (text rest : List ℕ) (i w c : ℕ) → IsUtf8 text → IsC
 char_boundary text rest i w c u b e d =
     rw e (IsCharBoundary-past_char text rest i c b.0 (IsUtf8-drop text i u b) d)
 
-pub lead_after_crlf : (text : List ℕ) (i : ℕ) → IsUtf8 text → is_crlf text i ≡ true → i + 2 < length text → 128 ≤ get_or text (i + 2) 0 → 192 ≤ get_or text (i + 2) 0
-lead_after_crlf text i u h l g = (behind_crlf text i (i + 2) refl u h).1 l g
-
 pub neither : (a b : Bool) → a ≡ false → b ≡ false → (a || b) ≡ false
 neither a b h k = rw h k
 

@@ -193,8 +193,8 @@ fn write_entries<W: Sink>(
     Ok(())
 }
 
-/// Writes what is held and then the lines of a tree: one for each node, in the order of the paths. The last lines, fewer
-/// than 64 KiB, are held. After an error a front of what is held and of the lines was written.
+/// Writes what is held and then the lines of a tree: one for each node, in the order of the paths. The last of it, less
+/// than 64 KiB, is held. After an error a front of what was held and of the lines was written.
 pub fn write_lines<W: Sink>(
     alloc: Global,
     writer: &mut W,

@@ -12,14 +12,14 @@ use Rattle.toml_span_places.specs.declared.keys.Role.TheVariants as roles
 use Rattle.toml_span_places.proofs.PathLemmas.{behind_first, keys_first, keys_some}
 use Rattle.toml_span_places.specs.Keys.{Standing, header_keys, key_at, opened_behind, parts_keys, section_keys, sections_keys}
 
--- what is listed before, then these keys, then the rest's
-pub listed_next : (before now keys rest left all : List Standing) →
+-- what is listed before, then these, then the rest's
+pub listed_next : {A : Type 0} (before now keys rest left all : List A) →
     now ≡ before ++ keys → left ≡ keys ++ rest → before ++ left ≡ all → now ++ rest ≡ all
 listed_next before now keys rest left all more split was =
     ap (λ l. l ++ rest) more ∙ append_assoc before keys rest ∙ ap (λ l. before ++ l) (sym split) ∙ was
 
--- one key and then more
-pub listed_two : (before now next more : List Standing) (key : Standing) →
+-- one and then more
+pub listed_two : {A : Type 0} (before now next more : List A) (key : A) →
     now ≡ before ++ (key ∷ []) → next ≡ now ++ more → next ≡ before ++ (key ∷ more)
 listed_two before now next more key first then =
     then ∙ ap (λ l. l ++ more) first ∙ append_assoc before (key ∷ []) more

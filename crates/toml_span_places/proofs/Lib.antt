@@ -1,4 +1,6 @@
 pub mod PathLemmas
 pub mod KeyLemmas
+pub mod PointLemmas
+pub mod TableLemmas
 pub mod ValueSizes
 pub mod ValueKeys

@@ -2,4 +2,9 @@ pub mod Cuts
 pub mod Keys
 pub mod Lines
 pub mod Literals
+pub mod Points
 pub mod Quoted
+pub mod Sections
+pub mod Spelled
+pub mod Spots
+pub mod Tables

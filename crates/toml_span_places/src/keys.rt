@@ -3,12 +3,13 @@ ghost use Rattle.std.specs.Prelude.{◌≡◌, ◌++◌, ◌∷◌, [], IfOk, On
 ghost use Rattle.toml_span_read.specs.Data.{block};
 ghost use Rattle.toml_span_read.specs.Keys.{simple_key};
 ghost use Rattle.toml_span_tree.specs.Nodes.{step_of};
-ghost use Rattle.toml_span.specs.Paths.{with_key, target, elements_added};
+ghost use Rattle.toml_span.specs.Paths.{target, elements_added};
+ghost use Rattle.toml_span.specs.Paths as paths;
 ghost use Rattle.toml_span_places.specs.Keys as spec;
 ghost use Rattle.toml_span_places.specs.Keys.{key_at, header_keys, section_keys, opened_behind, document_keys};
 ghost use Rattle.toml_span_places.specs.Keys.{standing, steps_of};
 
-use crate::paths::{elements_of, enter, extended};
+use crate::paths::{elements_of, enter, extended, with_key};
 use crate::values::push_pairs;
 use std::alloc::{AllocError, Global};
 use toml_span_lex::key::Key;
@@ -80,9 +81,9 @@ pub(crate) fn push_key<'t, 'de>(
 ) -> Result<Vec<Step<'t>>, AllocError>
     ensures keys { OnOk result (map standing out.new.items ≡ map standing out.old.items
         ++ (key_at text.now (steps_of path.entry) (simple_key key.now) role ∷ [])) }
-    ensures path { IfOk result (λ below. steps_of below ≡ with_key (steps_of path.entry) (simple_key key.now)) }
+    ensures path { IfOk result (λ below. steps_of below ≡ paths.with_key (steps_of path.entry) (simple_key key.now)) }
 {
-    let below = extended(path, Step::Key(key.name.as_ref()))?;
+    let below = with_key(path, key)?;
     let path = Vec::from_slice(alloc, below.as_slice())?;
     let span = key.span;
     let whole = with_quotes(text, span);
@@ -122,7 +123,7 @@ fn push_header<'t, 'de>(
 }
 
 /// The path below which a section assigns, of its header's. One in double brackets is put on record.
-fn section_path<'t>(
+pub(crate) fn section_path<'t>(
     alloc: Global,
     array: bool,
     path: Vec<Step<'t>>,

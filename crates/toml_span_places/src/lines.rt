@@ -9,7 +9,7 @@ use toml_span_read::gaps::byte_at;
 use toml_span_read::{Assignment, Section};
 
 /// Where the blanks begin that end at a place.
-fn blanks_start(text: &str, at: usize) -> usize
+pub(crate) fn blanks_start(text: &str, at: usize) -> usize
     ensures { result ≡ spec.blanks_start text.now at }
 {
     let mut start = at;

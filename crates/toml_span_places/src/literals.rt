@@ -9,7 +9,7 @@ use toml_span_read::gaps::byte_at;
 use toml_span_tree::Value;
 
 /// The byte so many before a place.
-fn byte_before(text: &str, at: usize, back: usize) -> u8
+pub(crate) fn byte_before(text: &str, at: usize, back: usize) -> u8
     ensures { result ≡ spec.byte_before text.now at back }
 {
     if at < back {

@@ -1,11 +1,13 @@
 //! Paths, and the elements of arrays of tables.
 ghost use Rattle.std.specs.Prelude.{◌≡◌, ◌++◌, ◌∷◌, [], IfOk, map};
 ghost use Rattle.toml_span_tree.specs.Nodes.{step_of};
+ghost use Rattle.toml_span_read.specs.Keys.{simple_key};
 ghost use Rattle.toml_span.specs.Paths as spec;
 ghost use Rattle.toml_span.specs.Paths.{elements_added};
 ghost use Rattle.toml_span_places.specs.Keys.{steps_of};
 
 use std::alloc::{AllocError, Global};
+use toml_span_lex::key::Key;
 use toml_span_tree::nodes::Step;
 
 /// The path with one more step.
@@ -17,6 +19,16 @@ pub(crate) fn extended<'t>(
 {
     path.push(step)?;
     Ok(path)
+}
+
+/// The path with a key.
+pub(crate) fn with_key<'t, 'de>(
+    path: Vec<Step<'t>>,
+    key: &'t Key<'de>,
+) -> Result<Vec<Step<'t>>, AllocError>
+    ensures { IfOk result (λ below. steps_of below ≡ spec.with_key (steps_of path.entry) (simple_key key.now)) }
+{
+    extended(path, Step::Key(key.name.as_ref()))
 }
 
 /// A copy of the steps.
@@ -56,7 +68,8 @@ fn same_step(step: &Step<'_>, other: &Step<'_>) -> bool
 }
 
 #[tactic(auto, unfolding(toml_span::specs::Paths::same_path))]
-fn same_path(path: &[Step<'_>], other: &[Step<'_>]) -> bool
+/// Whether two paths have the same steps.
+pub(crate) fn same_path(path: &[Step<'_>], other: &[Step<'_>]) -> bool
     ensures { result ≡ spec.same_path (map step_of path.now) (map step_of other.now) }
 {
     let [step, path_rest @ ..] = path else {

@@ -1,17 +1,11 @@
 -- What is put together is borrowed as its parts are.
-use Rattle.std.proofs.Common.{◌≡◌, ℕ, Bool, true, false, List, [], ◌∷◌, ◌++◌, map, get_or, rules, inl, inr, sym, ap, ◌∙◌, Global, Bor, Ok}
-use Rattle.std.specs.Prelude.{slice_range}
+use Rattle.std.proofs.Common.{◌≡◌, ℕ, true, false, List, [], ◌∷◌, ◌++◌, map, get_or, rules, inl, inr, sym, ap, ◌∙◌, Ok}
 use Rattle.std.proofs.lemmas.Bool.{false≢true}
-use Rattle.std.specs.Cow.{cow_str_bytes, IsBorrowedStr}
+use Rattle.std.specs.Cow.{cow_str_bytes}
 use Rattle.std.specs.List.{AllByRecursion}
-use Rattle.std.specs.declared.borrow.CowStr.{CowStr}
 use Rattle.toml_span_lex.specs.declared.key.Key.{Key}
 use Rattle.toml_span_lex.specs.declared.span.Span.{Span}
-use Rattle.toml_span_lex.specs.declared.tokens.Token.{Token}
-use Rattle.toml_span_lex.specs.declared.tokens.Token.TheVariants as tokens
-use Rattle.toml_span_lex.specs.Strings.{BorrowsWhereSame}
-use Rattle.toml_span_lex.specs.code.Strings.{StringBorrows}
-use Rattle.toml_span_tree.specs.Node.{Scalar, text as text_scalar}
+use Rattle.toml_span_tree.specs.Node.{text as text_scalar, Scalar}
 use Rattle.toml_span_read.specs.declared.section.Section.{Section}
 use Rattle.toml_span_read.specs.declared.value.Val.{Val}
 use Rattle.toml_span_read.specs.declared.value.ValKind.{ValKind, the_lemmas}
@@ -56,12 +50,6 @@ pub keys_more : (P : Written → Type 0) (xs ys : List Key) (x : Key) → ys ≡
 keys_more P xs ys x e h k = rw e (keys_push P xs x h k)
 
 -- ---- strings and keys
-
-pub string_right : (text : List ℕ) (span : Span) (token : Token) (j : ℕ) (src : Bor (List ℕ)) (val : CowStr Global) (multi : Bool) → StringBorrows text (Ok (span, token, j)) → token ≡ tokens.String src val multi → BorrowsWhereSame text span val
-string_right text span token j src val multi h e = rw e at h
-
-pub bare_right : (text : List ℕ) (i j : ℕ) (val : CowStr Global) → IsBorrowedStr val → cow_str_bytes val ≡ slice_range text i j → BorrowsWhereSame text (record { start = i; end = j }) val
-bare_right text i j val b e = (λ x. inl e, λ x. b)
 
 -- ---- values
 

@@ -1,7 +1,7 @@
 -- What is known of the earlier values.
 use Rattle.std.proofs.Common.{◌≡◌, ℕ, suc, ◌+◌, ◌<◌, ◌≤◌, ◌⊎◌, inl, inr, List, [], ◌∷◌, ◌++◌, map, length, take, take_all, get_or, append_assoc, Option, Some, None, arith, refl, sym, ap, subst, ◌∙◌}
 use Rattle.std.specs.Prelude.{unwrap_or}
-use Rattle.std.proofs.lemmas.List.{take-append-le, map_more, take-map, map-append}
+use Rattle.std.proofs.lemmas.List.{take-append-le, map_more, take-map}
 use Rattle.std.proofs.lemmas.Bool.{cases_Bool, false≢true}
 use Rattle.toml_span_lex.specs.declared.span.Span.{Span}
 use Rattle.toml_span_read.specs.declared.earlier.Earlier.{Earlier}
@@ -134,13 +134,6 @@ longer_than n m (x ∷ xs) le h = (omega (arith, h.0), longer_than n m xs le h.1
 
 -- ---- what is known
 
-pub knows_nothing : (new : Earlier) → new.known ≡ 0 → ((names : Path) → holds new.tree names ≡ None) → Knows new []
-knows_nothing new none nothing = record {
-  fewest = tt;
-  within = omega arith;
-  tree = λ names. subst (λ (o : Option Span). TellsEarliest names (take new.known []) o) (sym (nothing names)) (subst (λ (n : ℕ). NoneAt names (take n [])) (sym none) tt);
-}
-
 -- one more key is counted
 pub knows_more : (old new : Earlier) (key_values : List KeyValue) (next : KeyValue) (inner : List SimpleKey) (last : SimpleKey) → next.parts ≡ inner ++ (last ∷ [])
     → Knows old key_values → new.known ≡ old.known → holds new.tree ≡ holds old.tree → new.fewest ≤ old.fewest → new.fewest ≤ length inner → Knows new (key_values ++ (next ∷ []))
@@ -235,6 +228,3 @@ tells_all new values h known names =
 
 pub finds_same : (f : Holds) (xs ys : List Key) (r s : Option (ℕ × Span)) → xs ≡ ys → r ≡ s → FindsOutermost f (map simple_key xs) r → FindsOutermost f (map simple_key ys) s
 finds_same f xs ys r s same is h = subst (λ (o : Option (ℕ × Span)). FindsOutermost f (map simple_key ys) o) is (subst (λ (ks : List Key). FindsOutermost f (map simple_key ks) r) same h)
-
-pub map_push : (values : List Assignment) (v : Assignment) → map key_value (values ++ (v ∷ [])) ≡ map key_value values ++ (key_value v ∷ [])
-map_push values v = map-append key_value values (v ∷ [])

@@ -7,7 +7,6 @@ pub mod LimitLemmas
 pub mod LineLemmas
 pub mod ValueMade
 pub mod EarlierLemmas
-pub mod EarlierRows
 pub mod EarlierTree
 pub mod EarlierKnows
 pub mod KeyOrder
@@ -16,7 +15,6 @@ pub mod ShortIntegers
 pub mod ShortStrings
 pub mod Views
 pub mod InsideLemmas
-pub mod NumberRows
 pub mod SpanLaws
 pub mod MemoryLemmas
 pub mod BorrowLemmas

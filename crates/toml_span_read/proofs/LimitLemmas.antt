@@ -1,11 +1,9 @@
 -- What is put together stays within the limit.
-use Rattle.std.proofs.Common.{◌≡◌, ℕ, ◌+◌, ◌≤◌, true, false, List, [], ◌∷◌, ◌++◌, length, map, arith, inl, inr, refl, ap, subst}
-use Rattle.std.proofs.lemmas.Bool.{false≢true}
+use Rattle.std.proofs.Common.{◌≡◌, ℕ, ◌+◌, ◌≤◌, false, List, [], ◌∷◌, ◌++◌, length, map, arith, inl, inr, refl, ap, subst}
 use Rattle.toml_span_lex.specs.declared.span.Span.{Span}
 use Rattle.toml_span_read.specs.declared.value.Val.{Val}
 use Rattle.toml_span_read.specs.declared.value.Assignment.{Assignment}
-use Rattle.toml_span_read.specs.Data.{ParsedValue, parsed, ParsedInner, scalar, array, inline, ParsedItems, item, ParsedPairs, pair, KeyValue, onto, pairs_onto, view, key_value, parsed_span}
-use Rattle.toml_span_read.specs.code.Values.{is_scalar}
+use Rattle.toml_span_read.specs.Data.{ParsedValue, parsed, scalar, array, inline, ParsedItems, item, ParsedPairs, pair, KeyValue, onto, pairs_onto, view, key_value, parsed_span}
 use Rattle.std.proofs.Common.{Err}
 use Rattle.toml_span_tree.specs.Node.{Scalar}
 use Rattle.toml_span_lex.specs.declared.stop.Stop.{Stop}
@@ -16,14 +14,9 @@ use Rattle.toml_span_read.specs.Gaps.{Dot}
 use Rattle.toml_span_read.specs.code.Earlier.{StartBefore, AddsClear}
 use Rattle.toml_span_read.specs.Keys.{SimpleKey, SpellsSimpleKey, Onward, SpellsKey}
 use Rattle.toml_span_read.proofs.KeyLemmas.{string_before}
-use Rattle.toml_span_read.specs.Limits.{Within, WithinInner, WithinItems, WithinPairs, WithinKeyValue, WithinKeyValues, WithinSection, WithinSections}
+use Rattle.toml_span_read.specs.Limits.{Within, WithinItems, WithinPairs, WithinKeyValue, WithinKeyValues, WithinSection, WithinSections}
 use Rattle.toml_span_read.specs.code.Limits.{IsSpanned}
 use Rattle.toml_span_read.specs.declared.section.Section.{Section}
-
-pub scalar_within : (limit d : ℕ) (k : ParsedInner) → is_scalar k ≡ true → WithinInner limit d k
-scalar_within limit d (scalar s) h = tt
-scalar_within limit d (array vs) h = absurd (false≢true h)
-scalar_within limit d (inline ps) h = absurd (false≢true h)
 
 -- ---- arrays
 

@@ -1,5 +1,5 @@
 -- How lines, headers and sections are put together.
-use Rattle.std.proofs.Common.{◌≡◌, ℕ, ◌+◌, ◌<◌, ◌≤◌, zero, suc, Bool, true, false, List, [], ◌∷◌, ◌++◌, length, map, get_or, arith, inl, inr, refl, ap, append-nil, Ok, Err}
+use Rattle.std.proofs.Common.{◌≡◌, ℕ, ◌+◌, ◌<◌, ◌≤◌, zero, suc, Bool, true, false, List, [], ◌∷◌, ◌++◌, length, map, get_or, arith, inr, refl, ap, append-nil, Ok, Err}
 use Rattle.std.specs.Prelude.{◌==◌}
 use Rattle.toml_span_lex.specs.declared.key.Key.{Key}
 use Rattle.toml_span_lex.specs.declared.stop.Stop.{Stop}
@@ -100,12 +100,6 @@ crossing_fault (stops.Memory e) vs new a text limit from i m n stuck s t h = tt
 crossing_fault (stops.Fault e) vs new a text limit from i m n stuck s t h = stuck e (crossing (map key_value vs) i m n (key_value a) e s t h)
 
 -- ---- headers
-
-pub close_first : (array : Bool) (stop : Stop Fault) (text : List ℕ) (i k : ℕ) → MaximalRun is_blank text i k → (get_or text k 0 == 93) ≡ false
-    → WantedGives text k dues.RightBracket stop → CloseGives array text i (Err stop)
-close_first array (stops.Memory e) text i k run none h = tt
-close_first false (stops.Fault e) text i k run none h = (k, run, (none, h))
-close_first true (stops.Fault e) text i k run none h = (k, run, inl (none, h))
 
 pub close_second : (array : Bool) (stop : Stop Fault) (text : List ℕ) (i k b : ℕ) → array ≡ true → MaximalRun is_blank text i k → get_or text k 0 ≡ 93 → b ≡ k + 1
     → (get_or text b 0 == 93) ≡ false → WantedGives text b dues.RightBracket stop → CloseGives array text i (Err stop)

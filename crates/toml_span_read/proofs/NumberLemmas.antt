@@ -14,7 +14,7 @@ use Rattle.toml_span_read.proofs.Places.{run_some}
 use Rattle.std.specs.Prelude.{codes}
 use Rattle.toml_span_lex.specs.declared.stop.Stop.{Stop}
 use Rattle.toml_span_lex.specs.declared.stop.Stop.TheVariants as stops
-use Rattle.toml_span_tree.specs.Node.{finite, infinite, not_a_number, Scalar, text as text_scalar, integer, float, boolean, datetime}
+use Rattle.toml_span_tree.specs.Node.{text as text_scalar, finite, infinite, not_a_number, Scalar, integer, float, boolean, datetime}
 use Rattle.toml_span_tree.specs.declared.float.FloatText.{FloatText}
 use Rattle.toml_span_tree.specs.Value.{float_value}
 use Rattle.toml_span_read.specs.declared.value.ValKind.{ValKind}
@@ -35,10 +35,6 @@ or_right false b h = h
 pub or_true : (b : Bool) → (b || true) ≡ true
 or_true true = refl
 or_true false = refl
-
-not_false : (b : Bool) → not b ≡ false → b ≡ true
-not_false true h = refl
-not_false false h = sym h
 
 or_cases : (a b : Bool) → (a || b) ≡ true → (a ≡ true) ⊎ (b ≡ true)
 or_cases true b h = inl refl
@@ -116,16 +112,6 @@ pub record Reading (radix : ℕ) (text : List ℕ) (from end at : ℕ) (was_digi
   pub last : (l : ℕ) → from ≤ l → l + 1 ≡ at → is_digit_in radix (get_or text l 0) ≡ was_digit
   pub begins : from < at → is_digit_in radix (get_or text from 0) ≡ true
   pub none : at ≡ from → was_digit ≡ false
-
-pub reading_starts : (radix : ℕ) (text : List ℕ) (from end : ℕ) → (from < end → (get_or text from 0 == 95) ≡ false) → Reading radix text from end from false
-reading_starts radix text from end f = record {
-  first = f;
-  figures = λ l a b. absurd (omega arith);
-  between = λ l a b u. absurd (omega arith);
-  last = λ l a b. absurd (omega arith);
-  begins = λ l. absurd (omega arith);
-  none = λ e. refl;
-}
 
 pub reading_digit : (radix : ℕ) (text : List ℕ) (from end at : ℕ) (was : Bool) → Reading radix text from end at was → from ≤ at → is_digit_in radix (get_or text at 0) ≡ true
     → Reading radix text from end (at + 1) true
@@ -322,23 +308,6 @@ sum_past radix v i d digits l h e s b =
     rw g at p
 
 -- ---- cleaned texts
-
-pub clean_kept : (c : ℕ) (cs : List ℕ) → not ((c == 95 || c == 43) || c == 101) ≡ true → cleaned (c ∷ cs) ≡ c ∷ cleaned cs
-clean_kept c cs h =
-    let e : (c == 101) ≡ false = is_false _ (λ x. false≢true (rw (x, or_true) at h)) in
-    let u : (c == 95) ≡ false = is_false _ (λ x. false≢true (rw x at h)) in
-    let p : (c == 43) ≡ false = is_false _ (λ x. false≢true (rw (x, or_true) at h)) in
-    rw (p, u, e) refl
-
-pub clean_letter : (c : ℕ) (cs : List ℕ) → c ≡ 101 → cleaned (c ∷ cs) ≡ 69 ∷ cleaned cs
-clean_letter c cs e = rw e refl
-
-pub clean_dropped : (c : ℕ) (cs : List ℕ) → not ((c == 95 || c == 43) || c == 101) ≡ false → (c == 101) ≡ false → cleaned (c ∷ cs) ≡ cleaned cs
-clean_dropped c cs h e =
-    elim (or_cases _ _ (not_false _ h)) [
-      | inr x ↦ absurd (false≢true (sym e ∙ x))
-      | inl x ↦ elim (or_cases _ _ x) [ inl u ↦ rw (byte_is c 95 u) refl | inr p ↦ rw (byte_is c 43 p) refl ]
-    ]
 
 -- ---- bytes of literals
 

@@ -1,10 +1,10 @@
 -- Integers of a few digits alone.
-use Rattle.std.proofs.Common.{◌≡◌, ℕ, ◌+◌, ◌-◌, ◌<◌, ◌≤◌, true, false, drop, List, [], length, get_or, arith, inl, inr, refl, sym, ◌∙◌, length-take, length-drop}
+use Rattle.std.proofs.Common.{◌≡◌, ℕ, ◌+◌, ◌-◌, ◌<◌, ◌≤◌, true, false, drop, List, length, get_or, arith, inl, inr, refl, sym, ◌∙◌, length-take, length-drop}
 use Rattle.std.specs.Prelude.{ℤ, ◌*◌, slice_range, ◌==◌, Ok}
 use Rattle.std.specs.Str.{IsUtf8, IsCharBoundary}
 use Rattle.std.proofs.lemmas.Bool.{cases_lt, false≢true, or_cases}
 use Rattle.std.proofs.lemmas.Bool.Decides.{nat_tests}
-use Rattle.std.proofs.lemmas.List.{get_or-take, get_or-drop, drop_all}
+use Rattle.std.proofs.lemmas.List.{get_or-take, get_or-drop}
 use Rattle.toml_span_lex.specs.Bytes.{is_keylike}
 use Rattle.toml_span_lex.proofs.Runs.{boundary_after}
 use Rattle.toml_span_tree.specs.Node.{integer}
@@ -88,15 +88,6 @@ pub record FewDigits (text : List ℕ) (from at v : ℕ) : Type 0 where
   pub digits : Decimals text from at
   pub sum : (j : ℕ) → at ≤ j → j ≤ length text → Summed 10 v (drop (at - from) (slice_range text from j)) (slice_range text from j)
 
-zero_times : (p s : ℕ) → 0 * p + s ≡ s
-zero_times p s = omega arith
-
-pub few_start : (text : List ℕ) (from : ℕ) → FewDigits text from from 0
-few_start text from = record {
-  digits = λ k a b. absurd (omega arith);
-  sum = λ j a w. (let e : from - from ≡ 0 = omega arith in rw e (zero_times _ _));
-}
-
 range_length : (text : List ℕ) (a b : ℕ) → b ≤ length text → length (slice_range text a b) ≡ b - a
 range_length text a b w = omega (arith, length-take (b - a) (drop a text), length-drop a text)
 
@@ -119,13 +110,6 @@ few_more text from at v w f h e s = record {
       rw next (sum_goes_on 10 v w (at - from) ds below digit value (s.sum j (omega arith) l))
       );
 }
-
-pub few_value : (text : List ℕ) (from at v : ℕ) → from ≤ at → at ≤ length text → FewDigits text from at v → v ≡ magnitude 10 text from at
-few_value text from at v f w s =
-    let ds : List ℕ = slice_range text from at in
-    let none : drop (at - from) ds ≡ [] = drop_all (at - from) ds (omega (arith, range_length text from at w)) in
-    let sum : v * 1 + 0 ≡ magnitude 10 text from at = rw none at (s.sum at (omega arith) w) in
-    omega (arith, sum)
 
 -- ---- the integer
 

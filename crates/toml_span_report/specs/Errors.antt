@@ -1,5 +1,5 @@
 -- The reports of errors, and their text.
-use Rattle.std.specs.Prelude.{◌≡◌, ℕ, List, [], ◌∷◌, ◌++◌, map}
+use Rattle.std.specs.Prelude.{◌≡◌, ℕ, List, [], ◌∷◌, map}
 use Rattle.std.specs.Option.{option_to_list}
 use Rattle.toml_span_lex.specs.declared.span.Span.{Span}
 use Rattle.toml_span_lex.specs.declared.stop.Stop.{Stop}
@@ -9,6 +9,7 @@ use Rattle.toml_span_tree.specs.Error.{ErrorContent, Kind, unexpected_keys}
 use Rattle.toml_span_tree.specs.Message.{code_of, display_text}
 use Rattle.toml_span_typed.specs.Errors.{Errors, all}
 use Rattle.toml_span_report.specs.Help.{help_of}
+use Rattle.toml_span_report.specs.Many.{AreReportTexts}
 use Rattle.toml_span_report.specs.Rendering.{report_text}
 use Rattle.toml_span_report.specs.Report.{Place, ReportContent}
 use Rattle.toml_span_report.specs.Tokens.{IsMarked}
@@ -57,12 +58,17 @@ IsReport style name text error out =
     (report : ReportContent) × TellsError severities.Error text error report
     × (out ≡ report_text style report name text)
 
--- the texts of errors, one behind the other
+-- the reports of errors, one of each, in their order
+abbrev pub TellErrors : List ℕ → List ErrorContent → List ReportContent → Type 0
+TellErrors text [] reports = reports ≡ []
+TellErrors text (error ∷ errors) reports =
+    (first : ReportContent) × (rest : List ReportContent) × TellsError severities.Error text error first
+    × TellErrors text errors rest × (reports ≡ first ∷ rest)
+
+-- the text of errors: that of their reports
 abbrev pub AreReports : Style → List ℕ → List ℕ → List ErrorContent → List ℕ → Type 0
-AreReports style name text [] out = out ≡ []
-AreReports style name text (f ∷ fs) out =
-    (first : List ℕ) × (rest : List ℕ) × IsReport style name text f first × AreReports style name text fs rest
-    × (out ≡ first ++ rest)
+AreReports style name text errors out =
+    (reports : List ReportContent) × TellErrors text errors reports × AreReportTexts style name text reports out
 
 -- Want of memory has no text.
 abbrev pub AreShown : Style → List ℕ → List ℕ → Stop Errors → List ℕ → Type 0

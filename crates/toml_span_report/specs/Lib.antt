@@ -2,6 +2,7 @@ pub mod Characters
 pub mod Colours
 pub mod Errors
 pub mod Help
+pub mod JsonLine
 pub mod Many
 pub mod Names
 pub mod Places
@@ -10,3 +11,4 @@ pub mod Report
 pub mod Strips
 pub mod Tokens
 pub mod UnknownKeys
+pub mod Visible

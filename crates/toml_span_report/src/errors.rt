@@ -4,12 +4,13 @@ ghost use Rattle.toml_span_tree.specs.Diagnostic.{label_content};
 ghost use Rattle.toml_span_tree.specs.Error.{content_of, kind_of};
 ghost use Rattle.toml_span_typed.specs.Errors.{all};
 ghost use Rattle.toml_span_report.specs.Errors as spec;
-ghost use Rattle.toml_span_report.specs.Errors.{AreReports, AreShown, IsReport, TellsError};
+ghost use Rattle.toml_span_report.specs.Errors.{AreReports, AreShown, IsReport, TellErrors, TellsError};
 ghost use Rattle.toml_span_report.specs.Report.{report_content};
 ghost use Rattle.toml_span_report.specs.declared.report.Severity.TheVariants as severities;
 
 use crate::colours::Style;
 use crate::help::help_of;
+use crate::many::render_all;
 use crate::rendering::render;
 use crate::report::{Report, Severity};
 use crate::tokens::marked_span;
@@ -136,8 +137,19 @@ pub fn render_error(
     render(alloc, style, &report, name, text)
 }
 
-/// The text of all errors of a read, each as `render_error` shows it, in their order. Only want of memory
-/// is refused.
+/// The reports of all errors of a read.
+fn reports_of(alloc: Global, errors: &DeserError<'_>, text: &str) -> Result<Vec<Report>, AllocError>
+    ensures { IfOk result (λ made. TellErrors text.now (all errors.now) (map report_content made.items)) }
+{
+    let mut reports = Vec::new(alloc);
+    for error in errors.iter() {
+        let report = Report::from_error(alloc, error, text)?;
+        reports.push(report)?;
+    }
+    Ok(reports)
+}
+
+/// The text of all errors of a read: `render_all` of their reports. Only want of memory is refused.
 pub fn render_errors(
     alloc: Global,
     style: Style,
@@ -147,16 +159,12 @@ pub fn render_errors(
 ) -> Result<String, AllocError>
     ensures { IfOk result (λ out. AreReports style name.now text.now (all errors.now) (string_bytes out)) }
 {
-    let mut out = String::new(alloc);
-    for error in errors.iter() {
-        let shown = render_error(alloc, style, error, name, text)?;
-        out.push_str(shown.as_str())?;
-    }
-    Ok(out)
+    let reports = reports_of(alloc, errors, text)?;
+    render_all(alloc, style, reports.as_slice(), name, text)
 }
 
-/// The text that shows why `from_str` read nothing: the one error for which the text is refused, or all errors of
-/// the read. Want of memory has no such text, and comes back.
+/// The text that shows why `from_str` read nothing, as `render_errors` gives it: of the one error for which the text is
+/// refused, or of all errors of the read. Want of memory has no such text, and comes back.
 pub fn render_stop(
     alloc: Global,
     style: Style,

@@ -7,6 +7,7 @@
 
 mod callers;
 mod derived;
+mod edits;
 mod escapes;
 mod faults;
 mod holders;
@@ -14,6 +15,7 @@ mod places;
 mod reports;
 mod runs;
 mod sections;
+mod spots;
 mod texts;
 mod tokens;
 mod told;
@@ -66,6 +68,8 @@ fn push_answer(alloc: Global, row: Row<'_>, out: &mut String) -> Result<bool, Al
             || faults::answer(alloc, row, out)?
             || sections::answer(alloc, row, out)?
             || texts::answer(alloc, row, out)?
+            || edits::answer(alloc, row, out)?
+            || spots::answer(alloc, row, out)?
             || reports::answer(alloc, row, out)?
             || runs::answer(alloc, row, out)?
             || callers::answer(alloc, row, out)?

@@ -1,12 +1,14 @@
 //! Rows of reports, on a text in the file `a.toml`.
 //!
 //! - `nearest WORD`: the nearest of the names that stand in the text with spaces between them.
-//! - `lint` and `lint_lines`: what the lint of the pages reports, all at once, and each in its line.
+//! - `lint`, `lint_lines` and `lint_json`: what the lint of the pages reports, all at once, each in its line, and each
+//!   as JSON.
 //! - `read_servers`: all errors of a read of the servers, a name each, of which each has a `host` and may have a
 //!   `port`.
 //! - `coloured SEVERITY`: a report of this severity in colours, whose message and text are the row's text.
 //! - `without_labels MESSAGE`: a warning with three labels, and a note and an error without labels, each of that
-//!   message: all at once, and each in its line.
+//!   message: all at once, each in its line, and each as JSON.
+//! - `quoted`, `visible` and `visible_lines`: the text in quotes, and without the characters that terminals act on.
 mod lint;
 
 use crate::Row;
@@ -15,8 +17,9 @@ use lint::lint;
 use std::alloc::{AllocError, Global};
 use std::collections::BTreeMap;
 use toml_span::{DeserError, Deserialize, Span, Stop, Value, from_str, parse, read_table};
+use toml_span_report::visible::{push_quoted, push_visible, visible, visible_lines};
 use toml_span_report::{
-    Report, Severity, Style, nearest, render, render_all, render_line, render_stop,
+    Report, Severity, Style, nearest, render, render_all, render_json, render_line, render_stop,
 };
 
 /// The name of the file.
@@ -50,11 +53,15 @@ impl<'de> Deserialize<'de> for Servers {
 pub fn answer(alloc: Global, row: Row<'_>, out: &mut String) -> Result<bool, AllocError> {
     let pushed = match row.call {
         "nearest" => push_nearest(alloc, row, out),
-        "lint" => push_linted(alloc, row.text, false, out),
-        "lint_lines" => push_linted(alloc, row.text, true, out),
+        "lint" => push_linted(alloc, row.text, Form::All, out),
+        "lint_lines" => push_linted(alloc, row.text, Form::Lines, out),
+        "lint_json" => push_linted(alloc, row.text, Form::Json, out),
         "read_servers" => push_servers(alloc, row.text, out),
         "without_labels" => push_without_labels(alloc, row, out),
         "coloured" => push_coloured(alloc, row, out),
+        "quoted" => push_quoted(alloc, out, row.text),
+        "visible" => push_seen(alloc, row.text, out),
+        "visible_lines" => push_told(visible_lines(alloc, row.text), out),
         _ => return Ok(false),
     };
     known(pushed)
@@ -66,36 +73,46 @@ fn push_nearest(alloc: Global, row: Row<'_>, out: &mut String) -> Result<(), All
     push_told(nearest(alloc, row.word(0), names.as_slice()), out)
 }
 
-/// Adds reports all at once, or each in its line.
+/// How reports are shown.
+#[derive(Clone, Copy)]
+enum Form {
+    /// All at once.
+    All,
+    /// Each in its line.
+    Lines,
+    /// Each as JSON.
+    Json,
+}
+
+/// Adds reports in a form.
 fn push_reports(
     alloc: Global,
     reports: &[Report],
     text: &str,
-    in_lines: bool,
+    form: Form,
     out: &mut String,
 ) -> Result<(), AllocError> {
-    if !in_lines {
+    if matches!(form, Form::All) {
         let shown = render_all(alloc, Style::Plain, reports, FILE, text)?;
         return out.push_str(shown.as_str());
     }
     for report in reports {
-        let line = render_line(alloc, report, FILE, text)?;
+        let line = if matches!(form, Form::Json) {
+            render_json(alloc, report, FILE, text)?
+        } else {
+            render_line(alloc, report, FILE, text)?
+        };
         out.push_str(line.as_str())?;
     }
     Ok(())
 }
 
-/// Answers `lint` and `lint_lines`.
-fn push_linted(
-    alloc: Global,
-    text: &str,
-    in_lines: bool,
-    out: &mut String,
-) -> Result<(), AllocError> {
+/// Answers `lint`, `lint_lines` and `lint_json`.
+fn push_linted(alloc: Global, text: &str, form: Form, out: &mut String) -> Result<(), AllocError> {
     match parse(alloc, text) {
         Ok(root) => {
             let reports = lint(alloc, &root)?;
-            push_reports(alloc, reports.as_slice(), text, in_lines, out)
+            push_reports(alloc, reports.as_slice(), text, form, out)
         }
         Err(stop) => push_told(stop, out),
     }
@@ -127,8 +144,17 @@ fn push_without_labels(alloc: Global, row: Row<'_>, out: &mut String) -> Result<
     reports.push(warning)?;
     reports.push(Report::new(alloc, Severity::Note, "noted", message)?)?;
     reports.push(Report::error(alloc, "wrong", message)?)?;
-    push_reports(alloc, reports.as_slice(), row.text, false, out)?;
-    push_reports(alloc, reports.as_slice(), row.text, true, out)
+    push_reports(alloc, reports.as_slice(), row.text, Form::All, out)?;
+    push_reports(alloc, reports.as_slice(), row.text, Form::Lines, out)?;
+    push_reports(alloc, reports.as_slice(), row.text, Form::Json, out)
+}
+
+/// Answers `visible`: the text twice, once as it is added to another.
+fn push_seen(alloc: Global, text: &str, out: &mut String) -> Result<(), AllocError> {
+    let seen = visible(alloc, text)?;
+    out.push_str(seen.as_str())?;
+    out.push_str("\n")?;
+    push_visible(out, text)
 }
 
 /// Answers `coloured`.

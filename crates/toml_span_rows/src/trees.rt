@@ -3,7 +3,9 @@
 //! that it prints. `twice` parses twice: what the first answers in a word, and the second whole.
 ghost use Rattle.std.specs.Prelude.{◌≤◌, IfSome};
 
+use crate::edits::{push_literals, push_spelled};
 use crate::faults::push_twice;
+use crate::spots::push_node_at;
 use crate::told::{known, push_told_line};
 use crate::{Row, typed};
 use shown::{push_fault, push_lines};
@@ -13,9 +15,9 @@ use toml_span::value::Value;
 use toml_span::{Error, Stop, parse};
 
 mod kinds;
-mod orders;
+pub mod orders;
 mod pieces;
-mod places;
+pub mod places;
 pub mod shown;
 mod writes;
 
@@ -63,9 +65,12 @@ fn push_call<'t>(
         "json" => push_json(alloc, root, out),
         "kinds" => kinds::push_kinds(alloc, root, out),
         "again" => pieces::push_again(alloc, row.text, root, out),
+        "literals" => push_literals(alloc, row.text, root, out),
+        "to_toml" => push_spelled(alloc, root, out),
         "text_order" => orders::push_order(alloc, root, out),
         "nodes" => orders::push_nodes(alloc, root, out),
         "diagnostics" => out.push_str("no fault"),
+        "node_at" => return push_node_at(alloc, row, root, out),
         "write" => return writes::push_writes(alloc, row.words, root, out),
         _ => return typed::answer(alloc, row, root, out),
     };

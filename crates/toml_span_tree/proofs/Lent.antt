@@ -204,11 +204,6 @@ segments-some (x ∷ xs) = slash-some (x == 47) x (segments xs)
 pub more-some : (path segment : List ℕ) (o : Option (List ℕ)) (rest : List ℕ) → SplitAtSlash path segment o → o ≡ Some rest → 0 < length (drop 1 (segments path))
 more-some path segment o rest c e = subst (λ names. 0 < length (drop 1 names)) (sym (c.parts ∙ ap (λ o. segment ∷ segments_behind o) e)) (segments-some rest)
 
--- the text of a pointer
-empty-at : (p : List ℕ) → length p ≡ 0 → p ≡ []
-empty-at [] h = refl
-empty-at (x ∷ p) h = absurd (omega (arith, h))
-
 pub empty-is : (p : List ℕ) (n : Node) → length p ≡ 0 → pointed p n ≡ Some n
 empty-is p n h = pointed-found p n ∙ ap (option_and_then (λ names. value_named names n)) (pointer-empty p h)
 

@@ -1,4 +1,3 @@
-mod DateRows
 pub mod DateTexts
 pub mod Lent
 pub mod ListedNames

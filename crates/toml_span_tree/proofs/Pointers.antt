@@ -81,19 +81,9 @@ found-step n names (Some s) = found-child s n names (child s n) refl
 pub found-more : (segment : List ℕ) (names : List (List ℕ)) (n : Node) → value_named (segment ∷ names) n ≡ option_and_then (value_named names) (untaken_entry segment n)
 found-more segment names n = found-step n names (step_named segment (inner_of n))
 
-pub found-none : (n : Node) → value_named [] n ≡ Some n
-found-none n = refl
-
-found-last : (o : Option Node) → option_and_then (value_named []) o ≡ o
-found-last None = refl
-found-last (Some n) = refl
-
 -- a text that is cut at its first slash
 pub found-cut : (path segment : List ℕ) (rest : Option (List ℕ)) (n : Node) → SplitAtSlash path segment rest → value_named (segments path) n ≡ option_and_then (value_named (segments_behind rest)) (untaken_entry segment n)
 found-cut path segment rest n c = ap (λ names. value_named names n) c.parts ∙ found-more segment (segments_behind rest) n
-
-pub found-cut_last : (path segment : List ℕ) (n : Node) → SplitAtSlash path segment None → value_named (segments path) n ≡ untaken_entry segment n
-found-cut_last path segment n c = found-cut path segment None n c ∙ found-last (untaken_entry segment n)
 
 pointed-at : (o : Option (List (List ℕ))) (n : Node) → option_and_then (λ path. node_at path n) (option_and_then (λ names. path_named names n) o) ≡ option_and_then (λ names. value_named names n) o
 pointed-at None n = refl
@@ -214,10 +204,6 @@ get_item-got (Some x) vs i h = ap (λ v. Some (view v)) h.1 ∙ sym (get_item-wi
 
 pub mapped-none : (r : Option (Bor Value)) (o : Option Node) → r ≡ None → None ≡ o → option_map (λ v. view v.now) r ≡ o
 mapped-none r o none is = ap (option_map (λ v. view v.now)) none ∙ is
-
--- the same of what `get_mut` lends
-pub mapped-none_mut : (r : Option (MutBor Value)) (o : Option Node) → r ≡ None → None ≡ o → option_map (λ v. view v.now) r ≡ o
-mapped-none_mut r o none is = ap (option_map (λ v. view v.now)) none ∙ is
 
 pub view-of_mut : (r : Option (MutBor Value)) → option_map (λ x. view x.now) r ≡ option_map view (option_map (λ x. x.now) r)
 view-of_mut None = refl

@@ -9,7 +9,7 @@ use Rattle.std.specs.Result.{IfOk, IfErr}
 use Rattle.toml_span_lex.specs.declared.span.Span.{Span}
 use Rattle.toml_span_tree.specs.declared.value.Value.{Value}
 use Rattle.toml_span_tree.specs.declared.value.ValueInner.{ValueInner}
-use Rattle.toml_span_tree.specs.Node.{Node, node, Inner, taken, table, Items, no_items, item, Members, no_members, member, entry_at, get_member, get_item}
+use Rattle.toml_span_tree.specs.Node.{Node, node, Inner, table, Items, no_items, item, Members, no_members, member, entry_at, get_member, get_item}
 use Rattle.toml_span_tree.specs.Value.{view, inner_view, items_view, members_view, inner_of, span_of, is_taken}
 use Rattle.toml_span_tree.specs.Path.{Step, Path, child, node_at, put, put_where, set_at_step, set_entry, set_element}
 use Rattle.toml_span_tree.specs.Pointer.{step_named, if_not_taken, untaken_child, path_named, put_where_named, segments, pointer_segments, pointed, put_pointed}
@@ -76,9 +76,6 @@ untaken b n h = ap (λ b. cond b None (Some n)) h
 pub if_not_taken-false : (n : Node) → is_taken n ≡ false → if_not_taken n ≡ Some n
 if_not_taken-false n h = untaken (is_taken n) n h
 
-pub if_not_taken-true : (n : Node) → is_taken n ≡ true → if_not_taken n ≡ None
-if_not_taken-true n h = ap (λ b. cond b None (Some n)) h
-
 -- an exchange below n, a segment at a time
 put_more_path : (s : Step) (n m w old : Node) (o : Option Path) → child s n ≡ Some m → option_and_then (λ path. node_at path m) o ≡ Some old
     → put_where_named (option_map (λ path. s ∷ path) o) w n ≡ node (set_at_step s (put_where_named o w m) (inner_of n)) (span_of n)
@@ -124,10 +121,6 @@ exchanged-cut (Err back) new path segment rest i j span cut h = (
   found-cut path segment rest (node i span) cut ∙ h.1,
   ap (λ i. node i span) h.2,
 )
-
--- nothing is named below a value that is taken
-pub found-taken : (path segment : List ℕ) (rest : Option (List ℕ)) (n : Node) → SplitAtSlash path segment rest → inner_of n ≡ taken → value_named (segments path) n ≡ None
-found-taken path segment rest n cut h = found-cut path segment rest n cut ∙ ap (λ i. option_and_then (value_named (segments_behind rest)) (option_and_then if_not_taken (entry segment i))) h
 
 -- an exchange at what a pointer names
 pub put_pointed-found : (p : List ℕ) (names : List (List ℕ)) (w n : Node) → pointer_segments p ≡ Some names → put_pointed p w n ≡ put_named names w n

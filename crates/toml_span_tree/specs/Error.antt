@@ -1,9 +1,11 @@
 -- What an error tells, by content: a text is its bytes, and neither capacity nor address is in it.
-use Rattle.std.specs.Prelude.{ℕ, List, Option, map, String, string_bytes}
+use Rattle.std.specs.Prelude.{◌≡◌, ℕ, List, Option, map, String, string_bytes}
 use Rattle.std.specs.Global.{Global}
 use Rattle.std.specs.Option.{option_map}
 use Rattle.std.specs.Cow.{cow_str_bytes}
 use Rattle.toml_span_lex.specs.declared.span.Span.{Span}
+use Rattle.toml_span_lex.specs.declared.stop.Stop.{Stop}
+use Rattle.toml_span_lex.specs.declared.stop.Stop.TheVariants as stop
 use Rattle.toml_span_tree.specs.declared.error.Error.{Error}
 use Rattle.toml_span_tree.specs.declared.error.ErrorKind.{ErrorKind}
 use Rattle.toml_span_tree.specs.declared.error.ErrorKind.TheVariants as kinds
@@ -86,3 +88,7 @@ kind_of (kinds.Marked code message places) = marked code.now (cow_str_bytes mess
 -- what an error tells
 abbrev pub content_of : Error → ErrorContent
 content_of error = record { kind = kind_of error.kind; span = error.span; line_info = error.line_info }
+
+-- the fault that `gives` makes of the error
+abbrev pub IsFaultOf : {E : Type 0} → (Error → E → Type 0) → Error → Stop E → Type 0
+IsFaultOf gives error why = (fault : _) × gives error fault × (why ≡ stop.Fault fault)

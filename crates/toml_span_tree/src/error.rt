@@ -5,6 +5,7 @@ ghost use Rattle.toml_span_tree.specs.Error.{content_of, kind_of, marked_keys};
 use std::alloc::{AllocError, Global};
 use std::borrow::CowStr;
 use toml_span_lex::span::Span;
+use toml_span_lex::stop::Stop;
 
 /// What is wrong. A kind marked `Of a read` comes from typed reads of a tree, any other from `parse`, and
 /// `Wanted` from both.
@@ -30,7 +31,7 @@ pub enum ErrorKind<'s> {
     InvalidNumber,
     /// What is due to be a date or a time.
     InvalidDatetime,
-    /// An integer that the type of this name does not hold. Of a read.
+    /// A number that the type of this name does not hold. Of a read.
     OutOfRange(&'s str),
     /// Another token, or of a read another kind of value, than the one that is due.
     Wanted {
@@ -66,12 +67,12 @@ pub enum ErrorKind<'s> {
     UnquotedString,
     /// A field of this name that the table lacks. Of a read.
     MissingField(&'s str),
-    /// A field under its old name. Of a read; no call of the library tells it.
+    /// A field under its old name. Of a read that warns.
     Deprecated {
         old: &'s str,
         new: &'s str,
     },
-    /// A value that is none of these. Of a read; no call of the library tells it.
+    /// A value that is none of these. Of a read.
     UnexpectedValue {
         expected: &'s [&'s str],
         value: Option<String>,
@@ -108,6 +109,17 @@ impl<'s> From<(ErrorKind<'s>, Span)> for Error<'s> {
             span: parts.1,
             line_info: None,
         }
+    }
+}
+
+/// So a `?` takes an error in each function that answers a `Stop` of what is made of one.
+impl<'s, E: From<Error<'s>>> From<Error<'s>> for Stop<E> {
+    ghost use Rattle.toml_span_tree.specs.Error.{IsFaultOf};
+
+    ghost from_gives = { λ error stop. IsFaultOf E.from_gives error stop };
+
+    fn from(error: Error<'s>) -> Stop<E> {
+        Stop::Fault(E::from(error))
     }
 }
 

@@ -1,15 +1,15 @@
 -- What a helper answers of a field, where it keeps the errors itself.
-use Rattle.std.specs.Prelude.{◌≡◌, ℕ, List, [], ◌∷◌, length, Option, Some, None, MatchOption, true, Result, Ok, Err}
+use Rattle.std.specs.Prelude.{◌≡◌, ◌⊎◌, ℕ, List, [], ◌∷◌, length, Option, Some, None, MatchOption, true, Result, Ok, Err}
 use Rattle.std.specs.declared.alloc.AllocError.{AllocError}
 use Rattle.toml_span_lex.specs.declared.stop.Stop.{Stop}
 use Rattle.toml_span_lex.specs.declared.stop.Stop.TheVariants as stop
 use Rattle.toml_span_tree.specs.declared.error.Error.{Error}
 use Rattle.toml_span_tree.specs.Error.{content_of}
 use Rattle.toml_span_tree.specs.Node.{Node}
-use Rattle.toml_span_tree.specs.Value.{is_filled}
+use Rattle.toml_span_tree.specs.Value.{inner_of, is_filled, text_in}
 use Rattle.toml_span_typed.specs.Errors.{Errors, all, one}
 use Rattle.toml_span_typed.specs.Parse.{Parses}
-use Rattle.toml_span_typed.specs.TableHelper.{Starved, State, found, keeping, missing, noted, with_unasked}
+use Rattle.toml_span_typed.specs.TableHelper.{Requires, Starved, State, found, keeping, missing, noted, with_unasked}
 use Rattle.toml_span_typed.specs.declared.de_helpers.table_helper.Unfinished.{Unfinished}
 use Rattle.toml_span_typed.specs.declared.de_helpers.table_helper.Unfinished.TheVariants as unfinished
 
@@ -36,6 +36,14 @@ abbrev pub Keeps : {T : Type 0} → Result T (Stop Errors) → State → Option 
 Keeps (Ok x) before answer after = (answer ≡ Some x) × (after ≡ before)
 Keeps (Err (stop.Fault faults)) before answer after = (answer ≡ None) × (after ≡ keeping (all faults) before)
 Keeps (Err (stop.Memory error)) before answer after = ⊥
+
+-- `require`: as `Requires`, with the error in a list
+abbrev pub RequiresAll : {T : Type 0} → (Node → Result T Errors → Node → Type 0) → List ℕ → State
+    → Result T (Stop Errors) → State → Type 0
+RequiresAll reads name before (Ok x) after = Requires reads name before (Ok x) after
+RequiresAll reads name before (Err (stop.Fault faults)) after =
+    (error : Error) × Requires reads name before (Err (stop.Fault error)) after × (faults ≡ one (content_of error))
+RequiresAll reads name before (Err (stop.Memory e)) after = Requires reads name before (Err (stop.Memory e)) after
 
 -- how many errors are kept
 abbrev pub kept : State → ℕ
@@ -65,6 +73,22 @@ ParsesAll gives output value (Ok x) = Parses gives output value (Ok x)
 ParsesAll gives output value (Err (stop.Fault faults)) =
     (error : Error) × Parses gives output value (Err (stop.Fault error)) × (faults ≡ one (content_of error))
 ParsesAll gives output value (Err (stop.Memory e)) = Parses gives output value (Err (stop.Memory e))
+
+-- the same answer, whose error is a fault
+abbrev pub with_fault : {T E : Type 0} → Result T E → Result T (Stop E)
+with_fault (Ok x) = Ok x
+with_fault (Err refusal) = Err (stop.Fault refusal)
+
+-- `parse_with`: what `makes` gives of the string; a fault that it tells is told as that of `parsed`, and its want of
+-- memory is answered
+abbrev pub ParsesWith : {T E : Type 0} → (List ℕ → Result T (Stop E) → Type 0) → (E → Option (List ℕ)) → Node
+    → Result T (Stop Errors) → Type 0
+ParsesWith makes output value (Ok x) = ParsesAll (λ text r. makes text (with_fault r)) output value (Ok x)
+ParsesWith makes output value (Err (stop.Fault faults)) =
+    ParsesAll (λ text r. makes text (with_fault r)) output value (Err (stop.Fault faults))
+ParsesWith makes output value (Err (stop.Memory e)) =
+    ParsesAll (λ text r. makes text (with_fault r)) output value (Err (stop.Memory e))
+    ⊎ ((text : List ℕ) × (text_in (inner_of value) ≡ Some text) × makes text (Err (stop.Memory e)))
 
 -- the answer, if memory was there, as `parsed` gives it
 abbrev pub AsParsed : {T E : Type 0} → (List ℕ → Result T E → Type 0) → (E → Option (List ℕ)) → Node

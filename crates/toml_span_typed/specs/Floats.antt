@@ -1,5 +1,5 @@
 -- What a float is read as in binary.
-use Rattle.std.specs.Prelude.{◌≡◌, ℕ, List, Option, Some, None, Result, Ok, Err, codes, if◌then◌else◌}
+use Rattle.std.specs.Prelude.{ℕ, List, Option, Some, None, Result, Ok, Err, codes, if◌then◌else◌}
 use Rattle.std.specs.Float.{Float, Format, float_is_finite}
 use Rattle.fast_float.specs.Parse.{parse_float}
 use Rattle.toml_span_lex.specs.declared.span.Span.{Span}

@@ -1,9 +1,13 @@
 -- What a table is read as whose keys are not known beforehand.
-use Rattle.std.specs.Prelude.{◌≡◌, ℕ, List, [], ◌∷◌, Result, Ok, Err, String, string_bytes, codes}
+use Rattle.std.specs.Prelude.{◌≡◌, ℕ, List, [], ◌∷◌, Result, Ok, Err, String, map, string_bytes, codes}
 use Rattle.std.specs.BTreeMap.{insert_entry}
+use Rattle.std.specs.HashMap.{HashMap, IsFromIterResult}
 use Rattle.std.specs.Cmp.Lexicographic.{slice_cmp}
 use Rattle.std.specs.Ordering.{nat_cmp}
+use Rattle.std.specs.String.{string_eq}
 use Rattle.std.specs.declared.alloc.Global.{Global}
+use Rattle.std.specs.declared.hash.FoldHasher.{FoldHasher}
+use Rattle.std.specs.declared.hash.BuildHasherDefault.{BuildHasherDefault}
 use Rattle.toml_span_tree.specs.Error.{ErrorContent}
 use Rattle.toml_span_tree.specs.Node.{Members, Node, member, no_members, node, table}
 use Rattle.toml_span_typed.specs.Errors.{Errors, all}
@@ -52,3 +56,14 @@ abbrev pub table_reads : {T : Type 0} → (Node → Result T Errors → Node →
 table_reads reads (node (table ms) span) answer after = ReadsEntries reads ms answer
     × Taken (node (table ms) span) after
 table_reads reads value answer after = (answer ≡ refused (codes "a table") value) × Taken value after
+
+-- a map that finds a name by its hash; antt has no name for an alias
+abbrev pub Hashed : Type 0 → Type 0
+Hashed T = HashMap (String Global) T (BuildHasherDefault FoldHasher)
+
+-- the same entries, each found by its name
+abbrev pub hashed_reads : {T : Type 0} → (Node → Result T Errors → Node → Type 0) → Node → Result (Hashed T) Errors
+    → Node → Type 0
+hashed_reads reads value (Ok m) after = (entries : List (String Global × _))
+    × table_reads reads value (Ok (map shown_pair entries)) after × IsFromIterResult string_eq entries m
+hashed_reads reads value (Err faults) after = table_reads reads value (Err faults) after

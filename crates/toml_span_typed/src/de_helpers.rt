@@ -16,7 +16,7 @@ use std::alloc::{AllocError, Global};
 use std::borrow::CowStr;
 use std::fmt::Display;
 use std::str::FromStr;
-pub use strings::parsed;
+pub use strings::{parse_with, parsed};
 pub use table_helper::{TableHelper, Unfinished};
 use toml_span_lex::span::Span;
 use toml_span_lex::stop::Stop;

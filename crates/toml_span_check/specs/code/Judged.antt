@@ -13,7 +13,8 @@ use Rattle.toml_span_check.specs.declared.faults.Format.{Format}
 abbrev pub JudgesText : Format → Task → List ℕ → List ℕ → List ℕ → Judged → Type 0
 JudgesText format task pointer name text (Text status out) = IsRead format task pointer name text (status, out.items)
 JudgesText format task pointer name text (Document form root) =
-    (task ≡ Show form) × IsRead format task pointer name text (found format form pointer name (pointed pointer (view root)))
+    (task ≡ Show form)
+    × IsRead format task pointer name text (found format form pointer name (pointed pointer (view root)))
 
 -- of bytes
 abbrev pub Judges : Format → Task → List ℕ → List ℕ → List ℕ → Judged → Type 0

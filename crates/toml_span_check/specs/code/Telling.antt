@@ -26,7 +26,8 @@ abbrev pub TellsBytes : Format → Task → List ℕ → List ℕ → List ℕ �
     → Option (List ℕ) → Bool → List ℕ → List ℕ → Type 0
 TellsBytes format task pointer name bytes (Ok status) old new failed held held' =
     (failed ≡ false) × ((new ≡ old) ⊎ Shows task)
-    × ((text : List ℕ) × IsAnswer format task pointer name bytes (status, text) × HoldsRest old new (held ++ text) held')
+    × ((text : List ℕ) × IsAnswer format task pointer name bytes (status, text)
+    × HoldsRest old new (held ++ text) held')
 TellsBytes format task pointer name bytes (Err Memory) old new failed held held' =
     (failed ≡ false) × ((new ≡ old) ⊎ Begun format task pointer name bytes old new held)
 TellsBytes format task pointer name bytes (Err Failed) old new failed held held' =

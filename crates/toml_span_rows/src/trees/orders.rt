@@ -16,7 +16,7 @@ pub fn push_order(alloc: Global, root: &Value<'_>, out: &mut String) -> Result<(
 }
 
 /// Adds a step to a value.
-fn push_step(step: &Step<'_>, out: &mut String) -> Result<(), AllocError> {
+pub fn push_step(step: &Step<'_>, out: &mut String) -> Result<(), AllocError> {
     match step {
         Step::Key(name) => write!(out, "{name:?} "),
         Step::Position(position) => write!(out, "{position} "),

@@ -5,14 +5,14 @@ ghost use Rattle.toml_span_tree.specs.Error.{content_of};
 ghost use Rattle.toml_span_tree.specs.Value.{all_members_whole, is_whole, members_view, view};
 ghost use Rattle.toml_span_typed.specs.code.Arrays.{Answered};
 ghost use Rattle.toml_span_typed.specs.code.Maps.{AddsEntry};
-ghost use Rattle.toml_span_typed.specs.Maps.{ReadsEntries, holding, shown_pair, table_reads};
+ghost use Rattle.toml_span_typed.specs.Maps.{ReadsEntries, hashed_reads, holding, shown_pair, table_reads};
 ghost use Rattle.toml_span_typed.specs.Reads.{Taken, result_map};
 
 use crate::de_helpers::refused;
 use crate::deser_error::DeserError;
 use crate::deserialize::{Deserialize, read_or_keep};
 use std::alloc::{AllocError, Global};
-use std::collections::BTreeMap;
+use std::collections::{BTreeMap, HashMap};
 use toml_span_lex::key::Key;
 use toml_span_lex::stop::Stop;
 use toml_span_tree::{Error, Table, Value, ValueInner};
@@ -30,6 +30,21 @@ impl<'de, T: Deserialize<'de>> Deserialize<'de> for BTreeMap<String, T> {
             ValueInner::Table(table) => read_entries(alloc, table),
             other => Err(refused("a table", other, value.span)),
         }
+    }
+}
+
+/// The same entries, each found by its name. In which order it gives them, no contract says.
+impl<'de, T: Deserialize<'de>> Deserialize<'de> for HashMap<String, T> {
+    ghost reads = { hashed_reads T.reads };
+
+    ghost starved = { Taken };
+
+    fn deserialize(
+        alloc: Global,
+        value: &mut Value<'de>,
+    ) -> Result<HashMap<String, T>, Stop<DeserError<'de>>> {
+        let entries = BTreeMap::<String, T>::deserialize(alloc, value)?;
+        Ok(HashMap::from_iter(alloc, entries)?)
     }
 }
 

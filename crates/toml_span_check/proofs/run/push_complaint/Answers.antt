@@ -1,5 +1,5 @@
 use Rattle.std.proofs.Common.{◌≡◌, ℕ, List, ◌++◌, append_assoc, codes, string_bytes}
-use Rattle.toml_span_check.specs.Visible.{visible}
+use Rattle.toml_span_report.specs.Visible.{visible}
 use Rattle.toml_span_check.proofs.run.push_complaint.Goals as goal
 
 five : (old a b c d e s t u v w : List ℕ) → s ≡ old ++ a → t ≡ s ++ b → u ≡ t ++ c → v ≡ u ++ d → w ≡ v ++ e → w ≡ old ++ (a ++ b ++ c ++ d ++ e)

@@ -8,11 +8,14 @@ use Rattle.toml_span_check.proofs.run.tell.Goals as goal
 pub loop-name-init : goal.loop-name-init
 loop-name-init g c = record {
   good = c.requires;
-  told = (inl refl, (
-    [],
-    tells-start c.args.format c.args.task c.args.pointer.now (g.I.Inputs.log c.args.inputs.now) [] _ refl c.new-2.ensures.bytes,
-    ([], Appends-nil _, c.new.ensures.items),
-  ));
+  told = (
+    inl refl,
+    (
+      [],
+      tells-start c.args.format c.args.task c.args.pointer.now (g.I.Inputs.log c.args.inputs.now) [] _ refl c.new-2.ensures.bytes,
+      ([], Appends-nil _, c.new.ensures.items),
+    ),
+  );
 }
 
 pub loop-name-preserved : goal.loop-name-preserved

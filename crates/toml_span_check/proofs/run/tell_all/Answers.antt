@@ -11,7 +11,7 @@ returns-in_err-found g c = stops-finding c.args.format c.args.task c.args.pointe
 pub returns-in_err-telling : goal.returns-in_err-telling
 returns-in_err-telling g c =
     let found = subst (λ (files : List (String Global)). FindsAll (map (λ (name : Bor (List ℕ)). name.now) c.args.names.now) (g.I.Inputs.log c.args.inputs.now) (g.I.Inputs.log c.find_all.new.inputs) (map (λ file. string_bytes file) files))
-        (sym c.as_slice-files.ensures.value) c.in_ok-found.ensures in
+    (sym c.as_slice-files.ensures.value) c.in_ok-found.ensures in
     stops-files c.args.format c.args.task c.args.pointer.now _ (map (λ file. string_bytes file) c.as_slice-files.result.now) _ (g.I.Inputs.log c.find_all.new.inputs) _ _ _ _
     c.in_err-telling.field-0.0 c.from_residual-in_err-telling.result found c.in_err-telling.ensures c.from_residual-in_err-telling.ensures.1
 
@@ -27,15 +27,22 @@ returns g c =
     let files = c.in_ok-found.found.items in
     let told = c.in_ok-telling.ensures in
     let counted = ap (λ n. string_bytes t.errors ++ summary c.args.format n t.wrong) (ap length c.as_slice-files.ensures.value ∙ sym (length-map files (λ file. string_bytes file))) in
-    let tells = told.2.1 in
-    (told.0, told.1, (told.2.0, record {
-      files = map (λ file. string_bytes file) files;
-      mid = g.I.Inputs.log c.find_all.new.inputs;
-      found = c.in_ok-found.ensures;
-      all = told.2.0;
-      complaints = string_bytes t.errors;
-      wrong = t.wrong;
-      tells = rw c.as_slice-files.ensures.value at tells;
-      shown = refl;
-      warned = c.in_ok-push_summary.ensures ∙ counted;
-    }, told.2.2))
+    let tells = told.2.1 in (
+      told.0,
+      told.1,
+      (
+        told.2.0,
+        record {
+          files = map (λ file. string_bytes file) files;
+          mid = g.I.Inputs.log c.find_all.new.inputs;
+          found = c.in_ok-found.ensures;
+          all = told.2.0;
+          complaints = string_bytes t.errors;
+          wrong = t.wrong;
+          tells = rw c.as_slice-files.ensures.value at tells;
+          shown = refl;
+          warned = c.in_ok-push_summary.ensures ∙ counted;
+        },
+        told.2.2,
+      ),
+    )

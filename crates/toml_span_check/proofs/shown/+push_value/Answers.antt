@@ -1,6 +1,6 @@
 use Rattle.std.proofs.Common.{◌++◌, sym, ap, ◌∙◌, append_assoc, codes, string_bytes}
 use Rattle.std.proofs.lemmas.List.{drop_all}
-use Rattle.toml_span_check.specs.Visible.{quoted}
+use Rattle.toml_span_report.specs.Visible.{quoted}
 use Rattle.toml_span_tree.specs.Value.{view, items_view, members_view}
 use Rattle.toml_span_check.specs.Shown.{items_shown, members_shown}
 use Rattle.toml_span_tree.proofs.Sizes.{items_size-next, members_size-next}

@@ -1,7 +1,7 @@
 //! Reads of fields whose errors stay in the helper.
 ghost use Rattle.std.specs.Prelude.{◌≡◌, ◌+◌, ◌≤◌, IfOk, IfSome, IsTrue, OnErr, OnOk};
 ghost use Rattle.toml_span_tree.specs.Value.{is_whole};
-ghost use Rattle.toml_span_typed.specs.Fields.{Asks, Finishes, FinishesInto, Keeps, kept, lacking};
+ghost use Rattle.toml_span_typed.specs.Fields.{Asks, Finishes, FinishesInto, Keeps, RequiresAll, kept, lacking};
 ghost use Rattle.toml_span_typed.specs.TableHelper.{AllWhole, HoldsRest, Tries, found, state_of};
 
 use crate::de_helpers::table_helper::{TableHelper, missing_field};
@@ -25,6 +25,22 @@ impl<'de> TableHelper<'de> {
         ensures whole { AllWhole (state_of self.new) }
     {
         self.ask(name)
+    }
+
+    /// As `required`, with its error in a list, so that a `?` ends a `deserialize` where there is no such field.
+    #[tactic(auto, using(crate::proofs::Whole::found_whole))]
+    pub fn require<T: Deserialize<'de>>(
+        &mut self,
+        name: &'de str,
+    ) -> Result<T, Stop<DeserError<'de>>>
+        requires { AllWhole (state_of self.old) }
+        ensures answer { RequiresAll T.reads name.now (state_of self.old) result (state_of self.new) }
+        ensures whole { AllWhole (state_of self.new) }
+    {
+        match self.required(name) {
+            Ok(field) => Ok(field),
+            Err(stop) => Err(stop.convert()),
+        }
     }
 
     /// As `optional`, of a helper whose entries are whole.

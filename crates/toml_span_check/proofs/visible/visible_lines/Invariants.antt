@@ -1,7 +1,0 @@
-use Rattle.std.proofs.Common.{◌≡◌, string_bytes}
-use Rattle.std.specs.List.{flat_map}
-use Rattle.toml_span_check.specs.Visible.{line_char}
-use Rattle.toml_span_check.proofs.visible.visible_lines.Given as goal
-
-abbrev pub invariant-loop-c : goal.invariant-loop-c
-invariant-loop-c l = string_bytes l.out ≡ flat_map line_char l.yielded

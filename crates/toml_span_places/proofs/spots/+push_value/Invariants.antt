@@ -1,0 +1,29 @@
+use Rattle.std.proofs.Common.{◌≡◌, ◌≤◌, suc, ◌++◌, drop, map}
+use Rattle.toml_span_tree.specs.Value.{view, items_view, members_view}
+use Rattle.toml_span_tree.proofs.Sizes.{node_size, items_size, members_size}
+use Rattle.toml_span_tree.specs.Nodes.{step_of}
+use Rattle.toml_span_places.specs.Spots.{items_spots, members_spots, spot}
+use Rattle.toml_span_places.proofs.spots.+push_value.Given as goal
+
+abbrev pub decreases-push_value : goal.decreases-push_value
+decreases-push_value l = node_size (view l.value.now)
+
+abbrev pub decreases-push_elements : goal.decreases-push_elements
+decreases-push_elements l = suc (items_size (items_view l.elements.now))
+
+abbrev pub decreases-push_entries : goal.decreases-push_entries
+decreases-push_entries l = suc (members_size (members_view l.table.now.entries))
+
+abbrev pub invariant-push_elements-loop-position : goal.invariant-push_elements-loop-position
+invariant-push_elements-loop-position l = record {
+  small : items_size (items_view (drop l.position l.elements)) ≤ items_size (items_view l.elements);
+  out : map spot l.out.items ++ items_spots l.text l.offset (map step_of l.path) l.position (items_view (drop l.position l.elements))
+      ≡ map spot l.fn.out.items ++ items_spots l.text l.offset (map step_of l.path) 0 (items_view l.elements);
+}
+
+abbrev pub invariant-push_entries-loop-key : goal.invariant-push_entries-loop-key
+invariant-push_entries-loop-key l = record {
+  small : members_size (members_view l.key-iterator) ≤ members_size (members_view l.table.entries);
+  out : map spot l.out.items ++ members_spots l.text l.offset (map step_of l.path) (members_view l.key-iterator)
+      ≡ map spot l.fn.out.items ++ members_spots l.text l.offset (map step_of l.path) (members_view l.table.entries);
+}

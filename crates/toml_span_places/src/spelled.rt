@@ -1,0 +1,114 @@
+//! Values as TOML text.
+ghost use Rattle.std.specs.Prelude.{◌≡◌, ◌++◌, IfOk, OnOk, true, string_bytes};
+ghost use Rattle.std.specs.Fmt.{signed_decimal};
+ghost use Rattle.toml_span_tree.specs.Value.{view, inner_view, items_view, members_view};
+ghost use Rattle.toml_span_places.specs.Quoted as quoted;
+ghost use Rattle.toml_span_places.specs.Spelled as spec;
+
+use crate::quoted::{quote_key, quote_string};
+use std::alloc::{AllocError, Global};
+use std::fmt::Write;
+use toml_span_tree::{Table, Value, ValueInner};
+
+/// Adds a text as a string.
+fn push_string(alloc: Global, text: &str, out: &mut String) -> Result<(), AllocError>
+    ensures { OnOk result (string_bytes out.new ≡ string_bytes out.old ++ quoted.quoted text.now) }
+{
+    let spelled = quote_string(alloc, text)?;
+    out.push_str(spelled.as_str())
+}
+
+/// Adds a name as a key, and what stands behind it.
+fn push_key(alloc: Global, name: &str, out: &mut String) -> Result<(), AllocError>
+    ensures { OnOk result (string_bytes out.new ≡ string_bytes out.old ++ spec.key_equals name.now) }
+{
+    let spelled = quote_key(alloc, name)?;
+    out.push_str(spelled.as_str())?;
+    out.push_str(" = ")
+}
+
+/// Adds an integer in decimal digits.
+fn push_integer(number: i64, out: &mut String) -> Result<(), AllocError>
+    ensures { OnOk result (string_bytes out.new ≡ string_bytes out.old ++ signed_decimal number) }
+{
+    write!(out, "{number}")
+}
+
+/// Adds what parts an element or a pair from the one before it.
+fn push_separator(is_first: bool, out: &mut String) -> Result<(), AllocError>
+    ensures { OnOk result (string_bytes out.new ≡ string_bytes out.old ++ spec.separator is_first) }
+{
+    out.push_str(if is_first { "" } else { ", " })
+}
+
+/// Adds a value. One that is taken has no text.
+#[cycle(push_value)]
+fn push_value(alloc: Global, value: &Value<'_>, out: &mut String) -> Result<(), AllocError>
+    ensures { OnOk result (string_bytes out.new ≡ string_bytes out.old ++ spec.value_text (view value.now)) }
+{
+    if value.is_taken() {
+        return Ok(());
+    }
+    match value.as_ref() {
+        ValueInner::String(text) => push_string(alloc, text.as_ref(), out),
+        ValueInner::Integer(number) => push_integer(*number, out),
+        ValueInner::Float(float) => out.push_str(float.text()),
+        ValueInner::Boolean(truth) => out.push_str(if *truth { "true" } else { "false" }),
+        ValueInner::Datetime(date) => out.push_str(date.text()),
+        ValueInner::Array(elements) => {
+            out.push('[')?;
+            push_elements(alloc, elements.as_slice(), out)?;
+            out.push(']')
+        }
+        ValueInner::Table(table) => {
+            out.push('{')?;
+            push_entries(alloc, table, out)?;
+            out.push('}')
+        }
+    }
+}
+
+/// Adds the elements of an array, with commas between them.
+#[cycle(push_value)]
+fn push_elements(alloc: Global, elements: &[Value<'_>], out: &mut String) -> Result<(), AllocError>
+    ensures { OnOk result (string_bytes out.new ≡ string_bytes out.old
+        ++ spec.items_text true (items_view elements.now)) }
+{
+    let mut is_first = true;
+    for element in elements {
+        push_separator(is_first, out)?;
+        push_value(alloc, element, out)?;
+        is_first = false;
+    }
+    Ok(())
+}
+
+/// Adds the pairs of a table, with commas between them.
+#[cycle(push_value)]
+fn push_entries(alloc: Global, table: &Table<'_>, out: &mut String) -> Result<(), AllocError>
+    ensures { OnOk result (string_bytes out.new ≡ string_bytes out.old
+        ++ spec.members_text true (members_view table.now.entries)) }
+{
+    let mut is_first = true;
+    for (key, value) in table.iter() {
+        push_separator(is_first, out)?;
+        push_key(alloc, key.name.as_ref(), out)?;
+        push_value(alloc, value, out)?;
+        is_first = false;
+    }
+    Ok(())
+}
+
+/// The value as TOML on one line: a string and a key as `quote_string` and `quote_key` spell them, a number in
+/// decimal digits, a float and a date by their texts, an array, or an inline table with its keys in the order of their
+/// names.
+///
+/// The value has to be whole (`is_whole`), and a float of the caller's own to have the text of one: else the text is
+/// no value, or another. Only want of memory is refused.
+pub fn to_toml(alloc: Global, value: &Value<'_>) -> Result<String, AllocError>
+    ensures { IfOk result (λ text. string_bytes text ≡ spec.value_text (view value.now)) }
+{
+    let mut out = String::new(alloc);
+    push_value(alloc, value, &mut out)?;
+    Ok(out)
+}

@@ -1,0 +1,9 @@
+use Rattle.std.proofs.Common.{◌≡◌, ◌++◌, codes, map, take, string_bytes}
+use Rattle.std.specs.List.{flat_map}
+use Rattle.toml_span_report.specs.Visible.{quoted}
+use Rattle.toml_span_report.proofs.json_line.push_more_texts.Given as goal
+
+abbrev pub invariant-loop-text : goal.invariant-loop-text
+invariant-loop-text l =
+    string_bytes l.out
+    ≡ string_bytes l.fn.out ++ flat_map (λ text. codes "," ++ quoted text) (map string_bytes (take l.text-index l.texts))

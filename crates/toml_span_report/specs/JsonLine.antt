@@ -1,0 +1,68 @@
+-- A report as one line of JSON.
+use Rattle.std.specs.Prelude.{ℕ, Bool, true, false, List, ◌++◌, codes}
+use Rattle.std.specs.Fmt.{decimal}
+use Rattle.std.specs.List.{join_by}
+use Rattle.toml_span_lex.specs.declared.span.Span.{Span}
+use Rattle.toml_span_report.specs.Places.{place, line_number, column}
+use Rattle.toml_span_report.specs.Rendering.{word}
+use Rattle.toml_span_report.specs.Report.{Place, ReportContent}
+use Rattle.toml_span_report.specs.Visible.{quoted}
+
+-- ---- labels
+
+-- the front of a label: whether the report stands there
+abbrev pub role_json : Bool → List ℕ
+role_json true = codes "{\"primary\":true"
+role_json false = codes "{\"primary\":false"
+
+-- its bytes, counted from 0
+unfoldable pub span_json : Span → List ℕ
+span_json span = codes ",\"start\":" ++ decimal span.start ++ codes ",\"end\":" ++ decimal span.end
+
+-- the line and the column at which it begins, both counted from 1
+unfoldable pub place_json : List ℕ → ℕ → List ℕ
+place_json text at =
+    codes ",\"line\":" ++ decimal (line_number text (place text at))
+    ++ codes ",\"column\":" ++ decimal (column text (place text at))
+
+-- where it stands
+unfoldable pub spot_json : List ℕ → Span → List ℕ
+spot_json text span = span_json span ++ place_json text span.start
+
+-- a member whose value is a text, behind what stands before it
+abbrev pub member_json : List ℕ → List ℕ → List ℕ
+member_json title text = title ++ quoted text
+
+-- a label, of its parts
+unfoldable pub parts_json : List ℕ → Bool → Span → List ℕ → List ℕ
+parts_json text is_primary span message =
+    role_json is_primary ++ spot_json text span ++ member_json (codes ",\"message\":") message ++ codes "}"
+
+unfoldable pub label_json : List ℕ → Place → List ℕ
+label_json text mark = parts_json text mark.primary mark.span mark.message
+
+-- ---- reports
+
+-- labels and texts as arrays, with commas between them
+abbrev pub labels_json : List ℕ → List Place → List ℕ
+labels_json text marks = codes "[" ++ join_by (label_json text) (codes ",") marks ++ codes "]"
+
+abbrev pub texts_json : List (List ℕ) → List ℕ
+texts_json texts = codes "[" ++ join_by quoted (codes ",") texts ++ codes "]"
+
+-- the name of the file, the code, the message and the labels
+abbrev pub head_json : ReportContent → List ℕ → List ℕ
+head_json r name =
+    member_json (codes "{\"file\":") name ++ member_json (codes ",\"code\":") r.code
+    ++ member_json (codes ",\"message\":") r.message
+
+-- the severity, the notes and the help
+abbrev pub remarks_json : ReportContent → List ℕ
+remarks_json r =
+    member_json (codes ",\"severity\":") (word r.severity) ++ codes ",\"notes\":" ++ texts_json r.notes
+    ++ codes ",\"help\":" ++ texts_json r.help
+
+-- the whole line
+abbrev pub report_json : ReportContent → List ℕ → List ℕ → List ℕ
+report_json r name text =
+    head_json r name ++ codes ",\"labels\":" ++ labels_json text r.labels ++ remarks_json r ++ codes "}\n"

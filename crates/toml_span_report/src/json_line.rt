@@ -1,0 +1,229 @@
+//! A report as one line of JSON.
+ghost use Rattle.std.specs.Prelude.{◌≡◌, ◌++◌, codes, IfOk, OnOk, map, string_bytes};
+ghost use Rattle.std.specs.Fmt.{decimal};
+ghost use Rattle.std.specs.List.{flat_map, join_by};
+ghost use Rattle.toml_span_tree.specs.Diagnostic.{label_content};
+ghost use Rattle.toml_span_report.specs.JsonLine as spec;
+ghost use Rattle.toml_span_report.specs.Report.{report_content};
+ghost use Rattle.toml_span_report.specs.Visible.{quoted};
+
+use crate::places::line_column;
+use crate::rendering::word;
+use crate::report::Report;
+use crate::visible::push_quoted;
+use std::alloc::{AllocError, Global};
+use std::fmt::Write;
+use toml_span_lex::span::Span;
+use toml_span_tree::Label;
+
+/// Adds a title and a number.
+fn push_number(out: &mut String, title: &str, number: usize) -> Result<(), AllocError>
+    ensures { OnOk result (string_bytes out.new ≡ string_bytes out.old ++ title.now ++ decimal number) }
+{
+    out.push_str(title)?;
+    write!(out, "{number}")
+}
+
+/// Adds a member whose value is a text, behind what stands before it.
+fn push_member(alloc: Global, out: &mut String, title: &str, text: &str) -> Result<(), AllocError>
+    ensures { OnOk result (string_bytes out.new ≡ string_bytes out.old ++ spec.member_json title.now text.now) }
+{
+    out.push_str(title)?;
+    push_quoted(alloc, out, text)
+}
+
+/// Adds how a label begins.
+fn push_role(out: &mut String, is_primary: bool) -> Result<(), AllocError>
+    ensures { OnOk result (string_bytes out.new ≡ string_bytes out.old ++ spec.role_json is_primary) }
+{
+    if is_primary {
+        out.push_str("{\"primary\":true")
+    } else {
+        out.push_str("{\"primary\":false")
+    }
+}
+
+/// Adds the bytes of a label.
+#[tactic(auto, unfolding(crate::specs::JsonLine::span_json))]
+fn push_span(out: &mut String, span: Span) -> Result<(), AllocError>
+    ensures { OnOk result (string_bytes out.new ≡ string_bytes out.old ++ spec.span_json span) }
+{
+    push_number(out, ",\"start\":", span.start)?;
+    push_number(out, ",\"end\":", span.end)
+}
+
+/// Adds the line and the column of an offset.
+#[tactic(auto, unfolding(crate::specs::JsonLine::place_json))]
+fn push_place(out: &mut String, text: &str, at: usize) -> Result<(), AllocError>
+    ensures { OnOk result (string_bytes out.new ≡ string_bytes out.old ++ spec.place_json text.now at) }
+{
+    let (line, column) = line_column(text, at);
+    push_number(out, ",\"line\":", line)?;
+    push_number(out, ",\"column\":", column)
+}
+
+/// Adds where a label stands.
+#[tactic(auto, unfolding(crate::specs::JsonLine::spot_json))]
+fn push_spot(out: &mut String, text: &str, span: Span) -> Result<(), AllocError>
+    ensures { OnOk result (string_bytes out.new ≡ string_bytes out.old ++ spec.spot_json text.now span) }
+{
+    push_span(out, span)?;
+    push_place(out, text, span.start)
+}
+
+/// Adds a label of these parts as a JSON object.
+#[tactic(auto, unfolding(crate::specs::JsonLine::parts_json))]
+fn push_parts(
+    alloc: Global,
+    out: &mut String,
+    text: &str,
+    is_primary: bool,
+    span: Span,
+    message: &str,
+) -> Result<(), AllocError>
+    ensures { OnOk result (string_bytes out.new ≡ string_bytes out.old
+        ++ spec.parts_json text.now is_primary span message.now) }
+{
+    push_role(out, is_primary)?;
+    push_spot(out, text, span)?;
+    push_member(alloc, out, ",\"message\":", message)?;
+    out.push_str("}")
+}
+
+/// Adds a label as a JSON object.
+#[tactic(auto, unfolding(crate::specs::JsonLine::label_json))]
+fn push_label(
+    alloc: Global,
+    out: &mut String,
+    text: &str,
+    label: &Label<()>,
+) -> Result<(), AllocError>
+    ensures { OnOk result (string_bytes out.new ≡ string_bytes out.old
+        ++ spec.label_json text.now (label_content label.now)) }
+{
+    let (is_primary, span) = (label.primary, label.span);
+    push_parts(alloc, out, text, is_primary, span, label.message.as_str())
+}
+
+/// Adds further labels, a comma before each.
+fn push_more_labels(
+    alloc: Global,
+    out: &mut String,
+    text: &str,
+    labels: &[Label<()>],
+) -> Result<(), AllocError>
+    ensures { OnOk result (string_bytes out.new ≡ string_bytes out.old
+        ++ flat_map (λ mark. codes "," ++ spec.label_json text.now mark) (map label_content labels.now)) }
+{
+    for label in labels {
+        out.push_str(",")?;
+        push_label(alloc, out, text, label)?;
+    }
+    Ok(())
+}
+
+/// Adds labels with commas between them.
+fn push_labels(
+    alloc: Global,
+    out: &mut String,
+    text: &str,
+    labels: &[Label<()>],
+) -> Result<(), AllocError>
+    ensures { OnOk result (string_bytes out.new ≡ string_bytes out.old
+        ++ join_by (spec.label_json text.now) (codes ",") (map label_content labels.now)) }
+{
+    match labels.split_first() {
+        Some((first, more)) => {
+            push_label(alloc, out, text, first)?;
+            push_more_labels(alloc, out, text, more)
+        }
+        None => Ok(()),
+    }
+}
+
+/// Adds further texts, a comma before each.
+fn push_more_texts(alloc: Global, out: &mut String, texts: &[String]) -> Result<(), AllocError>
+    ensures { OnOk result (string_bytes out.new ≡ string_bytes out.old
+        ++ flat_map (λ text. codes "," ++ quoted text) (map string_bytes texts.now)) }
+{
+    for text in texts {
+        out.push_str(",")?;
+        push_quoted(alloc, out, text.as_str())?;
+    }
+    Ok(())
+}
+
+/// Adds texts with commas between them.
+fn push_texts(alloc: Global, out: &mut String, texts: &[String]) -> Result<(), AllocError>
+    ensures { OnOk result (string_bytes out.new ≡ string_bytes out.old
+        ++ join_by quoted (codes ",") (map string_bytes texts.now)) }
+{
+    match texts.split_first() {
+        Some((first, more)) => {
+            push_quoted(alloc, out, first.as_str())?;
+            push_more_texts(alloc, out, more)
+        }
+        None => Ok(()),
+    }
+}
+
+/// Adds texts as an array, behind a title.
+fn push_array(
+    alloc: Global,
+    out: &mut String,
+    title: &str,
+    texts: &[String],
+) -> Result<(), AllocError>
+    ensures { OnOk result (string_bytes out.new ≡ string_bytes out.old
+        ++ title.now ++ spec.texts_json (map string_bytes texts.now)) }
+{
+    out.push_str(title)?;
+    out.push_str("[")?;
+    push_texts(alloc, out, texts)?;
+    out.push_str("]")
+}
+
+/// Adds the name of the file, the code and the message.
+fn push_head(alloc: Global, out: &mut String, report: &Report, name: &str) -> Result<(), AllocError>
+    ensures { OnOk result (string_bytes out.new ≡ string_bytes out.old
+        ++ spec.head_json (report_content report.now) name.now) }
+{
+    push_member(alloc, out, "{\"file\":", name)?;
+    push_member(alloc, out, ",\"code\":", report.code.as_str())?;
+    push_member(alloc, out, ",\"message\":", report.message.as_str())
+}
+
+/// Adds the severity, the notes and the help.
+fn push_remarks(alloc: Global, out: &mut String, report: &Report) -> Result<(), AllocError>
+    ensures { OnOk result (string_bytes out.new ≡ string_bytes out.old
+        ++ spec.remarks_json (report_content report.now)) }
+{
+    push_member(alloc, out, ",\"severity\":", word(report.severity))?;
+    push_array(alloc, out, ",\"notes\":", report.notes.as_slice())?;
+    push_array(alloc, out, ",\"help\":", report.help.as_slice())
+}
+
+/// A report on this text, whose file has this name, as one line of JSON: an object with the members `file`, `code`,
+/// `message`, `labels`, `severity` (`error`, `warning` or `note`), `notes` and `help`, in this order, and a line feed.
+///
+/// A label is an object with the members `primary`, `start` and `end` (bytes of the text from 0, the end exclusive),
+/// `line` and `column` of its start (both from 1, as `line_column` tells them) and `message`. Labels stand in the
+/// report's order. Nothing is cut, and strings are as `visible::push_quoted` adds them. Only want of memory is refused.
+pub fn render_json(
+    alloc: Global,
+    report: &Report,
+    name: &str,
+    text: &str,
+) -> Result<String, AllocError>
+    ensures { IfOk result (λ out. string_bytes out
+        ≡ spec.report_json (report_content report.now) name.now text.now) }
+{
+    let mut out = String::new(alloc);
+    push_head(alloc, &mut out, report, name)?;
+    out.push_str(",\"labels\":[")?;
+    push_labels(alloc, &mut out, text, report.labels.as_slice())?;
+    out.push_str("]")?;
+    push_remarks(alloc, &mut out, report)?;
+    out.push_str("}\n")?;
+    Ok(out)
+}

@@ -1,0 +1,102 @@
+//! Texts without the characters that terminals act on, and texts in quotes, as JSON has them.
+ghost use Rattle.std.specs.Prelude.{◌≡◌, ◌<◌, ◌++◌, IfOk, OnOk, string_bytes};
+ghost use Rattle.std.specs.Prelude.{encode_utf8};
+ghost use Rattle.std.specs.Char.{digit_char};
+ghost use Rattle.toml_span_report.specs.Visible as spec;
+
+use serde_json::Value as Json;
+use std::alloc::{AllocError, Global};
+
+/// Whether this is a control character, one that ends a line, or one that turns the direction of the text.
+fn is_escaped(c: char) -> bool
+    ensures { result ≡ spec.is_escaped c }
+{
+    matches!(
+        c as u32,
+        0..=0x1F | 0x7F..=0x9F | 0x61C | 0x200E..=0x200F | 0x2028..=0x202E | 0x2066..=0x2069
+    )
+}
+
+/// Adds a digit in base 16.
+fn push_digit(out: &mut String, digit: u32) -> Result<(), AllocError>
+    requires { digit < 16 }
+    ensures { OnOk result (string_bytes out.new ≡ string_bytes out.old ++ encode_utf8 (digit_char digit)) }
+{
+    out.push(char::from_digit(digit, 16).unwrap_or('0'))
+}
+
+/// Adds a number below 2 ^ 16 with four digits in base 16.
+fn push_code(out: &mut String, code: u32) -> Result<(), AllocError>
+    requires { code < 65536 }
+    ensures { OnOk result (string_bytes out.new ≡ string_bytes out.old ++ spec.escape code) }
+{
+    out.push_str("\\u")?;
+    push_digit(out, code / 4096)?;
+    push_digit(out, code / 256 % 16)?;
+    push_digit(out, code / 16 % 16)?;
+    push_digit(out, code % 16)
+}
+
+/// Adds a character, or its number where terminals act on it.
+fn push_char(out: &mut String, c: char) -> Result<(), AllocError>
+    ensures { OnOk result (string_bytes out.new ≡ string_bytes out.old ++ spec.visible_char c) }
+{
+    if is_escaped(c) {
+        push_code(out, c as u32)
+    } else {
+        out.push(c)
+    }
+}
+
+/// Adds a text without the characters that terminals act on: a control character, one that ends a line (U+2028,
+/// U+2029) or one that turns the direction of the text stands by its number, as `\u202e`. Only want of memory is
+/// refused.
+pub fn push_visible(out: &mut String, text: &str) -> Result<(), AllocError>
+    ensures { OnOk result (string_bytes out.new ≡ string_bytes out.old ++ spec.visible text.now) }
+{
+    for c in text.chars() {
+        push_char(out, c)?;
+    }
+    Ok(())
+}
+
+/// A text as `push_visible` adds it.
+pub fn visible(alloc: Global, text: &str) -> Result<String, AllocError>
+    ensures { IfOk result (λ out. string_bytes out ≡ spec.visible text.now) }
+{
+    let mut out = String::new(alloc);
+    push_visible(&mut out, text)?;
+    Ok(out)
+}
+
+/// Adds a character of lines, which a line feed ends.
+fn push_line_char(out: &mut String, c: char) -> Result<(), AllocError>
+    ensures { OnOk result (string_bytes out.new ≡ string_bytes out.old ++ spec.line_char c) }
+{
+    if c == '\n' {
+        out.push(c)
+    } else {
+        push_char(out, c)
+    }
+}
+
+/// The same of lines, which line feeds end.
+pub fn visible_lines(alloc: Global, text: &str) -> Result<String, AllocError>
+    ensures { IfOk result (λ out. string_bytes out ≡ spec.visible_lines text.now) }
+{
+    let mut out = String::new(alloc);
+    for c in text.chars() {
+        push_line_char(&mut out, c)?;
+    }
+    Ok(out)
+}
+
+/// Adds a text as a string of JSON, in quotes, in which characters that terminals act on stand by their numbers (see
+/// `push_visible`). Only want of memory is refused.
+pub fn push_quoted(alloc: Global, out: &mut String, text: &str) -> Result<(), AllocError>
+    ensures { OnOk result (string_bytes out.new ≡ string_bytes out.old ++ spec.quoted text.now) }
+{
+    let json = Json::String(String::from_str(alloc, text)?);
+    let quoted = json.to_string(alloc)?;
+    push_visible(out, quoted.as_str())
+}
