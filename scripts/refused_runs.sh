@@ -122,7 +122,7 @@ for document in "$(printf '%40000s' '#')" "$tree" "$clash" '# x\n'; do
     printf '%b' "$document" >"$work/document"
     silent 4 0 "$show" "$work/document"
 done
-silent 1 19 "$example" crates/toml_span_example/stdin
+silent 1 15 "$example" crates/toml_span_example/stdin
 grep -E '^(nodes|text_order|key_places|quote_key|quote_string|replaced|write[^:]*(look|at)=)' crates/toml_span_rows/stdin >"$work/rows"
 silent 1 0 "$rows" "$work/rows"
 if [ "$silenced" -lt 200 ]; then told "programs made $silenced requests"; fi

@@ -1,74 +1,83 @@
-//! Reads the settings of a server from standard input. Prints them, or all their errors with the lines
-//! at which they stand.
+//! Reads the settings of a server from standard input. Prints what is to be said of them, and the settings.
 #![tactic(auto)]
 
 use std::alloc::Global;
 use std::io;
 use std::process::ExitCode;
-use toml_span::{DeserError, Deserialize, Stop, Value, from_str, read_table};
-use toml_span_report::{Style, render_stop};
+use toml_span::{
+    DeserError, Deserialize, DeserializeWithWarnings, Error, Spanned, Stop, Value,
+    from_str_with_warnings, read_table, read_tagged,
+};
+use toml_span_report::{Style, render_all, reports_of};
 
 /// The settings. Other keys are refused.
 #[derive(Debug, Drop)]
 struct Settings {
-    name: String,
-    level: Level,
-    origin: Server,
-    mirrors: Vec<Server>,
-    tags: Option<Vec<String>>,
+    max_body: u32,
+    log: Log,
+    mirrors: Vec<Mirror>,
 }
 
-/// How much is logged.
+/// Where the log goes.
 #[derive(Debug, Drop)]
-enum Level {
-    Quiet,
-    Normal,
+enum Log {
+    Terminal,
+    File { path: String, append: bool },
 }
 
-/// Where files are served. Other keys are left alone.
+/// Where else the files are. No two have one name.
 #[derive(Debug, Drop)]
-struct Server {
+struct Mirror {
+    name: Spanned<String>,
     url: String,
-    weight: u8,
 }
 
-impl<'de> Deserialize<'de> for Settings {
-    fn deserialize(alloc: Global, value: &mut Value<'de>) -> Result<Self, Stop<DeserError<'de>>> {
-        read_table!(alloc, value, Settings {
-            name: String;
-            level: Level = "log-level", parsed, or(Level::Normal);
-            origin: Server;
-            mirrors: Vec<Server>;
-            tags: Option<Vec<String>>;
+impl<'de> DeserializeWithWarnings<'de> for Settings {
+    fn deserialize_with_warnings(
+        alloc: Global,
+        value: &mut Value<'de>,
+        warnings: &mut Vec<Error<'de>>,
+    ) -> Result<Self, Stop<DeserError<'de>>> {
+        read_table!(alloc, value, warnings, Settings {
+            max_body: u32 = "max-body", deprecated("max_body"), or(65536);
+            log: Log, or(Log::Terminal);
+            mirrors: Vec<Mirror>, unique(name);
         })
     }
 }
 
-impl<'de> Deserialize<'de> for Server {
+impl<'de> Deserialize<'de> for Log {
     fn deserialize(alloc: Global, value: &mut Value<'de>) -> Result<Self, Stop<DeserError<'de>>> {
-        read_table!(alloc, value, Server { url: String; weight: u8, or(1); .. })
+        read_tagged!(alloc, value, "to", {
+            "terminal" => Log::Terminal,
+            "file" => Log::File { path: String; append: bool, or(false); },
+        })
     }
 }
 
-impl std::str::FromStr for Level {
-    type Err = &'static str;
-
-    fn from_str(text: &str) -> Result<Level, &'static str> {
-        match text {
-            "quiet" => Ok(Level::Quiet),
-            "normal" => Ok(Level::Normal),
-            _ => Err("expected `quiet` or `normal`"),
-        }
+impl<'de> Deserialize<'de> for Mirror {
+    fn deserialize(alloc: Global, value: &mut Value<'de>) -> Result<Self, Stop<DeserError<'de>>> {
+        read_table!(alloc, value, Mirror { name: Spanned<String>; url: String; })
     }
 }
 
 fn main(rt: HostRuntime) -> io::Result<ExitCode> {
     let alloc = rt.alloc();
     let input = io::read_to_string(alloc, rt.stdin())?;
-    let shown = match from_str::<Settings>(alloc, input.as_str()) {
-        Ok(settings) => return println!(rt; "{settings:#?}").map(|()| ExitCode::SUCCESS),
-        Err(stop) => render_stop(alloc, Style::Plain, stop, "settings.toml", input.as_str())?,
-    };
+    let text = input.as_str();
+    let mut warnings = Vec::new(alloc);
+    let read = from_str_with_warnings::<Settings>(alloc, text, &mut warnings);
+    let reports = reports_of(alloc, &read, warnings.as_slice(), text)?;
+    let shown = render_all(
+        alloc,
+        Style::Plain,
+        reports.as_slice(),
+        "settings.toml",
+        text,
+    )?;
     print!(rt; "{shown}")?;
-    Ok(ExitCode::FAILURE)
+    match read {
+        Ok(settings) => println!(rt; "{settings:#?}").map(|()| ExitCode::SUCCESS),
+        Err(_stop) => Ok(ExitCode::FAILURE),
+    }
 }

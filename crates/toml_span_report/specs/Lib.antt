@@ -7,6 +7,7 @@ pub mod Many
 pub mod Names
 pub mod Places
 pub mod Rendering
+pub mod Reads
 pub mod Report
 pub mod Strips
 pub mod Tokens

@@ -37,8 +37,8 @@ fn push_code(out: &mut String, code: u32) -> Result<(), AllocError>
     push_digit(out, code % 16)
 }
 
-/// Adds a character, or its number where terminals act on it.
-fn push_char(out: &mut String, c: char) -> Result<(), AllocError>
+/// Adds a character, or its number where terminals act on it, as `push_visible` does.
+pub fn push_char(out: &mut String, c: char) -> Result<(), AllocError>
     ensures { OnOk result (string_bytes out.new ≡ string_bytes out.old ++ spec.visible_char c) }
 {
     if is_escaped(c) {

@@ -17,7 +17,7 @@ use lint::lint;
 use std::alloc::{AllocError, Global};
 use std::collections::BTreeMap;
 use toml_span::{DeserError, Deserialize, Span, Stop, Value, from_str, parse, read_table};
-use toml_span_report::visible::{push_quoted, push_visible, visible, visible_lines};
+use toml_span_report::visible::{push_char, push_quoted, push_visible, visible, visible_lines};
 use toml_span_report::{
     Report, Severity, Style, nearest, render, render_all, render_json, render_line, render_stop,
 };
@@ -149,12 +149,17 @@ fn push_without_labels(alloc: Global, row: Row<'_>, out: &mut String) -> Result<
     push_reports(alloc, reports.as_slice(), row.text, Form::Json, out)
 }
 
-/// Answers `visible`: the text twice, once as it is added to another.
+/// Answers `visible`: the text three times, as it is told, as it is added to another, and character by character.
 fn push_seen(alloc: Global, text: &str, out: &mut String) -> Result<(), AllocError> {
     let seen = visible(alloc, text)?;
     out.push_str(seen.as_str())?;
     out.push_str("\n")?;
-    push_visible(out, text)
+    push_visible(out, text)?;
+    out.push_str("\n")?;
+    for c in text.chars() {
+        push_char(out, c)?;
+    }
+    Ok(())
 }
 
 /// Answers `coloured`.

@@ -6,3 +6,4 @@ pub mod Maps
 pub mod Tuples
 pub mod WithWarnings
 pub mod Rests
+pub mod Names

@@ -11,3 +11,4 @@ pub mod Aliases
 pub mod Tags
 pub mod Rests
 pub mod WithWarnings
+pub mod Names

@@ -16,6 +16,8 @@
 ///   `Option` of a `Spanned`, and `or(..)` may stand behind it;
 /// - `max_body: u64 = "max-body", alias("max_body");` may stand under an old name (`TableHelper::read_either`);
 ///   `alias` comes first, and the others may stand behind it;
+/// - `servers: Vec<Server>, unique(name);` is an error for each server whose field `name`, a `Spanned<String>`, an
+///   earlier one has too (`TableHelper::keep_repeated`);
 /// - `limits: Limits, flatten;`, the last field, is read of the keys that are left (`TableHelper::read_rest`).
 ///
 /// Other keys are an error; with `..` behind the last field they are put back into the value. All errors
@@ -87,6 +89,9 @@ macro_rules! read_table {
     (@fields $read:tt [$($done:tt)*] $field:ident: Option<$ty:ty> $(= $key:literal)?, parsed; $($rest:tt)*) => {
         $crate::read_table!(@fields $read [$($done)* $field: $ty $(= $key)?, parsed, optional;] $($rest)*)
     };
+    (@fields $read:tt [$($done:tt)*] $field:ident: $ty:ty $(= $key:literal)?, unique($name:ident); $($rest:tt)*) => {
+        $crate::read_table!(@fields $read [$($done)* $field: $ty $(= $key)?, unique($name);] $($rest)*)
+    };
     (@fields $read:tt [$($done:tt)*] $field:ident: $ty:ty, flatten; $next:ident $($rest:tt)*) => {
         compile_error!("`read_table!`: the field with `flatten` is the last one")
     };
@@ -110,11 +115,11 @@ macro_rules! read_table {
 
     (@table [$helper:ident, $value:expr, $warnings:tt, [$($table:tt)+]] $finish:ident($($rest:expr)?) [
         $($field:ident: $ty:ty $(= $key:literal $($old:literal $($deprecated:ident)?)?)?
-            $(, $how:ident $(($default:expr))?)*;)*
+            $(, $how:ident $(($($word:tt)*))?)*;)*
     ]) => {{
         $(let $field = $crate::read_table!(
             @read [$helper, $warnings], $ty,
-            [$crate::read_table!(@key $field $($key)?) $($(, $old $(, $deprecated)?)?)?] $(, $how $($default)?)*
+            [$crate::read_table!(@key $field $($key)?) $($(, $old $(, $deprecated)?)?)?] $(, $how $(($($word)*))?)*
         );)*
         $helper.$finish($($rest)?)?;
         Ok($($table)+ {
@@ -148,7 +153,7 @@ macro_rules! read_table {
 
     (@read $helper:tt, $ty:ty, $keys:tt) => { $crate::read_table!(@one $helper, $ty, $keys) };
     (@read $helper:tt, $ty:ty, $keys:tt, optional) => { $crate::read_table!(@some $helper, $ty, $keys) };
-    (@read $helper:tt, $ty:ty, $keys:tt, or $default:expr) => {
+    (@read $helper:tt, $ty:ty, $keys:tt, or($default:expr)) => {
         match $crate::read_table!(@some $helper, $ty, $keys) {
             Some(field) => field,
             None => $default,
@@ -161,6 +166,17 @@ macro_rules! read_table {
     (@read [$helper:ident, [$warnings:ident]], $ty:ty, [$key:expr], with_warnings, optional) => {
         $helper.read_optional_with_warnings::<$ty>($key, $warnings)?
     };
+    (@read [$helper:ident, $warnings:tt], $ty:ty, $keys:tt, unique($name:ident)) => {{
+        let list = $crate::read_table!(@one [$helper, $warnings], $ty, $keys);
+        if let Some(list) = &list {
+            let mut names = $helper.no_names();
+            for entry in list.iter() {
+                names.push(&entry.$name)?;
+            }
+            $helper.keep_repeated(names.as_slice())?;
+        }
+        list
+    }};
     (@read [$helper:ident, $warnings:tt], $ty:ty, $keys:tt, flatten) => { $helper.read_rest::<$ty>()? };
 
     (@read $helper:tt, $ty:ty, $keys:tt, parsed) => {
@@ -175,7 +191,7 @@ macro_rules! read_table {
             None => None,
         }
     };
-    (@read $helper:tt, $ty:ty, $keys:tt, parsed, or $default:expr) => {
+    (@read $helper:tt, $ty:ty, $keys:tt, parsed, or($default:expr)) => {
         match $crate::read_table!(@some $helper, $crate::Parsed<$ty>, $keys) {
             Some(field) => field.value,
             None => $default,
@@ -198,6 +214,7 @@ macro_rules! read_table {
 
     (@field $field:ident) => { $field.unwrap() };
     (@field $field:ident with_warnings) => { $field.unwrap() };
+    (@field $field:ident unique) => { $field.unwrap() };
     (@field $field:ident flatten) => { $field.unwrap() };
     (@field $field:ident parsed) => {{
         let value = $field.unwrap().value;

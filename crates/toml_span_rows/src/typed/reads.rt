@@ -3,7 +3,7 @@ use crate::told::push_told;
 use crate::typed::marked::{Held, Placed};
 use crate::typed::odd::{Half, Odd, Untouched};
 use crate::typed::ported::push_ported;
-use crate::typed::structs::{Config, Server};
+use crate::typed::structs::{Config, Hosts, Server};
 use std::alloc::{AllocError, Global};
 use std::collections::BTreeMap;
 use std::fmt::Debug;
@@ -106,6 +106,7 @@ fn push_own<'de>(
         "Half" => push_as::<Half>(alloc, value, out),
         "Server" => push_as::<Server<'de>>(alloc, value, out),
         "Config" => push_as::<Config<'de>>(alloc, value, out),
+        "Hosts" => push_as::<Hosts>(alloc, value, out),
         _ => push_ported(alloc, name, value, out),
     }
 }

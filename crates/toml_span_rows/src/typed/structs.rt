@@ -19,6 +19,30 @@ pub struct Config<'de> {
     pub server: Server<'de>,
 }
 
+/// A host of a list in which no two have one name.
+#[derive(Debug, Drop)]
+pub struct Host {
+    pub name: Spanned<String>,
+}
+
+/// Such a list.
+#[derive(Debug, Drop)]
+pub struct Hosts {
+    pub hosts: Vec<Host>,
+}
+
+impl<'de> Deserialize<'de> for Host {
+    fn deserialize(alloc: Global, value: &mut Value<'de>) -> Result<Host, Stop<DeserError<'de>>> {
+        read_table!(alloc, value, Host { name: Spanned<String>; })
+    }
+}
+
+impl<'de> Deserialize<'de> for Hosts {
+    fn deserialize(alloc: Global, value: &mut Value<'de>) -> Result<Hosts, Stop<DeserError<'de>>> {
+        read_table!(alloc, value, Hosts { hosts: Vec<Host>, unique(name); })
+    }
+}
+
 impl<'de> Deserialize<'de> for Server<'de> {
     fn deserialize(
         alloc: Global,

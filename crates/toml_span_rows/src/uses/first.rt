@@ -1,6 +1,7 @@
-//! The README's first example: parse a text, point at a value, and say where a fault stands.
+//! The README's first example: parse a text, point at a value, and show a fault.
 use std::alloc::{AllocError, Global};
-use toml_span::{Stop, parse};
+use toml_span::parse;
+use toml_span_report::{Style, render_stop};
 
 /// Where the port of a server stands, or what is wrong with the text and where.
 pub fn port_told(alloc: Global, text: &str) -> Result<String, AllocError> {
@@ -12,10 +13,6 @@ pub fn port_told(alloc: Global, text: &str) -> Result<String, AllocError> {
             ),
             None => format!(in alloc; "there is no port"),
         },
-        Err(Stop::Fault(error)) => {
-            let (line, column) = error.line_info.unwrap_or((0, 0));
-            format!(in alloc; "{}:{}: {error}", line + 1, column + 1)
-        }
-        Err(Stop::Memory(error)) => Err(error),
+        Err(stop) => render_stop(alloc, Style::Plain, stop.convert(), "a.toml", text),
     }
 }

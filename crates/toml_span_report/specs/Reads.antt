@@ -1,0 +1,30 @@
+-- The reports of a read.
+use Rattle.std.specs.Prelude.{◌≡◌, ℕ, List, [], ◌∷◌, ◌++◌, Result, Ok, Err}
+use Rattle.toml_span_lex.specs.declared.stop.Stop.{Stop}
+use Rattle.toml_span_lex.specs.declared.stop.Stop.TheVariants as stop
+use Rattle.toml_span_tree.specs.Error.{ErrorContent}
+use Rattle.toml_span_typed.specs.Errors.{Errors, all}
+use Rattle.toml_span_report.specs.Errors.{TellsError}
+use Rattle.toml_span_report.specs.Report.{ReportContent}
+use Rattle.toml_span_report.specs.declared.report.Severity.{Severity}
+use Rattle.toml_span_report.specs.declared.report.Severity.TheVariants as severities
+
+-- the report of each error comes behind those before it
+abbrev pub AddsReports : Severity → List ℕ → List ErrorContent → List ReportContent → List ReportContent → Type 0
+AddsReports severity text [] before after = after ≡ before
+AddsReports severity text (f ∷ fs) before after =
+    (report : ReportContent) × TellsError severity text f report
+    × AddsReports severity text fs (before ++ report ∷ []) after
+
+-- the errors of a read that failed
+abbrev pub errors_of : {T : Type 0} → Result T (Stop Errors) → List ErrorContent
+errors_of (Ok x) = []
+errors_of (Err (stop.Fault faults)) = all faults
+errors_of (Err (stop.Memory error)) = []
+
+-- the warnings of a read, and behind them its errors
+abbrev pub AreReportsOf : {T : Type 0} → Result T (Stop Errors) → List ErrorContent → List ℕ → List ReportContent
+    → Type 0
+AreReportsOf read warnings text reports =
+    (warned : List ReportContent) × AddsReports severities.Warning text warnings [] warned
+    × AddsReports severities.Error text (errors_of read) warned reports

@@ -1,0 +1,68 @@
+//! The reports of a read.
+ghost use Rattle.std.specs.Prelude.{IfOk, OnOk, map};
+ghost use Rattle.toml_span_tree.specs.Error.{content_of};
+ghost use Rattle.toml_span_typed.specs.Errors.{all};
+ghost use Rattle.toml_span_report.specs.Reads.{AddsReports, AreReportsOf};
+ghost use Rattle.toml_span_report.specs.Report.{report_content};
+ghost use Rattle.toml_span_report.specs.declared.report.Severity.TheVariants as severities;
+
+use crate::report::Report;
+use std::alloc::{AllocError, Global};
+use toml_span_lex::stop::Stop;
+use toml_span_tree::Error;
+use toml_span_typed::DeserError;
+
+/// Adds the reports of warnings.
+fn push_warnings(
+    alloc: Global,
+    warnings: &[Error<'_>],
+    text: &str,
+    reports: &mut Vec<Report>,
+) -> Result<(), AllocError>
+    ensures { OnOk result (AddsReports severities.Warning text.now (map content_of warnings.now)
+        (map report_content reports.old.items) (map report_content reports.new.items)) }
+{
+    for warning in warnings {
+        reports.push(Report::from_warning(alloc, warning, text)?)?;
+    }
+    Ok(())
+}
+
+/// Adds the reports of errors.
+fn push_errors(
+    alloc: Global,
+    errors: &DeserError<'_>,
+    text: &str,
+    reports: &mut Vec<Report>,
+) -> Result<(), AllocError>
+    ensures { OnOk result (AddsReports severities.Error text.now (all errors.now)
+        (map report_content reports.old.items) (map report_content reports.new.items)) }
+{
+    for error in errors.iter() {
+        reports.push(Report::from_error(alloc, error, text)?)?;
+    }
+    Ok(())
+}
+
+/// The reports of the warnings of a read, and of its errors where it failed, each in their order, for `render_all`. Want
+/// of memory, of the read too, comes back.
+pub fn reports_of<T>(
+    alloc: Global,
+    read: &Result<T, Stop<DeserError<'_>>>,
+    warnings: &[Error<'_>],
+    text: &str,
+) -> Result<Vec<Report>, AllocError>
+    ensures { IfOk result (λ reports. AreReportsOf read.now (map content_of warnings.now) text.now
+        (map report_content reports.items)) }
+{
+    let mut reports = Vec::new(alloc);
+    push_warnings(alloc, warnings, text, &mut reports)?;
+    match read {
+        Ok(_) => Ok(reports),
+        Err(Stop::Fault(errors)) => {
+            push_errors(alloc, errors, text, &mut reports)?;
+            Ok(reports)
+        }
+        Err(Stop::Memory(error)) => Err(*error),
+    }
+}

@@ -1,0 +1,15 @@
+use Rattle.std.proofs.Common.{◌≡◌, ℕ, List, ◌++◌, drop, map}
+use Rattle.std.specs.BTreeMap.{get_by}
+use Rattle.std.specs.Cmp.Lexicographic.{slice_cmp}
+use Rattle.std.specs.Map.{lookup}
+use Rattle.std.specs.Ordering.{nat_cmp}
+use Rattle.std.specs.Str.{bytes_eq}
+use Rattle.toml_span_tree.specs.Error.{content_of}
+use Rattle.toml_span_typed.specs.Names as spec
+use Rattle.toml_span_typed.specs.Names.{Name, named}
+use Rattle.toml_span_typed.proofs.de_helpers.table_helper.names.repeated.Given as goal
+
+abbrev pub invariant-loop-name : goal.invariant-loop-name
+invariant-loop-name l =
+    (before : List Name) × ((q : List ℕ) → get_by (λ k. slice_cmp nat_cmp q k.now) l.places ≡ lookup (λ name. bytes_eq name q) before)
+    × (map content_of l.errors.items ++ spec.repeated_behind before (map (λ name. named name.now) (drop l.name-index l.names)) ≡ spec.repeated (map (λ name. named name.now) l.names))
