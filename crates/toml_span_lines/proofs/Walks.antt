@@ -1,13 +1,31 @@
 -- One more node of a walk down a tree.
-use Rattle.std.proofs.Common.{ℕ, suc, ◌+◌, ◌<◌, ◌≡◌, List, ◌∷◌, ◌++◌, drop, take, length, get_or, sym, ap, ◌∙◌, append_assoc, true, add-one}
+use Rattle.std.proofs.Common.{ℕ, suc, ◌+◌, ◌<◌, ◌≡◌, refl, List, ◌∷◌, ◌++◌, drop, take, length, get_or, sym, ap, ◌∙◌, append_assoc, true, false, add-one}
 use Rattle.std.proofs.lemmas.List.{drop_more, append-nil}
 use Rattle.std.proofs.Math.Seq.{take-append_seam}
 use Rattle.std.specs.Cow.{cow_str_bytes}
 use Rattle.toml_span_lex.specs.declared.key.Key.{Key}
+use Rattle.toml_span_lex.specs.declared.span.Span.{Span}
 use Rattle.toml_span_tree.specs.declared.value.Value.{Value}
-use Rattle.toml_span_tree.specs.Node.{Node, node, taken, scalar, array, table}
-use Rattle.toml_span_tree.specs.Value.{view, items_view, members_view, is_taken}
-use Rattle.toml_span_lines.specs.Lines.{node_lines, items_lines, members_lines, position_segment, key_segment}
+use Rattle.toml_span_tree.specs.Node.{Node, node, Inner, taken, scalar, array, table}
+use Rattle.toml_span_tree.specs.Value.{view, items_view, members_view, is_taken, holds_nothing, kind_name}
+use Rattle.toml_span_lines.specs.Lines.{line, node_lines, held_lines, items_lines, members_lines, position_segment, key_segment}
+
+not_taken_lines : (i : Inner) (span : Span) (path : List ℕ) → holds_nothing i ≡ false →
+    node_lines path (node i span) ≡ line path (kind_name i) span.start span.end ++ held_lines path i
+not_taken_lines taken span path h = cc
+not_taken_lines (scalar x) span path h = refl
+not_taken_lines (array ns) span path h = refl
+not_taken_lines (table ms) span path h = refl
+
+-- a node that is not taken has its own line, and then those of what it holds
+pub node_lines-held : (n : Node) (i : Inner) (span : Span) (path before out after : List ℕ) → n ≡ node i span → is_taken n ≡ false →
+    out ≡ before ++ line path (kind_name i) span.start span.end → after ≡ out ++ held_lines path i →
+    after ≡ before ++ node_lines path n
+node_lines-held n i span path before out after e h k l =
+    let held : holds_nothing i ≡ false = sym (ap (λ m. is_taken m) e) ∙ h in
+    let own = not_taken_lines i span path held in
+    l ∙ ap (λ o. o ++ held_lines path i) k ∙ append_assoc before (line path (kind_name i) span.start span.end) (held_lines path i)
+    ∙ ap (λ o. before ++ o) (sym own) ∙ ap (λ m. before ++ node_lines path m) (sym e)
 
 -- one that is taken has none
 pub node_lines-taken : (n : Node) (path before : List ℕ) → is_taken n ≡ true → before ≡ before ++ node_lines path n
