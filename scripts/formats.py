@@ -5,7 +5,8 @@ PROGRAM, a build of toml_span_check, is run on files with awkward names and cont
 read as GitHub's runner reads it, and the document of `--format sarif` is compared with what the schema of SARIF 2.1.0
 demands of the objects that it has: which members are required, which are known, and the bounds of their values. Then
 both have to tell what `--format json` tells, of the same files, at the lines and columns that this script counts. The
-rules of the document have to be the codes that docs/LANGUAGE.md lists, and the two of files that are no text.
+rules of the document have to be the codes that docs/LANGUAGE.md lists, and the two of files that are no text. No line
+of `--format short` may be a command.
 """
 import json
 import os
@@ -221,6 +222,9 @@ def main():
             texts = {name.decode(): FILES[FILES_OF[os.path.basename(name)]] for name in words}
             told, status = run(program, "json", words)
             faults = told_json(told)
+            told, _ = run(program, "short", words)
+            if any(line.lstrip().startswith(b"::") for line in told.split(b"\n")):
+                wrong(f"a line of short is a command: {told!r}")
             for form, check in (("github", check_github), ("sarif", check_sarif)):
                 told, ended = run(program, form, words)
                 if ended != status:
