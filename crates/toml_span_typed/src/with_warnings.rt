@@ -21,8 +21,7 @@ use toml_span_tree::{Error, Value};
 /// An implementation may state what its read answers: `reads` relates the value before, the answer, which is an
 /// element or the errors, the warnings before and those after. One that leaves it out says nothing of them.
 pub trait DeserializeWithWarnings<'de>: Sized + Drop {
-    ghost reads: { Node → Result Self Errors → List ErrorContent → List ErrorContent → Type 0 }
-        = { λ _ _ _ _. Unit {0} };
+    ghost reads: { Node → Result Self Errors → List ErrorContent → List ErrorContent → Type 0 } = { λ _ _ _ _. Unit {0} };
 
     /// Reads the value, of which nothing may be taken, neither here nor below (`is_whole`). Warnings are put behind
     /// those of the list, also where the read fails.
