@@ -20,9 +20,6 @@ pub record IsBest (word : List ℕ) (names : List (List ℕ)) (i : ℕ) (best : 
   pub within : bound ≤ reach word + 1
   pub least : (k : ℕ) → k < i → bound ≤ distance word (get_or names k [])
 
-pub best_none : (word : List ℕ) (names : List (List ℕ)) → IsBest word names 0 None (reach word + 1)
-best_none word names = record { found = refl; within = omega arith; least = λ k below. absurd (omega arith) }
-
 pub best_nearer : (word : List ℕ) (names : List (List ℕ)) (i : ℕ) (best : Option (List ℕ)) (bound d : ℕ) (name : List ℕ) → IsBest word names i best bound → name ≡ get_or names i [] → d ≡ distance word name → d < bound →
     IsBest word names (i + 1) (Some name) d
 best_nearer word names i best bound d name before here is nearer =

@@ -106,29 +106,7 @@ counted-value (node (table ms) span) rest =
     ∙ last end rest (1 + length ps) 1 refl
     ∙ ap Some (omega (arith, inside ps rest first end))
 
-at-top : (c : Content) → ¬ IsOpening c → depth_behind c 0 ≡ 0
-at-top (value s) single = refl
-at-top nothing single = refl
-at-top array_begins single = absurd (single (inl refl))
-at-top array_ends single = refl
-at-top table_begins single = absurd (single (inr refl))
-at-top table_ends single = refl
-at-top (key s) single = refl
-
--- a piece that begins nothing
-pub counted-single : (p : Piece) (rest : List Piece) → ¬ IsOpening p.content → counted 0 0 (p ∷ rest) ≡ Some 1
-counted-single p rest single = last p rest 0 0 (at-top p.content single)
-
 -- ---- a loop over a row
-
-pub depth-bound : (c : Content) (d : ℕ) → depth_behind c d ≤ d + 1
-depth-bound (value s) d = omega arith
-depth-bound nothing d = omega arith
-depth-bound array_begins d = omega arith
-depth-bound array_ends d = omega arith
-depth-bound table_begins d = omega arith
-depth-bound table_ends d = omega arith
-depth-bound (key s) d = omega arith
 
 split : (i : ℕ) (ps : List Made) (p : Made) → i < length ps → get_or ps i p ≡ p → map piece_of (drop i ps) ≡ piece_of p ∷ map piece_of (drop (i + 1) ps)
 split i ps p inside here = ap (map piece_of) (drop_more ps i p inside ∙ ap (λ x. x ∷ drop (i + 1) ps) here)

@@ -21,19 +21,6 @@ Found = Option Span × Node
 
 -- ---- a walk
 
--- one more step
-pub way_of-push : (ds es : List Down) (d : Down) → es ≡ ds ++ (d ∷ []) → way_of es ≡ down_of d ∷ way_of ds
-way_of-push ds es d e =
-    ap way_of e ∙ ap reverse (map-append down_of ds (d ∷ [])) ∙ reverse-append (map down_of ds) (down_of d ∷ [])
-
--- one more piece
-pub walked-next : (i : ℕ) (ps : List Made) (p : Made) (way after all : Way) → i < length ps → get_or ps i p ≡ p →
-    walked (map piece_of (drop i ps)) way ≡ all → after ≡ behind (piece_content p.content) way →
-    walked (map piece_of (drop (i + 1) ps)) after ≡ all
-walked-next i ps p way after all at_step here before step =
-    let split : drop i ps ≡ p ∷ drop (i + 1) ps = drop_more ps i p at_step ∙ ap (λ x. x ∷ drop (i + 1) ps) here in
-    ap (walked (map piece_of (drop (i + 1) ps))) step ∙ ap (λ l. walked (map piece_of l) way) (sym split) ∙ before
-
 walked-append : (xs ys : List Piece) (way : Way) → walked (xs ++ ys) way ≡ walked ys (walked xs way)
 walked-append [] ys way = refl
 walked-append (x ∷ xs) ys way = walked-append xs ys (behind x.content way)
