@@ -1,13 +1,14 @@
 #!/usr/bin/env bash
-# Installs the checker and the lister: bash scripts/install.sh [PREFIX]
+# Installs the checker, the editor and the lister: bash scripts/install.sh [PREFIX]
 #
-# PREFIX, by default ~/.local, gets bin/toml_span_check, bin/toml_span_show, and a man page for each in share/man/man1.
+# PREFIX, by default ~/.local, gets bin/toml_span_check, bin/toml_span_edit, bin/toml_span_show, and a man page for each
+# in share/man/man1.
 # The programs are native builds (scripts/native.sh): the proved ones where they are no older than the sources, else
 # ones without the proofs. The man pages are docs/man; what they say of words and statuses is the program's own usage.
 #
 # All files are written whole beside their places, and the programs are tried there; only then does each take its place,
 # by a rename. So where something fails, what was installed before is as it was, or new, and never half of it. To take
-# it away, delete the four files.
+# it away, delete the six files.
 #
 # Status: 0 installed, 2 the words are wrong, 3 PREFIX can't be written or programs in it run, 5 the programs can't be
 # built.
@@ -86,9 +87,9 @@ page() {
                     sub(/^ +/, at > 1 ? "    " : "", line)
                     parts["synopsis"] = parts["synopsis"] escaped(line) "\n"
                 } else if (sub(/^Status: /, "", line)) parts["status"] = escaped(line) "\n"
-                else if (line ~ /^  -/) {
+                else if (line ~ /^  [-a-z]/) {
                     sub(/^ +/, "", line)
-                    end = match(line, /   *[^ ]/)
+                    end = match(line, /   *[^ ]/) ? RSTART : match(line, / [^ ]/)
                     words = end ? substr(line, 1, end - 1) : line
                     rest = end ? substr(line, end + RLENGTH - 1) : ""
                     parts["options"] = parts["options"] ".TP\n.B " escaped(words) "\n" escaped(rest) "\n"
@@ -108,7 +109,7 @@ page() {
         { print }' "$top/docs/man/$1.1"
 }
 
-for name in toml_span_check toml_span_show; do
+for name in toml_span_check toml_span_edit toml_span_show; do
     status=0
     program=$(bash "$top/scripts/native.sh" "$name" </dev/null) || status=$?
     case $status in
@@ -119,7 +120,9 @@ for name in toml_span_check toml_span_show; do
     kind="a build without its proofs"
     if [ "$program" = "$top/crates/$name/out/$name" ]; then kind="the proved build"; fi
     stage "bin/$name" 755 <"$program"
-    if ! "$new" </dev/null >/dev/null 2>&1; then
+    words=()
+    if [ "$name" = toml_span_edit ]; then words=(--version); fi
+    if ! "$new" "${words[@]}" </dev/null >/dev/null 2>&1; then
         fail 3 "$shown/bin/$name does not run: if programs may not run there, name another PREFIX"
     fi
     usage=

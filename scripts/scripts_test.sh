@@ -90,16 +90,16 @@ LINK
     chmod +x "$1/bin/rt" "$1/toolchain/bin/clang" "$1/bin/rattle-link"
 }
 
-# make_repository: a new $repository, with the programs of check.sh and show.sh; $crate is the folder of the second
+# make_repository: a new $repository, with the programs of check.sh, edit.sh and show.sh; $crate is the last one's folder
 make_repository() {
     rm -rf "$work/repository" "$HOME"
     repository=$work/repository
     crate=$repository/crates/toml_span_show
-    mkdir -p "$repository/crates/toml_span_check/src" "$crate/src" "$HOME"
+    mkdir -p "$repository"/crates/toml_span_{check,edit}/src "$crate/src" "$HOME"
     cp -r "$top/scripts" "$repository/"
     mkdir "$repository/docs"
     cp -r "$top/docs/man" "$repository/docs/"
-    printf 'toml_span_show:\ntoml_span_check:\n' >"$repository/crates.txt"
+    printf 'toml_span_show:\ntoml_span_check:\ntoml_span_edit:\n' >"$repository/crates.txt"
     printf '#!/bin/sh\ncat\n' >"$crate/src/main.rt"
     cat >"$repository/crates/toml_span_check/src/main.rt" <<'PROGRAM'
 #!/bin/sh
@@ -119,6 +119,14 @@ USAGE
 fi
 for word; do echo "$word"; done
 exit $#
+PROGRAM
+    cat >"$repository/crates/toml_span_edit/src/main.rt" <<'PROGRAM'
+#!/bin/sh
+case $1 in
+--version) exit ;;
+--help) printf 'usage: toml_span_edit FILE get PATH\n\nEdits.\n\n  get       shows\n\nStatus: 0 done.\n' && exit ;;
+esac
+exit 2
 PROGRAM
     : >"$TRIES"
 }
@@ -452,12 +460,13 @@ refuses() {
     [ "$status" -eq "$1" ] && [ ! -s "$work/out" ] && grep -qF -- "$2" "$work/err"
 }
 
-# has_installed PREFIX: whether the four files are there and nothing else
+# has_installed PREFIX: whether the six files are there and nothing else
 has_installed() {
-    [ "$status" -eq 0 ] && [ "$(find "$1" -type f | wc -l)" -eq 4 ] &&
+    [ "$status" -eq 0 ] && [ "$(find "$1" -type f | wc -l)" -eq 6 ] && [ -x "$1/bin/toml_span_edit" ] &&
         [ "$("$1/bin/toml_span_check" x y)" = $'x\ny' ] && [ "$("$1/bin/toml_span_show" <<<copied)" = copied ] &&
         [ -s "$1/share/man/man1/toml_span_show.1" ] &&
-        grep -q '^.B \\-\\-get POINTER$' "$1/share/man/man1/toml_span_check.1"
+        grep -q '^.B \\-\\-get POINTER$' "$1/share/man/man1/toml_span_check.1" &&
+        grep -q '^.B get$' "$1/share/man/man1/toml_span_edit.1"
 }
 
 # is_as_before: whether $work/prefix has what was installed there before, and nothing else

@@ -1,5 +1,8 @@
--- All values of a tree with their paths.
-use Rattle.std.specs.Prelude.{ℕ, suc, List, [], ◌∷◌, ◌++◌, map}
+-- All values of a tree with their paths and their keys.
+use Rattle.std.specs.Prelude.{ℕ, suc, List, [], ◌∷◌, ◌++◌, map, Option, None, Some, option_map}
+use Rattle.std.specs.Cow.{cow_str_bytes}
+use Rattle.toml_span_lex.specs.declared.key.Key.{Key}
+use Rattle.toml_span_lex.specs.declared.span.Span.{Span}
 use Rattle.toml_span_tree.specs.Node.{Node, node, Inner, taken, scalar, array, table, Items, no_items, item, Members}
 use Rattle.toml_span_tree.specs.Node.{no_members, member}
 use Rattle.toml_span_tree.specs.Path.{Path, Step, key, position}
@@ -12,26 +15,33 @@ abbrev pub step_of : Lent → Step
 step_of (lent.Key name) = key name.now
 step_of (lent.Position i) = position i
 
--- the path and the value
-abbrev pub seen : Visited → Path × Node
-seen visited = (map step_of visited.path.items, view visited.value.now)
+-- a key's name and its span
+abbrev pub key_of : Key → List ℕ × Span
+key_of key = (cow_str_bytes key.name, key.span)
+
+-- the path, the key that names the value in its table, and the value
+abbrev pub Listed = Path × (Option (List ℕ × Span) × Node)
+
+abbrev pub seen : Visited → Listed
+seen visited = (map step_of visited.path.items, option_map (λ k. key_of k.now) visited.key, view visited.value.now)
 
 -- each value before those in it, behind a path
 abbrev mutual
-  pub nodes_from : Path → Node → List (Path × Node)
-  nodes_from path (node i span) = (path, node i span) ∷ held_nodes path i
+  pub nodes_from : Path → Option (List ℕ × Span) → Node → List Listed
+  nodes_from path key (node i span) = (path, key, node i span) ∷ held_nodes path i
 
-  pub held_nodes : Path → Inner → List (Path × Node)
+  pub held_nodes : Path → Inner → List Listed
   held_nodes path taken = []
   held_nodes path (scalar s) = []
   held_nodes path (array ns) = items_nodes path 0 ns
   held_nodes path (table ms) = members_nodes path ms
 
   -- the elements from a position on
-  pub items_nodes : Path → ℕ → Items → List (Path × Node)
+  pub items_nodes : Path → ℕ → Items → List Listed
   items_nodes path i no_items = []
-  items_nodes path i (item n ns) = nodes_from (path ++ position i ∷ []) n ++ items_nodes path (suc i) ns
+  items_nodes path i (item n ns) = nodes_from (path ++ position i ∷ []) None n ++ items_nodes path (suc i) ns
 
-  pub members_nodes : Path → Members → List (Path × Node)
+  pub members_nodes : Path → Members → List Listed
   members_nodes path no_members = []
-  members_nodes path (member name span n ms) = nodes_from (path ++ key name ∷ []) n ++ members_nodes path ms
+  members_nodes path (member name span n ms) =
+      nodes_from (path ++ key name ∷ []) (Some (name, span)) n ++ members_nodes path ms

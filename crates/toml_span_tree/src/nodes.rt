@@ -1,10 +1,11 @@
 //! All values of a tree with the paths that lead to them.
-ghost use Rattle.std.specs.Prelude.{◌≡◌, ◌++◌, ◌∷◌, [], IfOk, OnOk, map};
+ghost use Rattle.std.specs.Prelude.{◌≡◌, ◌++◌, ◌∷◌, [], IfOk, None, OnOk, map, option_map};
 ghost use Rattle.toml_span_tree.specs.Value.{items_view, members_view, view};
-ghost use Rattle.toml_span_tree.specs.Nodes.{items_nodes, members_nodes, nodes_from, seen, step_of};
+ghost use Rattle.toml_span_tree.specs.Nodes.{items_nodes, key_of, members_nodes, nodes_from, seen, step_of};
 
 use crate::value::{Table, Value, ValueInner};
 use std::alloc::{AllocError, Global};
+use toml_span_lex::key::Key;
 
 /// A step down: to the entry of a table with a name, or to the element of an array at a position,
 /// counted from 0.
@@ -14,10 +15,12 @@ pub enum Step<'t> {
     Position(usize),
 }
 
-/// A value of a tree, with the steps that lead to it.
+/// A value of a tree, with the steps that lead to it, and its key: the one that names it in its table. The root
+/// and elements of arrays have none.
 #[derive(Drop)]
 pub struct Visited<'t, 'de> {
     pub path: Vec<Step<'t>>,
+    pub key: Option<&'t Key<'de>>,
     pub value: &'t Value<'de>,
 }
 
@@ -30,10 +33,10 @@ pub fn nodes<'t, 'de>(
     alloc: Global,
     value: &'t Value<'de>,
 ) -> Result<Vec<Visited<'t, 'de>>, AllocError>
-    ensures { IfOk result (λ list. map seen list.items ≡ nodes_from [] (view value.now)) }
+    ensures { IfOk result (λ list. map seen list.items ≡ nodes_from [] None (view value.now)) }
 {
     let mut list = Vec::new(alloc);
-    push_node(alloc, value, &[], &mut list)?;
+    push_node(alloc, value, None, &[], &mut list)?;
     Ok(list)
 }
 
@@ -54,14 +57,19 @@ fn with_step<'t>(
 fn push_visited<'t, 'de>(
     alloc: Global,
     value: &'t Value<'de>,
+    key: Option<&'t Key<'de>>,
     path: &[Step<'t>],
     list: &mut Vec<Visited<'t, 'de>>,
 ) -> Result<(), AllocError>
     ensures { OnOk result (map seen list.new.items ≡ map seen list.old.items
-        ++ (map step_of path.now, view value.now) ∷ []) }
+        ++ (map step_of path.now, option_map (λ k. key_of k.now) key, view value.now) ∷ []) }
 {
     let steps = Vec::from_slice(alloc, path)?;
-    list.push(Visited { path: steps, value })?;
+    list.push(Visited {
+        path: steps,
+        key,
+        value,
+    })?;
     Ok(())
 }
 
@@ -70,13 +78,14 @@ fn push_visited<'t, 'de>(
 fn push_node<'t, 'de>(
     alloc: Global,
     value: &'t Value<'de>,
+    key: Option<&'t Key<'de>>,
     path: &[Step<'t>],
     list: &mut Vec<Visited<'t, 'de>>,
 ) -> Result<(), AllocError>
     ensures { OnOk result (map seen list.new.items ≡ map seen list.old.items
-        ++ nodes_from (map step_of path.now) (view value.now)) }
+        ++ nodes_from (map step_of path.now) (option_map (λ k. key_of k.now) key) (view value.now)) }
 {
-    push_visited(alloc, value, path, list)?;
+    push_visited(alloc, value, key, path, list)?;
     if value.is_taken() {
         return Ok(());
     }
@@ -100,7 +109,7 @@ fn push_elements<'t, 'de>(
 {
     for (position, element) in elements.iter().enumerate() {
         let steps = with_step(alloc, path, Step::Position(position))?;
-        push_node(alloc, element, steps.as_slice(), list)?;
+        push_node(alloc, element, None, steps.as_slice(), list)?;
     }
     Ok(())
 }
@@ -118,7 +127,7 @@ fn push_entries<'t, 'de>(
 {
     for (key, value) in table.iter() {
         let steps = with_step(alloc, path, Step::Key(key.name.as_ref()))?;
-        push_node(alloc, value, steps.as_slice(), list)?;
+        push_node(alloc, value, Some(key), steps.as_slice(), list)?;
     }
     Ok(())
 }

@@ -1,8 +1,8 @@
-//! `text_order`: the keys of the root in the order of the text; and `nodes`: the steps to each value, and its kind.
+//! `text_order`: the keys of the root in the order of the text; and `nodes`: the steps to each value, its kind and its key.
 use crate::told::push_told_line;
 use crate::trees::shown::push_kind;
 use std::alloc::{AllocError, Global};
-use toml_span::value::{Step, Value, in_text_order, nodes};
+use toml_span::value::{Key, Step, Value, in_text_order, nodes};
 
 /// Adds the keys of the root.
 pub fn push_order(alloc: Global, root: &Value<'_>, out: &mut String) -> Result<(), AllocError> {
@@ -23,13 +23,22 @@ pub fn push_step(step: &Step<'_>, out: &mut String) -> Result<(), AllocError> {
     }
 }
 
-/// Adds the steps to each value, and its kind.
+/// Adds where a value's key stands, if it has one.
+fn push_key(key: Option<&Key<'_>>, out: &mut String) -> Result<(), AllocError> {
+    match key {
+        Some(key) => write!(out, ", key {:?} {:?}", key.name.as_str(), key.span),
+        None => Ok(()),
+    }
+}
+
+/// Adds the steps to each value, its kind, and its key.
 pub fn push_nodes(alloc: Global, root: &Value<'_>, out: &mut String) -> Result<(), AllocError> {
     for visited in nodes(alloc, root)?.iter() {
         for step in visited.path.iter() {
             push_step(step, out)?;
         }
         push_kind(visited.value, 0, out)?;
+        push_key(visited.key, out)?;
         out.push('\n')?;
     }
     Ok(())

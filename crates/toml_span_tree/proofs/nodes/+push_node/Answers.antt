@@ -1,4 +1,4 @@
-use Rattle.std.proofs.Common.{◌≡◌, ◌∷◌, [], ◌++◌, ◌∙◌, map, sym}
+use Rattle.std.proofs.Common.{◌≡◌, ◌∷◌, [], ◌++◌, ◌∙◌, None, Some, map, sym}
 use Rattle.std.specs.Cow.{cow_str_bytes}
 use Rattle.toml_span_tree.specs.Nodes.{nodes_from, seen, step_of}
 use Rattle.toml_span_tree.specs.Path.{key, position}
@@ -14,7 +14,7 @@ push_elements-loop-position-preserved t c =
     let path = map step_of c.args.path.now in
     let e = c.index-elements-position.result in
     let here = sym c.index-elements-position.is in
-    let more : map seen c.push_node.new.list.items ≡ map seen l.list.items ++ nodes_from (path ++ position l.position ∷ []) (view e) =
+    let more : map seen c.push_node.new.list.items ≡ map seen l.list.items ++ nodes_from (path ++ position l.position ∷ []) None (view e) =
     c.in_ok-push_node.ensures ∙ rw (c.as_slice.ensures.value, c.in_ok-steps.ensures) in
     record {
       small = items_size-next l.position es e _ c.loop-position-test.true here l.invariant.small;
@@ -27,7 +27,8 @@ push_entries-loop-key-preserved t c =
     let path = map step_of c.args.path.now in
     let k = c.in-Some.key.now in
     let v = c.in-Some.value.now in
-    let more : map seen c.push_node.new.list.items ≡ map seen l.list.items ++ nodes_from (path ++ key (cow_str_bytes k.name) ∷ []) (view v) =
+    let more : map seen c.push_node.new.list.items ≡ map seen l.list.items ++ 
+        nodes_from (path ++ key (cow_str_bytes k.name) ∷ []) (Some (cow_str_bytes k.name, k.span)) (view v) =
     c.in_ok-push_node.ensures ∙ rw (c.as_slice.ensures.value, c.in_ok-steps.ensures, c.as_ref.ensures.value) in
     record {
       small = members_size-next _ c.next.new.self k v _ c.in-Some.ensures.steps l.invariant.small;
