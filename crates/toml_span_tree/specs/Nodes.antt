@@ -17,10 +17,11 @@ step_of (lent.Position i) = position i
 
 -- a key's name and its span
 abbrev pub key_of : Key → List ℕ × Span
-key_of key = (cow_str_bytes key.name, key.span)
+key_of k = (cow_str_bytes k.name, k.span)
 
 -- the path, the key that names the value in its table, and the value
-abbrev pub Listed = Path × (Option (List ℕ × Span) × Node)
+abbrev pub Listed : Type 0
+Listed = Path × Option (List ℕ × Span) × Node
 
 abbrev pub seen : Visited → Listed
 seen visited = (map step_of visited.path.items, option_map (λ k. key_of k.now) visited.key, view visited.value.now)
@@ -28,7 +29,7 @@ seen visited = (map step_of visited.path.items, option_map (λ k. key_of k.now) 
 -- each value before those in it, behind a path
 abbrev mutual
   pub nodes_from : Path → Option (List ℕ × Span) → Node → List Listed
-  nodes_from path key (node i span) = (path, key, node i span) ∷ held_nodes path i
+  nodes_from path k (node i span) = (path, k, node i span) ∷ held_nodes path i
 
   pub held_nodes : Path → Inner → List Listed
   held_nodes path taken = []

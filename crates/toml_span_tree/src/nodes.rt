@@ -62,7 +62,7 @@ fn push_visited<'t, 'de>(
     list: &mut Vec<Visited<'t, 'de>>,
 ) -> Result<(), AllocError>
     ensures { OnOk result (map seen list.new.items ≡ map seen list.old.items
-        ++ (map step_of path.now, option_map (λ k. key_of k.now) key, view value.now) ∷ []) }
+        ++ (map step_of path.now, option_map (λ k. key_of k.now) key.entry, view value.now) ∷ []) }
 {
     let steps = Vec::from_slice(alloc, path)?;
     list.push(Visited {
@@ -83,7 +83,7 @@ fn push_node<'t, 'de>(
     list: &mut Vec<Visited<'t, 'de>>,
 ) -> Result<(), AllocError>
     ensures { OnOk result (map seen list.new.items ≡ map seen list.old.items
-        ++ nodes_from (map step_of path.now) (option_map (λ k. key_of k.now) key) (view value.now)) }
+        ++ nodes_from (map step_of path.now) (option_map (λ k. key_of k.now) key.entry) (view value.now)) }
 {
     push_visited(alloc, value, key, path, list)?;
     if value.is_taken() {

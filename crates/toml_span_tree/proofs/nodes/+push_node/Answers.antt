@@ -27,8 +27,8 @@ push_entries-loop-key-preserved t c =
     let path = map step_of c.args.path.now in
     let k = c.in-Some.key.now in
     let v = c.in-Some.value.now in
-    let more : map seen c.push_node.new.list.items ≡ map seen l.list.items ++ 
-        nodes_from (path ++ key (cow_str_bytes k.name) ∷ []) (Some (cow_str_bytes k.name, k.span)) (view v) =
+    let more : map seen c.push_node.new.list.items ≡ map seen l.list.items ++
+    nodes_from (path ++ key (cow_str_bytes k.name) ∷ []) (Some (cow_str_bytes k.name, k.span)) (view v) =
     c.in_ok-push_node.ensures ∙ rw (c.as_slice.ensures.value, c.in_ok-steps.ensures, c.as_ref.ensures.value) in
     record {
       small = members_size-next _ c.next.new.self k v _ c.in-Some.ensures.steps l.invariant.small;
