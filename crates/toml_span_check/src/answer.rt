@@ -116,12 +116,12 @@ fn judge_text<'t>(
             Task::Check => Ok(Judged::Text(0, Vec::new(alloc))),
             Task::Show(form) => Ok(Judged::Document(form, root)),
         },
-        Err(Stop::Fault(error)) => {
+        Err(stop) => {
+            let error = stop.fault()?;
             let out = error_text(alloc, format, &error, name, text);
             drop(error);
             Ok(Judged::Text(1, out?))
         }
-        Err(Stop::Memory(error)) => Err(error),
     }
 }
 

@@ -19,11 +19,10 @@ pub(crate) fn probe_text(alloc: Global, value: &str) -> Result<String, AllocErro
 pub(crate) fn probed<'p>(alloc: Global, probe: &'p str) -> Result<Value<'p>, Stop<Reason>> {
     match parse(alloc, probe) {
         Ok(root) => Ok(root),
-        Err(Stop::Fault(fault)) => {
-            drop(fault);
+        Err(stop) => {
+            drop(stop.fault()?);
             Err(Stop::Fault(Reason::NoValue))
         }
-        Err(Stop::Memory(refused)) => Err(Stop::Memory(refused)),
     }
 }
 

@@ -116,10 +116,10 @@ fn run(rt: &HostRuntime, options: Options<'_>) -> Result<Status, AllocError> {
     };
     match outcome_of(rt.alloc(), bytes.as_slice(), options) {
         Ok(outcome) => deliver(rt, file, outcome),
-        Err(Stop::Fault(reason)) => {
+        Err(stop) => {
+            let reason = stop.fault()?;
             complain(rt, file, reason.text(), reason.detail(), Status::Refused)
         }
-        Err(Stop::Memory(refused)) => Err(refused),
     }
 }
 

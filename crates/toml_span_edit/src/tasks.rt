@@ -51,12 +51,12 @@ fn tree<'t>(alloc: Global, text: &'t str) -> Result<Result<Value<'t>, String>, A
 {
     match parse(alloc, text) {
         Ok(root) => Ok(Ok(root)),
-        Err(Stop::Fault(fault)) => {
+        Err(stop) => {
+            let fault = stop.fault()?;
             let told = fault_text(alloc, &fault);
             drop(fault);
             Ok(Err(told?))
         }
-        Err(Stop::Memory(refused)) => Err(refused),
     }
 }
 
@@ -64,11 +64,10 @@ fn tree<'t>(alloc: Global, text: &'t str) -> Result<Result<Value<'t>, String>, A
 fn sections_of<'t>(alloc: Global, text: &'t str) -> Result<Vec<Section<'t>>, AllocError> {
     match read_sections(alloc, text, 128) {
         Ok(sections) => Ok(sections),
-        Err(Stop::Fault(fault)) => {
-            drop(fault);
+        Err(stop) => {
+            drop(stop.fault()?);
             Ok(Vec::new(alloc))
         }
-        Err(Stop::Memory(refused)) => Err(refused),
     }
 }
 

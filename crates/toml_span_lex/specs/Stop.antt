@@ -1,5 +1,6 @@
 -- What is told of why a call gave no value.
-use Rattle.std.specs.Prelude.{◌≡◌, ℕ, List, Option, Some, codes}
+use Rattle.std.specs.Prelude.{◌≡◌, ℕ, List, Option, Some, Result, Ok, Err, codes}
+use Rattle.std.specs.declared.alloc.AllocError.{AllocError}
 use Rattle.toml_span_lex.specs.declared.stop.Stop.{Stop}
 use Rattle.toml_span_lex.specs.declared.stop.Stop.TheVariants.{Memory, Fault}
 
@@ -12,3 +13,8 @@ told output (Memory error) = Some (codes "memory allocation failed")
 abbrev pub Converts : {E F : Type 0} → (E → F → Type 0) → Stop E → Stop F → Type 0
 Converts gives (Fault fault) stop = (other : _) × gives fault other × (stop ≡ Fault other)
 Converts gives (Memory error) stop = stop ≡ Memory error
+
+-- the fault, or the allocator's error
+abbrev pub fault_of : {E : Type 0} → Stop E → Result E AllocError
+fault_of (Fault fault) = Ok fault
+fault_of (Memory error) = Err error

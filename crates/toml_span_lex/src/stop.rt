@@ -14,7 +14,19 @@ pub enum Stop<E> {
 }
 
 impl<E> Stop<E> {
-    ghost use Rattle.toml_span_lex.specs.Stop.{Converts};
+    ghost use Rattle.std.specs.Prelude.{◌≡◌};
+    ghost use Rattle.toml_span_lex.specs.Stop.{Converts, fault_of};
+
+    /// The fault, or the allocator's error: where a function answers `Result<_, AllocError>` or `Stop`,
+    /// `Err(stop) => tell(stop.fault()?)` is the arm for what the call has to tell, and want of memory is passed on.
+    pub fn fault(self) -> Result<E, AllocError>
+        ensures { result ≡ fault_of self }
+    {
+        match self {
+            Stop::Memory(error) => Err(error),
+            Stop::Fault(fault) => Ok(fault),
+        }
+    }
 
     /// The same reason, its fault converted by `From`: `read.map_err(Stop::convert)?` passes the one error of a
     /// read on where a list of errors is answered.
