@@ -6,7 +6,7 @@ ghost use Rattle.toml_span_check.specs.code.Judged.{Judges, JudgesText};
 use crate::faults::{Format, fault_text};
 use std::alloc::{AllocError, Global};
 use toml_span::de::parse;
-use toml_span::{Error, Stop, Value};
+use toml_span::{Error, Value};
 use toml_span_lines::run::BOUND;
 use toml_span_report::Report;
 
