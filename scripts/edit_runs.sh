@@ -110,7 +110,7 @@ timeout 60 "$program" data/child.toml get '' >/dev/full || status=$?
 
 # each request for memory refused in turn; one of them is a guess of how many words there are, which costs nothing
 make_refusals "$work" || exit 1
-for list in runs/{get_root,set_odd,rename_quoted,remove_dotted,add_to_empty,no_document}.args; do
+for list in runs/{get_root,set_odd,rename_quoted,remove_dotted,remove_inline,add_to_empty,add_pair_line,no_document}.args; do
     mapfile -t words <"$list"
     file=${words[0]}
     made=1

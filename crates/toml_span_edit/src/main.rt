@@ -2,6 +2,7 @@
 #![tactic(auto)]
 
 mod changes;
+mod enclosed;
 mod files;
 mod given;
 mod paths;

@@ -16,8 +16,10 @@ pub(crate) enum Reason {
     NotSpelled,
     /// The path names no key.
     NoKey,
-    /// What the path names stands in an inline table or in an array.
+    /// What the path names is given by a dotted key in an inline table.
     Enclosed,
+    /// The path names no table.
+    NoTable,
     /// The table has no lines of its own.
     NoBody,
     /// The new text would be no document: where, and why.
@@ -40,8 +42,9 @@ impl Reason {
             }
             Reason::NoKey => "the path names no key",
             Reason::Enclosed => {
-                "the path names what stands in an inline table or in an array: set that as a whole"
+                "a dotted key in an inline table gives it: set that table as a whole"
             }
+            Reason::NoTable => "the path names no table",
             Reason::NoBody => {
                 "the table has no header and no lines of its own: add the header, or set what is in it"
             }

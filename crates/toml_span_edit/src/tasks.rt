@@ -4,6 +4,7 @@ ghost use Rattle.toml_span_read.specs.Limits.{depth_limit};
 ghost use Rattle.toml_span.specs.Parsing.{IsTree};
 
 use crate::changes::{Kind, path_text, push_lines, push_name};
+use crate::enclosed::{is_enclosed, is_inline, with_pair, without_item};
 use crate::given::{given_nodes, probe_text, probed};
 use crate::paths::find;
 use crate::reason::Reason;
@@ -11,7 +12,7 @@ use crate::texts::{with_line, with_name, with_value, without};
 use std::alloc::{AllocError, Global};
 use toml_span::value::{Value, Visited, nodes};
 use toml_span::{Error, Stop, parse};
-use toml_span_places::{quote_key, to_toml};
+use toml_span_places::{key_places, quote_key, to_toml};
 use toml_span_read::{Section, read_sections};
 
 /// What the words ask for.
@@ -143,14 +144,28 @@ impl Place<'_, '_, '_> {
 
     fn remove(&self, alloc: Global) -> Result<String, Stop<Reason>> {
         let path = self.node.path.as_slice();
-        let new = without(alloc, self.text, self.sections, path)?;
+        let places = key_places(alloc, self.text, self.sections)?;
+        let new = if is_enclosed(places.as_slice(), path) {
+            without_item(alloc, self.text, places.as_slice(), self.nodes, self.node)?
+        } else {
+            without(alloc, self.text, self.sections, path)?
+        };
         checked(alloc, new, self.changed(alloc, Kind::Removed)?)
     }
 
     fn add(&self, alloc: Global, name: &str, value: &str) -> Result<String, Stop<Reason>> {
+        if self.node.value.as_table().is_none() {
+            return Err(Stop::Fault(Reason::NoTable));
+        }
         let table = self.node.path.as_slice();
         let key = quote_key(alloc, name)?;
-        let new = with_line(alloc, self.text, self.sections, table, key.as_str(), value)?;
+        let pair = format!(in alloc; "{key} = {value}")?;
+        let places = key_places(alloc, self.text, self.sections)?;
+        let new = if is_inline(places.as_slice(), self.node) {
+            with_pair(alloc, self.text, self.nodes, self.node, pair.as_str())?
+        } else {
+            with_line(alloc, self.text, self.sections, table, pair.as_str())?
+        };
         let mut meant = self.changed(alloc, Kind::Kept)?;
         let mut front = path_text(alloc, table)?;
         push_name(alloc, name, &mut front)?;

@@ -11,7 +11,7 @@ use toml_span_places::{
 use toml_span_read::{Assignment, Section};
 
 /// The text with others in the place of spans.
-fn with_spans(
+pub(crate) fn with_spans(
     alloc: Global,
     text: &str,
     spans: &[Span],
@@ -139,7 +139,7 @@ pub(crate) fn without(
 }
 
 /// How the lines of a text end.
-fn line_end(text: &str) -> &'static str {
+pub(crate) fn line_end(text: &str) -> &'static str {
     if text.contains("\r\n") { "\r\n" } else { "\n" }
 }
 
@@ -149,8 +149,7 @@ pub(crate) fn with_line(
     text: &str,
     sections: &[Section<'_>],
     table: &[Step<'_>],
-    key: &str,
-    value: &str,
+    assignment: &str,
 ) -> Result<String, Stop<Reason>> {
     let Some(point) = insertion_point(alloc, text, sections, table)? else {
         return Err(Stop::Fault(Reason::NoBody));
@@ -160,9 +159,7 @@ pub(crate) fn with_line(
     if point.needs_line_end {
         line.push_str(end)?;
     }
-    line.push_str(key)?;
-    line.push_str(" = ")?;
-    line.push_str(value)?;
+    line.push_str(assignment)?;
     line.push_str(end)?;
     let span = Span {
         start: point.offset,

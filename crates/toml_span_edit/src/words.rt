@@ -18,8 +18,8 @@ where it is no document, or more would change than what was asked for, nothing i
   get       shows the value at PATH, as TOML on one line
   set       puts VALUE, as TOML has it, in the place of the value at PATH
   rename    gives the key at PATH another NAME wherever it stands
-  remove    takes out the lines that give what is at PATH
-  add       puts the line KEY = VALUE behind the other ones of the table at TABLE
+  remove    takes out what is at PATH, with the lines or the comma that only it has
+  add       puts KEY = VALUE behind the other ones of the table at TABLE
   --version writes the version
 
 A path is a pointer, as /a/b/0: the names of keys, and positions in arrays from 0. The empty one names the document.
