@@ -13,9 +13,9 @@ PAGE = f"{TOP}/docs/EDITS.md"
 
 HEAD = """# Wrong bodies that the prover refuses
 
-An edit turns lines of the code into a mistake that somebody could make; the tests pass only if the prover refuses it.
-Each line has the clause that refuses it behind its function, what the wrong code does, and the edit's name in
-`must-fail` of the crate. `scripts/edits.py` writes this page from the first two lines of the edits.
+An edit (`crates/*/must-fail/*.edit`) turns lines of the code into a mistake that somebody could make; the tests pass only
+if the prover refuses it. Each line has the function and the clause that refuses it, and the mistake, both from the first
+two lines of the edit: `grep -rl 'peek. consumes' crates/*/must-fail` finds it. `scripts/edits.py` writes this page.
 
 """
 
@@ -88,7 +88,7 @@ def main():
                 faults.append(f"{crate}/{name}: its second line is no sentence that says what the wrong code does")
             faults += [f"{crate}/{name}: no clause {' '.join(it)} in {crate}" for it in told if it not in known]
             refusing = ", ".join(f"`{' '.join(it).removesuffix(' ensures')}`" for it in told)
-            rows += f"- {refusing}: {words} `{name.removesuffix('.edit')}`\n"
+            rows += f"- {refusing}: {words}\n"
         if rows:
             page += f"## {crate}\n\n{rows}\n"
     page = page.rstrip("\n") + "\n"
