@@ -20,8 +20,8 @@ What is looked at is marked:
     ```text            quotes contracts in short: each name of a line stands in the contract of the function, or among
                        the members of the `impl` or the trait, that the last line with no `ensures` names
     (indented by four) stands line by line in stored outputs (stdout), is a line of crates.txt, or is as `sh`
-    <!-- rows: CALL -->    before a table: the first cell of each line has the text of a row of this call, as
-                       `parse 128`, and all that stands in code behind it stands in that row's answer: as words
+    <!-- rows: CALL -->    before a table: the first cell of each line has the text of a row of this call (`parse 128` if
+                       the mark is `rows` alone), and all that stands in code behind it stands in that row's answer: as words
                        of one of its lines or, in a column with the name of a field (first, expected, found, key,
                        name), as that field. Of a fault one cell has the code and the span. A column without a
                        heading has remarks. Or before a list of items `TEXT`: ANSWER: REMARK, in whose answer the
@@ -33,7 +33,8 @@ What is looked at is marked:
                        says `none` and why. Row: each text is one line of the stdin of toml_span_rows with an answer,
                        where `parse 128: ` may be left out, and `..` stands for what else is; a path is there
     <!-- calls -->    before a table: each name under `Clauses` stands in a contract of a function that the first cell
-                       names, in an `impl` or a type of that name, or is a definition that such a contract cites
+                       names, in an `impl` or a type of that name, or is a definition that such a contract cites.
+                       Or before a list of items CALLS: WORDS: CLAUSES
     <!-- cases: FILE FUNCTION -->    before a table: the cell in the line of `A` and the column of `B` has in code what
                        `FUNCTION A B` gives, as `duplicate-key` of a line `FUNCTION A B = Some DuplicateKey`, and no
                        code where no such line is there
@@ -280,9 +281,9 @@ class Page:
                     return self.fault(at, "this block does not end: write ``` behind it")
                 self.block(at + 1, fence[1].split(), self.lines[at + 1 : end])
                 at = end
-            elif comment := re.match(r"<!-- (rows: [^>]*|rules|calls|cases: [^>]*|reading order: [^>]*) -->$", line):
+            elif comment := re.match(r"<!-- (rows(?:: [^>]*)?|rules|calls|cases: [^>]*|reading order: [^>]*) -->$", line):
                 mark = comment[1]
-                begins = ("- ",) if mark == "rules" else ("|", "- ") if mark.startswith("rows: ") else ("|",)
+                begins = {"rules": ("- ",), "calls": ("|", "- "), "rows": ("|", "- ")}.get(mark.split(":")[0], ("|",))
                 if not any(it.startswith(begins) for it in self.lines[at + 1 : at + 3]):
                     self.fault(at, "nothing stands behind this mark: write it right behind, or take the mark away")
             elif line.startswith("- ") and mark:
@@ -290,9 +291,12 @@ class Page:
                 end = next(behind, len(self.lines))
                 if mark == "rules":
                     self.rules(at, end)
-                else:
-                    for k in range(at, end):
-                        self.item(k, mark[len("rows: ") :])
+                for k in range(at, end) if mark != "rules" else ():
+                    if mark == "calls":
+                        told = split_outside_code(self.lines[k], ": ")
+                        self.calls(k, {"Clauses": told[-1]}, told[0])
+                    else:
+                        self.item(k, mark[len("rows: ") :] or "parse 128")
                 self.paths(at, "\n".join(self.lines[at:end]))
                 mark, at = None, end - 1
             elif line.startswith("|"):
@@ -501,7 +505,7 @@ class Page:
             if mark == "calls":
                 self.calls(k, dict(zip(heads, cells)), cells[0])
             else:
-                self.row(k, mark[len("rows: ") :], heads, cells)
+                self.row(k, mark[len("rows: ") :] or "parse 128", heads, cells)
 
     @staticmethod
     def cells(line):
@@ -515,9 +519,11 @@ class Page:
 
     def row(self, at, call, heads, cells):
         """The row of the first cell of a line, and what the others say of its answer."""
-        told = [(head.strip("`"), cell) for head, cell in zip(heads[1:], cells[1:]) if head]
-        fields = [(head if head in FIELDS else "", words) for head, cell in told for words in re.findall(r"`([^`]+)`", cell)]
-        self.example(at, call, cells[0], fields)
+        told = []
+        for head, cell in zip(heads[1:], cells[1:]):
+            field = head.strip("`") if head.strip("`") in FIELDS else ""
+            told += [(field, words) for words in re.findall(r"`([^`]+)`", cell) if head]
+        self.example(at, call, cells[0], told)
 
     def example(self, at, call, text, told):
         """A row, and what is told of its answer: words of one of its lines, or a field."""
