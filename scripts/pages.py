@@ -20,18 +20,18 @@ What is looked at is marked:
     ```text            quotes contracts in short: each name of a line stands in the contract of the function, or among
                        the members of the `impl` or the trait, that the last line with no `ensures` names
     (indented by four) stands line by line in stored outputs (stdout), is a line of crates.txt, or is as `sh`
-    <!-- rows: CALL -->    before a table: the first cell of each line has the text of a row of this call (`parse 128` if
-                       the mark is `rows` alone), and all that stands in code behind it stands in that row's answer: as words
-                       of one of its lines or, in a column with the name of a field (first, expected, found, key,
-                       name), as that field. Of a fault one cell has the code and the span. A column without a
-                       heading has remarks. Or before a list of items `TEXT`: ANSWER: REMARK, in whose answer the
-                       name of a field stands before it.
-    <!-- rules -->    before a list, behind a line with "In `CRATE`:": each line is a rule, its words and a full stop, and
-                       then, with semicolons between, its definition, its code and a row. `Module.{A, B}` are
-                       definitions of specs/Module.antt, `module::{a, b}` functions, constants, types or macros of
-                       src/module.rt or of a folder of src/, in CRATE or in the crate before them. Without a name either
-                       says `none` and why. Row: each text is one line of the stdin of toml_span_rows with an answer,
-                       where `parse 128: ` may be left out, and `..` stands for what else is; a path is there
+    <!-- rows: CALL -->    before a table: the first cell of each line has the text of a row of this call, as `parse 128`
+                       (which `rows` alone stands for), and all that stands in code behind it stands in that row's
+                       answer: as words of one of its lines or, in a column with the name of a field (first, expected,
+                       found, key, name), as that field. Of a fault one cell has the code and the span. A column
+                       without a heading has remarks. Or before a list of items `TEXT`: ANSWER: REMARK, where the name
+                       of a field stands before it
+    <!-- rules -->    before a list, behind a line that ends in "In `CRATE`:": each item is a rule, its words and a full
+                       stop, and then, with semicolons between, its definition, its code and a row. `Module.{A, B}`
+                       are definitions of specs/Module.antt, `module::{a, b}` functions, constants, types or macros of
+                       src/module.rt or of a folder of src/, in CRATE or in the crate before them. Without a name
+                       either says `none` and why. Row: each text is one line of the stdin of toml_span_rows with an
+                       answer, where `parse 128: ` may be left out, and `..` stands for what else is; a path is there
     <!-- calls -->    before a table: each name under `Clauses` stands in a contract of a function that the first cell
                        names, in an `impl` or a type of that name, or is a definition that such a contract cites.
                        Or before a list of items CALLS: WORDS: CLAUSES
@@ -59,6 +59,8 @@ SHOW = "crates/toml_span_show"
 CHECK = "crates/toml_span_check"
 RUN = (".args", ".stdout", ".stderr")
 FIELDS = ("first", "expected", "found", "key", "name")
+# what stands behind each mark
+BEGINS = {"rows": ("|", "- "), "rules": "- ", "calls": ("|", "- "), "cases": "|", "reading order": "|"}
 # names of the toolchain, of the C library and of other crates
 FOREIGN = """AsRef BuiltModule Comparable From Given Goals IsSortedBy IsStableBy Lts MALLOC_MMAP_THRESHOLD_
 MALLOC_TRIM_THRESHOLD_ ParsesChar Serialize Tie as_ codespan_reporting deny_unknown_fields from_iter table_from_str
@@ -143,6 +145,11 @@ def fields_of(line):
     for name, text, start, end in re.findall(r'(\w+): (?:"([^"]*)"|Span { start: (\d+), end: (\d+) })', line):
         found[name] = f"{start}..{end}" if start else text
     return found
+
+
+def call_of(mark):
+    """The call that a mark names."""
+    return mark.removeprefix("rows").removeprefix(": ") or "parse 128"
 
 
 def position_of(lines, part, start=0):
@@ -281,22 +288,15 @@ class Page:
                     return self.fault(at, "this block does not end: write ``` behind it")
                 self.block(at + 1, fence[1].split(), self.lines[at + 1 : end])
                 at = end
-            elif comment := re.match(r"<!-- (rows(?:: [^>]*)?|rules|calls|cases: [^>]*|reading order: [^>]*) -->$", line):
+            elif comment := re.match(r"<!-- (rows(?:: [^>]*)?|rules|calls|(?:cases|reading order): [^>]*) -->$", line):
                 mark = comment[1]
-                begins = {"rules": ("- ",), "calls": ("|", "- "), "rows": ("|", "- ")}.get(mark.split(":")[0], ("|",))
+                begins = BEGINS[mark.split(":")[0]]
                 if not any(it.startswith(begins) for it in self.lines[at + 1 : at + 3]):
                     self.fault(at, "nothing stands behind this mark: write it right behind, or take the mark away")
             elif line.startswith("- ") and mark:
                 behind = (k for k in range(at, len(self.lines)) if not self.lines[k].startswith("- "))
                 end = next(behind, len(self.lines))
-                if mark == "rules":
-                    self.rules(at, end)
-                for k in range(at, end) if mark != "rules" else ():
-                    if mark == "calls":
-                        told = split_outside_code(self.lines[k], ": ")
-                        self.calls(k, {"Clauses": told[-1]}, told[0])
-                    else:
-                        self.item(k, mark[len("rows: ") :] or "parse 128")
+                self.list(at, mark, end)
                 self.paths(at, "\n".join(self.lines[at:end]))
                 mark, at = None, end - 1
             elif line.startswith("|"):
@@ -492,7 +492,18 @@ class Page:
                 if not glob.glob(f"{TOP}/{path}"):
                     self.fault(at + k, f"there is no {path}: name what is there now")
 
-    # ---- tables
+    # ---- lists and tables
+
+    def list(self, at, mark, end):
+        """What each item of a list says."""
+        if mark == "rules":
+            return self.rules(at, end)
+        for k in range(at, end):
+            first, *told = split_outside_code(self.lines[k].removeprefix("- "), ": ")
+            if mark == "calls":
+                self.calls(k, {"Clauses": told[-1] if told else ""}, first)
+            else:
+                self.item(k, call_of(mark), first, told[0] if told else "")
 
     def table(self, at, mark, end):
         heads = self.cells(self.lines[at])
@@ -505,17 +516,15 @@ class Page:
             if mark == "calls":
                 self.calls(k, dict(zip(heads, cells)), cells[0])
             else:
-                self.row(k, mark[len("rows: ") :] or "parse 128", heads, cells)
+                self.row(k, call_of(mark), heads, cells)
 
     @staticmethod
     def cells(line):
         return [cell.strip() for cell in line.strip().strip("|").split("|")]
 
-    def item(self, at, call):
-        """The row of an item of a list, and what stands of its answer up to the next colon."""
-        text, *told = split_outside_code(self.lines[at].removeprefix("- "), ": ")
-        words = rf"(?:\b({'|'.join(FIELDS)}) )?`([^`]+)`"
-        self.example(at, call, text, re.findall(words, told[0] if told else ""))
+    def item(self, at, call, text, told):
+        """The row of an item of a list, and what stands of its answer before a remark."""
+        self.example(at, call, text, re.findall(rf"(?:\b({'|'.join(FIELDS)}) )?`([^`]+)`", told))
 
     def row(self, at, call, heads, cells):
         """The row of the first cell of a line, and what the others say of its answer."""
@@ -601,17 +610,17 @@ class Page:
 
     def rules(self, at, end):
         """Each line of a list has its definition, its code and a row."""
-        above = next((k for k in range(at - 1, 0, -1) if re.search(r"In `toml_span\w*`:$", self.lines[k])), 0)
-        crate = re.search(r"(\w*)`:$", self.lines[above] or "`:")[1]
-        if not crate or any(line.startswith("#") for line in self.lines[above:at]):
-            self.fault(at, "no crate is named above this list: write a line that ends in \"In `CRATE`:\"")
+        head = next(k for k in range(at, -1, -1) if k == 0 or self.lines[k].startswith("#"))
+        crate = re.search(r"(?m)In `(toml_span\w*)`:$", "\n".join(self.lines[head:at]))
+        if not crate:
+            return self.fault(at, "no crate is named above this list: write a line that ends in \"In `CRATE`:\"")
         for k in range(at, end):
             *front, code, row = split_outside_code(f"; ; {self.lines[k]}", "; ")
             words = split_outside_code("; ".join(front), ". ")
             if len(words) < 2:
                 self.fault(k, "this is not `- WORDS. DEFINITION; CODE; ROW`: write it so")
             else:
-                self.rule(k, crate, words[-1], code, row)
+                self.rule(k, crate[1], words[-1], code, row)
 
     def rule(self, at, crate, definition, code, row):
         """What a rule names is there."""
