@@ -20,10 +20,10 @@ What is looked at is marked:
     ```text            quotes contracts in short: each name of a line stands in the contract of the function, or among
                        the members of the `impl` or the trait, that the last line with no `ensures` names
     (indented by four) stands line by line in stored outputs (stdout), is a line of crates.txt, or is as `sh`
-    <!-- rows: CALL -->    before a table: the first cell of each line has the text of a row of this call, as `parse 128`
-                       (which `rows` alone stands for), and all that stands in code behind it stands in that row's
-                       answer: as words of one of its lines or, in a column with the name of a field (first, expected,
-                       found, key, name), as that field. Of a fault one cell has the code and the span. A column
+    <!-- rows: CALL -->    before a table: the first cell of each line has the text of a row of this call (of `parse 128`
+                       where the mark is `rows`), and all that stands in code behind it stands in that row's answer: as
+                       words of one of its lines or, in a column with the name of a field (first, expected, found, key,
+                       name), as that field. Of a fault one cell has the code and the span. A column
                        without a heading has remarks. Or before a list of items `TEXT`: ANSWER: REMARK, where the name
                        of a field stands before it
     <!-- rules -->    before a list, behind a line that ends in "In `CRATE`:": each item is a rule, its words and a full
