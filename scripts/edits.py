@@ -13,9 +13,9 @@ PAGE = f"{TOP}/docs/EDITS.md"
 
 HEAD = """# Wrong bodies that the prover refuses
 
-An edit (`crates/*/must-fail/*.edit`) turns lines of the code into a mistake that somebody could make, and the tests pass
-only if the prover refuses it. Its first line names the clause that refuses it, behind its function, and its second line
-says what the wrong code does. `scripts/edits.py` writes this page from these lines.
+An edit (`crates/*/must-fail/*.edit`) turns lines of the code into a mistake that somebody could make; the tests pass
+only if the prover refuses it. A line has the function, the clause that refuses it, and the mistake: the first two lines
+of the edit, which `grep -rl 'peek. consumes' crates/*/must-fail` finds. `scripts/edits.py` writes this page.
 
 """
 
@@ -87,10 +87,13 @@ def main():
             if not words.endswith("."):
                 faults.append(f"{crate}/{name}: its second line is no sentence that says what the wrong code does")
             faults += [f"{crate}/{name}: no clause {' '.join(it)} in {crate}" for it in told if it not in known]
-            refusing = ", ".join(f"`{' '.join(it).removesuffix(' ensures')}`" for it in told)
-            rows += f"| {words} | {refusing} | `{name}` |\n"
+            named = {}
+            for function, clause in told:
+                named.setdefault(function, []).append(clause)
+            refusing = ", ".join(f"`{it} {', '.join(of)}`".replace(" ensures`", "`") for it, of in named.items())
+            rows += f"- {refusing}: {words}\n"
         if rows:
-            page += f"## {crate}\n\n| The wrong code | Refused by | Edit |\n| --- | --- | --- |\n{rows}\n"
+            page += f"## {crate}\n\n{rows}\n"
     page = page.rstrip("\n") + "\n"
     if "--check" in sys.argv[1:]:
         if not os.path.isfile(PAGE) or text_of(PAGE) != page:

@@ -20,18 +20,21 @@ What is looked at is marked:
     ```text            quotes contracts in short: each name of a line stands in the contract of the function, or among
                        the members of the `impl` or the trait, that the last line with no `ensures` names
     (indented by four) stands line by line in stored outputs (stdout), is a line of crates.txt, or is as `sh`
-    <!-- rows: CALL -->    before a table: the first cell of each line has the text of a row of this call, as
-                       `parse 128`, and all that stands in code behind it stands in that row's answer: as words
-                       of one of its lines or, in a column with the name of a field (first, expected, found, key,
-                       name), as that field. Of a fault one cell has the code and the span. A column without a
-                       heading has remarks.
-    <!-- rules -->    before a list: each item is a rule, and has three items: its definition, its code and a row. Names
-                       stand in code before the path that has them, which may leave out `crates/`.
-                       Definition: a file of specs/ has the names. Code: a file of src/ has the functions, constants,
-                       types or macros. Without a name either says `none` and why. Row: each text is a line of the
-                       stdin of toml_span_rows, or of the crate in code behind it, with an answer; a path is there
+    <!-- rows: CALL -->    before a table: the first cell of each line has the text of a row of this call (of `parse 128`
+                       where the mark is `rows`), and all that stands in code behind it stands in that row's answer: as
+                       words of one of its lines or, in a column with the name of a field (first, expected, found, key,
+                       name), as that field. Of a fault one cell has the code and the span. A column
+                       without a heading has remarks. Or before a list of items `TEXT`: ANSWER: REMARK, where the name
+                       of a field stands before it
+    <!-- rules -->    before a list, behind a line that ends in "In `CRATE`:": each item is a rule, its words and a full
+                       stop, and then, with semicolons between, its definition, its code and a row. `Module.{A, B}`
+                       are definitions of specs/Module.antt, `module::{a, b}` functions, constants, types or macros of
+                       src/module.rt or of a folder of src/, in CRATE or in the crate before them. Without a name
+                       either says `none` and why. Row: each text is one line of the stdin of toml_span_rows with an
+                       answer, where `parse 128: ` may be left out, and `..` stands for what else is; a path is there
     <!-- calls -->    before a table: each name under `Clauses` stands in a contract of a function that the first cell
-                       names, in an `impl` or a type of that name, or is a definition that such a contract cites
+                       names, in an `impl` or a type of that name, or is a definition that such a contract cites.
+                       Or before a list of items CALLS: WORDS: CLAUSES
     <!-- cases: FILE FUNCTION -->    before a table: the cell in the line of `A` and the column of `B` has in code what
                        `FUNCTION A B` gives, as `duplicate-key` of a line `FUNCTION A B = Some DuplicateKey`, and no
                        code where no such line is there
@@ -56,6 +59,8 @@ SHOW = "crates/toml_span_show"
 CHECK = "crates/toml_span_check"
 RUN = (".args", ".stdout", ".stderr")
 FIELDS = ("first", "expected", "found", "key", "name")
+# what stands behind each mark
+BEGINS = {"rows": ("|", "- "), "rules": "- ", "calls": ("|", "- "), "cases": "|", "reading order": "|"}
 # names of the toolchain, of the C library and of other crates
 FOREIGN = """AsRef BuiltModule Comparable From Given Goals IsSortedBy IsStableBy Lts MALLOC_MMAP_THRESHOLD_
 MALLOC_TRIM_THRESHOLD_ ParsesChar Serialize Tie as_ codespan_reporting deny_unknown_fields from_iter table_from_str
@@ -142,6 +147,11 @@ def fields_of(line):
     return found
 
 
+def call_of(mark):
+    """The call that a mark names."""
+    return mark.removeprefix("rows").removeprefix(": ") or "parse 128"
+
+
 def position_of(lines, part, start=0):
     """Where these lines stand one behind the other, or None."""
     for at in range(start, len(lines) - len(part) + 1):
@@ -164,6 +174,16 @@ def imports(text):
         if module:
             modules[module] = path
     return names, modules
+
+
+def split_outside_code(text, mark):
+    """Splits a text at each mark that stands in no code."""
+    parts = [""]
+    for k, part in enumerate(text.split("`")):
+        first, *others = [part] if k % 2 else part.split(mark)
+        parts[-1] += f"`{first}" if k else first
+        parts += others
+    return parts
 
 
 class Module:
@@ -268,15 +288,15 @@ class Page:
                     return self.fault(at, "this block does not end: write ``` behind it")
                 self.block(at + 1, fence[1].split(), self.lines[at + 1 : end])
                 at = end
-            elif comment := re.match(r"<!-- (rows: [^>]*|rules|calls|cases: [^>]*|reading order: [^>]*) -->$", line):
+            elif comment := re.match(r"<!-- (rows(?:: [^>]*)?|rules|calls|(?:cases|reading order): [^>]*) -->$", line):
                 mark = comment[1]
-                begins = "- " if mark == "rules" else "|"
+                begins = BEGINS[mark.split(":")[0]]
                 if not any(it.startswith(begins) for it in self.lines[at + 1 : at + 3]):
                     self.fault(at, "nothing stands behind this mark: write it right behind, or take the mark away")
-            elif line.startswith("- ") and mark == "rules":
-                behind = (k for k in range(at, len(self.lines)) if not re.match(r"(?:  )?- ", self.lines[k]))
+            elif line.startswith("- ") and mark:
+                behind = (k for k in range(at, len(self.lines)) if not self.lines[k].startswith("- "))
                 end = next(behind, len(self.lines))
-                self.rules(at, end)
+                self.list(at, mark, end)
                 self.paths(at, "\n".join(self.lines[at:end]))
                 mark, at = None, end - 1
             elif line.startswith("|"):
@@ -472,7 +492,18 @@ class Page:
                 if not glob.glob(f"{TOP}/{path}"):
                     self.fault(at + k, f"there is no {path}: name what is there now")
 
-    # ---- tables
+    # ---- lists and tables
+
+    def list(self, at, mark, end):
+        """What each item of a list says."""
+        if mark == "rules":
+            return self.rules(at, end)
+        for k in range(at, end):
+            first, *told = split_outside_code(self.lines[k].removeprefix("- "), ": ")
+            if mark == "calls":
+                self.calls(k, {"Clauses": told[-1] if told else ""}, first)
+            else:
+                self.item(k, call_of(mark), first, told[0] if told else "")
 
     def table(self, at, mark, end):
         heads = self.cells(self.lines[at])
@@ -485,40 +516,45 @@ class Page:
             if mark == "calls":
                 self.calls(k, dict(zip(heads, cells)), cells[0])
             else:
-                self.example(k, mark[len("rows: ") :], heads, cells)
+                self.row(k, call_of(mark), heads, cells)
 
     @staticmethod
     def cells(line):
         return [cell.strip() for cell in line.strip().strip("|").split("|")]
 
-    def example(self, at, call, heads, cells):
-        """The row of the first cell, and what the others say of its answer."""
+    def item(self, at, call, text, told):
+        """The row of an item of a list, and what stands of its answer before a remark."""
+        self.example(at, call, text, re.findall(rf"(?:\b({'|'.join(FIELDS)}) )?`([^`]+)`", told))
+
+    def row(self, at, call, heads, cells):
+        """The row of the first cell of a line, and what the others say of its answer."""
+        told = []
+        for head, cell in zip(heads[1:], cells[1:]):
+            field = head.strip("`") if head.strip("`") in FIELDS else ""
+            told += [(field, words) for words in re.findall(r"`([^`]+)`", cell) if head]
+        self.example(at, call, cells[0], told)
+
+    def example(self, at, call, text, told):
+        """A row, and what is told of its answer: words of one of its lines, or a field."""
         self.count("examples")
-        code = re.match(r"`([^`]*)`", cells[0])
+        code = re.match(r"`([^`]*)`", text)
         row = f"{call}: {code[1]}" if code else f"{call}:"
         answer = self.sources.answers.get(row)
         if answer is None:
             return self.fault(at, f"no row `{row}`: add it to {ROWS}/stdin, and its answer to {ROWS}/stdout")
         refused = answer[0].startswith("error ")
         is_it = f"the answer to `{row}` is `{answer[0]}`" + self.more(answer)
-        fault = " ".join(answer[0].split()[1:3]) if refused else None
-        said = told = False
-        for head, cell in zip(heads[1:], cells[1:]):
-            if not head:
-                continue
-            for words in re.findall(r"`([^`]+)`", cell):
-                field = head.strip("`")
-                if field in FIELDS:
-                    stands = any(fields_of(line).get(field) == words for line in answer)
-                else:
-                    stands = any(f" {words} " in f" {line} " for line in answer)
-                    told = told or words == fault
-                if not stands:
-                    self.fault(at, f"`{words}` does not stand there: {is_it}")
-                said = True
-        if not said:
+        for field, words in told:
+            if field:
+                stands = any(fields_of(line).get(field) == words for line in answer)
+            else:
+                stands = any(f" {words} " in f" {line} " for line in answer)
+            if not stands:
+                self.fault(at, f"`{words}` does not stand there: {is_it}")
+        fault = " ".join(answer[0].split()[1:3])
+        if not told:
             self.fault(at, f"nothing of it is said in code: {is_it}")
-        elif refused and not told:
+        elif refused and ("", fault) not in told:
             self.fault(at, f"say `{fault}` in code: {is_it}")
         if refused:
             self.shown.add(answer[0].split()[1])
@@ -573,64 +609,61 @@ class Page:
     # ---- rules
 
     def rules(self, at, end):
-        """Each item of a list has its definition, its code and a row below it."""
-        while at < end:
-            below = next((k for k in range(at + 1, end) if self.lines[k].startswith("- ")), end)
-            told = [line.removeprefix("  - ") for line in self.lines[at + 1 : below]]
-            if self.lines[at].startswith("  ") or len(told) != 3:
-                self.fault(at, "this rule has not three items: write its definition, its code and a row below it")
+        """Each line of a list has its definition, its code and a row."""
+        head = next(k for k in range(at, -1, -1) if k == 0 or self.lines[k].startswith("#"))
+        crate = re.search(r"(?m)In `(toml_span\w*)`:$", "\n".join(self.lines[head:at]))
+        if not crate:
+            return self.fault(at, "no crate is named above this list: write a line that ends in \"In `CRATE`:\"")
+        for k in range(at, end):
+            *front, code, row = split_outside_code(f"; ; {self.lines[k]}", "; ")
+            words = split_outside_code("; ".join(front), ". ")
+            if len(words) < 2:
+                self.fault(k, "this is not `- WORDS. DEFINITION; CODE; ROW`: write it so")
             else:
-                self.rule(at, *told)
-            at = below
+                self.rule(k, crate[1], words[-1], code, row)
 
-    def rule(self, at, definition, code, row):
-        """What the items of a rule name is there."""
+    def rule(self, at, crate, definition, code, row):
+        """What a rule names is there."""
         self.count("rules")
-        for path, name in self.named(at, definition, r"[\w/]+\.(?:antt|rt)", "definition"):
-            if not defines(path, name):
-                self.fault(at, f"{path} has no definition {name}: name the file that has it")
-        for path, name in self.named(at, code, r"[\w/]+/src/[\w/]+\.rt", "function"):
-            if not re.search(rf"(?m)^ *{ITEM} {re.escape(name)}\b", text_of(path)):
-                self.fault(at, f"{path} has no function {name}: name the file that has it")
+        for name, paths in self.named(at, crate, definition, "specs", ".", ".antt"):
+            if not any(defines(path, name) for path in paths):
+                self.fault(at, f"{', '.join(paths)} has no definition {name}: name the file that has it")
+        for name, paths in self.named(at, crate, code, "src", "::", ".rt"):
+            if not any(re.search(rf"(?m)^ *{ITEM} {re.escape(name)}\b", text_of(path)) for path in paths):
+                self.fault(at, f"{', '.join(paths)} has no function {name}: name the file that has it")
         for told in (definition, code):
             if "`" not in told and not told.startswith("none"):
                 self.fault(at, "no name stands here: write one, or say `none` and why")
         self.rows_of_rule(at, row)
 
-    def named(self, at, cell, form, what):
-        """The paths and names of a cell, where each path is there."""
-        found, names = [], []
-        for code in re.findall(r"`([^`]+)`", cell):
-            if not re.fullmatch(form, code):
-                names.append(code)
-                continue
-            path = f"crates/{code.removeprefix('crates/')}"
-            if not os.path.isfile(f"{TOP}/{path}"):
-                self.fault(at, f"there is no {path}: name what is there now")
+    def named(self, at, crate, told, folder, mark, end):
+        """The names of a part of a rule, and the files that may have each."""
+        for code in re.findall(r"`([^`]+)`", told):
+            parts = code.split("{")[0].rstrip(mark).split(mark)
+            names = re.findall(r"[^\s,{}]+", code.split("{")[1]) if "{" in code else [parts.pop()]
+            of = parts.pop(0) if parts[:1] and parts[0].startswith("toml_span") else crate
+            file = f"{'/'.join(parts)}{end}"
+            top = f"{TOP}/crates/{of}/{folder}"
+            paths = [file] if os.path.isfile(f"{top}/{file}") else glob.glob(f"**/{file}", root_dir=top, recursive=True)
+            if not parts or not paths:
+                self.fault(at, f"there is no crates/{of}/{folder}/{file}: name what is there now")
             else:
-                found += [(path, name) for name in names]
-            if not names:
-                self.fault(at, f"no {what} stands before {path}: name one")
-            names = []
-        if names:
-            self.fault(at, f"no path stands behind {', '.join(names)}: name the file")
-        return found
+                yield from ((name, [f"crates/{of}/{folder}/{path}" for path in paths]) for name in names)
 
-    def rows_of_rule(self, at, cell):
-        """Each text is a row with an answer; a path is there."""
-        codes = re.findall(r"`([^`]+)`", cell)
-        if not codes and not cell.startswith("none"):
+    def rows_of_rule(self, at, told):
+        """Each text is a row with an answer, or begins one; a path is there."""
+        codes = re.findall(r"`([^`]+)`", told)
+        if not codes and not told.startswith("none"):
             self.fault(at, "no row stands in code here: name one, or say `none` and why")
-        for k, code in enumerate(codes):
-            if re.fullmatch(r"toml_span\w*", code):
-                continue
+        for code in codes:
             if re.match(r"(?:toml_span\w*|crates|scripts)/", code):
                 if not any(os.path.exists(f"{TOP}/{before}{code}") for before in ("", "crates/")):
                     self.fault(at, f"there is no {code}: name what is there now")
                 continue
-            crate = next((it for it in codes[k + 1 :] if re.fullmatch(r"toml_span\w*", it)), "toml_span_rows")
-            if code not in self.sources.rows(crate):
-                self.fault(at, f"no row `{code}` in crates/{crate}/stdin and stdout: name one that is there")
+            parts = re.compile(f"(?:parse 128: )?{re.escape(code)}".replace(r"\.\.", ".*"), re.DOTALL)
+            known = [row for row in self.sources.answers if parts.fullmatch(row)]
+            if len(known) != 1:
+                self.fault(at, f"{len(known)} rows are `{code}` in {ROWS}/stdin and stdout: name one that is there")
 
 
 ITEM = r"(?:pub(?:\(crate\))? )?(?:const )?(?:fn|const|static|struct|enum|trait|macro_rules!)"
@@ -654,7 +687,7 @@ class Sources:
         self.quotable = quotable()
         self.answers = answers()
         self.row_lines = text_of(f"{ROWS}/stdout").split("\n")
-        self.known, self.heads, self.outputs = {}, {}, []
+        self.heads, self.outputs = {}, []
         self.names = {*FOREIGN, *(it.split(".")[0] for it in os.listdir(f"{TOP}/scripts"))}
         for folder, inner, files in os.walk(f"{TOP}/crates"):
             inner[:] = [it for it in inner if it != "out"]
@@ -686,15 +719,6 @@ class Sources:
     def contracts_of(self, names):
         """The words of the contracts of these functions, types and traits."""
         return {word for name in names for part in name.split("::") for word in self.heads.get(part, ())}
-
-    def rows(self, crate):
-        """The rows of a crate's stdin that its stdout answers."""
-        if crate == "toml_span_rows":
-            return self.answers.keys()
-        if crate not in self.known:
-            lines = [{*text_of(f"crates/{crate}/{end}").split("\n")} for end in ("stdin", "stdout")]
-            self.known[crate] = lines[0] & lines[1]
-        return self.known[crate]
 
 
 def untold(page, sources):
