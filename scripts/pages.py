@@ -38,9 +38,9 @@ What is looked at is marked:
     <!-- cases: FILE FUNCTION -->    before a table: the cell in the line of `A` and the column of `B` has in code what
                        `FUNCTION A B` gives, as `duplicate-key` of a line `FUNCTION A B = Some DuplicateKey`, and no
                        code where no such line is there
-    <!-- reading order: FILE FUNCTION..; .. -->    before a table: its lines name the files of specs/ in which
-                       something stands that the clauses of these functions need, each behind those that it uses;
-                       --needed prints which of their definitions are needed
+    <!-- reading order: FILE FUNCTION..; .. -->    before a list of items `FILE`: WORDS, which names the files of specs/
+                       in which something stands that the clauses of these functions need, each behind those that it
+                       uses; --needed prints which of their definitions are needed
 
 Besides, each path that stands in code and begins with `crates/`, `docs/` or `scripts/`, or is one of a crate, and each
 link leads somewhere; each name in code that is written as a definition, a function, a clause or a type stands in the
@@ -60,7 +60,7 @@ CHECK = "crates/toml_span_check"
 RUN = (".args", ".stdout", ".stderr")
 FIELDS = ("first", "expected", "found", "key", "name")
 # what stands behind each mark
-BEGINS = {"rows": ("|", "- "), "rules": "- ", "calls": ("|", "- "), "cases": "|", "reading order": "|"}
+BEGINS = {"rows": ("|", "- "), "rules": "- ", "calls": ("|", "- "), "cases": "|", "reading order": "- "}
 # names of the toolchain, of the C library and of other crates
 FOREIGN = """AsRef BuiltModule Comparable From Given Goals IsSortedBy IsStableBy Lts MALLOC_MMAP_THRESHOLD_
 MALLOC_TRIM_THRESHOLD_ ParsesChar Serialize Tie as_ codespan_reporting deny_unknown_fields from_iter table_from_str
@@ -498,6 +498,8 @@ class Page:
         """What each item of a list says."""
         if mark == "rules":
             return self.rules(at, end)
+        if mark.startswith("reading order: "):
+            return self.reading_order(at, Needed(mark[len("reading order: ") :]), end)
         for k in range(at, end):
             first, *told = split_outside_code(self.lines[k].removeprefix("- "), ": ")
             if mark == "calls":
@@ -509,8 +511,6 @@ class Page:
         heads = self.cells(self.lines[at])
         if mark.startswith("cases: "):
             return self.cases(at, mark.split()[1:], heads, end)
-        if mark.startswith("reading order: "):
-            return self.reading_order(at, Needed(mark[len("reading order: ") :]), end)
         for k in range(at + 2, end):
             cells = self.cells(self.lines[k])
             if mark == "calls":
@@ -583,16 +583,16 @@ class Page:
         """Each file with something needed stands behind those that it uses."""
         self.count("reading orders")
         read = set()
-        for k in range(at + 2, end):
-            cells = self.cells(self.lines[k])
-            path = cells[0].strip("`").removesuffix(".antt").replace("/", ".")
+        for k in range(at, end):
+            file = self.lines[k].removeprefix("- ").split(": ")[0].strip("`")
+            path = file.removesuffix(".antt").replace("/", ".")
             if path not in needed.found or path in read:
-                self.fault(k, f"nothing of {cells[0]} is needed that no line above says: take this line away")
+                self.fault(k, f"nothing of {file} is needed that no line above says: take this line away")
                 continue
             read.add(path)
             for other in sorted(needed.below(path) & needed.found.keys() - read):
-                self.fault(k, f"{cells[0]} uses {other}: write it behind the line of that file")
-            self.needed.append(f"{cells[0].strip('`')}: {needed.said(path)}")
+                self.fault(k, f"{file} uses {other}: write it behind the line of that file")
+            self.needed.append(f"{file}: {needed.said(path)}")
         for path in sorted(needed.found.keys() - read):
             self.fault(at, f"no line names {path}, of which is needed: {needed.said(path)}")
 
