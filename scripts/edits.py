@@ -13,9 +13,9 @@ PAGE = f"{TOP}/docs/EDITS.md"
 
 HEAD = """# Wrong bodies that the prover refuses
 
-An edit (`crates/*/must-fail/*.edit`) turns lines of the code into a mistake that somebody could make; the tests pass
-only if the prover refuses it. A line has the function, the clause that refuses it, and the mistake: the first two lines
-of the edit, which `grep -rl 'peek. consumes' crates/*/must-fail` finds. `scripts/edits.py` writes this page.
+An edit (`crates/*/must-fail/*.edit`) makes a mistake in the code; the tests pass only if the prover refuses it. A line
+has the function, the clause that refuses it, if it has a name, and the mistake, as the edit has them
+(`grep -rl 'peek. consumes' crates/*/must-fail`). `scripts/edits.py` writes this page.
 
 """
 
