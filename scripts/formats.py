@@ -181,10 +181,10 @@ def check_result(result, rules, fault, text):
 
 
 def all_codes():
-    """The codes of faults, by the table of docs/LANGUAGE.md, and those of files that are no text."""
+    """The codes of faults, by the list of docs/LANGUAGE.md, and those of files that are no text."""
     with open(f"{TOP}/docs/LANGUAGE.md", encoding="utf-8") as page:
-        table = page.read().split("## All faults", 1)[1].split("\n## ", 1)[0]
-    return {*re.findall(r"^\| `([a-z-]+)` \|", table, re.MULTILINE), "not-utf-8", "too-long"}
+        listed = page.read().split("## All faults", 1)[1].split("\n## ", 1)[0]
+    return {*re.findall(r"^- `([a-z-]+)`: ", listed, re.MULTILINE), "not-utf-8", "too-long"}
 
 
 def check_sarif(told, faults, texts):
