@@ -42,6 +42,7 @@ pub mod KeyWays
 pub mod ThroughValue
 pub mod SpelledClaims
 pub mod ReadAgain
+pub mod FloatTexts
 pub mod ClaimedValues
 pub mod ReadStrings
 pub mod Alone

@@ -1,7 +1,11 @@
 //! Laws of what is read again.
 ghost use Rattle.std.specs.Prelude.{◌≤◌, ℕ, List};
+ghost use Rattle.toml_span_tree.specs.Value.{view};
+ghost use Rattle.toml_span_tree.specs.declared.value.Value.{Value};
 ghost use Rattle.toml_span_read.specs.Data.{ParsedValue, Block};
 ghost use Rattle.toml_span_read.specs.Grammar.{Spells, SpellsDocument};
+ghost use Rattle.toml_span.specs.Parsing.{IsTree};
+ghost use Rattle.toml_span_places.specs.Again.{HasFloatTexts};
 ghost use Rattle.toml_span_laws.specs.Again.{SpellsAgain, BlocksReadAgain};
 
 /// The text that spells a value spells it again: behind `x = ` it is a document of one assignment, whose key
@@ -16,4 +20,10 @@ pub fn spelled_again()
 pub fn values_read_again()
     ensures { (text : List ℕ) (limit : ℕ) (blocks : List Block) → SpellsDocument blocks text limit
         → BlocksReadAgain text limit blocks }
+{}
+
+/// In the tree of a text the text of each float spells the float by itself. So `to_toml` of a value of the tree reads
+/// again, where it is within the limit of depth.
+pub fn float_texts()
+    ensures { (text : List ℕ) (limit : ℕ) (root : Value) → IsTree text limit root → HasFloatTexts (view root) }
 {}

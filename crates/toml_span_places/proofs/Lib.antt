@@ -1,4 +1,13 @@
 pub mod PathLemmas
+pub mod Parts
+pub mod EscapedChars
+pub mod QuotedAgain
+pub mod NumbersAgain
+pub mod FloatsAgain
+pub mod CleanedFloats
+pub mod DatesAgain
+pub mod SpelledAgain
+pub mod HeldValues
 pub mod KeyLemmas
 pub mod OpenedLemmas
 pub mod PointLemmas

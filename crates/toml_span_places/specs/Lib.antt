@@ -1,3 +1,4 @@
+pub mod Again
 pub mod Cuts
 pub mod Keys
 pub mod Lines

@@ -1,2 +1,3 @@
 -- How the functions of the code share the work: no clause of a public result rests on it.
 pub mod Opened
+pub mod Spelled

@@ -3,6 +3,7 @@ ghost use Rattle.std.specs.Prelude.{◌≡◌, ◌<◌, ◌++◌, IfOk, OnOk, st
 ghost use Rattle.std.specs.Char.{digit_char};
 ghost use Rattle.std.specs.List.{list_all, list_any};
 ghost use Rattle.toml_span_lex.specs.Bytes.{is_keylike as is_keylike_byte};
+ghost use Rattle.toml_span_places.specs.Again.{ReadsAsString, ReadsAsKey};
 ghost use Rattle.toml_span_places.specs.Quoted as spec;
 
 use std::alloc::{AllocError, Global};
@@ -110,12 +111,8 @@ fn is_literal(text: &str) -> bool
     has_escaped(text.as_bytes()) && !has_unliteral(text.as_bytes())
 }
 
-/// The shortest spelling of a string on one line: between quotation marks with the escapes that it needs, or between
-/// apostrophes, where that is shorter and can be.
-///
-/// `basic-string = quotation-mark *basic-char quotation-mark`,
-/// `literal-string = apostrophe *literal-char apostrophe` (TOML 1.1, String)
-pub fn quote_string(alloc: Global, text: &str) -> Result<String, AllocError>
+/// A string between quotation marks or apostrophes.
+fn spelled_string(alloc: Global, text: &str) -> Result<String, AllocError>
     ensures { IfOk result (λ out. string_bytes out ≡ spec.quoted text.now) }
 {
     let mut out = String::new(alloc);
@@ -131,6 +128,18 @@ pub fn quote_string(alloc: Global, text: &str) -> Result<String, AllocError>
     Ok(out)
 }
 
+/// The shortest spelling of a string on one line: between quotation marks with the escapes that it needs, or between
+/// apostrophes, where that is shorter and can be. Wherever it stands in a text, it is read as this string.
+///
+/// `basic-string = quotation-mark *basic-char quotation-mark`,
+/// `literal-string = apostrophe *literal-char apostrophe` (TOML 1.1, String)
+pub fn quote_string(alloc: Global, text: &str) -> Result<String, AllocError>
+    ensures spelling { IfOk result (λ out. string_bytes out ≡ spec.quoted text.now) }
+    ensures reads { IfOk result (λ out. ReadsAsString text.now (string_bytes out)) }
+{
+    spelled_string(alloc, text)
+}
+
 fn all_keylike(bytes: &[u8]) -> bool
     ensures { result ≡ list_all is_keylike_byte bytes.now }
 {
@@ -144,16 +153,24 @@ fn is_bare(name: &str) -> bool
     !name.is_empty() && all_keylike(name.as_bytes())
 }
 
-/// The shortest spelling of a key: as it is where letters, digits, dashes and underscores alone are in it, or as a
-/// string.
-///
-/// `simple-key = quoted-key / unquoted-key` (TOML 1.1, Keys)
-pub fn quote_key(alloc: Global, name: &str) -> Result<String, AllocError>
+/// A key as it is, or as a string.
+fn spelled_key(alloc: Global, name: &str) -> Result<String, AllocError>
     ensures { IfOk result (λ out. string_bytes out ≡ spec.key_text name.now) }
 {
     if is_bare(name) {
         String::from_str(alloc, name)
     } else {
-        quote_string(alloc, name)
+        spelled_string(alloc, name)
     }
+}
+
+/// The shortest spelling of a key: as it is where letters, digits, dashes and underscores alone are in it, or as a
+/// string. Wherever it stands in a text, it is read as one simple key with this name.
+///
+/// `simple-key = quoted-key / unquoted-key` (TOML 1.1, Keys)
+pub fn quote_key(alloc: Global, name: &str) -> Result<String, AllocError>
+    ensures spelling { IfOk result (λ out. string_bytes out ≡ spec.key_text name.now) }
+    ensures reads { IfOk result (λ out. ReadsAsKey name.now (string_bytes out)) }
+{
+    spelled_key(alloc, name)
 }

@@ -1,9 +1,13 @@
 //! Values as TOML text.
 ghost use Rattle.std.specs.Prelude.{◌≡◌, ◌++◌, IfOk, OnOk, true, string_bytes};
 ghost use Rattle.std.specs.Fmt.{signed_decimal};
+ghost use Rattle.std.specs.Str.{IsUtf8};
+ghost use Rattle.toml_span_tree.specs.Node.{integer};
 ghost use Rattle.toml_span_tree.specs.Value.{view, inner_view, items_view, members_view};
+ghost use Rattle.toml_span_places.specs.Again.{ReadsAsValue};
 ghost use Rattle.toml_span_places.specs.Quoted as quoted;
 ghost use Rattle.toml_span_places.specs.Spelled as spec;
+ghost use Rattle.toml_span_places.specs.code.Spelled.{AreHeld, IsHeld, IsHeldScalar, MembersHeld};
 
 use crate::quoted::{quote_key, quote_string};
 use std::alloc::{AllocError, Global};
@@ -12,7 +16,8 @@ use toml_span_tree::{Table, Value, ValueInner};
 
 /// Adds a text as a string.
 fn push_string(alloc: Global, text: &str, out: &mut String) -> Result<(), AllocError>
-    ensures { OnOk result (string_bytes out.new ≡ string_bytes out.old ++ quoted.quoted text.now) }
+    ensures text { OnOk result (string_bytes out.new ≡ string_bytes out.old ++ quoted.quoted text.now) }
+    ensures held { OnOk result (IsUtf8 text.now) }
 {
     let spelled = quote_string(alloc, text)?;
     out.push_str(spelled.as_str())
@@ -20,7 +25,8 @@ fn push_string(alloc: Global, text: &str, out: &mut String) -> Result<(), AllocE
 
 /// Adds a name as a key, and what stands behind it.
 fn push_key(alloc: Global, name: &str, out: &mut String) -> Result<(), AllocError>
-    ensures { OnOk result (string_bytes out.new ≡ string_bytes out.old ++ spec.key_equals name.now) }
+    ensures text { OnOk result (string_bytes out.new ≡ string_bytes out.old ++ spec.key_equals name.now) }
+    ensures held { OnOk result (IsUtf8 name.now) }
 {
     let spelled = quote_key(alloc, name)?;
     out.push_str(spelled.as_str())?;
@@ -29,7 +35,8 @@ fn push_key(alloc: Global, name: &str, out: &mut String) -> Result<(), AllocErro
 
 /// Adds an integer in decimal digits.
 fn push_integer(number: i64, out: &mut String) -> Result<(), AllocError>
-    ensures { OnOk result (string_bytes out.new ≡ string_bytes out.old ++ signed_decimal number) }
+    ensures text { OnOk result (string_bytes out.new ≡ string_bytes out.old ++ signed_decimal number) }
+    ensures held { OnOk result (IsHeldScalar (integer number)) }
 {
     write!(out, "{number}")
 }
@@ -44,7 +51,8 @@ fn push_separator(is_first: bool, out: &mut String) -> Result<(), AllocError>
 /// Adds a value. One that is taken has no text.
 #[cycle(push_value)]
 fn push_value(alloc: Global, value: &Value<'_>, out: &mut String) -> Result<(), AllocError>
-    ensures { OnOk result (string_bytes out.new ≡ string_bytes out.old ++ spec.value_text (view value.now)) }
+    ensures text { OnOk result (string_bytes out.new ≡ string_bytes out.old ++ spec.value_text (view value.now)) }
+    ensures held { OnOk result (IsHeld (view value.now)) }
 {
     if value.is_taken() {
         return Ok(());
@@ -71,8 +79,9 @@ fn push_value(alloc: Global, value: &Value<'_>, out: &mut String) -> Result<(), 
 /// Adds the elements of an array, with commas between them.
 #[cycle(push_value)]
 fn push_elements(alloc: Global, elements: &[Value<'_>], out: &mut String) -> Result<(), AllocError>
-    ensures { OnOk result (string_bytes out.new ≡ string_bytes out.old
+    ensures text { OnOk result (string_bytes out.new ≡ string_bytes out.old
         ++ spec.items_text true (items_view elements.now)) }
+    ensures held { OnOk result (AreHeld (items_view elements.now)) }
 {
     let mut is_first = true;
     for element in elements {
@@ -86,8 +95,9 @@ fn push_elements(alloc: Global, elements: &[Value<'_>], out: &mut String) -> Res
 /// Adds the pairs of a table, with commas between them.
 #[cycle(push_value)]
 fn push_entries(alloc: Global, table: &Table<'_>, out: &mut String) -> Result<(), AllocError>
-    ensures { OnOk result (string_bytes out.new ≡ string_bytes out.old
+    ensures text { OnOk result (string_bytes out.new ≡ string_bytes out.old
         ++ spec.members_text true (members_view table.now.entries)) }
+    ensures held { OnOk result (MembersHeld (members_view table.now.entries)) }
 {
     let mut is_first = true;
     for (key, value) in table.iter() {
@@ -99,16 +109,28 @@ fn push_entries(alloc: Global, table: &Table<'_>, out: &mut String) -> Result<()
     Ok(())
 }
 
+/// A value on one line.
+fn spelled_value(alloc: Global, value: &Value<'_>) -> Result<String, AllocError>
+    ensures text { IfOk result (λ text. string_bytes text ≡ spec.value_text (view value.now)) }
+    ensures held { OnOk result (IsHeld (view value.now)) }
+{
+    let mut out = String::new(alloc);
+    push_value(alloc, value, &mut out)?;
+    Ok(out)
+}
+
 /// The value as TOML on one line: a string and a key as `quote_string` and `quote_key` spell them, a number in
 /// decimal digits, a float and a date by their texts, an array, or an inline table with its keys in the order of their
 /// names.
 ///
 /// The value has to be whole (`is_whole`), and a float of the caller's own to have the text of one: else the text is
 /// no value, or another. Only want of memory is refused.
+///
+/// Wherever the text stands, it is read as this value, where the value is whole, within the limit of depth, and the
+/// text of each float is that of one.
 pub fn to_toml(alloc: Global, value: &Value<'_>) -> Result<String, AllocError>
-    ensures { IfOk result (λ text. string_bytes text ≡ spec.value_text (view value.now)) }
+    ensures spelling { IfOk result (λ text. string_bytes text ≡ spec.value_text (view value.now)) }
+    ensures reads { IfOk result (λ text. ReadsAsValue (view value.now) (string_bytes text)) }
 {
-    let mut out = String::new(alloc);
-    push_value(alloc, value, &mut out)?;
-    Ok(out)
+    spelled_value(alloc, value)
 }

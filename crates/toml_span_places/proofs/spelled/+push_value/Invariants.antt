@@ -2,6 +2,7 @@ use Rattle.std.proofs.Common.{◌≡◌, ◌≤◌, suc, ◌++◌, drop, true, s
 use Rattle.toml_span_tree.specs.Value.{view, items_view, members_view}
 use Rattle.toml_span_tree.proofs.Sizes.{node_size, items_size, members_size}
 use Rattle.toml_span_places.specs.Spelled.{items_text, members_text}
+use Rattle.toml_span_places.specs.code.Spelled.{AreHeld, MembersHeld}
 use Rattle.toml_span_places.proofs.spelled.+push_value.Given as goal
 
 abbrev pub decreases-push_value : goal.decreases-push_value
@@ -18,6 +19,7 @@ invariant-push_elements-loop-element l = record {
   small : items_size (items_view (drop l.element-index l.elements)) ≤ items_size (items_view l.elements);
   out : string_bytes l.out ++ items_text l.is_first (items_view (drop l.element-index l.elements))
       ≡ string_bytes l.fn.out ++ items_text true (items_view l.elements);
+  held : AreHeld (items_view (drop l.element-index l.elements)) → AreHeld (items_view l.elements);
 }
 
 abbrev pub invariant-push_entries-loop-key : goal.invariant-push_entries-loop-key
@@ -25,4 +27,5 @@ invariant-push_entries-loop-key l = record {
   small : members_size (members_view l.key-iterator) ≤ members_size (members_view l.table.entries);
   out : string_bytes l.out ++ members_text l.is_first (members_view l.key-iterator)
       ≡ string_bytes l.fn.out ++ members_text true (members_view l.table.entries);
+  held : MembersHeld (members_view l.key-iterator) → MembersHeld (members_view l.table.entries);
 }

@@ -1,0 +1,85 @@
+-- In the tree of a document the text of each float spells it by itself.
+use Rattle.std.proofs.Common.{◌≡◌, ℕ, suc, true, cond, List, [], ◌∷◌, Option, Some, None, option_map, refl, sym, ap, ◌∙◌, subst, inl, inr}
+use Rattle.std.specs.Prelude.{option_and_then}
+use Rattle.std.specs.Str.{bytes_eq}
+use Rattle.std.proofs.lemmas.Bool.{cases_Bool}
+use Rattle.std.proofs.lemmas.Option.{none-some, same_Some}
+use Rattle.toml_span_lex.specs.declared.span.Span.{Span}
+use Rattle.toml_span_tree.specs.Node.{Scalar, text, integer, float, boolean, datetime, finite, infinite, not_a_number, Node, node, taken, scalar, array, table, Items, no_items, item, Members, no_members, member, entry_at, element_at}
+use Rattle.toml_span_tree.specs.Path.{Path, Step, key, position, Place, shape_scalar, shape_of, reached, place_of, place_at}
+use Rattle.toml_span_tree.specs.Value.{view}
+use Rattle.toml_span_tree.specs.declared.value.Value.{Value}
+use Rattle.toml_span.specs.Ordered.{HasOneEach, ItemsHaveOneEach, MembersHaveOneEach}
+use Rattle.toml_span.specs.Parsing.{IsTree}
+use Rattle.toml_span.proofs.Grafts.{same_step-eq, same_step-self}
+use Rattle.toml_span.proofs.Ordered.{one-each}
+use Rattle.toml_span_places.specs.Again.{IsFloatText, IsScalarText, HasFloatTexts, ItemsHaveFloatTexts, MembersHaveFloatTexts}
+use Rattle.toml_span_places.proofs.CleanedFloats.{cleaned_spells}
+use Rattle.toml_span_laws.proofs.ReadAgain.{HasScalar, tree-scalar}
+
+-- ---- what no path shows otherwise holds of the tree
+
+abbrev At : Type 0
+At = Option Span × Node
+
+-- the scalars that are reached behind a step have their texts
+abbrev IsSpelledBelow : Option At → Type 0
+IsSpelledBelow o = (p : Path) (x : Place) (s : Scalar) → option_map place_of (option_and_then (reached p) o) ≡ Some x → x.shape ≡ shape_scalar s → IsScalarText s
+
+abbrev IsSpelled : Node → Type 0
+IsSpelled n = (p : Path) (x : Place) (s : Scalar) → place_at p n ≡ Some x → x.shape ≡ shape_scalar s → IsScalarText s
+
+same-key : (a b : List ℕ) → bytes_eq a b ≡ true → a ≡ b
+same-key a b h = ap name (same_step-eq (key a) (key b) h)
+  where
+    name : Step → List ℕ
+    name (key k) = k
+    name (position i) = []
+
+-- the other entries
+others : (name : List ℕ) (at : Span) (n : Node) (ms : Members) → entry_at name ms ≡ None → ((k : List ℕ) → IsSpelledBelow (entry_at k (member name at n ms))) → (k : List ℕ) → IsSpelledBelow (entry_at k ms)
+others name at n ms once h k p x s is = elim (cases_Bool (bytes_eq k name)) [
+  | inl same ↦ absurd (none-some x
+      (sym (ap (λ j. option_map place_of (option_and_then (reached p) (entry_at j ms))) (same-key k name same) ∙ ap (λ o. option_map place_of (option_and_then (reached p) o)) once) ∙ is))
+  | inr off ↦ h k p x s (ap (λ b. option_map place_of (option_and_then (reached p) (cond b (Some (Some at, n)) (entry_at k ms)))) off ∙ is)
+]
+
+-- what is reached with a key's span has the shape that is reached without it
+keyed : (p : Path) (at : Option Span) (n : Node) (x : Place) (s : Scalar) → ((y : Place) → option_map place_of (reached p (at, n)) ≡ Some y → y.shape ≡ shape_scalar s → IsScalarText s) → place_at p n ≡ Some x → x.shape ≡ shape_scalar s → IsScalarText s
+keyed [] at (node k span) x s h is e = h (record { shape = shape_of k; key_span = at; span = span }) refl (ap (λ y. y.shape) (same_Some (place_of (None, node k span)) x is) ∙ e)
+keyed (t ∷ p) at n x s h is e = h x is e
+
+mutual
+  texts : (n : Node) → HasOneEach n → IsSpelled n → HasFloatTexts n
+  texts (node taken span) once h = tt
+  texts (node (scalar s) span) once h = h [] (place_of (None, node (scalar s) span)) s refl refl
+  texts (node (array ns) span) once h = items-texts ns once (λ i p x s is. h (position i ∷ p) x s is)
+  texts (node (table ms) span) once h = members-texts ms once (λ k p x s is. h (key k ∷ p) x s is)
+
+  items-texts : (ns : Items) → ItemsHaveOneEach ns → ((i : ℕ) → IsSpelledBelow (element_at i ns)) → ItemsHaveFloatTexts ns
+  items-texts no_items once h = tt
+  items-texts (item n ns) once h = (texts n once.0 (λ p x s is. h 0 p x s is), items-texts ns once.1 (λ i p x s is. h (suc i) p x s is))
+
+  members-texts : (ms : Members) → MembersHaveOneEach ms → ((k : List ℕ) → IsSpelledBelow (entry_at k ms)) → MembersHaveFloatTexts ms
+  members-texts no_members once h = tt
+  members-texts (member name at n ms) once h = (
+    texts n once.1 (λ p x s is e. keyed p (Some at) n x s
+        (λ y found. h name p y s (ap (λ b. option_map place_of (option_and_then (reached p) (cond b (Some (Some at, n)) (entry_at name ms)))) (same_step-self (key name)) ∙ found)) is e),
+    members-texts ms once.2 (others name at n ms once.0 h),
+  )
+
+-- ---- what is spelled has its text
+
+scalar-text : (t : List ℕ) (limit : ℕ) (s : Scalar) (span : Span) → HasScalar t limit s span → IsScalarText s
+scalar-text t limit (text v) span h = tt
+scalar-text t limit (integer z) span h = tt
+scalar-text t limit (float (finite digits)) span h =
+    let spells = h.spells.1 in subst (λ (v : List ℕ). IsFloatText (finite v)) (sym spells.1.1) (cleaned_spells t h.from h.to spells.1.0)
+scalar-text t limit (float (infinite negative)) span h = tt
+scalar-text t limit (float (not_a_number negative)) span h = tt
+scalar-text t limit (boolean b) span h = tt
+scalar-text t limit (datetime d) span h = tt
+
+pub tree-texts : (t : List ℕ) (limit : ℕ) (root : Value) → IsTree t limit root → HasFloatTexts (view root)
+tree-texts t limit root h =
+    texts (view root) (one-each (view root) h.2.ordered) (λ p x s is e. scalar-text t limit s x.span (tree-scalar t limit root p x s h is e))

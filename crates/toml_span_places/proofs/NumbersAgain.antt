@@ -1,0 +1,129 @@
+-- Integers and floats as they are spelled are read again.
+use Rattle.std.proofs.Common.{◌≡◌, ℕ, zero, suc, ℤ, pos, negsuc, ◌+◌, ◌-◌, ◌^◌, ◌<◌, ◌≤◌, Bool, true, false, List, [], ◌∷◌, length, get_or, filter, arith, rules, inl, sym, ◌∙◌, refl, ap, subst, decimal}
+use Rattle.std.specs.Prelude.{◌==◌, ◌||◌}
+use Rattle.std.specs.Fmt.{signed_decimal}
+use Rattle.std.specs.Char.{digit_value, is_ascii_digit}
+use Rattle.std.specs.Int.{IsInRange}
+use Rattle.std.specs.Str.Parse.{AllDigits}
+use Rattle.std.proofs.lemmas.Bool.{or_parts}
+use Rattle.std.proofs.lemmas.Bool.Decides.{nat_tests}
+use Rattle.std.proofs.lemmas.Fmt.{decimal_is_IsNumeral, digits_value-decimal, decimal_digit, first_decimal}
+use Rattle.std.proofs.lemmas.Str.{digit_value_digit}
+use Rattle.std.proofs.lemmas.Str.Parse.{WeighsDigits, IsNumeralModel, numerals_by_weight, tells_digits, digit_at}
+use lib.Signed.{mag}
+use Rattle.toml_span_lex.specs.Bytes.{is_keylike}
+use Rattle.toml_span_tree.specs.Node.{Scalar, integer}
+use Rattle.toml_span_read.specs.Data.{kind_view, scalar}
+use Rattle.toml_span_read.specs.declared.value.ValKind.{Integer, the_lemmas}
+use Rattle.toml_span_read.specs.Dates.{is_date_byte}
+use Rattle.toml_span_read.specs.Grammar.{from_to, SpellsScalar}
+use Rattle.toml_span_read.specs.Numbers.{is_digit_in, sum_of_digits, magnitude, behind_sign, is_negative, UnsignedDecimal, IsSigned}
+use Rattle.toml_span_read.proofs.NumberLemmas.{digit_figure, no_keylike_figure, digit_no_underscore, stands_alone}
+use Rattle.toml_span_read.proofs.ShortIntegers.{decimal_digit as digit_ten, short_made}
+use Rattle.toml_span_places.proofs.Parts.{Part, tail, here, byte_at, next, range, within, each}
+
+-- ---- what a byte is not
+
+pub off_bytes : (c : ℕ) → is_date_byte c ≡ false → (is_keylike c ≡ false) × ((c == 58) ≡ false) × ((c == 46) ≡ false) × ((c == 43) ≡ false)
+off_bytes c h =
+    let x = or_parts ((is_keylike c || c == 58) || c == 46) (c == 43) h in
+    let y = or_parts (is_keylike c || c == 58) (c == 46) x.0 in
+    let z = or_parts (is_keylike c) (c == 58) y.0 in (z.0, z.1, y.1, x.1)
+
+-- ---- decimal digits
+
+in_range : (c : ℕ) → IsInRange 48 57 c → is_ascii_digit c ≡ true
+in_range c h = grind (arith, nat_tests)
+
+weighs : WeighsDigits (sum_of_digits 10)
+weighs = record {
+  empty = refl;
+  more = λ c cs h. (let e : digit_value c ≡ c - 48 = omega (arith, digit_value_digit c h) in rw e refl);
+}
+
+sums : IsNumeralModel (AllDigits 10) (sum_of_digits 10)
+sums = numerals_by_weight (AllDigits 10) tells_digits (sum_of_digits 10) weighs
+
+all_kept : (p : ℕ → Bool) (xs : List ℕ) → ((k : ℕ) → k < length xs → p (get_or xs k 0) ≡ true) → filter p xs ≡ xs
+all_kept p [] h = refl
+all_kept p (x ∷ xs) h =
+    let e : p x ≡ true = h 0 (omega arith) in
+    rw e (ap (λ (l : List ℕ). x ∷ l) (all_kept p xs (λ k l. h (suc k) (omega arith))))
+
+-- a number of 64 bits in decimal digits, as it stands in a text
+record Decimal (text : List ℕ) (n i j : ℕ) : Type 0 where
+  some : i < j
+  digits : (k : ℕ) → i ≤ k → k < j → is_ascii_digit (get_or text k 0) ≡ true
+  value : magnitude 10 text i j ≡ n
+  leading : get_or text i 0 ≡ 48 → j ≡ i + 1
+
+leads : (n : ℕ) → n < 2 ^ 64 → get_or (decimal n) 0 0 ≡ 48 → length (decimal n) ≡ 1
+leads zero h e = ap length (decimal_digit 0 (omega arith))
+leads (suc n) h e = absurd (omega (arith, first_decimal (suc n) (omega arith) h))
+
+decimal_in : {text rest : List ℕ} {i j : ℕ} (n : ℕ) → n < 2 ^ 64 → Part text (decimal n) rest i j → Decimal text n i j
+decimal_in {text} {rest} {i} {j} n h p =
+    let numeral = (decimal_is_IsNumeral n h).0 in
+    let on = p.on in
+    let digit : (k : ℕ) → k < length (decimal n) → is_ascii_digit (get_or (decimal n) k 0) ≡ true = λ k l. in_range (get_or (decimal n) k 0) (digit_at (decimal n) k numeral.1 l) in
+    let kept : filter (is_digit_in 10) (decimal n) ≡ decimal n = all_kept (is_digit_in 10) (decimal n) (λ k l. digit_ten (get_or (decimal n) k 0) (digit k l)) in
+    let some : 0 < length (decimal n) = numeral.0 in
+    record {
+      some = omega arith;
+      digits = each p is_ascii_digit digit;
+      value = ap (λ (l : List ℕ). sum_of_digits 10 (filter (is_digit_in 10) l)) (range p) ∙ (ap (sum_of_digits 10) kept ∙ digits_value-decimal sums n h);
+      leading = λ e. (let z : i - i ≡ 0 = omega arith in
+          let same : get_or text i 0 ≡ get_or (decimal n) 0 0 = rw z at (byte_at p i (omega arith) (omega arith)) in
+          let one : length (decimal n) ≡ 1 = leads n h (sym same ∙ e) in omega arith);
+    }
+
+unsigned : (text : List ℕ) (n i j : ℕ) → Decimal text n i j → j ≤ length text → is_keylike (get_or text j 0) ≡ false → UnsignedDecimal text i j
+unsigned text n i j d w off =
+    let some = d.some in
+    record {
+      digits = record {
+        begins = digit_ten (get_or text i 0) (d.digits i (omega arith) some);
+        run = record {
+          forward = omega arith;
+          within = w;
+          passes = λ k a b. digit_figure 10 (get_or text k 0) (digit_ten (get_or text k 0) (d.digits k a b));
+          stops = λ x. no_keylike_figure 10 (get_or text j 0) off;
+        };
+        between = λ k a b u. absurd (digit_no_underscore 10 (get_or text k 0) (digit_ten (get_or text k 0) (d.digits k a b)) u);
+      };
+      leading = d.leading;
+    }
+
+-- ---- integers
+
+abbrev IntegerAt : List ℕ → ℤ → ℕ → ℕ → Type 0
+IntegerAt text z i j = SpellsScalar (integer z) (from_to i j) text i j
+
+kind_view-Integer : (z : ℤ) → kind_view (Integer z) ≡ scalar (integer z)
+kind_view-Integer z = search (rules, the_lemmas)
+
+positive : {text rest : List ℕ} {i j : ℕ} (n : ℕ) → n < 2 ^ 63 → is_date_byte (get_or rest 0 0) ≡ false → Part text (decimal n) rest i j → IntegerAt text (pos n) i j
+positive {text} {rest} {i} {j} n h off p =
+    let d = decimal_in n (omega arith) p in
+    let b = off_bytes (get_or text j 0) (rw (next p) off) in
+    let (s, e, is) = short_made (Integer (pos n)) (pos n) text i j n (kind_view-Integer (pos n)) d.some (within p) d.digits (sym d.value) d.leading b.0 b.2 b.1 (refl, h) in
+    let same : s ≡ integer (pos n) = cc (kind_view-Integer (pos n)) in
+    subst (λ (x : Scalar). SpellsScalar x (from_to i j) text i j) same is
+
+negative : {text rest : List ℕ} {i j : ℕ} (n : ℕ) → n < 2 ^ 63 → is_date_byte (get_or rest 0 0) ≡ false → Part text (45 ∷ decimal (suc n)) rest i j → IntegerAt text (negsuc n) i j
+negative {text} {rest} {i} {j} n h off p =
+    let q = tail 45 (decimal (suc n)) p in
+    let d = decimal_in (suc n) (omega arith) q in
+    let b = off_bytes (get_or text j 0) (rw (next p) off) in
+    let first = here 45 (decimal (suc n)) p in
+    let sign : behind_sign text i ≡ i + 1 = rw first refl in
+    let minus : is_negative text i ≡ true = rw first refl in
+    let value : IsSigned true (magnitude 10 text (i + 1) j) (negsuc n) = rw (d.value) (refl, omega arith) in (
+      rw first refl,
+      inl (record { digits = rw sign (unsigned text (suc n) (i + 1) j d (within p) b.0); ends = stands_alone text j b.0 b.2; value = rw (sign, minus) value }),
+      refl,
+    )
+
+pub integer_again : {text rest : List ℕ} {i j : ℕ} (z : ℤ) → mag z < 2 ^ 63 → is_date_byte (get_or rest 0 0) ≡ false → Part text (signed_decimal z) rest i j → IntegerAt text z i j
+integer_again (pos n) h off p = positive n h off p
+integer_again (negsuc n) h off p = negative n h off p

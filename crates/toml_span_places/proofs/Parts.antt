@@ -1,0 +1,81 @@
+-- A part of a text: its bytes, and those behind it.
+use Rattle.std.proofs.Common.{◌≡◌, ℕ, ◌+◌, ◌-◌, ◌<◌, ◌≤◌, Bool, true, List, [], ◌∷◌, ◌++◌, length, get_or, drop, arith, sym, ◌∙◌, refl, ap, append_assoc, length-append}
+use Rattle.std.specs.Prelude.{slice_range}
+use Rattle.std.proofs.lemmas.List.{get_or-drop, get_or_append_left, get_or-append-add, drop-drop, drop_at, take_at}
+
+-- from i on the text is this part and the rest, and j is behind the part
+pub record Part (text part rest : List ℕ) (i j : ℕ) : Type 0 where
+  pub is : drop i text ≡ part ++ rest
+  pub on : j ≡ i + length part
+  pub all : j + length rest ≡ length text
+
+-- a part between two texts
+pub between : (before part rest : List ℕ) → Part (before ++ (part ++ rest)) part rest (length before) (length before + length part)
+between before part rest =
+    record { is = drop_at before (part ++ rest) (length before) refl; on = refl; all = omega (arith, length-append before (part ++ rest), length-append part rest) }
+
+pub same_part : {text part rest : List ℕ} {i j : ℕ} (other : List ℕ) → part ≡ other → Part text part rest i j → Part text other rest i j
+same_part other e p = rw e at p
+
+-- two parts side by side
+pub front : {text rest : List ℕ} {i j : ℕ} (a b : List ℕ) → Part text (a ++ b) rest i j → Part text a (b ++ rest) i (i + length a)
+front {rest = rest} a b p =
+    let n = length-append a b in
+    let m = length-append b rest in
+    let x = p.on in
+    let y = p.all in
+    record { is = p.is ∙ append_assoc a b rest; on = refl; all = omega arith }
+
+pub back : {text rest : List ℕ} {i j : ℕ} (a b : List ℕ) → Part text (a ++ b) rest i j → Part text b rest (i + length a) j
+back {text} {rest} {i} a b p =
+    let n = length-append a b in
+    let x = p.on in
+    record {
+      is = sym (drop-drop (length a) i text) ∙ (ap (λ (l : List ℕ). drop (length a) l) (p.is ∙ append_assoc a b rest) ∙ drop_at a (b ++ rest) (length a) refl);
+      on = omega arith;
+      all = p.all;
+    }
+
+-- a byte and what is behind it
+pub tail : {text rest : List ℕ} {i j : ℕ} (c : ℕ) (cs : List ℕ) → Part text (c ∷ cs) rest i j → Part text cs rest (i + 1) j
+tail c cs p = back (c ∷ []) cs p
+
+pub here : {text rest : List ℕ} {i j : ℕ} (c : ℕ) (cs : List ℕ) → Part text (c ∷ cs) rest i j → get_or text i 0 ≡ c
+here {text} {rest} {i} c cs p =
+    let z : i + 0 ≡ i = omega arith in
+    let e : get_or text (i + 0) 0 ≡ c = sym (get_or-drop i text 0 0) ∙ ap (λ (l : List ℕ). get_or l 0 0) p.is in
+    rw z at e
+
+pub byte : {text part rest : List ℕ} {i j : ℕ} → Part text part rest i j → (k : ℕ) → k < length part → get_or text (i + k) 0 ≡ get_or part k 0
+byte {text} {part} {rest} {i} p k h = sym (get_or-drop i text k 0) ∙ (ap (λ (l : List ℕ). get_or l k 0) p.is ∙ get_or_append_left part rest 0 k h)
+
+-- the byte at a place of the part, by its place in the text
+pub byte_at : {text part rest : List ℕ} {i j : ℕ} → Part text part rest i j → (k : ℕ) → i ≤ k → k < j → get_or text k 0 ≡ get_or part (k - i) 0
+byte_at {text} {part} {rest} {i} p k a b =
+    let x = p.on in
+    let at : i + (k - i) ≡ k = omega arith in
+    let e : get_or text (i + (k - i)) 0 ≡ get_or part (k - i) 0 = byte p (k - i) (omega arith) in
+    rw at at e
+
+pub behind : {text part rest : List ℕ} {i j : ℕ} → Part text part rest i j → (k : ℕ) → get_or text (j + k) 0 ≡ get_or rest k 0
+behind {text} {part} {rest} {i} {j} p k =
+    let x = p.on in
+    let at : j + k ≡ i + (length part + k) = omega arith in
+    rw at (sym (get_or-drop i text (length part + k) 0) ∙ (ap (λ (l : List ℕ). get_or l (length part + k) 0) p.is ∙ get_or-append-add part rest k 0))
+
+pub next : {text part rest : List ℕ} {i j : ℕ} → Part text part rest i j → get_or text j 0 ≡ get_or rest 0 0
+next {text} {part} {rest} {i} {j} p = let z : j + 0 ≡ j = omega arith in let e : get_or text (j + 0) 0 ≡ get_or rest 0 0 = behind p 0 in rw z at e
+
+pub range : {text part rest : List ℕ} {i j : ℕ} → Part text part rest i j → slice_range text i j ≡ part
+range {text} {part} {rest} {i} {j} p =
+    let x = p.on in
+    let n : j - i ≡ length part = omega arith in
+    rw (n, p.is) (take_at part rest (length part) refl)
+
+pub within : {text part rest : List ℕ} {i j : ℕ} → Part text part rest i j → j ≤ length text
+within p = let x = p.all in omega arith
+
+-- what holds of each byte of the part
+pub each : {text part rest : List ℕ} {i j : ℕ} → Part text part rest i j → (p : ℕ → Bool) → ((k : ℕ) → k < length part → p (get_or part k 0) ≡ true) → (k : ℕ) → i ≤ k → k < j → p (get_or text k 0) ≡ true
+each {text} {part} {rest} {i} w p h k a b =
+    let x = w.on in rw (byte_at w k a b) (h (k - i) (omega arith))

@@ -1,0 +1,380 @@
+-- A value as it is spelled is read again.
+use Rattle.std.proofs.Common.{◌≡◌, ℕ, ◌+◌, ◌-◌, ◌<◌, ◌≤◌, ◌⊎◌, Bool, true, false, cond, Some, None, Result, Ok, Err, IfOk, OnOk, String, string_bytes, List, [], ◌∷◌, ◌++◌, length, get_or, drop, arith, inl, inr, sym, ◌∙◌, refl, ap, subst, append_assoc, length-append, codes, IsUtf8}
+use Rattle.std.specs.Prelude.{◌==◌, ◌||◌, slice_range}
+use Rattle.std.specs.Global.{Global}
+use Rattle.std.specs.List.{list_all}
+use Rattle.std.proofs.lemmas.Bool.{cases_Bool, false≢true, or_cases, or_parts, or_from, and_parts, eqb-true, false_from_ne_true}
+use Rattle.std.proofs.lemmas.List.{get_or-take, get_or-drop}
+use Rattle.toml_span_lex.specs.Bytes.{is_blank, is_keylike, MaximalRun}
+use Rattle.toml_span_lex.specs.Strings.{IsQuote}
+use Rattle.toml_span_lex.specs.declared.span.Span.{Span}
+use Rattle.toml_span_tree.specs.Float.{float_text}
+use Rattle.toml_span_tree.specs.Node.{Scalar, text as text_scalar, integer, float, boolean, datetime, FloatValue, finite, infinite, not_a_number, Node, node, Inner, taken, Items, no_items, item, Members, no_members, member}
+use Rattle.toml_span_tree.specs.Value.{is_whole, holds_whole, all_whole, all_members_whole}
+use Rattle.toml_span_tree.specs.Node.{scalar as scalar_node, array as array_node, table as table_node}
+use Rattle.toml_span_read.specs.Data.{ParsedValue, parsed, ParsedInner, scalar, array, inline, ParsedItems, no_items as none_read, item as item_read, ParsedPairs, no_pairs, pair, KeyValue}
+use Rattle.toml_span_read.specs.Dates.{begins_date, is_date_byte}
+use Rattle.toml_span_read.specs.Earlier.{Clear}
+use Rattle.toml_span_read.specs.Gaps.{begins_gap, MaximalGap, Separator, Closes}
+use Rattle.toml_span_read.specs.Grammar.{from_to, truth_text, SpellsScalar, Spells, SpellsInner, SpellsItems, SpellsPairs}
+use Rattle.toml_span_read.specs.Keys.{SimpleKey, SpellsSimpleKey, SpellsKey}
+use Rattle.toml_span_read.specs.Numbers.{is_digit_in, behind_sign, radix_at, SpecialFloat}
+use Rattle.toml_span_read.proofs.NumberLemmas.{clash, digit_keylike, no_sign, stands_alone}
+use Rattle.toml_span_read.proofs.ShortIntegers.{decimal_keylike}
+use Rattle.toml_span_places.specs.Again.{parts_off, HasValue, HoldsValue, HaveValues, HaveEntries, IsFloatText, IsScalarText, HasFloatTexts, InnerHasFloatTexts, ItemsHaveFloatTexts, MembersHaveFloatTexts, IsWithin, InnerIsWithin, ItemsAreWithin, MembersAreWithin, ReadsAsValue}
+use Rattle.toml_span_places.specs.Quoted.{key_text}
+use Rattle.toml_span_places.specs.Spelled.{scalar_text, value_text, inner_text, items_text, members_text}
+use Rattle.toml_span_places.specs.code.Spelled.{IsHeldScalar, IsHeld, IsHeldInner, AreHeld, MembersHeld, CanBeSpelled, InnerCanBeSpelled, ItemsCanBeSpelled, MembersCanBeSpelled}
+use Rattle.toml_span_places.proofs.Parts.{Part, between, same_part, front, back, tail, here, next, range, within}
+use Rattle.toml_span_places.proofs.QuotedAgain.{off_parts, run_again, string_again, key_again}
+use Rattle.toml_span_places.proofs.NumbersAgain.{off_bytes, integer_again}
+use Rattle.toml_span_places.proofs.FloatsAgain.{literal_again}
+use Rattle.toml_span_places.proofs.DatesAgain.{date_again}
+
+-- ---- what begins a value begins no gap
+
+abbrev NoGap : ℕ → Type 0
+NoGap c = ((is_blank c || c == 10) ≡ false) × ((c == 13) ≡ false) × ((c == 35) ≡ false)
+
+no_gap : (text : List ℕ) (i : ℕ) → NoGap (get_or text i 0) → begins_gap text i ≡ false
+no_gap text i h = rw (h.0, h.1, h.2) refl
+
+no_gap_is : (text : List ℕ) (i c : ℕ) → get_or text i 0 ≡ c → NoGap c → begins_gap text i ≡ false
+no_gap_is text i c e h = no_gap text i (rw e h)
+
+keylike_other : (c k : ℕ) → is_keylike c ≡ true → is_keylike k ≡ false → (c == k) ≡ false
+keylike_other c k h n = false_from_ne_true (c == k) (λ e. clash is_keylike c k h (eqb-true c k e) n)
+
+keylike_no_gap : (c : ℕ) → is_keylike c ≡ true → NoGap c
+keylike_no_gap c h =
+    (or_from (is_blank c) (c == 10) (or_from (c == 32) (c == 9) (keylike_other c 32 h refl) (keylike_other c 9 h refl)) (keylike_other c 10 h refl), keylike_other c 13 h refl, keylike_other c 35 h refl)
+
+quote_no_gap : (c : ℕ) → IsQuote c → NoGap c
+quote_no_gap c (inl e) = rw e (refl, refl, refl)
+quote_no_gap c (inr e) = rw e (refl, refl, refl)
+
+-- digits behind a sign, or without one
+signed_no_gap : (text : List ℕ) (i : ℕ) → is_digit_in 10 (get_or text (behind_sign text i) 0) ≡ true → NoGap (get_or text i 0)
+signed_no_gap text i h = elim (cases_Bool (get_or text i 0 == 43 || get_or text i 0 == 45)) [
+  | inl sign ↦ elim (or_cases (get_or text i 0 == 43) (get_or text i 0 == 45) sign) [
+    | inl plus ↦ rw (eqb-true (get_or text i 0) 43 plus) (refl, refl, refl)
+    | inr minus ↦ rw (eqb-true (get_or text i 0) 45 minus) (refl, refl, refl)
+  ]
+  | inr none ↦
+      let n = or_parts (get_or text i 0 == 43) (get_or text i 0 == 45) none in
+      keylike_no_gap (get_or text i 0) (digit_keylike 10 (get_or text i 0) (rw (no_sign text i n.0 n.1) at h))
+]
+
+radix_no_gap : (text : List ℕ) (i radix : ℕ) → radix_at text i ≡ Some radix → NoGap (get_or text i 0)
+radix_no_gap text i radix h = elim (cases_Bool (get_or text i 0 == 48)) [
+  | inl zero ↦ rw (eqb-true (get_or text i 0) 48 zero) (refl, refl, refl)
+  | inr other ↦ absurd (let none : radix_at text i ≡ None = rw other refl in cc)
+]
+
+digit_no_gap : (text : List ℕ) (i : ℕ) → begins_date text i ≡ true → NoGap (get_or text i 0)
+digit_no_gap text i h = keylike_no_gap (get_or text i 0) (decimal_keylike (get_or text i 0) (and_parts _ _ (and_parts _ _ h).0).0)
+
+-- the text of a special float, behind its sign
+word_no_gap : (text : List ℕ) (i j c : ℕ) (cs : List ℕ) → slice_range text (behind_sign text i) j ≡ c ∷ cs → behind_sign text i < j → j ≤ length text → is_keylike c ≡ true → NoGap (get_or text i 0)
+word_no_gap text i j c cs e some w k = elim (cases_Bool (get_or text i 0 == 43 || get_or text i 0 == 45)) [
+  | inl sign ↦ elim (or_cases (get_or text i 0 == 43) (get_or text i 0 == 45) sign) [
+    | inl plus ↦ rw (eqb-true (get_or text i 0) 43 plus) (refl, refl, refl)
+    | inr minus ↦ rw (eqb-true (get_or text i 0) 45 minus) (refl, refl, refl)
+  ]
+  | inr none ↦
+      let n = or_parts (get_or text i 0 == 43) (get_or text i 0 == 45) none in
+      let at : behind_sign text i ≡ i = no_sign text i n.0 n.1 in
+      keylike_no_gap (get_or text i 0) (rw (first_of text i j c cs (rw at at e) (rw at at some)) k)
+]
+  where
+    first_of : (text : List ℕ) (i j c : ℕ) (cs : List ℕ) → slice_range text i j ≡ c ∷ cs → i < j → get_or text i 0 ≡ c
+    first_of text i j c cs e l =
+        let z : i + 0 ≡ i = omega arith in
+        let some : 0 < j - i = omega arith in
+        let a : get_or (slice_range text i j) 0 0 ≡ get_or text i 0 = rw z at (get_or-take (j - i) (drop i text) 0 0 some ∙ get_or-drop i text 0 0) in
+        sym a ∙ ap (λ (l : List ℕ). get_or l 0 0) e
+
+scalar_starts : (s : Scalar) (span : Span) (text : List ℕ) (i j : ℕ) → SpellsScalar s span text i j → NoGap (get_or text i 0)
+scalar_starts (text_scalar v) span text i j (source, multi, h) = quote_no_gap (get_or text i 0) h.quote
+scalar_starts (integer z) span text i j (no_date, inl h, is) = signed_no_gap text i h.digits.digits.begins
+scalar_starts (integer z) span text i j (no_date, inr h, is) = radix_no_gap text i h.radix h.prefix
+scalar_starts (float (finite digits)) span text i j (no_date, h, is) = signed_no_gap text i h.0.integer_part.digits.begins
+scalar_starts (float (infinite b)) span text i j (no_date, h, is) = word_no_gap text i j 105 (110 ∷ 102 ∷ []) h.0.letters h.0.some h.0.within refl
+scalar_starts (float (not_a_number b)) span text i j (no_date, h, is) = word_no_gap text i j 110 (97 ∷ 110 ∷ []) h.0.letters h.0.some h.0.within refl
+scalar_starts (boolean b) span text i j (h, is) = keylike_no_gap (get_or text i 0) (h.1.passes i (omega arith) h.0)
+scalar_starts (datetime d) span text i j h = digit_no_gap text i h.0
+
+value_starts : (v : ParsedValue) (text : List ℕ) (limit d i j : ℕ) → Spells v text limit d i j → begins_gap text i ≡ false
+value_starts (parsed (scalar s) span) text limit d i j h = no_gap text i (scalar_starts s span text i j h.1)
+value_starts (parsed (array vs) span) text limit d i j h = no_gap_is text i 91 h.1.0 (refl, refl, refl)
+value_starts (parsed (inline ps) span) text limit d i j h = no_gap_is text i 123 h.1.0 (refl, refl, refl)
+
+-- ---- gaps
+
+nothing : (text : List ℕ) (i : ℕ) → begins_gap text i ≡ false → MaximalGap text i i
+nothing text i h = record { ends = []; pieces = refl; forward = omega arith; stops = h }
+
+one_space : (text : List ℕ) (i : ℕ) → get_or text i 0 ≡ 32 → begins_gap text (i + 1) ≡ false → MaximalGap text i (i + 1)
+one_space text i e h = record { ends = (i + 1) ∷ []; pieces = (inl (rw e refl, refl), refl); forward = omega arith; stops = h }
+
+-- ---- scalars
+
+abbrev ScalarAt : List ℕ → Scalar → ℕ → ℕ → Type 0
+ScalarAt text s i j = (span : Span) × SpellsScalar s span text i j
+
+special : {text rest : List ℕ} {k j : ℕ} (word : List ℕ) (i : ℕ) → 0 < length word → is_date_byte (get_or rest 0 0) ≡ false → behind_sign text i ≡ k → Part text word rest k j → SpecialFloat word text i j
+special {text} {rest} {k} {j} word i some off e p =
+    let on = p.on in
+    let b = off_bytes (get_or text j 0) (rw (next p) off) in
+    record { letters = rw e (range p); some = rw e (omega arith); within = within p; ends = stands_alone text j b.0 b.2 }
+
+inf_some : 0 < length (codes "inf")
+inf_some = let n : length (codes "inf") ≡ 3 = refl in omega (arith, n)
+
+nan_some : 0 < length (codes "nan")
+nan_some = let n : length (codes "nan") ≡ 3 = refl in omega (arith, n)
+
+float_again : {text rest : List ℕ} {i j : ℕ} (x : FloatValue) → IsFloatText x → is_date_byte (get_or rest 0 0) ≡ false → Part text (float_text x) rest i j → ScalarAt text (float x) i j
+float_again {text} {rest} {i} {j} (finite digits) is off p = (from_to i j, literal_again digits is off p)
+float_again {text} {rest} {i} {j} (infinite true) is off p =
+    let first = here 45 (codes "inf") p in
+    (from_to i j, (rw first refl, (special (codes "inf") i inf_some off (rw first refl) (tail 45 (codes "inf") p), rw first refl), refl))
+float_again {text} {rest} {i} {j} (infinite false) is off p =
+    let first = here 105 (110 ∷ 102 ∷ []) p in (from_to i j, (rw first refl, (special (codes "inf") i inf_some off (rw first refl) p, rw first refl), refl))
+float_again {text} {rest} {i} {j} (not_a_number true) is off p =
+    let first = here 45 (codes "nan") p in
+    (from_to i j, (rw first refl, (special (codes "nan") i nan_some off (rw first refl) (tail 45 (codes "nan") p), rw first refl), refl))
+float_again {text} {rest} {i} {j} (not_a_number false) is off p =
+    let first = here 110 (97 ∷ 110 ∷ []) p in (from_to i j, (rw first refl, (special (codes "nan") i nan_some off (rw first refl) p, rw first refl), refl))
+
+word : (b : Bool) → (0 < length (truth_text b)) × (list_all is_keylike (truth_text b) ≡ true)
+word true = let n : length (codes "true") ≡ 4 = refl in (omega (arith, n), refl)
+word false = let n : length (codes "false") ≡ 5 = refl in (omega (arith, n), refl)
+
+truth_same : (b : Bool) → cond b (codes "true") (codes "false") ≡ truth_text b
+truth_same true = refl
+truth_same false = refl
+
+scalar_again : {text rest : List ℕ} {i j : ℕ} (s : Scalar) → IsHeldScalar s → IsScalarText s → parts_off rest ≡ true → Part text (scalar_text s) rest i j → ScalarAt text s i j
+scalar_again {text} {rest} {i} {j} (text_scalar v) held is off p =
+    let (span, h) = string_again v text rest i j held (off_parts rest off).1 p in (span, (slice_range text i j, false, h))
+scalar_again {text} {rest} {i} {j} (integer z) held is off p = (from_to i j, integer_again z held.sfits (off_parts rest off).0 p)
+scalar_again {text} {rest} {i} {j} (float x) held is off p = float_again x is (off_parts rest off).0 p
+scalar_again {text} {rest} {i} {j} (boolean b) held is off p =
+    let w = word b in (from_to i j, (run_again (truth_text b) text rest i j w.0 w.1 (off_parts rest off).0 (same_part (truth_text b) (truth_same b) p), refl))
+scalar_again {text} {rest} {i} {j} (datetime d) held is off p = let o = off_parts rest off in (from_to i j, date_again d held o.0 o.2 p)
+
+-- ---- arrays and tables
+
+-- what of the elements follows the opening bracket, or one comma and a space
+abbrev Inside : Items → Type 0
+Inside ns =
+    (text rest : List ℕ) (limit d i j : ℕ) → AreHeld ns → ItemsCanBeSpelled limit d ns → Part text (items_text true ns ++ (93 ∷ [])) rest i j
+    → (vs : ParsedItems) × SpellsItems vs text limit d i j × HaveValues vs ns × (begins_gap text i ≡ false)
+
+-- what of the elements follows another one
+abbrev Behind : Items → Type 0
+Behind ns =
+    (text rest : List ℕ) (limit d i j : ℕ) → AreHeld ns → ItemsCanBeSpelled limit d ns → Part text (items_text false ns ++ (93 ∷ [])) rest i j
+    → (vs : ParsedItems) × HaveValues vs ns × (((vs ≡ none_read) × Closes 93 text i j) ⊎ ((p : ℕ) × Separator 44 text i p × SpellsItems vs text limit d p j))
+
+closes : {text rest : List ℕ} {i j : ℕ} (c : ℕ) → NoGap c → Part text (c ∷ []) rest i j → Closes c text i j
+closes {text} {rest} {i} {j} c h p =
+    let e = here c [] p in
+    let on = p.on in
+    record { at = i; before = nothing text i (no_gap_is text i c e h); here = e; ends = omega arith }
+
+comma : {text rest : List ℕ} {i j : ℕ} (more : List ℕ) → Part text (44 ∷ 32 ∷ more) rest i j → begins_gap text ((i + 1) + 1) ≡ false → Separator 44 text i ((i + 1) + 1)
+comma {text} {rest} {i} {j} more p h =
+    let e = here 44 (32 ∷ more) p in
+    let f = here 32 more (tail 44 (32 ∷ more) p) in
+    record { at = i; before = nothing text i (no_gap_is text i 44 e (refl, refl, refl)); here = e; behind = one_space text (i + 1) f h }
+
+behind_items : (ns : Items) → Inside ns → Behind ns
+behind_items no_items inside text rest limit d i j held can p = (none_read, tt, inl (refl, closes 93 (refl, refl, refl) p))
+behind_items (item n ns) inside text rest limit d i j held can p =
+    let more = items_text true (item n ns) ++ (93 ∷ []) in
+    let q = tail 32 more (tail 44 (32 ∷ more) p) in
+    let (vs, h, e, starts) = inside text rest limit d ((i + 1) + 1) j held can q in
+    (vs, e, inr ((i + 1) + 1, comma more p starts, h))
+
+items_off : (ns : Items) (rest : List ℕ) → parts_off ((items_text false ns ++ (93 ∷ [])) ++ rest) ≡ true
+items_off no_items rest = refl
+items_off (item n ns) rest = refl
+
+abbrev InsideBraces : Members → Type 0
+InsideBraces ms =
+    (text rest : List ℕ) (es : List KeyValue) (limit d i j : ℕ) → MembersHeld ms → MembersCanBeSpelled limit d ms → Part text (members_text true ms ++ (125 ∷ [])) rest i j
+    → (ps : ParsedPairs) × SpellsPairs ps es text limit d i j × HaveEntries ps ms × (begins_gap text i ≡ false)
+
+abbrev BehindPair : Members → Type 0
+BehindPair ms =
+    (text rest : List ℕ) (es : List KeyValue) (limit d i j : ℕ) → MembersHeld ms → MembersCanBeSpelled limit d ms → Part text (members_text false ms ++ (125 ∷ [])) rest i j
+    → (ps : ParsedPairs) × HaveEntries ps ms × (((ps ≡ no_pairs) × Closes 125 text i j) ⊎ ((p : ℕ) × Separator 44 text i p × SpellsPairs ps es text limit d p j))
+
+behind_pairs : (ms : Members) → InsideBraces ms → BehindPair ms
+behind_pairs no_members inside text rest es limit d i j held can p = (no_pairs, tt, inl (refl, closes 125 (refl, refl, refl) p))
+behind_pairs (member name key n ms) inside text rest es limit d i j held can p =
+    let more = members_text true (member name key n ms) ++ (125 ∷ []) in
+    let q = tail 32 more (tail 44 (32 ∷ more) p) in
+    let (ps, h, e, starts) = inside text rest es limit d ((i + 1) + 1) j held can q in
+    (ps, e, inr ((i + 1) + 1, comma more p starts, h))
+
+members_off : (ms : Members) (rest : List ℕ) → parts_off ((members_text false ms ++ (125 ∷ [])) ++ rest) ≡ true
+members_off no_members rest = refl
+members_off (member name key n ms) rest = refl
+
+-- ---- pairs
+
+regroup : (k v m e : List ℕ) → ((k ++ codes " = ") ++ (v ++ m)) ++ e ≡ k ++ (32 ∷ 61 ∷ 32 ∷ (v ++ (m ++ e)))
+regroup k v m e = append_assoc (k ++ codes " = ") (v ++ m) e ∙ (append_assoc k (codes " = ") ((v ++ m) ++ e) ∙ ap (λ (l : List ℕ). k ++ (32 ∷ 61 ∷ 32 ∷ l)) (append_assoc v m e))
+
+one_part : (es : List KeyValue) (e : KeyValue) (s : SimpleKey) → e.parts ≡ s ∷ [] → Clear es e
+one_part es e s is inner last at outer p rest f =
+    absurd (omega (arith, ap length (sym is ∙ at), ap length f, length-append inner (last ∷ []), length-append outer (p ∷ rest)))
+
+blank_run : (text : List ℕ) (i : ℕ) → get_or text i 0 ≡ 32 → i < length text → is_blank (get_or text (i + 1) 0) ≡ false → MaximalRun is_blank text i (i + 1)
+blank_run text i e l h =
+    record { forward = omega arith; within = omega arith; passes = λ k a b. (let same : k ≡ i = omega arith in rw (same, e) refl); stops = λ x. h }
+
+-- a key, a space, an equals sign and a space, where a value begins behind them
+record Front (text : List ℕ) (s : SimpleKey) (i b : ℕ) : Type 0 where
+  end : ℕ
+  key : SpellsKey (s ∷ []) text i end
+  sign : Separator 61 text end b
+
+front_again : {text rest : List ℕ} {i j : ℕ} (name more : List ℕ) (span : Span) → (b : ℕ) → b ≡ (((i + length (key_text name)) + 1) + 1) + 1 → SpellsSimpleKey (record { name = name; span = span }) text i (i + length (key_text name))
+    → Part text (key_text name ++ (32 ∷ 61 ∷ 32 ∷ more)) rest i j → begins_gap text b ≡ false → Front text (record { name = name; span = span }) i b
+front_again {text} {rest} {i} {j} name more span b is h p starts =
+    let a = i + length (key_text name) in
+    let q = back (key_text name) (32 ∷ 61 ∷ 32 ∷ more) p in
+    let r = tail 32 (61 ∷ 32 ∷ more) q in
+    let s = tail 61 (32 ∷ more) r in
+    let space = here 32 (61 ∷ 32 ∷ more) q in
+    let sign = here 61 (32 ∷ more) r in
+    let all = q.all in
+    let on = q.on in
+    let last : begins_gap text (((a + 1) + 1) + 1) ≡ false = rw is at starts in
+    record {
+      end = a;
+      key = (a, h, (refl, record { at = a + 1; before = blank_run text a space (omega arith) (rw sign refl); here = rw sign refl }));
+      sign = record {
+        at = a + 1;
+        before = one_space text a space (no_gap_is text (a + 1) 61 sign (refl, refl, refl));
+        here = sign;
+        behind = rw is (one_space text ((a + 1) + 1) (here 32 more s) last);
+      };
+    }
+
+-- ---- values
+
+abbrev ValueAt : List ℕ → Node → ℕ → ℕ → ℕ → ℕ → Type 0
+ValueAt text n limit d i j = (v : ParsedValue) × Spells v text limit d i j × HasValue v n
+
+abbrev InnerAt : List ℕ → Inner → ℕ → ℕ → ℕ → ℕ → Type 0
+InnerAt text k limit d i j = (x : ParsedInner) × (span : Span) × SpellsInner x span text limit d i j × HoldsValue x k
+
+-- an element, and those behind it
+joined_items : (n : Node) (ns : Items) (text rest : List ℕ) (limit d i j : ℕ)
+    → (Part text (value_text n) ((items_text false ns ++ (93 ∷ [])) ++ rest) i (i + length (value_text n)) → ValueAt text n limit d i (i + length (value_text n))) → Behind ns → AreHeld ns → ItemsCanBeSpelled limit d ns
+    → Part text (items_text true (item n ns) ++ (93 ∷ [])) rest i j → (vs : ParsedItems) × SpellsItems vs text limit d i j × HaveValues vs (item n ns) × (begins_gap text i ≡ false)
+joined_items n ns text rest limit d i j first others held can p =
+    let q = same_part (value_text n ++ (items_text false ns ++ (93 ∷ []))) (append_assoc (value_text n) (items_text false ns) (93 ∷ [])) p in
+    let m = i + length (value_text n) in
+    let (v, h, e) = first (front (value_text n) (items_text false ns ++ (93 ∷ [])) q) in
+    let (vs, f, more) = others text rest limit d m j held can (back (value_text n) (items_text false ns ++ (93 ∷ [])) q) in
+    (item_read v vs, (m, h, more), (e, f), value_starts v text limit d i m h)
+
+-- a pair, and those behind it
+joined_pairs : (name : List ℕ) (key : Span) (n : Node) (ms : Members) (text rest : List ℕ) (es : List KeyValue) (limit d i j : ℕ) → IsUtf8 name → d + 1 ≤ limit
+    → ((b : ℕ) → Part text (value_text n) ((members_text false ms ++ (125 ∷ [])) ++ rest) b (b + length (value_text n)) → ValueAt text n limit (d + 1) b (b + length (value_text n))) → BehindPair ms → MembersHeld ms → MembersCanBeSpelled limit d ms
+    → Part text (members_text true (member name key n ms) ++ (125 ∷ [])) rest i j → (ps : ParsedPairs) × SpellsPairs ps es text limit d i j × HaveEntries ps (member name key n ms) × (begins_gap text i ≡ false)
+joined_pairs name key n ms text rest es limit d i j utf8 few first others held can p =
+    let w = value_text n ++ (members_text false ms ++ (125 ∷ [])) in
+    let q = same_part (key_text name ++ (32 ∷ 61 ∷ 32 ∷ w)) (regroup (key_text name) (value_text n) (members_text false ms) (125 ∷ [])) p in
+    let a = i + length (key_text name) in
+    let b = ((a + 1) + 1) + 1 in
+    let (span, k) = key_again name text ((32 ∷ 61 ∷ 32 ∷ w) ++ rest) i a utf8 refl refl (front (key_text name) (32 ∷ 61 ∷ 32 ∷ w) q) in
+    let r = tail 32 w (tail 61 (32 ∷ w) (tail 32 (61 ∷ 32 ∷ w) (back (key_text name) (32 ∷ 61 ∷ 32 ∷ w) q))) in
+    let m = b + length (value_text n) in
+    let (v, h, e) = first b (front (value_text n) (members_text false ms ++ (125 ∷ [])) r) in
+    let f = front_again name w span b refl k q (value_starts v text limit (d + 1) b m h) in
+    let s : SimpleKey = record { name = name; span = span } in
+    let here : KeyValue = record { parts = s ∷ []; value = v; extent = from_to i m } in
+    let (ps, g, more) = others text rest (es ++ (here ∷ [])) limit d m j held can (back (value_text n) (members_text false ms ++ (125 ∷ [])) r) in (
+      pair (s ∷ []) v (from_to i m) ps,
+      (m, (f.end, b, f.key, omega arith, f.sign, h, refl), one_part es here s refl, more),
+      (refl, e, g),
+      key_starts s text i a k,
+    )
+  where
+    key_starts : (s : SimpleKey) (text : List ℕ) (i j : ℕ) → SpellsSimpleKey s text i j → begins_gap text i ≡ false
+    key_starts s text i j (inl (run, is)) = no_gap text i (keylike_no_gap (get_or text i 0) (run.1.passes i (omega arith) run.0))
+    key_starts s text i j (inr (source, string)) = no_gap text i (quote_no_gap (get_or text i 0) string.quote)
+
+least : (n : Node) (limit d : ℕ) → CanBeSpelled limit d n → d ≤ limit
+least (node k at) limit d can = can.0
+
+mutual
+  pub value_again : (n : Node) (text rest : List ℕ) (limit d i j : ℕ) → IsHeld n → CanBeSpelled limit d n → parts_off rest ≡ true → Part text (value_text n) rest i j → ValueAt text n limit d i j
+  value_again (node k at) text rest limit d i j held (few, can) off p =
+      let (x, span, h, e) = inner_again k text rest limit d i j held can off p in (parsed x span, (few, h), e)
+
+  inner_again : (k : Inner) (text rest : List ℕ) (limit d i j : ℕ) → IsHeldInner k → InnerCanBeSpelled limit d k → parts_off rest ≡ true → Part text (inner_text k) rest i j → InnerAt text k limit d i j
+  inner_again taken text rest limit d i j held can off p = absurd can
+  inner_again (scalar_node s) text rest limit d i j held can off p = let (span, h) = scalar_again s held can off p in (scalar s, span, h, refl)
+  inner_again (array_node ns) text rest limit d i j held can off p =
+      let q = tail 91 (items_text true ns ++ (93 ∷ [])) p in
+      let (vs, h, e, starts) = items_again ns text rest limit (d + 1) (i + 1) j held can q in
+      (array vs, from_to i j, (here 91 (items_text true ns ++ (93 ∷ [])) p, refl, i + 1, nothing text (i + 1) starts, h), e)
+  inner_again (table_node ms) text rest limit d i j held can off p =
+      let q = tail 123 (members_text true ms ++ (125 ∷ [])) p in
+      let (ps, h, e, starts) = members_again ms text rest [] limit (d + 1) (i + 1) j held can q in
+      (inline ps, from_to i j, (here 123 (members_text true ms ++ (125 ∷ [])) p, refl, i + 1, nothing text (i + 1) starts, h), e)
+
+  items_again : (ns : Items) → Inside ns
+  items_again no_items text rest limit d i j held can p =
+      let e = here 93 [] p in
+      let on = p.on in
+      (none_read, (e, omega arith), tt, no_gap_is text i 93 e (refl, refl, refl))
+  items_again (item n ns) text rest limit d i j (held, more) (can, others) p =
+      joined_items n ns text rest limit d i j (λ q. value_again n text ((items_text false ns ++ (93 ∷ [])) ++ rest) limit d i (i + length (value_text n)) held can (items_off ns rest) q) (behind_items ns (items_again ns)) more others p
+
+  members_again : (ms : Members) → InsideBraces ms
+  members_again no_members text rest es limit d i j held can p =
+      let e = here 125 [] p in
+      let on = p.on in
+      (no_pairs, (e, omega arith), tt, no_gap_is text i 125 e (refl, refl, refl))
+  members_again (member name key n ms) text rest es limit d i j (utf8, held, more) (can, others) p =
+      joined_pairs name key n ms text rest es limit d i j utf8 (least n limit (d + 1) can)
+      (λ b q. value_again n text ((members_text false ms ++ (125 ∷ [])) ++ rest) limit (d + 1) b (b + length (value_text n)) held can (members_off ms rest) q) (behind_pairs ms (members_again ms)) more others p
+
+-- ---- the contract
+
+mutual
+  can_be : (n : Node) (limit d : ℕ) → is_whole n ≡ true → IsWithin limit d n → HasFloatTexts n → CanBeSpelled limit d n
+  can_be (node k at) limit d w (few, h) f = (few, inner_can_be k limit d w h f)
+
+  inner_can_be : (k : Inner) (limit d : ℕ) → holds_whole k ≡ true → InnerIsWithin limit d k → InnerHasFloatTexts k → InnerCanBeSpelled limit d k
+  inner_can_be taken limit d w h f = false≢true w
+  inner_can_be (scalar_node s) limit d w h f = f
+  inner_can_be (array_node ns) limit d w h f = items_can_be ns limit (d + 1) w h f
+  inner_can_be (table_node ms) limit d w h f = members_can_be ms limit (d + 1) w h f
+
+  items_can_be : (ns : Items) (limit d : ℕ) → all_whole ns ≡ true → ItemsAreWithin limit d ns → ItemsHaveFloatTexts ns → ItemsCanBeSpelled limit d ns
+  items_can_be no_items limit d w h f = tt
+  items_can_be (item n ns) limit d w (h, more) (f, others) =
+      let both = and_parts (is_whole n) (all_whole ns) w in (can_be n limit d both.0 h f, items_can_be ns limit d both.1 more others)
+
+  members_can_be : (ms : Members) (limit d : ℕ) → all_members_whole ms ≡ true → MembersAreWithin limit d ms → MembersHaveFloatTexts ms → MembersCanBeSpelled limit d ms
+  members_can_be no_members limit d w h f = tt
+  members_can_be (member name key n ms) limit d w (h, more) (f, others) =
+      let both = and_parts (is_whole n) (all_members_whole ms) w in (can_be n limit (d + 1) both.0 h f, members_can_be ms limit d both.1 more others)
+
+reads_value : (n : Node) → IsHeld n → ReadsAsValue n (value_text n)
+reads_value n held limit depth whole few floats before rest off =
+    value_again n (before ++ (value_text n ++ rest)) rest limit depth (length before) (length before + length (value_text n)) held (can_be n limit depth whole few floats) off (between before (value_text n) rest)
+
+pub value_read : {E : Type 0} (r : Result (String Global) E) (n : Node) → OnOk r (IsHeld n) → IfOk r (λ text. string_bytes text ≡ value_text n) → IfOk r (λ text. ReadsAsValue n (string_bytes text))
+value_read (Ok text) n held e = subst (ReadsAsValue n) (sym e) (reads_value n held)
+value_read (Err error) n held e = tt

@@ -1,0 +1,122 @@
+-- What is spelled, read again between any two texts.
+use Rattle.std.specs.Prelude.{◌≡◌, ℕ, ◌+◌, ◌≤◌, Bool, true, false, not, ◌||◌, List, [], ◌∷◌, ◌++◌, length, slice_index}
+use Rattle.toml_span_lex.specs.Strings.{IsString}
+use Rattle.toml_span_lex.specs.declared.span.Span.{Span}
+use Rattle.toml_span_tree.specs.Node.{Scalar, text, integer, float, boolean, datetime, Node, node, Inner, taken, Items}
+use Rattle.toml_span_tree.specs.Node.{no_items, item, Members, no_members, member}
+use Rattle.toml_span_tree.specs.Node.{FloatValue, finite, infinite, not_a_number}
+use Rattle.toml_span_tree.specs.Value.{is_whole}
+use Rattle.toml_span_tree.specs.Node.{scalar as scalar_node, array as array_node, table as table_node}
+use Rattle.toml_span_read.specs.Data.{ParsedValue, parsed, ParsedInner, scalar, array, inline, ParsedItems}
+use Rattle.toml_span_read.specs.Data.{no_items as none_read, item as item_read, ParsedPairs, no_pairs, pair}
+use Rattle.toml_span_read.specs.Dates.{continues_date, is_date_byte}
+use Rattle.toml_span_read.specs.Earlier.{part_names}
+use Rattle.toml_span_read.specs.Grammar.{Spells, SpellsScalar, from_to}
+use Rattle.toml_span_read.specs.Keys.{SpellsSimpleKey}
+use Rattle.toml_span_places.specs.Keys.{is_quote}
+
+-- What may stand behind a spelling: the end of the text, or what goes on with no word, number, date or string, which
+-- is no letter, digit, dash, underscore, colon, dot, plus or quote, and no space with a digit behind it.
+abbrev pub parts_off : List ℕ → Bool
+parts_off behind =
+    not (is_date_byte (slice_index behind 0) || (is_quote (slice_index behind 0) || continues_date behind 0))
+
+-- wherever the part stands in a text, it is one string on one line, from its first byte to its last, with this content
+abbrev pub ReadsAsString : List ℕ → List ℕ → Type 0
+ReadsAsString content part =
+    (before behind : List ℕ) → parts_off behind ≡ true
+    → (span : Span)
+    × IsString (before ++ (part ++ behind)) (length before) (length before + length part) span part content false
+
+-- wherever the part stands in a text, it is one simple key with this name
+abbrev pub ReadsAsKey : List ℕ → List ℕ → Type 0
+ReadsAsKey name part =
+    (before behind : List ℕ) → parts_off behind ≡ true
+    → (span : Span)
+    × SpellsSimpleKey (record { name = name; span = span }) (before ++ (part ++ behind)) (length before)
+    (length before + length part)
+
+-- ---- values
+
+-- The value that is read is that of the tree, spans aside. Each key of its tables is read as one part.
+abbrev mutual
+  pub HasValue : ParsedValue → Node → Type 0
+  HasValue (parsed k span) (node i at) = HoldsValue k i
+
+  pub HoldsValue : ParsedInner → Inner → Type 0
+  HoldsValue (scalar s) (scalar_node t) = s ≡ t
+  HoldsValue (array vs) (array_node ns) = HaveValues vs ns
+  HoldsValue (inline ps) (table_node ms) = HaveEntries ps ms
+  HoldsValue _ _ = ⊥
+
+  pub HaveValues : ParsedItems → Items → Type 0
+  HaveValues none_read no_items = Unit {0}
+  HaveValues (item_read v vs) (item n ns) = HasValue v n × HaveValues vs ns
+  HaveValues _ _ = ⊥
+
+  pub HaveEntries : ParsedPairs → Members → Type 0
+  HaveEntries no_pairs no_members = Unit {0}
+  HaveEntries (pair parts v extent ps) (member name key n ms) =
+      (part_names parts ≡ name ∷ []) × HasValue v n × HaveEntries ps ms
+  HaveEntries _ _ = ⊥
+
+-- the text of a float with digits spells it by itself
+abbrev pub IsFloatText : FloatValue → Type 0
+IsFloatText (finite digits) =
+    SpellsScalar (float (finite digits)) (from_to 0 (length digits)) digits 0 (length digits)
+IsFloatText (infinite negative) = Unit {0}
+IsFloatText (not_a_number negative) = Unit {0}
+
+abbrev pub IsScalarText : Scalar → Type 0
+IsScalarText (text s) = Unit {0}
+IsScalarText (integer z) = Unit {0}
+IsScalarText (float x) = IsFloatText x
+IsScalarText (boolean b) = Unit {0}
+IsScalarText (datetime d) = Unit {0}
+
+-- so does that of each float in the value
+abbrev mutual
+  pub HasFloatTexts : Node → Type 0
+  HasFloatTexts (node i span) = InnerHasFloatTexts i
+
+  pub InnerHasFloatTexts : Inner → Type 0
+  InnerHasFloatTexts taken = Unit {0}
+  InnerHasFloatTexts (scalar_node s) = IsScalarText s
+  InnerHasFloatTexts (array_node ns) = ItemsHaveFloatTexts ns
+  InnerHasFloatTexts (table_node ms) = MembersHaveFloatTexts ms
+
+  pub ItemsHaveFloatTexts : Items → Type 0
+  ItemsHaveFloatTexts no_items = Unit {0}
+  ItemsHaveFloatTexts (item n ns) = HasFloatTexts n × ItemsHaveFloatTexts ns
+
+  pub MembersHaveFloatTexts : Members → Type 0
+  MembersHaveFloatTexts no_members = Unit {0}
+  MembersHaveFloatTexts (member name key n ms) = HasFloatTexts n × MembersHaveFloatTexts ms
+
+-- The depth of a value is the number of brackets, braces and key parts round it: d of this one. No value in it, nor the
+-- value itself, is deeper than the limit. An entry of a table has one key part.
+abbrev mutual
+  pub IsWithin : ℕ → ℕ → Node → Type 0
+  IsWithin limit d (node i span) = (d ≤ limit) × InnerIsWithin limit d i
+
+  pub InnerIsWithin : ℕ → ℕ → Inner → Type 0
+  InnerIsWithin limit d taken = Unit {0}
+  InnerIsWithin limit d (scalar_node s) = Unit {0}
+  InnerIsWithin limit d (array_node ns) = ItemsAreWithin limit (d + 1) ns
+  InnerIsWithin limit d (table_node ms) = MembersAreWithin limit (d + 1) ms
+
+  pub ItemsAreWithin : ℕ → ℕ → Items → Type 0
+  ItemsAreWithin limit d no_items = Unit {0}
+  ItemsAreWithin limit d (item n ns) = IsWithin limit d n × ItemsAreWithin limit d ns
+
+  pub MembersAreWithin : ℕ → ℕ → Members → Type 0
+  MembersAreWithin limit d no_members = Unit {0}
+  MembersAreWithin limit d (member name key n ms) = IsWithin limit (d + 1) n × MembersAreWithin limit d ms
+
+-- wherever the part stands in a text, it is one value, from its first byte to its last: this one of the tree
+abbrev pub ReadsAsValue : Node → List ℕ → Type 0
+ReadsAsValue n part =
+    (limit depth : ℕ) → is_whole n ≡ true → IsWithin limit depth n → HasFloatTexts n
+    → (before behind : List ℕ) → parts_off behind ≡ true
+    → (v : ParsedValue)
+    × Spells v (before ++ (part ++ behind)) limit depth (length before) (length before + length part) × HasValue v n
