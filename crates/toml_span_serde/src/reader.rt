@@ -98,7 +98,8 @@ impl<'p, 'v> Reader<'p, 'v> {
         ensures stays { (self.new.next ≡ self.old.next) × (self.new.pieces ≡ self.old.pieces) }
         ensures notes { (self.new.at ≡ self.old.next) × (self.new.variant ≡ self.old.variant)
             × (self.new.is_unknown ≡ false) }
-        ensures kept { (kept self.new ≡ kept self.old) × (self.new.tried ≡ self.old.tried) }
+        ensures kept { kept self.new ≡ kept self.old }
+        ensures tried { self.new.tried ≡ self.old.tried }
     {
         self.at = self.next;
         self.is_unknown = false;
@@ -114,7 +115,8 @@ impl<'p, 'v> Reader<'p, 'v> {
         ensures none { IfErr result (λ e. (ahead self.old ≡ []) × IsMisread (λ why. why ≡ is.Invalid) self.old.next e) }
         ensures notes { (self.new.at ≡ self.old.next) × (self.new.variant ≡ self.old.variant)
             × (self.new.is_unknown ≡ false) }
-        ensures kept { (kept self.new ≡ kept self.old) × (self.new.tried ≡ self.old.tried) }
+        ensures kept { kept self.new ≡ kept self.old }
+        ensures tried { self.new.tried ≡ self.old.tried }
     {
         let piece = self.look()?;
         self.next += 1;

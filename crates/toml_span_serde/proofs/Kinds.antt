@@ -1,0 +1,17 @@
+-- Kinds of which the last one stands behind an "or".
+use Rattle.std.proofs.Common.{◌≡◌, refl, ap, sym, ◌∙◌, List, [], ◌∷◌, ◌++◌, codes, append_assoc}
+use Rattle.std.proofs.lemmas.List.{append-nil}
+use Rattle.std.specs.List.{flat_map}
+use Rattle.toml_span_serde.specs.Misfits.{more_kinds_text, words_of}
+use Rattle.toml_span_serde.specs.declared.misfit.Expected.{Expected}
+
+pub more_kinds_last : (front : List Expected) (last : Expected) → more_kinds_text (front ++ (last ∷ []))
+    ≡ flat_map (λ kind. codes ", " ++ words_of kind) front ++ (codes " or " ++ words_of last)
+more_kinds_last [] last = refl
+more_kinds_last (e ∷ []) last =
+    ap (λ words. codes ", " ++ (words ++ (codes " or " ++ words_of last))) (sym (append-nil (words_of e)))
+more_kinds_last (e ∷ d ∷ es) last =
+    let more = flat_map (λ kind. codes ", " ++ words_of kind) (d ∷ es) in
+    let end = codes " or " ++ words_of last in
+    ap (λ text. codes ", " ++ (words_of e ++ text)) (more_kinds_last (d ∷ es) last)
+    ∙ ap (λ text. codes ", " ++ text) (sym (append_assoc (words_of e) more end))
