@@ -1,8 +1,8 @@
 //! Rows of reads by derive.
 //!
 //! - `settings`, `device`, `tagged`, `attributes` and `choices` read the document as the struct of that name, `limits`
-//!   its tree as numbers by their names: what is read, or the code and the place of what is refused, the path to it, and
-//!   why.
+//!   its tree as numbers by their names: what is read, or the code and the place of what is refused, the path to it,
+//!   and why.
 //! - `shown`: the settings, or the error with its lines; `shown_device` and `shown_choices` the errors of these.
 //!
 //! What there is no memory for is tried once more.

@@ -1,7 +1,7 @@
 -- What a reader tells of a step that read nothing: why, and at which piece of its row.
 use Rattle.std.specs.Prelude.{◌≡◌, ◌⊎◌, ⊤, ℕ, ℤ, pos, negsuc, Bool, false, nat_lt, not, if◌then◌else◌}
 use Rattle.std.specs.Prelude.{List, [], ◌∷◌, ◌==◌, String, Vec, string_bytes, Option, None, Some, length, map}
-use Rattle.std.specs.Prelude.{MatchBool, reverse, slice_get, take}
+use Rattle.std.specs.Prelude.{reverse, slice_get, take}
 use Rattle.std.specs.Global.{Global}
 use Rattle.serde.specs.declared.format.Kind.{Kind}
 use Rattle.serde.specs.declared.format.Kind.TheVariants as kind
@@ -15,7 +15,7 @@ use Rattle.toml_span_serde.specs.Pieces.{Content, Piece, value, nothing, array_b
 use Rattle.toml_span_serde.specs.Pieces.{table_ends, key}
 use Rattle.toml_span_serde.specs.Names.{all_forms, forms_of}
 use Rattle.toml_span_serde.specs.Reads.{IsText}
-use Rattle.toml_span_serde.specs.Tried.{Tries, kinds_at, taken, tries}
+use Rattle.toml_span_serde.specs.Tried.{Tries, taken, tries}
 use Rattle.toml_span_serde.specs.Twice.{earlier, key_place}
 use Rattle.toml_span_serde.specs.Walk.{elements_in}
 use Rattle.toml_span_serde.specs.declared.misfit.Expected.{Expected}
@@ -108,7 +108,7 @@ abbrev pub refusal_in : Option Piece → Reason
 refusal_in None = is.Invalid
 refusal_in (Some p) = refusal p.content
 
--- what is of none of the kinds that are wanted, if any are known
+-- what is told of this kind, where it is none of those that are wanted, if any are known
 abbrev pub IsOther : List Expected → Found → Reason → Type 0
 IsOther [] f why = why ≡ is.Unexpected f
 IsOther (e ∷ []) f why = why ≡ is.Wanted e f
@@ -117,12 +117,6 @@ IsOther (e ∷ d ∷ es) f why = (all : Vec Expected Global) × (why ≡ is.Want
 abbrev pub IsOtherIn : List Expected → Option Piece → Reason → Type 0
 IsOtherIn kinds None why = why ≡ is.Invalid
 IsOtherIn kinds (Some p) why = IsOther kinds (found_of p.content) why
-
--- Why a type does not take what was looked at last. An integer that was read is out of range, and what was not read is
--- of none of the kinds that failed reads of it wanted.
-abbrev pub IsInvalid : Reader → Reason → Type 0
-IsInvalid r why = MatchBool (nat_lt r.at r.next) (why ≡ refusal_in (slice_get (laid r) r.at))
-    (IsOtherIn (kinds_at r.at (tries r.tried)) (slice_get (laid r) r.at) why)
 
 -- behind a return to this piece: what was read since then took the piece, if anything was
 abbrev pub tries_back_at : ℕ → Reader → Tries

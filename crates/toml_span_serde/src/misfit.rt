@@ -162,7 +162,8 @@ fn write_expected<W: Write>(f: &mut Formatter<W>, none: &str, names: &[String]) 
 
 /// Writes kinds, each behind a comma.
 fn write_more_kinds<W: Write>(f: &mut Formatter<W>, kinds: &[Expected]) -> fmt::Result
-    ensures { WritesOnOk W.write_str_gives f.old result (flat_map (λ kind. codes ", " ++ words_of kind) kinds.now) f.new }
+    ensures { WritesOnOk W.write_str_gives f.old result
+        (flat_map (λ kind. codes ", " ++ words_of kind) kinds.now) f.new }
 {
     for kind in kinds {
         let words = kind.words();

@@ -1,17 +1,17 @@
 //! A tree as a `Format` of serde's.
 ghost use Rattle.std.specs.Option.{option_and_then};
-ghost use Rattle.std.specs.Prelude.{◌≡◌, ◌+◌, ◌-◌, ◌<◌, ◌^◌, ◌∷◌, ◌++◌, ◌↔◌, ◌||◌, [], false, true, not, IfErr, IfOk};
-ghost use Rattle.std.specs.Prelude.{IsOk, IsTrue, List, MatchOption, Ok, OnOk, drop, length, map, nat_lt, slice_get};
+ghost use Rattle.std.specs.Prelude.{◌≡◌, ◌+◌, ◌-◌, ◌<◌, ◌≤◌, ◌^◌, ◌∷◌, ◌++◌, ◌↔◌, ◌||◌, [], false, true, not, IfErr};
+ghost use Rattle.std.specs.Prelude.{IfOk, IsOk, IsTrue, List, MatchOption, Ok, OnOk, drop, length, map, nat_lt, slice_get};
 ghost use Rattle.std.specs.Prelude.{string_bytes, take};
 ghost use Rattle.serde.specs.Event as event;
 ghost use Rattle.toml_span_lex.specs.declared.stop.Stop.TheVariants as stop;
 ghost use Rattle.toml_span_tree.specs.Node.{Node, integer};
 ghost use Rattle.toml_span_serde.specs.Ahead.{ahead, laid};
 ghost use Rattle.toml_span_serde.specs.Asks.{AsksEnd, AsksStart};
-ghost use Rattle.toml_span_serde.specs.Misreads.{IsAnyInteger, IsAnyText, IsInvalid, IsMisread, IsOpening, IsOther};
-ghost use Rattle.toml_span_serde.specs.Misreads.{Lists, Misses, Says, fields, found_of, held, held_by, is_unknown, kept};
-ghost use Rattle.toml_span_serde.specs.Misreads.{kind_ahead, length_reason, told_text_in, tries_back_at, twice, twin};
-ghost use Rattle.toml_span_serde.specs.Misreads.{twin_behind, variant_names, variant_place, variants};
+ghost use Rattle.toml_span_serde.specs.Misreads.{IsAnyInteger, IsAnyText, IsMisread, IsOpening, IsOther, IsOtherIn};
+ghost use Rattle.toml_span_serde.specs.Misreads.{Lists, Misses, Says, fields, found_of, held, held_by, is_unknown};
+ghost use Rattle.toml_span_serde.specs.Misreads.{kept, kind_ahead, length_reason, refusal_in, told_text_in, tries_back_at};
+ghost use Rattle.toml_span_serde.specs.Misreads.{twice, twin, twin_behind, variant_names, variant_place, variants};
 ghost use Rattle.toml_span_serde.specs.Pieces.{Piece as Laid, pieces, value};
 ghost use Rattle.toml_span_serde.specs.Reads.{IsText, Picks, Reads, Sees, TakesPiece};
 ghost use Rattle.toml_span_serde.specs.Tasks.{piece_content, piece_of};
@@ -603,9 +603,13 @@ impl Format for Reader<'_, '_> {
         }
     }
 
-    /// An integer that was read is out of the type's range. What was only looked at is of no kind that it reads.
+    /// An integer that was read is out of the type's range. What was only looked at is of no kind that it reads: told
+    /// are the kinds that failed reads of it wanted.
     fn invalid(&self) -> Stop<Misread>
-        ensures { IsMisread (IsInvalid self.now) self.now.at result }
+        ensures read { self.now.at < self.now.next → IsMisread (λ why. why
+            ≡ refusal_in (slice_get (laid self.now) self.now.at)) self.now.at result }
+        ensures looked { self.now.next ≤ self.now.at → IsMisread (IsOtherIn
+            (kinds_at self.now.at (tries self.now.tried)) (slice_get (laid self.now) self.now.at)) self.now.at result }
     {
         match self.pieces.get(self.at) {
             Some(piece) if self.at < self.next => self.misread(piece.content.refusal()),
