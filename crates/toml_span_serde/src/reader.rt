@@ -1,8 +1,8 @@
 //! A tree as a `Format` of serde's.
 ghost use Rattle.std.specs.Option.{option_and_then};
 ghost use Rattle.std.specs.Prelude.{◌≡◌, ◌+◌, ◌-◌, ◌<◌, ◌≤◌, ◌^◌, ◌∷◌, ◌++◌, ◌↔◌, ◌||◌, [], false, true, not, IfErr};
-ghost use Rattle.std.specs.Prelude.{IfOk, IsOk, IsTrue, List, MatchOption, Ok, OnOk, drop, length, map, nat_lt, slice_get};
-ghost use Rattle.std.specs.Prelude.{string_bytes, take};
+ghost use Rattle.std.specs.Prelude.{IfOk, IsOk, IsTrue, List, MatchOption, Ok, OnOk, drop, length, map, nat_lt};
+ghost use Rattle.std.specs.Prelude.{slice_get, string_bytes, take};
 ghost use Rattle.serde.specs.Event as event;
 ghost use Rattle.toml_span_lex.specs.declared.stop.Stop.TheVariants as stop;
 ghost use Rattle.toml_span_tree.specs.Node.{Node, integer};
@@ -10,8 +10,9 @@ ghost use Rattle.toml_span_serde.specs.Ahead.{ahead, laid};
 ghost use Rattle.toml_span_serde.specs.Asks.{AsksEnd, AsksStart};
 ghost use Rattle.toml_span_serde.specs.Misreads.{IsAnyInteger, IsAnyText, IsMisread, IsOpening, IsOther, IsOtherIn};
 ghost use Rattle.toml_span_serde.specs.Misreads.{Lists, Misses, Says, fields, found_of, held, held_by, is_unknown};
-ghost use Rattle.toml_span_serde.specs.Misreads.{kept, kind_ahead, length_reason, refusal_in, told_text_in, tries_back_at};
-ghost use Rattle.toml_span_serde.specs.Misreads.{twice, twin, twin_behind, variant_names, variant_place, variants};
+ghost use Rattle.toml_span_serde.specs.Misreads.{kept, kind_ahead, length_reason, refusal_in, told_text_in};
+ghost use Rattle.toml_span_serde.specs.Misreads.{tries_back_at, twice, twin, twin_behind, variant_names};
+ghost use Rattle.toml_span_serde.specs.Misreads.{variant_place, variants};
 ghost use Rattle.toml_span_serde.specs.Pieces.{Piece as Laid, pieces, value};
 ghost use Rattle.toml_span_serde.specs.Reads.{IsText, Picks, Reads, Sees, TakesPiece};
 ghost use Rattle.toml_span_serde.specs.Tasks.{piece_content, piece_of};
