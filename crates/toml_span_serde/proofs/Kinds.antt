@@ -5,13 +5,17 @@ use Rattle.std.specs.List.{flat_map}
 use Rattle.toml_span_serde.specs.Misfits.{more_kinds_text, words_of}
 use Rattle.toml_span_serde.specs.declared.misfit.Expected.{Expected}
 
-pub more_kinds_last : (front : List Expected) (last : Expected) → more_kinds_text (front ++ (last ∷ []))
-    ≡ flat_map (λ kind. codes ", " ++ words_of kind) front ++ (codes " or " ++ words_of last)
-more_kinds_last [] last = refl
-more_kinds_last (e ∷ []) last =
+with_last : (before : List Expected) (last : Expected) → more_kinds_text (before ++ (last ∷ []))
+    ≡ flat_map (λ kind. codes ", " ++ words_of kind) before ++ (codes " or " ++ words_of last)
+with_last [] last = refl
+with_last (e ∷ []) last =
     ap (λ words. codes ", " ++ (words ++ (codes " or " ++ words_of last))) (sym (append-nil (words_of e)))
-more_kinds_last (e ∷ d ∷ es) last =
+with_last (e ∷ d ∷ es) last =
     let more = flat_map (λ kind. codes ", " ++ words_of kind) (d ∷ es) in
     let end = codes " or " ++ words_of last in
-    ap (λ text. codes ", " ++ (words_of e ++ text)) (more_kinds_last (d ∷ es) last)
+    ap (λ text. codes ", " ++ (words_of e ++ text)) (with_last (d ∷ es) last)
     ∙ ap (λ text. codes ", " ++ text) (sym (append_assoc (words_of e) more end))
+
+pub more_kinds_split : (kinds before : List Expected) (last : Expected) → kinds ≡ before ++ (last ∷ []) →
+    more_kinds_text kinds ≡ flat_map (λ kind. codes ", " ++ words_of kind) before ++ (codes " or " ++ words_of last)
+more_kinds_split kinds before last is = ap more_kinds_text is ∙ with_last before last

@@ -7,7 +7,8 @@ ghost use Rattle.toml_span_tree.specs.Diagnostic.{labels_of, label_content, mess
 ghost use Rattle.toml_span_tree.specs.Message.{code_of};
 ghost use Rattle.toml_span_report.specs.UnknownKeys.{named};
 ghost use Rattle.toml_span_serde.specs.Misfits.{content_of_error, content_of_misfit, expected_text, kind_of_reason};
-ghost use Rattle.toml_span_serde.specs.Misfits.{kind_of_twice, kinds_text, meant_by, name_of, reason_text, words_of};
+ghost use Rattle.toml_span_serde.specs.Misfits.{kind_of_twice, kinds_text, meant_by, more_kinds_text, name_of};
+ghost use Rattle.toml_span_serde.specs.Misfits.{reason_text, words_of};
 ghost use Rattle.toml_span_serde.specs.Texts.{read_error_text, further_text, misfit_text, place_text};
 
 use crate::names::meant;
@@ -161,7 +162,7 @@ fn write_expected<W: Write>(f: &mut Formatter<W>, none: &str, names: &[String]) 
 }
 
 /// Writes kinds, each behind a comma.
-fn write_more_kinds<W: Write>(f: &mut Formatter<W>, kinds: &[Expected]) -> fmt::Result
+fn write_parted<W: Write>(f: &mut Formatter<W>, kinds: &[Expected]) -> fmt::Result
     ensures { WritesOnOk W.write_str_gives f.old result
         (flat_map (λ kind. codes ", " ++ words_of kind) kinds.now) f.new }
 {
@@ -172,19 +173,30 @@ fn write_more_kinds<W: Write>(f: &mut Formatter<W>, kinds: &[Expected]) -> fmt::
     Ok(())
 }
 
+/// Writes further kinds, the last one behind an "or".
+fn write_more_kinds<W: Write>(f: &mut Formatter<W>, kinds: &[Expected]) -> fmt::Result
+    ensures { WritesOnOk W.write_str_gives f.old result (more_kinds_text kinds.now) f.new }
+{
+    match kinds.split_last() {
+        Some((last, before)) => {
+            write_parted(f, before)?;
+            let last = last.words();
+            write!(f, " or {last}")
+        }
+        None => Ok(()),
+    }
+}
+
 /// Writes kinds, the last of several behind an "or".
 fn write_kinds<W: Write>(f: &mut Formatter<W>, kinds: &[Expected]) -> fmt::Result
     ensures { WritesOnOk W.write_str_gives f.old result (kinds_text kinds.now) f.new }
 {
-    match kinds {
-        [] => Ok(()),
-        [only] => f.write_str(only.words()),
-        [first, more @ .., last] => {
+    match kinds.split_first() {
+        Some((first, more)) => {
             f.write_str(first.words())?;
-            write_more_kinds(f, more)?;
-            let last = last.words();
-            write!(f, " or {last}")
+            write_more_kinds(f, more)
         }
+        None => Ok(()),
     }
 }
 

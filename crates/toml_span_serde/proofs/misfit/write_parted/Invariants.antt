@@ -2,7 +2,7 @@ use Rattle.std.proofs.Common.{take, ◌++◌, codes}
 use Rattle.std.specs.Fmt.{HasWritten, IsPlainFormatter}
 use Rattle.std.specs.List.{flat_map}
 use Rattle.toml_span_serde.specs.Misfits.{words_of}
-use Rattle.toml_span_serde.proofs.misfit.write_more_kinds.Given as goal
+use Rattle.toml_span_serde.proofs.misfit.write_parted.Given as goal
 
 abbrev pub invariant-loop-kind : goal.invariant-loop-kind
 invariant-loop-kind g l =
