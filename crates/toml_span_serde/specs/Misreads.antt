@@ -78,6 +78,11 @@ abbrev pub IsMisread : (Reason → Type 0) → ℕ → Stop Misread → Type 0
 IsMisread Why at (stop.Memory e) = ⊤
 IsMisread Why at (stop.Fault m) = Why m.reason × (m.at ≡ at)
 
+-- memory is wanting, or this holds
+abbrev pub UnlessMemory : Stop Misread → Type 0 → Type 0
+UnlessMemory (stop.Memory e) P = ⊤
+UnlessMemory (stop.Fault m) P = P
+
 -- the reason has this text and these names
 abbrev pub Lists : (String Global → Vec (String Global) Global → Reason) → List ℕ → List (List ℕ) → Reason → Type 0
 Lists reason text names why =

@@ -9,8 +9,8 @@ ghost use Rattle.toml_span_tree.specs.Node.{Node, integer};
 ghost use Rattle.toml_span_serde.specs.Ahead.{ahead, laid};
 ghost use Rattle.toml_span_serde.specs.Asks.{AsksEnd, AsksStart};
 ghost use Rattle.toml_span_serde.specs.Misreads.{IsAnyInteger, IsAnyText, IsMisread, IsOpening, IsOther, IsOtherIn};
-ghost use Rattle.toml_span_serde.specs.Misreads.{Lists, Misses, Says, fields, found_of, held, held_by, is_unknown};
-ghost use Rattle.toml_span_serde.specs.Misreads.{kept, kind_ahead, length_reason, refusal_in, told_text_in};
+ghost use Rattle.toml_span_serde.specs.Misreads.{Lists, Misses, Says, UnlessMemory, fields, found_of, held};
+ghost use Rattle.toml_span_serde.specs.Misreads.{held_by, is_unknown, kept, kind_ahead, length_reason, refusal_in, told_text_in};
 ghost use Rattle.toml_span_serde.specs.Misreads.{tries_back_at, twice, twin, twin_behind, variant_names};
 ghost use Rattle.toml_span_serde.specs.Misreads.{variant_place, variants};
 ghost use Rattle.toml_span_serde.specs.Pieces.{Piece as Laid, pieces, value};
@@ -19,7 +19,6 @@ ghost use Rattle.toml_span_serde.specs.Tasks.{piece_content, piece_of};
 ghost use Rattle.toml_span_serde.specs.Tried.{kinds_at, missed, tries};
 ghost use Rattle.toml_span_serde.specs.declared.misfit.Expected.TheVariants as expected;
 ghost use Rattle.toml_span_serde.specs.declared.misfit.Reason.TheVariants as is;
-ghost use Rattle.toml_span_serde.specs.declared.reader.Misread.{Misread as Told};
 
 use crate::misfit::{Expected, Found, Reason};
 use crate::names::{all_forms, copied, forms_of};
@@ -214,6 +213,17 @@ impl<'p, 'v> Reader<'p, 'v> {
         Ok(())
     }
 
+    /// Notes of the piece where a read goes back to that it was taken since, if anything was.
+    fn note_back(&mut self, mark: usize)
+        ensures stays { self.new ≡ record self.old { tried = self.new.tried } }
+        ensures tried { tries self.new.tried ≡ tries_back_at mark self.old }
+    {
+        if self.next == mark {
+            return;
+        }
+        self.tried.take(mark);
+    }
+
     /// The misread of the piece that was looked at last, which is noted, and not passed.
     fn wanted(&mut self, expected: Expected, found: Content<'_>) -> Stop<Misread>
         ensures told { IsMisread (λ why. why ≡ is.Wanted expected (found_of (piece_content found.entry)))
@@ -222,8 +232,8 @@ impl<'p, 'v> Reader<'p, 'v> {
         ensures notes { (self.new.at ≡ self.old.at) × (self.new.variant ≡ self.old.variant)
             × (self.new.is_unknown ≡ self.old.is_unknown) }
         ensures kept { kept self.new ≡ kept self.old }
-        ensures tried { (m : Told) → result ≡ stop.Fault m
-            → tries self.new.tried ≡ missed self.old.at expected (tries self.old.tried) }
+        ensures tried { UnlessMemory result
+            (tries self.new.tried ≡ missed self.old.at expected (tries self.old.tried)) }
     {
         self.next = self.at;
         match self.tried.miss(self.at, expected) {
@@ -520,9 +530,7 @@ impl Format for Reader<'_, '_> {
             ≡ record self.old { next = mark; at = mark; is_unknown = false; tried = self.new.tried } }
         ensures tried { tries self.new.tried ≡ tries_back_at mark self.old }
     {
-        if self.next != mark {
-            self.tried.take(mark);
-        }
+        self.note_back(mark);
         self.next = mark;
         self.at = mark;
         self.is_unknown = false;
