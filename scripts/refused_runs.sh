@@ -3,7 +3,8 @@
 #
 # toml_span_rows makes the calls of the libraries that take memory: the rows of its file `refused`, one a run. Where a
 # request of the program's own is refused it has to end with status 1, to write nothing and to complain of it. Where one
-# of a call is refused, the call has to tell of it (`AllocError`), and the row goes on with what the call has left.
+# of a call is refused, the call has to tell of it (`AllocError`, or the text of that), and the row goes on with what the
+# call has left.
 # Under a row and its answer the file has each such answer, by its difference from the usual one, behind the number of
 # requests whose refusal gives it: `refused: 3`. So a refusal that nobody tells of, a request more or less, and another
 # state behind a refusal are seen. Calls that promise to take no memory are rows with no such answer.
@@ -46,6 +47,11 @@ complains() {
     [[ $(<"$work/complaint") == *OutOfMemory* ]]
 }
 
+# tells: whether a call of the program that was run last tells that it has no memory
+tells() {
+    [[ $written == *AllocError* || $written == *"memory allocation failed"* ]]
+}
+
 # told WHAT: one more run is wrong
 told() {
     wrong=$((wrong + 1))
@@ -65,7 +71,7 @@ row() {
         count=$((count + 1))
         ask "$request" "$rows" "$work/rows"
         if [ "$written" = .1 ] && complains; then continue; fi
-        if [[ $written != *AllocError* ]]; then told "$1: request $request of $made: its refusal is not told of"; fi
+        if ! tells; then told "$1: request $request of $made: its refusal is not told of"; fi
         if [ -z "${times[$written]-}" ]; then answers+=("$written"); fi
         times[$written]=$((${times[$written]-0} + 1))
         calls=$((calls + 1))
@@ -122,7 +128,7 @@ for document in "$(printf '%40000s' '#')" "$tree" "$clash" '# x\n'; do
     printf '%b' "$document" >"$work/document"
     silent 4 0 "$show" "$work/document"
 done
-silent 1 15 "$example" crates/toml_span_example/stdin
+silent 1 20 "$example" crates/toml_span_example/stdin
 grep -E '^(nodes|text_order|key_places|section_places|table_forms a|insertion_point bin|node_at 1[0-5]|quote_key|quote_string|replaced|write[^:]*(look|at)=)' crates/toml_span_rows/stdin >"$work/rows"
 silent 1 0 "$rows" "$work/rows"
 if [ "$silenced" -lt 200 ]; then told "programs made $silenced requests"; fi

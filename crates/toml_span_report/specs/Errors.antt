@@ -1,11 +1,11 @@
 -- The reports of errors, and their text.
-use Rattle.std.specs.Prelude.{◌≡◌, ℕ, List, [], ◌∷◌, ◌++◌, map}
+use Rattle.std.specs.Prelude.{◌≡◌, ℕ, List, [], ◌∷◌, ◌++◌, Some, map}
 use Rattle.std.specs.Option.{option_to_list}
 use Rattle.toml_span_lex.specs.declared.span.Span.{Span}
 use Rattle.toml_span_lex.specs.declared.stop.Stop.{Stop}
 use Rattle.toml_span_lex.specs.declared.stop.Stop.TheVariants as stop
 use Rattle.toml_span_tree.specs.Diagnostic.{labels_of}
-use Rattle.toml_span_tree.specs.Error.{ErrorContent, Kind, unexpected_keys}
+use Rattle.toml_span_tree.specs.Error.{ErrorContent, Kind, unexpected_keys, unexpected_value}
 use Rattle.toml_span_tree.specs.Message.{code_of, display_text}
 use Rattle.toml_span_typed.specs.Errors.{Errors, all}
 use Rattle.toml_span_report.specs.Help.{help_of}
@@ -32,9 +32,10 @@ abbrev pub notes : Kind → List (List ℕ)
 notes (unexpected_keys keys expected) = what_is_expected expected ∷ []
 notes kind = []
 
--- help for an error with this message
+-- help for an error with this message: what is near to unknown keys, or to a text that is none of the expected ones
 abbrev pub help : Kind → List ℕ → List (List ℕ)
 help (unexpected_keys keys expected) message = suggestions (map (λ key. key.0) keys) expected
+help (unexpected_value expected (Some value)) message = suggestions (value ∷ []) expected
 help kind message = option_to_list (help_of (code_of kind) message)
 
 -- the report of an error, at the token where it stands, or at its span

@@ -70,6 +70,13 @@ fn help(alloc: Global, kind: &ErrorKind<'_>, message: &str) -> Result<Vec<String
         let expected = lent_names(alloc, expected.as_slice())?;
         return suggestions(alloc, names.as_slice(), expected.as_slice());
     }
+    if let ErrorKind::UnexpectedValue {
+        expected,
+        value: Some(value),
+    } = kind
+    {
+        return suggestions(alloc, &[value.as_str()], *expected);
+    }
     let mut help = Vec::new(alloc);
     let code = kind.to_string(alloc)?;
     if let Some(text) = help_of(code.as_str(), message) {
@@ -106,7 +113,8 @@ impl Report {
     /// value of a string: there the token is marked, no further than its line, or the place alone where none stands, as
     /// at the end of the text. Of a table that lacks a field the header is marked, up to the end of its line, or the
     /// braces, or of the root the start of the text. Of unknown keys each is marked, a note tells the keys that are
-    /// expected, and help the nearest of them, by `nearest`. Only want of memory is refused.
+    /// expected, and help the nearest of them, by `nearest`; so does help of a text that is none of those expected.
+    /// Only want of memory is refused.
     pub fn from_error(alloc: Global, error: &Error<'_>, text: &str) -> Result<Report, AllocError>
         ensures { IfOk result (λ made. TellsError severities.Error text.now (content_of error.now)
             (report_content made)) }

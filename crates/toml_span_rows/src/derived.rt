@@ -1,13 +1,15 @@
 //! Rows of reads by derive.
 //!
-//! - `settings`, `device`, `tagged` and `attributes` read the document as the struct of that name, `limits` its tree as
-//!   numbers by their names: what is read, or the code and the place of what is refused, the path to it, and why.
-//! - `shown`: the settings, or the error with its lines; `shown_device` the error of a device.
+//! - `settings`, `device`, `tagged`, `attributes` and `choices` read the document as the struct of that name, `limits`
+//!   its tree as numbers by their names: what is read, or the code and the place of what is refused, the path to it,
+//!   and why.
+//! - `shown`: the settings, or the error with its lines; `shown_device` and `shown_choices` the errors of these.
 //!
 //! What there is no memory for is tried once more.
 use crate::Row;
 use crate::told::{known, push_told, push_told_line};
 use attributes::Attributes;
+use choices::Choices;
 use device::{Device, Tagged};
 use serde::Deserialize;
 use settings::{Settings, shown};
@@ -18,6 +20,7 @@ use toml_span::{Span, Stop, parse};
 use toml_span_serde::{Error, Spanned, Style, from_str, from_value, render_stop};
 
 mod attributes;
+mod choices;
 mod device;
 mod settings;
 
@@ -32,9 +35,11 @@ pub fn answer(alloc: Global, row: Row<'_>, out: &mut String) -> Result<bool, All
         "device" => push_read::<Device>(alloc, text, out),
         "tagged" => push_read::<Tagged<'_>>(alloc, text, out),
         "attributes" => push_read::<Attributes>(alloc, text, out),
+        "choices" => push_read::<Choices<'_>>(alloc, text, out),
         "limits" => push_limits(alloc, text, out),
         "shown" => push_shown(alloc, text, out),
-        "shown_device" => push_device(alloc, text, out),
+        "shown_device" => push_rendered::<Device>(alloc, text, "device.toml", out),
+        "shown_choices" => push_rendered::<Choices<'_>>(alloc, text, "choices.toml", out),
         _ => return Ok(false),
     };
     known(pushed)
@@ -117,21 +122,30 @@ fn push_shown(alloc: Global, text: &str, out: &mut String) -> Result<(), AllocEr
     out.push_str(written.as_str())
 }
 
-/// The device, or why there is none.
-fn device_shown(alloc: Global, text: &str) -> Result<String, AllocError> {
-    match from_str::<Device>(alloc, text) {
-        Ok(device) => format!(in alloc; "{device:?}"),
-        Err(stop) => render_stop(alloc, Style::Plain, stop, "device.toml", text),
+/// What a text is read as, or the error with its lines.
+fn rendered<'de, T: Deserialize<'de> + Debug + Drop>(
+    alloc: Global,
+    text: &'de str,
+    name: &str,
+) -> Result<String, AllocError> {
+    match from_str::<T>(alloc, text) {
+        Ok(value) => format!(in alloc; "{value:?}"),
+        Err(stop) => render_stop(alloc, Style::Plain, stop, name, text),
     }
 }
 
-/// Answers `shown_device`.
-fn push_device(alloc: Global, text: &str, out: &mut String) -> Result<(), AllocError> {
-    let written = match device_shown(alloc, text) {
+/// Answers the calls that show an error with its lines.
+fn push_rendered<'de, T: Deserialize<'de> + Debug + Drop>(
+    alloc: Global,
+    text: &'de str,
+    name: &str,
+    out: &mut String,
+) -> Result<(), AllocError> {
+    let written = match rendered::<T>(alloc, text, name) {
         Ok(written) => written,
         Err(refused) => {
             push_told_line(refused, out)?;
-            device_shown(alloc, text)?
+            rendered::<T>(alloc, text, name)?
         }
     };
     out.push_str(written.as_str())

@@ -1,9 +1,12 @@
-//! The program's run over a reader and a writer in memory.
+//! The program's run over a reader and a writer in memory, and the calls that write lines.
 //!
 //! - `run LIMIT WORD ..` is `run` for the limit 128, else `run_with_limit`: the status, and what was written. Where a
 //!   word says `each`, a line follows for each call that can fail, and one for a call too late to be made: the status,
 //!   and how many bytes were read and how many of the whole output written, in how many calls.
 //! - `ends WORD ..` reads and writes the text three times: what each call answers, and `has_failed` then.
+//! - `write_lines HELD WORD ..` is that of the document's tree behind so many bytes that are held already, and
+//!   `write_held HELD WORD ..` that of these: what it answers, how many bytes were written in how many calls, and how
+//!   many are held then.
 //!
 //! | Word | What it says |
 //! |---|---|
@@ -19,6 +22,9 @@ use crate::trees::limit_of;
 use std::alloc::{AllocError, Global};
 use std::io;
 use std::io::{ErrorKind, Read, Write};
+use toml_span::{Stop, Value, parse};
+use toml_span_lines::held::{Unwritten, write_held};
+use toml_span_lines::lines::write_lines;
 use toml_span_lines::run::{run, run_with_limit};
 use toml_span_lines::sink::Sink;
 use toml_span_lines::source::Source;
@@ -318,11 +324,89 @@ fn push_ends(alloc: Global, ends: Ends, bytes: &[u8], out: &mut String) -> Resul
     push_calls(&mut reader, &mut writer, bytes, out)
 }
 
+/// So many bytes.
+fn held_bytes(alloc: Global, count: usize) -> Result<Vec<u8>, AllocError> {
+    let mut held = Vec::new(alloc);
+    held.resize(count, b'x')?;
+    Ok(held)
+}
+
+/// Adds what a call answered, what it wrote, and how many bytes it left held.
+fn push_written(
+    answer: Result<(), Unwritten>,
+    writer: &Taken,
+    held: usize,
+    out: &mut String,
+) -> Result<(), AllocError> {
+    let told = match answer {
+        Ok(()) => "Ok",
+        Err(Unwritten::Failed) => "Failed",
+        Err(Unwritten::Memory) => "AllocError",
+    };
+    let (written, writes) = (writer.bytes.len(), writer.calls);
+    writeln!(
+        out,
+        "{told}, {written} bytes in {writes} writes, {held} held"
+    )
+}
+
+/// Answers `write_lines` for a tree.
+fn push_tree(
+    alloc: Global,
+    root: &Value<'_>,
+    count: usize,
+    ends: Ends,
+    out: &mut String,
+) -> Result<(), AllocError> {
+    let mut writer = Told::new(Taken::new(alloc, ends));
+    let mut held = held_bytes(alloc, count)?;
+    let answer = write_lines(alloc, &mut writer, &mut held, root);
+    push_written(answer, &writer.into_inner(), held.len(), out)
+}
+
+/// Answers `write_lines`.
+fn push_lines(
+    alloc: Global,
+    text: &str,
+    count: usize,
+    ends: Ends,
+    out: &mut String,
+) -> Result<(), AllocError> {
+    match parse(alloc, text) {
+        Ok(root) => push_tree(alloc, &root, count, ends, out),
+        Err(Stop::Memory(refused)) => push_told_line(refused, out),
+        Err(Stop::Fault(_)) => out.push_str("no document"),
+    }
+}
+
+/// Answers `write_held`.
+fn push_held(alloc: Global, count: usize, ends: Ends, out: &mut String) -> Result<(), AllocError> {
+    let mut writer = Told::new(Taken::new(alloc, ends));
+    let mut held = held_bytes(alloc, count)?;
+    let answer = write_held(&mut writer, &mut held);
+    push_written(answer, &writer.into_inner(), held.len(), out)
+}
+
+/// Answers `write_lines` and `write_held`.
+fn push_lined(alloc: Global, row: Row<'_>, out: &mut String) -> Result<bool, AllocError> {
+    let words = row.words.get(1..).unwrap_or(&[]);
+    let (Ok(count), Some(ends)) = (row.word(0).parse::<usize>(), ends_of(words, 0)) else {
+        return Ok(false);
+    };
+    if row.call == "write_held" {
+        push_held(alloc, count, ends, out)?;
+    } else {
+        push_lines(alloc, row.text, count, ends, out)?;
+    }
+    Ok(true)
+}
+
 /// Writes the answer of a row, or says that there is no such call.
 pub fn answer(alloc: Global, row: Row<'_>, out: &mut String) -> Result<bool, AllocError> {
     let words = match row.call {
         "run" => row.words.get(1..).unwrap_or(&[]),
         "ends" => row.words,
+        "write_lines" | "write_held" => return push_lined(alloc, row, out),
         _ => return Ok(false),
     };
     let (Some(limit), Some(ends)) = (limit_of(row), ends_of(words, 0)) else {

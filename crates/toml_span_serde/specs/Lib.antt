@@ -6,6 +6,7 @@ pub mod Ahead
 pub mod Names
 pub mod Twice
 pub mod Misfits
+pub mod Tried
 pub mod Misreads
 pub mod Stops
 pub mod Texts

@@ -59,9 +59,21 @@ expected_text none [] = none
 expected_text none (a ∷ []) = codes "expected " ++ named a
 expected_text none (a ∷ b ∷ names) = codes "expected one of " ++ listed (a ∷ b ∷ names)
 
+-- kinds behind the first one, the last of them behind an "or"
+abbrev pub more_kinds_text : List Expected → List ℕ
+more_kinds_text [] = []
+more_kinds_text (e ∷ []) = codes " or " ++ words_of e
+more_kinds_text (e ∷ d ∷ kinds) = codes ", " ++ words_of e ++ more_kinds_text (d ∷ kinds)
+
+-- kinds, as `an integer, a string or a table`
+abbrev pub kinds_text : List Expected → List ℕ
+kinds_text [] = []
+kinds_text (e ∷ kinds) = words_of e ++ more_kinds_text kinds
+
 -- the text of a reason
 abbrev pub reason_text : Reason → List ℕ
 reason_text (is.Wanted e f) = codes "expected " ++ words_of e ++ codes ", found " ++ name_of f
+reason_text (is.WantedOneOf es f) = codes "expected " ++ kinds_text es.items ++ codes ", found " ++ name_of f
 reason_text (is.Unexpected f) = codes "unexpected " ++ name_of f
 reason_text (is.MissingField name) = codes "missing field " ++ named (string_bytes name)
 reason_text (is.DuplicateField name first) = codes "duplicate field " ++ named (string_bytes name)
@@ -84,6 +96,7 @@ kind_of_twice text name (Some first) = duplicate_key name first
 -- the kind of error that tells a reason
 abbrev pub kind_of_reason : Reason → Kind
 kind_of_reason (is.Wanted e f) = wanted (words_of e) (name_of f)
+kind_of_reason (is.WantedOneOf es f) = marked (codes "wanted") (reason_text (is.WantedOneOf es f)) []
 kind_of_reason (is.MissingField name) = missing_field (string_bytes name)
 kind_of_reason (is.DuplicateField name first) =
     kind_of_twice (reason_text (is.DuplicateField name first)) (string_bytes name) first

@@ -1,7 +1,7 @@
 -- What a reader tells of a step that read nothing: why, and at which piece of its row.
 use Rattle.std.specs.Prelude.{◌≡◌, ◌⊎◌, ⊤, ℕ, ℤ, pos, negsuc, Bool, false, nat_lt, not, if◌then◌else◌}
 use Rattle.std.specs.Prelude.{List, [], ◌∷◌, ◌==◌, String, Vec, string_bytes, Option, None, Some, length, map}
-use Rattle.std.specs.Prelude.{reverse, slice_get, take}
+use Rattle.std.specs.Prelude.{reverse, take}
 use Rattle.std.specs.Global.{Global}
 use Rattle.serde.specs.declared.format.Kind.{Kind}
 use Rattle.serde.specs.declared.format.Kind.TheVariants as kind
@@ -15,6 +15,7 @@ use Rattle.toml_span_serde.specs.Pieces.{Content, Piece, value, nothing, array_b
 use Rattle.toml_span_serde.specs.Pieces.{table_ends, key}
 use Rattle.toml_span_serde.specs.Names.{all_forms, forms_of}
 use Rattle.toml_span_serde.specs.Reads.{IsText}
+use Rattle.toml_span_serde.specs.Tried.{Tries, taken, tries}
 use Rattle.toml_span_serde.specs.Twice.{earlier, key_place}
 use Rattle.toml_span_serde.specs.Walk.{elements_in}
 use Rattle.toml_span_serde.specs.declared.misfit.Expected.{Expected}
@@ -77,6 +78,11 @@ abbrev pub IsMisread : (Reason → Type 0) → ℕ → Stop Misread → Type 0
 IsMisread Why at (stop.Memory e) = ⊤
 IsMisread Why at (stop.Fault m) = Why m.reason × (m.at ≡ at)
 
+-- memory is wanting, or this holds
+abbrev pub UnlessMemory : Stop Misread → Type 0 → Type 0
+UnlessMemory (stop.Memory e) P = ⊤
+UnlessMemory (stop.Fault m) P = P
+
 -- the reason has this text and these names
 abbrev pub Lists : (String Global → Vec (String Global) Global → Reason) → List ℕ → List (List ℕ) → Reason → Type 0
 Lists reason text names why =
@@ -107,16 +113,19 @@ abbrev pub refusal_in : Option Piece → Reason
 refusal_in None = is.Invalid
 refusal_in (Some p) = refusal p.content
 
--- what is of no kind that the type reads
-abbrev pub unexpected_in : Option Piece → Reason
-unexpected_in None = is.Invalid
-unexpected_in (Some p) = is.Unexpected (found_of p.content)
+-- what is told of this kind, where it is none of those that are wanted, if any are known
+abbrev pub IsOther : List Expected → Found → Reason → Type 0
+IsOther [] f why = why ≡ is.Unexpected f
+IsOther (e ∷ []) f why = why ≡ is.Wanted e f
+IsOther (e ∷ d ∷ es) f why = (all : Vec Expected Global) × (why ≡ is.WantedOneOf all f) × (all.items ≡ e ∷ d ∷ es)
 
--- Why it does not take what was looked at last. What was not read is of no kind that it reads, and an integer that was
--- is out of range.
-abbrev pub invalid_reason : Reader → Reason
-invalid_reason r =
-    if nat_lt r.at r.next then refusal_in (slice_get (laid r) r.at) else unexpected_in (slice_get (laid r) r.at)
+abbrev pub IsOtherIn : List Expected → Option Piece → Reason → Type 0
+IsOtherIn kinds None why = why ≡ is.Invalid
+IsOtherIn kinds (Some p) why = IsOther kinds (found_of p.content) why
+
+-- behind a return to this piece: what was read since then took the piece, if anything was
+abbrev pub tries_back_at : ℕ → Reader → Tries
+tries_back_at mark r = if r.next == mark then tries r.tried else taken mark
 
 -- why an array has not as many elements as the type: it has ended, or goes on
 abbrev pub length_reason : Reader → Reason

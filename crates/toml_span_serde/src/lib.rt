@@ -11,6 +11,7 @@ mod reader;
 mod row;
 mod shown;
 mod spanned;
+mod tried;
 mod twice;
 
 pub use misfit::{Error, Expected, Found, Misfit, Reason};

@@ -7,7 +7,8 @@ ghost use Rattle.toml_span_tree.specs.Diagnostic.{labels_of, label_content, mess
 ghost use Rattle.toml_span_tree.specs.Message.{code_of};
 ghost use Rattle.toml_span_report.specs.UnknownKeys.{named};
 ghost use Rattle.toml_span_serde.specs.Misfits.{content_of_error, content_of_misfit, expected_text, kind_of_reason};
-ghost use Rattle.toml_span_serde.specs.Misfits.{kind_of_twice, meant_by, name_of, reason_text, words_of};
+ghost use Rattle.toml_span_serde.specs.Misfits.{kind_of_twice, kinds_text, meant_by, more_kinds_text, name_of};
+ghost use Rattle.toml_span_serde.specs.Misfits.{reason_text, words_of};
 ghost use Rattle.toml_span_serde.specs.Texts.{read_error_text, further_text, misfit_text, place_text};
 
 use crate::names::meant;
@@ -93,17 +94,34 @@ impl Found {
 #[derive(Debug, Drop)]
 pub enum Reason {
     /// A value of another kind was expected.
-    Wanted { expected: Expected, found: Found },
-    /// No kind that the type reads is this one.
+    Wanted {
+        expected: Expected,
+        found: Found,
+    },
+    /// A value of one of several other kinds was expected: no variant of an `untagged` enum took this one.
+    WantedOneOf {
+        expected: Vec<Expected>,
+        found: Found,
+    },
+    /// No kind that the type reads is this one, or a variant of an `untagged` enum took it and failed further on.
     Unexpected(Found),
     /// A table has no key for this field.
     MissingField(String),
     /// Two keys of a table name this field. The misfit stands at the later one; `first` has the bytes of the earlier.
-    DuplicateField { name: String, first: Option<Span> },
+    DuplicateField {
+        name: String,
+        first: Option<Span>,
+    },
     /// A table has this key, which names no field. The keys that do are those expected.
-    UnknownField { name: String, expected: Vec<String> },
+    UnknownField {
+        name: String,
+        expected: Vec<String>,
+    },
     /// This text names no variant. The texts that do are those expected.
-    UnknownVariant { name: String, expected: Vec<String> },
+    UnknownVariant {
+        name: String,
+        expected: Vec<String>,
+    },
     /// An array ends behind so many elements, and the type has another number.
     Length(usize),
     /// An array goes on behind so many elements, which are all that the type has.
@@ -143,6 +161,45 @@ fn write_expected<W: Write>(f: &mut Formatter<W>, none: &str, names: &[String]) 
     }
 }
 
+/// Writes kinds, each behind a comma.
+fn write_parted<W: Write>(f: &mut Formatter<W>, kinds: &[Expected]) -> fmt::Result
+    ensures { WritesOnOk W.write_str_gives f.old result
+        (flat_map (λ kind. codes ", " ++ words_of kind) kinds.now) f.new }
+{
+    for kind in kinds {
+        let words = kind.words();
+        write!(f, ", {words}")?;
+    }
+    Ok(())
+}
+
+/// Writes further kinds, the last one behind an "or".
+fn write_more_kinds<W: Write>(f: &mut Formatter<W>, kinds: &[Expected]) -> fmt::Result
+    ensures { WritesOnOk W.write_str_gives f.old result (more_kinds_text kinds.now) f.new }
+{
+    match kinds.split_last() {
+        Some((last, before)) => {
+            write_parted(f, before)?;
+            let last = last.words();
+            write!(f, " or {last}")
+        }
+        None => Ok(()),
+    }
+}
+
+/// Writes kinds, the last of several behind an "or".
+fn write_kinds<W: Write>(f: &mut Formatter<W>, kinds: &[Expected]) -> fmt::Result
+    ensures { WritesOnOk W.write_str_gives f.old result (kinds_text kinds.now) f.new }
+{
+    match kinds.split_first() {
+        Some((first, more)) => {
+            f.write_str(first.words())?;
+            write_more_kinds(f, more)
+        }
+        None => Ok(()),
+    }
+}
+
 impl Display for Reason {
     ghost output = { λ reason. Some (reason_text reason) };
 
@@ -151,6 +208,12 @@ impl Display for Reason {
             Reason::Wanted { expected, found } => {
                 let (expected, found) = (expected.words(), found.name());
                 write!(f, "expected {expected}, found {found}")
+            }
+            Reason::WantedOneOf { expected, found } => {
+                f.write_str("expected ")?;
+                write_kinds(f, expected.as_slice())?;
+                let found = found.name();
+                write!(f, ", found {found}")
             }
             Reason::Unexpected(found) => {
                 let found = found.name();
@@ -186,6 +249,7 @@ impl Reason {
                 expected: expected.words(),
                 found: found.name(),
             },
+            Reason::WantedOneOf { .. } => self.marked(alloc, "wanted")?,
             Reason::MissingField(name) => ErrorKind::MissingField(name.as_str()),
             Reason::DuplicateField { name, first } => self.twice(alloc, name.as_str(), *first)?,
             Reason::UnknownField { .. } => self.marked(alloc, "unexpected-keys")?,

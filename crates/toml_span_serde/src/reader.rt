@@ -1,28 +1,31 @@
 //! A tree as a `Format` of serde's.
 ghost use Rattle.std.specs.Option.{option_and_then};
-ghost use Rattle.std.specs.Prelude.{◌≡◌, ◌+◌, ◌-◌, ◌<◌, ◌^◌, ◌∷◌, ◌++◌, ◌↔◌, ◌||◌, [], false, true, not, IfErr, IfOk};
-ghost use Rattle.std.specs.Prelude.{IsOk, IsTrue, List, MatchOption, Ok, OnOk, drop, length, map, nat_lt, slice_get};
-ghost use Rattle.std.specs.Prelude.{string_bytes, take};
+ghost use Rattle.std.specs.Prelude.{◌≡◌, ◌+◌, ◌-◌, ◌<◌, ◌≤◌, ◌^◌, ◌∷◌, ◌++◌, ◌↔◌, ◌||◌, [], false, true, not, IfErr};
+ghost use Rattle.std.specs.Prelude.{IfOk, IsOk, IsTrue, List, MatchOption, Ok, OnOk, drop, length, map, nat_lt};
+ghost use Rattle.std.specs.Prelude.{slice_get, string_bytes, take};
 ghost use Rattle.serde.specs.Event as event;
 ghost use Rattle.toml_span_lex.specs.declared.stop.Stop.TheVariants as stop;
 ghost use Rattle.toml_span_tree.specs.Node.{Node, integer};
 ghost use Rattle.toml_span_serde.specs.Ahead.{ahead, laid};
 ghost use Rattle.toml_span_serde.specs.Asks.{AsksEnd, AsksStart};
-ghost use Rattle.toml_span_serde.specs.Misreads.{IsAnyInteger, IsAnyText, IsMisread, IsOpening, Lists, Misses, Says};
-ghost use Rattle.toml_span_serde.specs.Misreads.{fields, found_of, held, held_by, invalid_reason, is_unknown, kept};
-ghost use Rattle.toml_span_serde.specs.Misreads.{kind_ahead, length_reason, told_text_in, twice, twin, twin_behind};
-ghost use Rattle.toml_span_serde.specs.Misreads.{variant_names, variant_place, variants};
+ghost use Rattle.toml_span_serde.specs.Misreads.{IsAnyInteger, IsAnyText, IsMisread, IsOpening, IsOther, IsOtherIn};
+ghost use Rattle.toml_span_serde.specs.Misreads.{Lists, Misses, Says, UnlessMemory, fields, found_of, held, held_by};
+ghost use Rattle.toml_span_serde.specs.Misreads.{is_unknown, kept, kind_ahead, length_reason, refusal_in};
+ghost use Rattle.toml_span_serde.specs.Misreads.{told_text_in, tries_back_at, twice, twin, twin_behind, variant_names};
+ghost use Rattle.toml_span_serde.specs.Misreads.{variant_place, variants};
 ghost use Rattle.toml_span_serde.specs.Pieces.{Piece as Laid, pieces, value};
 ghost use Rattle.toml_span_serde.specs.Reads.{IsText, Picks, Reads, Sees, TakesPiece};
 ghost use Rattle.toml_span_serde.specs.Tasks.{piece_content, piece_of};
+ghost use Rattle.toml_span_serde.specs.Tried.{kinds_at, missed, tries};
 ghost use Rattle.toml_span_serde.specs.declared.misfit.Expected.TheVariants as expected;
 ghost use Rattle.toml_span_serde.specs.declared.misfit.Reason.TheVariants as is;
 
-use crate::misfit::{Expected, Reason};
+use crate::misfit::{Expected, Found, Reason};
 use crate::names::{all_forms, copied, forms_of};
 use crate::path::elements_in;
 use crate::pieces::{Content, Piece, count_value};
 use crate::spanned::{END, START};
+use crate::tried::Tried;
 use crate::twice::{KeyPlace, earlier};
 use serde::{Format, Kind, Name, find};
 use std::alloc::{AllocError, Global};
@@ -58,6 +61,8 @@ pub struct Reader<'p, 'v> {
     key: KeyPlace,
     /// The texts that stand for that name.
     forms: Vec<String>,
+    /// What failed reads of a piece wanted of it.
+    tried: Tried,
 }
 
 impl<'p, 'v> Reader<'p, 'v> {
@@ -79,6 +84,7 @@ impl<'p, 'v> Reader<'p, 'v> {
                 span: Span::default(),
             },
             forms: Vec::new(alloc),
+            tried: Tried::new(alloc),
         }
     }
 
@@ -93,6 +99,7 @@ impl<'p, 'v> Reader<'p, 'v> {
         ensures notes { (self.new.at ≡ self.old.next) × (self.new.variant ≡ self.old.variant)
             × (self.new.is_unknown ≡ false) }
         ensures kept { kept self.new ≡ kept self.old }
+        ensures tried { self.new.tried ≡ self.old.tried }
     {
         self.at = self.next;
         self.is_unknown = false;
@@ -109,6 +116,7 @@ impl<'p, 'v> Reader<'p, 'v> {
         ensures notes { (self.new.at ≡ self.old.next) × (self.new.variant ≡ self.old.variant)
             × (self.new.is_unknown ≡ false) }
         ensures kept { kept self.new ≡ kept self.old }
+        ensures tried { self.new.tried ≡ self.old.tried }
     {
         let piece = self.look()?;
         self.next += 1;
@@ -205,14 +213,53 @@ impl<'p, 'v> Reader<'p, 'v> {
         Ok(())
     }
 
-    fn wanted(&self, expected: Expected, found: Content<'_>) -> Stop<Misread>
-        ensures { IsMisread (λ why. why ≡ is.Wanted expected (found_of (piece_content found.entry)))
-            self.now.at result }
+    /// Notes of the piece where a read goes back to that it was taken since, if anything was.
+    fn note_back(&mut self, mark: usize)
+        ensures stays { self.new ≡ record self.old { tried = self.new.tried } }
+        ensures tried { tries self.new.tried ≡ tries_back_at mark self.old }
     {
-        self.misread(Reason::Wanted {
-            expected,
-            found: found.kind(),
-        })
+        if self.next == mark {
+            return;
+        }
+        self.tried.take(mark);
+    }
+
+    /// The misread of the piece that was looked at last, which is noted, and not passed.
+    fn wanted(&mut self, expected: Expected, found: Content<'_>) -> Stop<Misread>
+        ensures told { IsMisread (λ why. why ≡ is.Wanted expected (found_of (piece_content found.entry)))
+            self.old.at result }
+        ensures stays { (self.new.next ≡ self.old.at) × (self.new.pieces ≡ self.old.pieces) }
+        ensures notes { (self.new.at ≡ self.old.at) × (self.new.variant ≡ self.old.variant)
+            × (self.new.is_unknown ≡ self.old.is_unknown) }
+        ensures kept { kept self.new ≡ kept self.old }
+        ensures tried { UnlessMemory result
+            (tries self.new.tried ≡ missed self.old.at expected (tries self.old.tried)) }
+    {
+        self.next = self.at;
+        match self.tried.miss(self.at, expected) {
+            Ok(()) => self.misread(Reason::Wanted {
+                expected,
+                found: found.kind(),
+            }),
+            Err(e) => Stop::Memory(e),
+        }
+    }
+
+    /// The misread of a piece that is of none of the kinds which failed reads wanted of it.
+    fn other(&self, found: Found) -> Stop<Misread>
+        ensures { IsMisread (IsOther (kinds_at self.now.at (tries self.now.tried)) found) self.now.at result }
+    {
+        match self.tried.kinds_at(self.at) {
+            [] => self.misread(Reason::Unexpected(found)),
+            [expected] => self.misread(Reason::Wanted {
+                expected: *expected,
+                found,
+            }),
+            kinds => match Vec::from_slice(self.alloc, kinds) {
+                Ok(expected) => self.misread(Reason::WantedOneOf { expected, found }),
+                Err(e) => Stop::Memory(e),
+            },
+        }
     }
 
     /// The text of a piece; one that is neither a string nor a key has none.
@@ -479,8 +526,11 @@ impl Format for Reader<'_, '_> {
     }
 
     fn rewind(&mut self, mark: usize)
-        ensures { self.new ≡ record self.old { next = mark; at = mark; is_unknown = false } }
+        ensures stands { self.new
+            ≡ record self.old { next = mark; at = mark; is_unknown = false; tried = self.new.tried } }
+        ensures tried { tries self.new.tried ≡ tries_back_at mark self.old }
     {
+        self.note_back(mark);
         self.next = mark;
         self.at = mark;
         self.is_unknown = false;
@@ -562,13 +612,17 @@ impl Format for Reader<'_, '_> {
         }
     }
 
-    /// An integer that was read is out of the type's range. What was only looked at is of no kind that it reads.
+    /// An integer that was read is out of the type's range. What was only looked at is of no kind that it reads: told
+    /// are the kinds that failed reads of it wanted.
     fn invalid(&self) -> Stop<Misread>
-        ensures { IsMisread (λ why. why ≡ invalid_reason self.now) self.now.at result }
+        ensures read { self.now.at < self.now.next → IsMisread (λ why. why
+            ≡ refusal_in (slice_get (laid self.now) self.now.at)) self.now.at result }
+        ensures looked { self.now.next ≤ self.now.at → IsMisread (IsOtherIn
+            (kinds_at self.now.at (tries self.now.tried)) (slice_get (laid self.now) self.now.at)) self.now.at result }
     {
         match self.pieces.get(self.at) {
             Some(piece) if self.at < self.next => self.misread(piece.content.refusal()),
-            Some(piece) => self.misread(Reason::Unexpected(piece.content.kind())),
+            Some(piece) => self.other(piece.content.kind()),
             None => self.misread(Reason::Invalid),
         }
     }

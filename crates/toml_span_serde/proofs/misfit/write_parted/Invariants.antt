@@ -1,0 +1,11 @@
+use Rattle.std.proofs.Common.{take, ◌++◌, codes}
+use Rattle.std.specs.Fmt.{HasWritten, IsPlainFormatter}
+use Rattle.std.specs.List.{flat_map}
+use Rattle.toml_span_serde.specs.Misfits.{words_of}
+use Rattle.toml_span_serde.proofs.misfit.write_parted.Given as goal
+
+abbrev pub invariant-loop-kind : goal.invariant-loop-kind
+invariant-loop-kind g l =
+    IsPlainFormatter l.initial.f
+    → HasWritten g.W.Write.write_str_gives l.initial.f
+    (flat_map (λ kind. codes ", " ++ words_of kind) (take l.kind-index l.kinds)) l.f
