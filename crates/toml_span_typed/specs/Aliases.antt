@@ -28,12 +28,12 @@ abbrev pub keeping_twice : List ℕ → Option Entry → List ℕ → Option Ent
 keeping_twice name (Some entry) old (Some other) s = twice_at name entry.0 old other.0 s
 keeping_twice name _ old _ s = s
 
--- what the old name has, and what the name has
-abbrev pub older : List ℕ → State → Option Entry
-older old s = entry_at old s.members
+-- what the name has, and what the old name has
+abbrev pub newer : List ℕ → State → Option Entry
+newer name s = entry_at name s.members
 
-abbrev pub newer : List ℕ → List ℕ → State → Option Entry
-newer name old s = entry_at name (without old s.members)
+abbrev pub older : List ℕ → List ℕ → State → Option Entry
+older name old s = entry_at old (without name s.members)
 
 -- the value of the name, or else of the old one
 abbrev pub first_value : Option Entry → Option Entry → Option Node
@@ -41,11 +41,11 @@ first_value (Some entry) other = Some entry.1
 first_value None other = option_map (λ e. e.1) other
 
 abbrev pub either : List ℕ → List ℕ → State → Option Node
-either name old s = first_value (newer name old s) (older old s)
+either name old s = first_value (newer name s) (older name old s)
 
 -- both names are recorded and their entries gone, and a field that stands twice is told
 abbrev pub asked_both : List ℕ → List ℕ → State → State
-asked_both name old s = keeping_twice name (newer name old s) old (older old s) (noted name (noted old s))
+asked_both name old s = keeping_twice name (newer name s) old (older name old s) (noted old (noted name s))
 
 -- the warning that a key stands under a deprecated name
 abbrev pub outdated_at : List ℕ → List ℕ → Option (Option Span) → List ErrorContent
@@ -54,7 +54,7 @@ outdated_at name old _ = []
 
 -- the warning, where the old name has an entry
 abbrev pub outdated : List ℕ → List ℕ → State → List ErrorContent
-outdated name old s = outdated_at name old (option_map (λ entry. entry.0) (older old s))
+outdated name old s = outdated_at name old (option_map (λ entry. entry.0) (older name old s))
 
 -- the error that the name is not there is kept
 abbrev pub lacks : List ℕ → State → State

@@ -3,7 +3,7 @@ ghost use Rattle.std.specs.Prelude.{◌≡◌, ◌+◌, ◌≤◌, [], ◌∷◌
 ghost use Rattle.toml_span_tree.specs.Error.{content_of};
 ghost use Rattle.toml_span_tree.specs.Value.{is_whole, view};
 ghost use Rattle.toml_span_typed.specs.Aliases.{AsksEither, ReadsMoved, TriesEither, again, asked_both, either};
-ghost use Rattle.toml_span_typed.specs.Aliases.{lacks, older, outdated, outdated_at, twice};
+ghost use Rattle.toml_span_typed.specs.Aliases.{lacks, newer, older, outdated, outdated_at, twice};
 ghost use Rattle.toml_span_typed.specs.Fields.{kept, lacking};
 ghost use Rattle.toml_span_typed.specs.TableHelper.{AllWhole, noted, state_of};
 
@@ -17,7 +17,7 @@ impl<'de> TableHelper<'de> {
     /// As `read`, of a field that may stand under an old name.
     ///
     /// Where both names stand, the one of the name is read, and the error `DuplicateKey` is kept at the later of
-    /// the two keys. Both names are recorded, the old one first.
+    /// the two keys. Both names are recorded, the old one behind the other.
     pub fn read_either<T: Deserialize<'de>>(
         &mut self,
         name: &'de str,
@@ -140,20 +140,20 @@ impl<'de> TableHelper<'de> {
         requires { AllWhole (state_of self.old) }
         ensures value { IfOk result (λ taken. option_map view taken.0 ≡ either name.now old.now (state_of self.old)) }
         ensures place { IfOk result (λ taken. option_map (λ span. Some span) taken.1
-            ≡ option_map (λ entry. entry.0) (older old.now (state_of self.old))) }
+            ≡ option_map (λ entry. entry.0) (older name.now old.now (state_of self.old))) }
         ensures state { OnOk result (state_of self.new ≡ asked_both name.now old.now (state_of self.old)) }
         ensures told { OnOk result (kept (state_of self.old) ≤ kept (state_of self.new)) }
         ensures good { IfOk result (λ taken. IfSome taken.0 (λ v. IsTrue (is_whole (view v)))) }
         ensures whole { AllWhole (state_of self.new) }
     {
-        let Some((other, earlier)) = self.take_placed(old)? else {
-            return match self.take_placed(name)? {
-                Some((_, value)) => Ok((Some(value), None)),
+        let Some((span, value)) = self.take_placed(name)? else {
+            return match self.take_placed(old)? {
+                Some((other, value)) => Ok((Some(value), Some(other))),
                 None => Ok((None, None)),
             };
         };
-        let Some((span, value)) = self.take_placed(name)? else {
-            return Ok((Some(earlier), Some(other)));
+        let Some((other, earlier)) = self.take_placed(old)? else {
+            return Ok((Some(value), None));
         };
         drop(earlier);
         let error = told_twice(self.alloc, name, span, old, other)?;
@@ -169,7 +169,7 @@ impl<'de> TableHelper<'de> {
     ) -> Result<Option<(Span, Value<'de>)>, AllocError>
         requires { AllWhole (state_of self.old) }
         ensures entry { IfOk result (λ entry. option_map (λ e. (Some e.0, view e.1)) entry
-            ≡ older name.now (state_of self.old)) }
+            ≡ newer name.now (state_of self.old)) }
         ensures state { OnOk result (state_of self.new ≡ noted name.now (state_of self.old)) }
         ensures good { IfOk result (λ entry. IfSome entry (λ e. IsTrue (is_whole (view e.1)))) }
         ensures whole { AllWhole (state_of self.new) }
