@@ -14,7 +14,7 @@ use Rattle.toml_span_read.specs.Gaps.{begins_gap}
 use Rattle.toml_span_read.specs.Grammar.{from_to, Spells, SpellsKeyValue}
 use Rattle.toml_span_read.specs.Keys.{SimpleKey, SpellsSimpleKey}
 use Rattle.toml_span_places.specs.Again.{ReadsAsKey, ReadsAsValue, HasFloatTexts, IsWithin}
-use Rattle.toml_span_places.proofs.Parts.{Part, same_part, back, tail, here}
+use Rattle.toml_span_places.proofs.Parts.{Part, same_part, back, tail, here, whole}
 use Rattle.toml_span_places.proofs.SpelledAgain.{no_gap, key_starts, value_starts, nothing, blank_run}
 use Rattle.toml_span_laws.specs.Again.{SpellsAssignment}
 use Rattle.toml_span_laws.proofs.AgainLines.{no_more}
@@ -39,9 +39,6 @@ first_place s text j key =
 
 no_blank : (text : List ℕ) (i : ℕ) → begins_gap text i ≡ false → is_blank (get_or text i 0) ≡ false
 no_blank text i h = (or_parts (is_blank (get_or text i 0)) (get_or text i 0 == 10) (or_parts (is_blank (get_or text i 0) || get_or text i 0 == 10) _ (or_parts _ (get_or text i 0 == 35) h).0).0).0
-
-whole : (text : List ℕ) → Part text text [] 0 (length text)
-whole text = record { is = sym (append-nil text); on = omega arith; all = omega arith }
 
 -- the assignment
 pair : (text : List ℕ) (s : SimpleKey) (v : ParsedValue) → KeyValue
