@@ -123,9 +123,9 @@ fn spelled_value(alloc: Global, value: &Value<'_>) -> Result<String, AllocError>
 /// decimal digits, a float and a date by their texts, an array, or an inline table with its keys in the order of their
 /// names.
 ///
-/// Wherever it stands in a text, it is read as this value, if the value is whole (`is_whole`), no deeper than the
-/// limit, and each float in it has the text of one, as in every tree of `parse`. Else it is no value, or another. Only
-/// want of memory is refused.
+/// Wherever it stands in a text, if nothing behind it goes on with it (`parts_off`), it is read as this value: where
+/// the value is whole (`is_whole`), no deeper than the limit, and each float in it has the text of one, as in every
+/// tree of `parse`. Else it is no value, or another. Only want of memory is refused.
 pub fn to_toml(alloc: Global, value: &Value<'_>) -> Result<String, AllocError>
     ensures spelling { IfOk result (λ text. string_bytes text ≡ spec.value_text (view value.now)) }
     ensures reads { IfOk result (λ text. ReadsAsValue (view value.now) (string_bytes text)) }
