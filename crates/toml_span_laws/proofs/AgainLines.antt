@@ -99,7 +99,7 @@ key_value_spelled v text limit d i j deep h =
 
 -- ---- the document
 
-no_more : (b : List ℕ) (l : ℕ) → l ≡ length b → Tail b l l × MaximalGap b l l
+pub no_more : (b : List ℕ) (l : ℕ) → l ≡ length b → Tail b l l × MaximalGap b l l
 no_more b l e =
     let past : get_or b l 0 ≡ 0 = get_or_past b l 0 (omega arith) in (
       (

@@ -43,6 +43,7 @@ pub mod ThroughValue
 pub mod SpelledClaims
 pub mod ReadAgain
 pub mod FloatTexts
+pub mod SpelledLine
 pub mod ClaimedValues
 pub mod ReadStrings
 pub mod Alone

@@ -1,12 +1,14 @@
 -- What is spelled at one place of a text, read again at another place of another text.
-use Rattle.std.specs.Prelude.{ℕ, ◌+◌, ◌-◌, List, [], ◌∷◌, ◌++◌, map, slice_range, codes}
+use Rattle.std.specs.Prelude.{◌≡◌, ℕ, ◌+◌, ◌-◌, List, [], ◌∷◌, ◌++◌, map, slice_range, codes}
 use Rattle.toml_span_lex.specs.declared.span.Span.{Span}
-use Rattle.toml_span_tree.specs.Node.{Scalar, text, integer, float, boolean, datetime}
+use Rattle.toml_span_tree.specs.Node.{Scalar, text, integer, float, boolean, datetime, Node}
 use Rattle.toml_span_read.specs.Keys.{SimpleKey}
 use Rattle.toml_span_read.specs.Data.{ParsedValue, parsed, ParsedInner, scalar, array, inline, ParsedItems, no_items}
 use Rattle.toml_span_read.specs.Data.{item, ParsedPairs, no_pairs}
 use Rattle.toml_span_read.specs.Data.{pair, KeyValue, parsed_span, Block}
+use Rattle.toml_span_read.specs.Earlier.{part_names}
 use Rattle.toml_span_read.specs.Grammar.{first_block, SpellsDocument}
+use Rattle.toml_span_places.specs.Again.{HasValue}
 
 -- a span, moved so that what stood at `from` stands at `to`
 abbrev pub moved_span : ℕ → ℕ → Span → Span
@@ -90,3 +92,11 @@ KeyValuesReadAgain t limit (e ∷ es) = AllReadAgain t limit e.value × KeyValue
 abbrev pub BlocksReadAgain : List ℕ → ℕ → List Block → Type 0
 BlocksReadAgain t limit [] = Unit {0}
 BlocksReadAgain t limit (b ∷ bs) = KeyValuesReadAgain t limit b.key_values × BlocksReadAgain t limit bs
+
+-- ---- what is spelled
+
+-- the text is a document of one assignment: its key is one part with this name, its value is this one
+abbrev pub SpellsAssignment : List ℕ → Node → List ℕ → ℕ → Type 0
+SpellsAssignment name n t limit =
+    (e : KeyValue) × SpellsDocument (first_block (e ∷ [])) t limit × (part_names e.parts ≡ name ∷ [])
+    × HasValue e.value n

@@ -1,12 +1,13 @@
 //! Laws of what is read again.
-ghost use Rattle.std.specs.Prelude.{◌≤◌, ℕ, List};
-ghost use Rattle.toml_span_tree.specs.Value.{view};
+ghost use Rattle.std.specs.Prelude.{◌≡◌, ◌≤◌, ◌++◌, ℕ, true, List, codes};
+ghost use Rattle.toml_span_tree.specs.Node.{Node};
+ghost use Rattle.toml_span_tree.specs.Value.{is_whole, view};
 ghost use Rattle.toml_span_tree.specs.declared.value.Value.{Value};
 ghost use Rattle.toml_span_read.specs.Data.{ParsedValue, Block};
 ghost use Rattle.toml_span_read.specs.Grammar.{Spells, SpellsDocument};
 ghost use Rattle.toml_span.specs.Parsing.{IsTree};
-ghost use Rattle.toml_span_places.specs.Again.{HasFloatTexts};
-ghost use Rattle.toml_span_laws.specs.Again.{SpellsAgain, BlocksReadAgain};
+ghost use Rattle.toml_span_places.specs.Again.{HasFloatTexts, IsWithin, ReadsAsKey, ReadsAsValue};
+ghost use Rattle.toml_span_laws.specs.Again.{SpellsAgain, SpellsAssignment, BlocksReadAgain};
 
 /// The text that spells a value spells it again: behind `x = ` it is a document of one assignment, whose key
 /// is `x` and whose value is the same, with all its spans moved.
@@ -26,4 +27,12 @@ pub fn values_read_again()
 /// again, where it is within the limit of depth.
 pub fn float_texts()
     ensures { (text : List ℕ) (limit : ℕ) (root : Value) → IsTree text limit root → HasFloatTexts (view root) }
+{}
+
+/// A key, ` = ` and a value, each of which is read wherever it stands, are a document of one assignment of this value.
+/// So it is with what `quote_key` and `to_toml` spell.
+pub fn spelled_assignment()
+    ensures { (limit : ℕ) (name key : List ℕ) (n : Node) (value : List ℕ) → ReadsAsKey name key → ReadsAsValue n value
+        → is_whole n ≡ true → IsWithin limit 1 n → HasFloatTexts n
+        → SpellsAssignment name n (key ++ (codes " = " ++ value)) limit }
 {}

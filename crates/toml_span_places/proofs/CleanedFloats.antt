@@ -12,7 +12,8 @@ use Rattle.toml_span_read.specs.Numbers.{is_digit_in, is_figure, Digits, behind_
 use Rattle.toml_span_read.proofs.NumberLemmas.{clash, digit_figure, digit_no_underscore, no_sign, slice_cons}
 use Rattle.toml_span_read.proofs.Places.{run_some}
 use Rattle.toml_span_places.specs.Again.{IsFloatText}
-use Rattle.toml_span_places.proofs.Parts.{Part, same_part, front, back, tail, here, byte_at, next, within, each}
+use Rattle.toml_span_places.proofs.FloatsAgain.{behind_on}
+use Rattle.toml_span_places.proofs.Parts.{Part, same_part, front, back, tail, here, byte_at, next, within, each, whole, empty_range}
 
 -- ---- what cleaning does
 
@@ -86,9 +87,6 @@ range_byte text a b k h = get_or-take (b - a) (drop a text) k 0 h ∙ get_or-dro
 range_length : (text : List ℕ) (a b : ℕ) → b ≤ length text → length (slice_range text a b) ≡ b - a
 range_length text a b w = omega (arith, length-take (b - a) (drop a text), length-drop a text)
 
-empty_range : (text : List ℕ) (a : ℕ) → slice_range text a a ≡ []
-empty_range text a = let e : a - a ≡ 0 = omega arith in rw e refl
-
 clean_digits : (text : List ℕ) (a b : ℕ) → Digits 10 text a b → Cleaned text a b
 clean_digits text a b h =
     let w = h.run.within in
@@ -128,13 +126,6 @@ clean_sign text a l = elim (cases_Bool (get_or text a 0 == 43)) [
     | inr none ↦ let e : behind_sign text a ≡ a = no_sign text a other none in inl (rw (e, empty_range text a) refl)
   ]
 ]
-
-sign_on : (c : Bool) (a : ℕ) → a ≤ cond c (a + 1) a
-sign_on true a = omega arith
-sign_on false a = omega arith
-
-behind_on : (text : List ℕ) (a : ℕ) → a ≤ behind_sign text a
-behind_on text a = sign_on (get_or text a 0 == 43 || get_or text a 0 == 45) a
 
 digit_no_sign : (c : ℕ) → is_digit_in 10 c ≡ true → ((c == 43) ≡ false) × ((c == 45) ≡ false)
 digit_no_sign c h = (digit_other c 43 h refl, digit_other c 45 h refl)
@@ -298,9 +289,6 @@ no_date {text} {rest} {i} {j} ds plain stop p = false_from_ne_true (begins_date 
     ]
 
 -- ---- the float
-
-whole : (text : List ℕ) → Part text text [] 0 (length text)
-whole text = record { is = sym (append-nil text); on = omega arith; all = omega arith }
 
 parts_spell : (s ds r : List ℕ) → IsSign s → Plain ds → (get_or ds 0 0 ≡ 48 → length ds ≡ 1) → Rest r → (text : List ℕ) → text ≡ s ++ (ds ++ r) → (begins_date text 0 ≡ false) × FloatLiteral text 0 (length text)
 parts_spell s ds r sign plain leading rest text is =

@@ -28,7 +28,7 @@ sign_on : (c : Bool) (a : ℕ) → a ≤ cond c (a + 1) a
 sign_on true a = omega arith
 sign_on false a = omega arith
 
-behind_on : (xs : List ℕ) (a : ℕ) → a ≤ behind_sign xs a
+pub behind_on : (xs : List ℕ) (a : ℕ) → a ≤ behind_sign xs a
 behind_on xs a = sign_on (get_or xs a 0 == 43 || get_or xs a 0 == 45) a
 
 sign_moved : (c : Bool) (i a : ℕ) → cond c ((i + a) + 1) (i + a) ≡ i + cond c (a + 1) a

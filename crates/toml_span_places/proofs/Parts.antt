@@ -1,5 +1,5 @@
 -- A part of a text: its bytes, and those behind it.
-use Rattle.std.proofs.Common.{◌≡◌, ℕ, ◌+◌, ◌-◌, ◌<◌, ◌≤◌, Bool, true, List, [], ◌∷◌, ◌++◌, length, get_or, drop, arith, sym, ◌∙◌, refl, ap, append_assoc, length-append}
+use Rattle.std.proofs.Common.{◌≡◌, ℕ, ◌+◌, ◌-◌, ◌<◌, ◌≤◌, Bool, true, List, [], ◌∷◌, ◌++◌, length, get_or, drop, arith, sym, ◌∙◌, refl, ap, append-nil, append_assoc, length-append}
 use Rattle.std.specs.Prelude.{slice_range}
 use Rattle.std.proofs.lemmas.List.{get_or-drop, get_or_append_left, get_or-append-add, drop-drop, drop_at, take_at}
 
@@ -13,6 +13,10 @@ pub record Part (text part rest : List ℕ) (i j : ℕ) : Type 0 where
 pub between : (before part rest : List ℕ) → Part (before ++ (part ++ rest)) part rest (length before) (length before + length part)
 between before part rest =
     record { is = drop_at before (part ++ rest) (length before) refl; on = refl; all = omega (arith, length-append before (part ++ rest), length-append part rest) }
+
+-- the text itself
+pub whole : (text : List ℕ) → Part text text [] 0 (length text)
+whole text = record { is = sym (append-nil text); on = omega arith; all = omega arith }
 
 pub same_part : {text part rest : List ℕ} {i j : ℕ} (other : List ℕ) → part ≡ other → Part text part rest i j → Part text other rest i j
 same_part other e p = rw e at p
@@ -79,3 +83,6 @@ within p = let x = p.all in omega arith
 pub each : {text part rest : List ℕ} {i j : ℕ} → Part text part rest i j → (p : ℕ → Bool) → ((k : ℕ) → k < length part → p (get_or part k 0) ≡ true) → (k : ℕ) → i ≤ k → k < j → p (get_or text k 0) ≡ true
 each {text} {part} {rest} {i} w p h k a b =
     let x = w.on in rw (byte_at w k a b) (h (k - i) (omega arith))
+
+pub empty_range : (text : List ℕ) (i : ℕ) → slice_range text i i ≡ []
+empty_range text i = let e : i - i ≡ 0 = omega arith in rw e refl

@@ -26,7 +26,7 @@ use Rattle.toml_span_places.specs.Again.{parts_off, ReadsAsString, ReadsAsKey}
 use Rattle.toml_span_places.specs.Keys.{is_quote}
 use Rattle.toml_span_places.specs.Quoted.{letter_of, letter_or, is_control, number_escape, letter_escape, basic_char, basic, is_escaped, is_unliteral, is_literal, quoted, is_bare, key_text}
 use Rattle.toml_span_places.proofs.EscapedChars.{letter_writes, letter_bytes, control_small, number_bytes, digits_hex, digits_write, small_scalar, printed, plain_byte}
-use Rattle.toml_span_places.proofs.Parts.{Part, between, same_part, front, back, tail, here, next, range, within, each}
+use Rattle.toml_span_places.proofs.Parts.{Part, between, same_part, front, back, tail, here, next, range, within, each, empty_range}
 
 -- ---- pieces between quotation marks
 
@@ -153,9 +153,6 @@ off_parts rest h =
     let y = or_parts (is_quote (get_or rest 0 0)) (continues_date rest 0) x.1 in (x.0, y.0, y.1)
 
 -- ---- strings
-
-empty_range : (text : List ℕ) (j : ℕ) → slice_range text j j ≡ []
-empty_range text j = let e : j - j ≡ 0 = omega arith in rw e refl
 
 both_false : (x y : Bool) → (x ≡ false) ⊎ (y ≡ false) → false ≡ (x && y)
 both_false true y (inl h) = absurd (false≢true (sym h))

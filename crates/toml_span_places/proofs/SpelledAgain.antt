@@ -33,10 +33,10 @@ use Rattle.toml_span_places.proofs.DatesAgain.{date_again}
 
 -- ---- what begins a value begins no gap
 
-abbrev NoGap : ℕ → Type 0
+abbrev pub NoGap : ℕ → Type 0
 NoGap c = ((is_blank c || c == 10) ≡ false) × ((c == 13) ≡ false) × ((c == 35) ≡ false)
 
-no_gap : (text : List ℕ) (i : ℕ) → NoGap (get_or text i 0) → begins_gap text i ≡ false
+pub no_gap : (text : List ℕ) (i : ℕ) → NoGap (get_or text i 0) → begins_gap text i ≡ false
 no_gap text i h = rw (h.0, h.1, h.2) refl
 
 no_gap_is : (text : List ℕ) (i c : ℕ) → get_or text i 0 ≡ c → NoGap c → begins_gap text i ≡ false
@@ -45,11 +45,11 @@ no_gap_is text i c e h = no_gap text i (rw e h)
 keylike_other : (c k : ℕ) → is_keylike c ≡ true → is_keylike k ≡ false → (c == k) ≡ false
 keylike_other c k h n = false_from_ne_true (c == k) (λ e. clash is_keylike c k h (eqb-true c k e) n)
 
-keylike_no_gap : (c : ℕ) → is_keylike c ≡ true → NoGap c
+pub keylike_no_gap : (c : ℕ) → is_keylike c ≡ true → NoGap c
 keylike_no_gap c h =
     (or_from (is_blank c) (c == 10) (or_from (c == 32) (c == 9) (keylike_other c 32 h refl) (keylike_other c 9 h refl)) (keylike_other c 10 h refl), keylike_other c 13 h refl, keylike_other c 35 h refl)
 
-quote_no_gap : (c : ℕ) → IsQuote c → NoGap c
+pub quote_no_gap : (c : ℕ) → IsQuote c → NoGap c
 quote_no_gap c (inl e) = rw e (refl, refl, refl)
 quote_no_gap c (inr e) = rw e (refl, refl, refl)
 
@@ -104,14 +104,14 @@ scalar_starts (float (not_a_number b)) span text i j (no_date, h, is) = word_no_
 scalar_starts (boolean b) span text i j (h, is) = keylike_no_gap (get_or text i 0) (h.1.passes i (omega arith) h.0)
 scalar_starts (datetime d) span text i j h = digit_no_gap text i h.0
 
-value_starts : (v : ParsedValue) (text : List ℕ) (limit d i j : ℕ) → Spells v text limit d i j → begins_gap text i ≡ false
+pub value_starts : (v : ParsedValue) (text : List ℕ) (limit d i j : ℕ) → Spells v text limit d i j → begins_gap text i ≡ false
 value_starts (parsed (scalar s) span) text limit d i j h = no_gap text i (scalar_starts s span text i j h.1)
 value_starts (parsed (array vs) span) text limit d i j h = no_gap_is text i 91 h.1.0 (refl, refl, refl)
 value_starts (parsed (inline ps) span) text limit d i j h = no_gap_is text i 123 h.1.0 (refl, refl, refl)
 
 -- ---- gaps
 
-nothing : (text : List ℕ) (i : ℕ) → begins_gap text i ≡ false → MaximalGap text i i
+pub nothing : (text : List ℕ) (i : ℕ) → begins_gap text i ≡ false → MaximalGap text i i
 nothing text i h = record { ends = []; pieces = refl; forward = omega arith; stops = h }
 
 one_space : (text : List ℕ) (i : ℕ) → get_or text i 0 ≡ 32 → begins_gap text (i + 1) ≡ false → MaximalGap text i (i + 1)
@@ -226,6 +226,10 @@ members_off (member name key n ms) rest = refl
 
 -- ---- pairs
 
+pub key_starts : (s : SimpleKey) (text : List ℕ) (i j : ℕ) → SpellsSimpleKey s text i j → NoGap (get_or text i 0)
+key_starts s text i j (inl (run, is)) = keylike_no_gap (get_or text i 0) (run.1.passes i (omega arith) run.0)
+key_starts s text i j (inr (source, string)) = quote_no_gap (get_or text i 0) string.quote
+
 regroup : (k v m e : List ℕ) → ((k ++ codes " = ") ++ (v ++ m)) ++ e ≡ k ++ (32 ∷ 61 ∷ 32 ∷ (v ++ (m ++ e)))
 regroup k v m e = append_assoc (k ++ codes " = ") (v ++ m) e ∙ (append_assoc k (codes " = ") ((v ++ m) ++ e) ∙ ap (λ (l : List ℕ). k ++ (32 ∷ 61 ∷ 32 ∷ l)) (append_assoc v m e))
 
@@ -233,7 +237,7 @@ one_part : (es : List KeyValue) (e : KeyValue) (s : SimpleKey) → e.parts ≡ s
 one_part es e s is inner last at outer p rest f =
     absurd (omega (arith, ap length (sym is ∙ at), ap length f, length-append inner (last ∷ []), length-append outer (p ∷ rest)))
 
-blank_run : (text : List ℕ) (i : ℕ) → get_or text i 0 ≡ 32 → i < length text → is_blank (get_or text (i + 1) 0) ≡ false → MaximalRun is_blank text i (i + 1)
+pub blank_run : (text : List ℕ) (i : ℕ) → get_or text i 0 ≡ 32 → i < length text → is_blank (get_or text (i + 1) 0) ≡ false → MaximalRun is_blank text i (i + 1)
 blank_run text i e l h =
     record { forward = omega arith; within = omega arith; passes = λ k a b. (let same : k ≡ i = omega arith in rw (same, e) refl); stops = λ x. h }
 
@@ -305,12 +309,8 @@ joined_pairs name key n ms text rest es limit d i j utf8 few first others held c
       pair (s ∷ []) v (from_to i m) ps,
       (m, (f.end, b, f.key, omega arith, f.sign, h, refl), one_part es here s refl, more),
       (refl, e, g),
-      key_starts s text i a k,
+      no_gap text i (key_starts s text i a k),
     )
-  where
-    key_starts : (s : SimpleKey) (text : List ℕ) (i j : ℕ) → SpellsSimpleKey s text i j → begins_gap text i ≡ false
-    key_starts s text i j (inl (run, is)) = no_gap text i (keylike_no_gap (get_or text i 0) (run.1.passes i (omega arith) run.0))
-    key_starts s text i j (inr (source, string)) = no_gap text i (quote_no_gap (get_or text i 0) string.quote)
 
 least : (n : Node) (limit d : ℕ) → CanBeSpelled limit d n → d ≤ limit
 least (node k at) limit d can = can.0

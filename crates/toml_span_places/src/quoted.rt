@@ -129,7 +129,8 @@ fn spelled_string(alloc: Global, text: &str) -> Result<String, AllocError>
 }
 
 /// The shortest spelling of a string on one line: between quotation marks with the escapes that it needs, or between
-/// apostrophes, where that is shorter and can be. Wherever it stands in a text, it is read as this string.
+/// apostrophes, where that is shorter and can be. Wherever it stands in a text, it is read as this string, if
+/// nothing behind it goes on with it (`parts_off`).
 ///
 /// `basic-string = quotation-mark *basic-char quotation-mark`,
 /// `literal-string = apostrophe *literal-char apostrophe` (TOML 1.1, String)
@@ -165,7 +166,8 @@ fn spelled_key(alloc: Global, name: &str) -> Result<String, AllocError>
 }
 
 /// The shortest spelling of a key: as it is where letters, digits, dashes and underscores alone are in it, or as a
-/// string. Wherever it stands in a text, it is read as one simple key with this name.
+/// string. Wherever it stands in a text, it is read as one simple key with this name, if nothing behind it goes on with
+/// it (`parts_off`).
 ///
 /// `simple-key = quoted-key / unquoted-key` (TOML 1.1, Keys)
 pub fn quote_key(alloc: Global, name: &str) -> Result<String, AllocError>

@@ -123,11 +123,9 @@ fn spelled_value(alloc: Global, value: &Value<'_>) -> Result<String, AllocError>
 /// decimal digits, a float and a date by their texts, an array, or an inline table with its keys in the order of their
 /// names.
 ///
-/// The value has to be whole (`is_whole`), and a float of the caller's own to have the text of one: else the text is
-/// no value, or another. Only want of memory is refused.
-///
-/// Wherever the text stands, it is read as this value, where the value is whole, within the limit of depth, and the
-/// text of each float is that of one.
+/// Wherever it stands in a text, if nothing behind it goes on with it (`parts_off`), it is read as this value: where
+/// the value is whole (`is_whole`), no deeper than the limit, and each float in it has the text of one, as in every
+/// tree of `parse`. Else it is no value, or another. Only want of memory is refused.
 pub fn to_toml(alloc: Global, value: &Value<'_>) -> Result<String, AllocError>
     ensures spelling { IfOk result (λ text. string_bytes text ≡ spec.value_text (view value.now)) }
     ensures reads { IfOk result (λ text. ReadsAsValue (view value.now) (string_bytes text)) }
