@@ -13,15 +13,14 @@ use crate::tokens::push_span;
 use crate::told::{known, push_told, push_told_line};
 use crate::trees::orders::push_step;
 use crate::trees::places::below;
-use crate::trees::shown::push_fault;
 use std::alloc::{AllocError, Global};
+use toml_span::Span;
 use toml_span::value::Value;
-use toml_span::{Span, Stop};
 use toml_span_places::{
     KeyPlace, assignment_lines, key_places, literal_span, quote_key, quote_string, replaced,
     section_lines, to_toml, with_quotes,
 };
-use toml_span_read::{Section, read_sections};
+use toml_span_read::Section;
 
 /// The span of a word, as `START..END`.
 fn span_of(word: &str) -> Option<Span> {
@@ -74,7 +73,8 @@ fn push_place(place: &KeyPlace<'_>, out: &mut String) -> Result<(), AllocError> 
     out.push('\n')
 }
 
-fn push_places(
+/// Answers `key_places`.
+pub fn push_places(
     alloc: Global,
     text: &str,
     sections: &[Section<'_>],
@@ -91,7 +91,8 @@ pub fn push_cut(text: &str, span: Span, out: &mut String) -> Result<(), AllocErr
     push_told_line(text.get(span.start..span.end).unwrap_or("no place"), out)
 }
 
-fn push_section_lines(
+/// Answers `lines`.
+pub fn push_lines(
     text: &str,
     sections: &[Section<'_>],
     out: &mut String,
@@ -104,24 +105,6 @@ fn push_section_lines(
         }
     }
     Ok(())
-}
-
-/// Adds what a call answers on the sections of a text, or the fault.
-fn push_read(alloc: Global, row: Row<'_>, out: &mut String) -> Result<(), AllocError> {
-    match read_sections(alloc, row.text, 128) {
-        Ok(sections) if row.call == "lines" => push_section_lines(
-            row.text,
-            sections.as_slice(),
-            out,
-        ),
-        Ok(sections) => push_places(alloc, row.text, sections.as_slice(), out),
-        Err(Stop::Fault(fault)) => {
-            let pushed = push_fault(&fault, out);
-            drop(fault);
-            pushed
-        }
-        Err(Stop::Memory(refused)) => Err(refused),
-    }
 }
 
 /// Adds of each value of a tree its path, where it is spelled, and the text there.
@@ -156,7 +139,6 @@ pub fn push_spelled(alloc: Global, root: &Value<'_>, out: &mut String) -> Result
 /// Writes the answer of a row, or says that there is no such call.
 pub fn answer(alloc: Global, row: Row<'_>, out: &mut String) -> Result<bool, AllocError> {
     let pushed = match row.call {
-        "key_places" | "lines" => push_read(alloc, row, out),
         "quote_key" => out.push_str(quote_key(alloc, row.text)?.as_str()),
         "quote_string" => out.push_str(quote_string(alloc, row.text)?.as_str()),
         "replaced" => return push_replaced(alloc, row, out),

@@ -72,7 +72,6 @@ fn push_answer(alloc: Global, row: Row<'_>, out: &mut String) -> Result<bool, Al
             || sections::answer(alloc, row, out)?
             || texts::answer(alloc, row, out)?
             || edits::answer(alloc, row, out)?
-            || spots::answer(alloc, row, out)?
             || reports::answer(alloc, row, out)?
             || runs::answer(alloc, row, out)?
             || callers::answer(alloc, row, out)?

@@ -1,17 +1,30 @@
-//! `read LIMIT`: the sections of a document, a line each, or its first fault.
-//! `reads LIMIT`: whether a document is read, or its first fault.
+//! Calls on the sections of a text, which answer with its first fault where it has one.
 //!
-//! A key, a value, a header and a section have their places behind `@`, an assignment its extent.
-ghost use Rattle.std.specs.Prelude.{◌≤◌};
-
-use crate::Row;
+//! - `read LIMIT`: the sections of a document, a line each. A key, a value, a header and a section have their places
+//!   behind `@`, an assignment its extent.
+//! - `reads LIMIT`: whether a document is read.
+//! - `key_places` and `lines` (`edits`), `section_places`, `insertion_point`, `table_places` and `table_forms` (`spots`).
 use crate::tokens::push_span;
+use crate::told::known;
 use crate::trees::limit_of;
-use crate::trees::shown::push_fault;
+use crate::trees::shown::push_stop;
+use crate::{Row, edits, spots};
 use std::alloc::{AllocError, Global};
-use toml_span::{Span, Stop};
+use toml_span::Span;
 use toml_span_lex::key::Key;
 use toml_span_read::{Assignment, DottedKey, Section, read_sections};
+
+/// The calls on the sections of a text.
+const CALLS: [&str; 8] = [
+    "read",
+    "reads",
+    "lines",
+    "key_places",
+    "section_places",
+    "insertion_point",
+    "table_places",
+    "table_forms",
+];
 
 /// Adds the place of what stands before it.
 fn push_place(out: &mut String, span: Span) -> Result<(), AllocError> {
@@ -76,36 +89,35 @@ fn push_sections(out: &mut String, sections: &[Section<'_>]) -> Result<(), Alloc
     Ok(())
 }
 
-/// Adds the sections of a text or, in brief, that it is read, or the fault.
-fn push_reading(
+/// Adds what a call answers on the sections of a text.
+fn push_call(
     alloc: Global,
-    limit: usize,
     row: Row<'_>,
+    sections: &[Section<'_>],
     out: &mut String,
-) -> Result<(), AllocError>
-    requires some { 1 ≤ limit }
-    requires small { limit ≤ 128 }
-{
-    match read_sections(alloc, row.text, limit) {
-        Ok(_) if row.call == "reads" => out.push_str("read"),
-        Ok(sections) => push_sections(out, sections.as_slice()),
-        Err(Stop::Fault(fault)) => {
-            let pushed = push_fault(&fault, out);
-            drop(fault);
-            pushed
-        }
-        Err(Stop::Memory(refused)) => Err(refused),
+) -> Result<(), AllocError> {
+    match row.call {
+        "read" => push_sections(out, sections),
+        "reads" => out.push_str("read"),
+        "lines" => edits::push_lines(row.text, sections, out),
+        "key_places" => edits::push_places(alloc, row.text, sections, out),
+        "section_places" => spots::push_sections(alloc, row.text, sections, out),
+        "insertion_point" => spots::push_point(alloc, row, sections, out),
+        "table_places" => spots::push_tables(alloc, sections, out),
+        _ => spots::push_forms(alloc, row, sections, out),
     }
 }
 
 /// Writes the answer of a row, or says that there is no such call.
 pub fn answer(alloc: Global, row: Row<'_>, out: &mut String) -> Result<bool, AllocError> {
-    if row.call != "read" && row.call != "reads" {
+    if !CALLS.contains(&row.call) {
         return Ok(false);
     }
     let Some(limit) = limit_of(row) else {
         return Ok(false);
     };
-    push_reading(alloc, limit, row, out)?;
-    Ok(true)
+    known(match read_sections(alloc, row.text, limit) {
+        Ok(sections) => push_call(alloc, row, sections.as_slice(), out),
+        Err(stop) => push_stop(stop, out),
+    })
 }

@@ -13,14 +13,12 @@ use crate::Row;
 use crate::edits::push_cut;
 use crate::told::{known, push_told, push_told_line};
 use crate::trees::orders::push_step;
-use crate::trees::shown::push_fault;
 use std::alloc::{AllocError, Global};
-use toml_span::Stop;
 use toml_span::value::{Step, Value};
 use toml_span_places::{
     InsertionPoint, insertion_point, node_at, section_places, table_forms, table_places,
 };
-use toml_span_read::{Section, read_sections};
+use toml_span_read::Section;
 
 /// The step of a word.
 fn step_of(word: &str) -> Step<'_> {
@@ -47,7 +45,8 @@ fn push_steps(steps: &[Step<'_>], out: &mut String) -> Result<(), AllocError> {
     Ok(())
 }
 
-fn push_sections(
+/// Answers `section_places`.
+pub fn push_sections(
     alloc: Global,
     text: &str,
     sections: &[Section<'_>],
@@ -73,7 +72,8 @@ fn with_line(alloc: Global, text: &str, point: InsertionPoint) -> Result<String,
     Ok(new)
 }
 
-fn push_point(
+/// Answers `insertion_point`.
+pub fn push_point(
     alloc: Global,
     row: Row<'_>,
     sections: &[Section<'_>],
@@ -88,7 +88,8 @@ fn push_point(
     push_told(new.as_str(), out)
 }
 
-fn push_tables(
+/// Answers `table_places`.
+pub fn push_tables(
     alloc: Global,
     sections: &[Section<'_>],
     out: &mut String,
@@ -100,7 +101,8 @@ fn push_tables(
     Ok(())
 }
 
-fn push_forms(
+/// Answers `table_forms`.
+pub fn push_forms(
     alloc: Global,
     row: Row<'_>,
     sections: &[Section<'_>],
@@ -115,34 +117,6 @@ fn push_forms(
         push_told_line(*form, out)?;
     }
     Ok(())
-}
-
-/// Adds what a call answers on the sections of a text.
-fn push_call(
-    alloc: Global,
-    row: Row<'_>,
-    sections: &[Section<'_>],
-    out: &mut String,
-) -> Result<(), AllocError> {
-    match row.call {
-        "section_places" => push_sections(alloc, row.text, sections, out),
-        "insertion_point" => push_point(alloc, row, sections, out),
-        "table_places" => push_tables(alloc, sections, out),
-        _ => push_forms(alloc, row, sections, out),
-    }
-}
-
-/// Adds what a call answers on the sections of a text, or the fault.
-fn push_read(alloc: Global, row: Row<'_>, out: &mut String) -> Result<(), AllocError> {
-    match read_sections(alloc, row.text, 128) {
-        Ok(sections) => push_call(alloc, row, sections.as_slice(), out),
-        Err(Stop::Fault(fault)) => {
-            let pushed = push_fault(&fault, out);
-            drop(fault);
-            pushed
-        }
-        Err(Stop::Memory(refused)) => Err(refused),
-    }
 }
 
 /// Adds what stands at the byte of the first word. Whether the word is an offset.
@@ -162,14 +136,4 @@ pub fn push_node_at(
     push_told((place.part, place.span), out)?;
     out.push(' ')?;
     known(push_cut(row.text, place.span, out))
-}
-
-/// Writes the answer of a row, or says that there is no such call.
-pub fn answer(alloc: Global, row: Row<'_>, out: &mut String) -> Result<bool, AllocError> {
-    match row.call {
-        "section_places" | "insertion_point" | "table_places" | "table_forms" => {
-            known(push_read(alloc, row, out))
-        }
-        _ => Ok(false),
-    }
 }

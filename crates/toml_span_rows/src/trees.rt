@@ -1,18 +1,22 @@
 //! Trees of documents: `parse LIMIT`, `twice`, `write OPERATION ..`, `json`, `kinds`, `again`, `text_order`, `nodes`,
 //! `diagnostics` and typed reads. A text that is no document answers with its fault, of which `diagnostics` has all
 //! that it prints. `twice` parses twice: what the first answers in a word, and the second whole.
+//!
+//! - `refused_at`: the place of a refusal, with its line and its column.
+//! - `with_value POINTER`: the tree with the number 7 where the pointer leads, if it leads anywhere.
+//! - `write_second`: whether the number 7 is put at `/b/x`, and the tree then.
 ghost use Rattle.std.specs.Prelude.{◌≤◌, IfSome};
 
 use crate::edits::{push_literals, push_spelled};
 use crate::faults::push_twice;
 use crate::spots::push_node_at;
-use crate::told::{known, push_told_line};
+use crate::told::{known, push_told, push_told_line};
 use crate::{Row, typed};
 use shown::{push_fault, push_lines};
 use std::alloc::{AllocError, Global};
 use toml_span::de::parse_with_limit;
 use toml_span::value::Value;
-use toml_span::{Error, Stop, parse};
+use toml_span::{Error, Span, Stop, parse};
 
 mod kinds;
 pub mod orders;
@@ -70,6 +74,8 @@ fn push_call<'t>(
         "text_order" => orders::push_order(alloc, root, out),
         "nodes" => orders::push_nodes(alloc, root, out),
         "diagnostics" => out.push_str("no fault"),
+        "refused_at" => out.push_str("Ok(None)"),
+        "with_value" | "write_second" => writes::push_changed(alloc, row, root, out),
         "node_at" => return push_node_at(alloc, row, root, out),
         "write" => return writes::push_writes(alloc, row.words, root, out),
         _ => return typed::answer(alloc, row, root, out),
@@ -77,17 +83,24 @@ fn push_call<'t>(
     known(pushed)
 }
 
-/// Adds what is told of a fault.
+/// The place at which a text is refused, with its line and its column.
+fn refused_at(fault: &Error<'_>) -> Result<Option<(Span, usize, usize)>, AllocError> {
+    let (line, column) = fault.line_info.unwrap_or((0, 0));
+    Ok(Some((fault.span, line, column)))
+}
+
+/// Adds what is told of the fault of a text.
 fn push_refused(
     alloc: Global,
     call: &str,
     fault: &Error<'_>,
     out: &mut String,
 ) -> Result<(), AllocError> {
-    if call == "diagnostics" {
-        return push_twice(alloc, fault, out);
+    match call {
+        "diagnostics" => push_twice(alloc, fault, out),
+        "refused_at" => push_told(refused_at(fault), out),
+        _ => push_fault(fault, out),
     }
-    push_fault(fault, out)
 }
 
 /// Adds what a first `parse` answers: `tree`, `fault`, or that there is no memory.

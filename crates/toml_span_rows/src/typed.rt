@@ -13,7 +13,7 @@ mod lists;
 mod marked;
 mod odd;
 pub mod owned;
-mod ported;
+pub mod ported;
 mod reads;
 mod structs;
 pub mod warned;

@@ -6,7 +6,7 @@ use crate::trees::places::{Place, below};
 use std::alloc::{AllocError, Global};
 use std::borrow::CowStr;
 use toml_span::value::{Key, Value, ValueInner};
-use toml_span::{Error, Span};
+use toml_span::{Error, Span, Stop};
 
 /// Adds a space, and a span whose offsets are counted from a start.
 pub fn push_moved(span: Span, from: usize, out: &mut String) -> Result<(), AllocError> {
@@ -144,4 +144,16 @@ pub fn push_fault(fault: &Error<'_>, out: &mut String) -> Result<(), AllocError>
     push_stand(fault, out)?;
     let kind = &fault.kind;
     write!(out, " {kind:?}")
+}
+
+/// Adds what is told of the fault for which a call gave nothing.
+pub fn push_stop(stop: Stop<Error<'_>>, out: &mut String) -> Result<(), AllocError> {
+    match stop {
+        Stop::Fault(fault) => {
+            let pushed = push_fault(&fault, out);
+            drop(fault);
+            pushed
+        }
+        Stop::Memory(refused) => Err(refused),
+    }
 }

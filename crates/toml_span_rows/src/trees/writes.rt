@@ -13,7 +13,8 @@
 //! | `taken=POINTER` | `is_taken` at what `pointer` names |
 //! | `debug=POINTER` | what `{:?}` writes of it |
 //! | `has_key=NAME`, `has_keys`, `whole` | `has_key`, `has_keys` and `is_whole` of the root |
-use crate::told::{known, push_told};
+use crate::Row;
+use crate::told::{known, push_told, push_told_line};
 use crate::trees::shown::{push_lines, push_named, push_string, push_told_back};
 use std::alloc::{AllocError, Global};
 use toml_span::value::{Pointer, Value, ValueInner};
@@ -172,4 +173,24 @@ pub fn push_writes<'t>(
     }
     push_lines(alloc, root, 0, out)?;
     Ok(true)
+}
+
+/// Answers `with_value` and `write_second`.
+pub fn push_changed<'t>(
+    alloc: Global,
+    row: Row<'t>,
+    root: &mut Value<'t>,
+    out: &mut String,
+) -> Result<(), AllocError> {
+    let is_second = row.call == "write_second";
+    let pointer = if is_second { "/b/x" } else { row.word(0) };
+    let is_put = root
+        .replace(pointer, Value::new(ValueInner::Integer(7)))
+        .is_ok();
+    if is_second {
+        push_told_line(is_put, out)?;
+    } else if !is_put {
+        return out.push_str("Ok(None)");
+    }
+    push_lines(alloc, root, 0, out)
 }

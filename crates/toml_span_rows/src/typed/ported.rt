@@ -128,7 +128,7 @@ impl<'de> Deserialize<'de> for Strict {
 
 /// A port of a table that has nothing else.
 #[derive(Debug, Drop)]
-pub struct Port(u16);
+pub struct Port(pub u16);
 
 impl<'de> Deserialize<'de> for Port {
     #[tactic(auto, using(toml_span_typed::proofs::Whole::found_whole))]
