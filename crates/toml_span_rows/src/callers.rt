@@ -10,7 +10,7 @@
 //! - `holders`: fields of the document that are an `Option`, what `FromStr` makes of a string, and an array of two.
 use crate::Row;
 use crate::holders::Holders;
-use crate::told::{known, push_told, push_told_line};
+use crate::told::Out;
 use crate::typed::owned::push_loaded;
 use crate::typed::ported::Port;
 use crate::typed::warned::push_warned;
@@ -18,44 +18,45 @@ use crate::uses::first::port_told;
 use crate::uses::servers::Servers;
 use crate::uses::settings::Settings;
 use crate::uses::{integer_at, port_of, span_at};
-use std::alloc::{AllocError, Global};
+use std::alloc::Global;
 use toml_span::from_str;
 
 /// Writes the answer of a row, one line each, or says that there is no such call.
-pub fn answer(alloc: Global, row: Row<'_>, out: &mut String) -> Result<bool, AllocError> {
+pub fn answer(alloc: Global, row: Row<'_>, out: &mut Out) -> bool {
     let Row { call, text, .. } = row;
-    let pushed = match call {
-        "span_at" => push_told(span_at(alloc, text, row.word(0)), out),
-        "integer_at" => push_told(integer_at(alloc, text, row.word(0)), out),
-        "port_of" => push_told(port_of(alloc, text), out),
-        "port_told" => out.push_str(port_told(alloc, text)?.as_str()),
+    match call {
+        "span_at" => out.told(span_at(alloc, text, row.word(0))),
+        "integer_at" => out.told(integer_at(alloc, text, row.word(0))),
+        "port_of" => out.told(port_of(alloc, text)),
+        "port_told" => out.made(port_told(alloc, text)),
         "settings_of" => push_settings(alloc, text, out),
         "servers_of" => push_servers(alloc, text, out),
-        "holders" => push_told(from_str::<Holders>(alloc, text), out),
+        "holders" => out.told(from_str::<Holders>(alloc, text)),
         "load" => return push_loaded(alloc, row.word(0), text, out),
         "warned" => return push_warned(alloc, row.word(0), text, out),
-        _ => return Ok(false),
-    };
-    known(pushed)
+        _ => return false,
+    }
+    true
 }
 
 /// Answers `settings_of`: the settings, or the errors.
-fn push_settings(alloc: Global, text: &str, out: &mut String) -> Result<(), AllocError> {
-    match from_str::<Settings<'_>>(alloc, text) {
-        Ok(Settings { host, port, secure }) => push_told((host, port, secure), out),
-        Err(stop) => push_told(stop, out),
+fn push_settings(alloc: Global, text: &str, out: &mut Out) {
+    let read = from_str::<Settings<'_>>(alloc, text);
+    match &read {
+        Ok(settings) => out.told((&settings.host, settings.port, settings.secure)),
+        Err(stop) => out.told(stop),
     }
 }
 
 /// Answers `servers_of`: a port each, or the errors.
-fn push_servers(alloc: Global, text: &str, out: &mut String) -> Result<(), AllocError> {
-    match from_str::<Servers>(alloc, text) {
-        Ok(Servers { servers }) => {
-            for Port(port) in &servers {
-                push_told_line(*port, out)?;
+fn push_servers(alloc: Global, text: &str, out: &mut Out) {
+    let read = from_str::<Servers>(alloc, text);
+    match &read {
+        Ok(read) => {
+            for server in &read.servers {
+                out.told_line(server.0);
             }
-            Ok(())
         }
-        Err(stop) => push_told(stop, out),
+        Err(stop) => out.told(stop),
     }
 }

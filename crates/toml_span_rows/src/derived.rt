@@ -6,7 +6,8 @@
 //!
 //! What there is no memory for is tried once more.
 use crate::Row;
-use crate::told::{known, push_told, push_told_line};
+use crate::tokens::push_span;
+use crate::told::Out;
 use attributes::Attributes;
 use device::{Device, Tagged};
 use serde::Deserialize;
@@ -14,7 +15,7 @@ use settings::{Settings, shown};
 use std::alloc::{AllocError, Global};
 use std::collections::BTreeMap;
 use std::fmt::Debug;
-use toml_span::{Span, Stop, parse};
+use toml_span::{Stop, parse};
 use toml_span_serde::{Error, Spanned, Style, from_str, from_value, render_stop};
 
 mod attributes;
@@ -25,39 +26,36 @@ mod settings;
 type Limits = BTreeMap<Spanned<String>, Spanned<i8>>;
 
 /// Writes the answer of a row, or says that there is no such call.
-pub fn answer(alloc: Global, row: Row<'_>, out: &mut String) -> Result<bool, AllocError> {
+pub fn answer(alloc: Global, row: Row<'_>, out: &mut Out) -> bool {
     let text = row.text;
-    let pushed = match row.call {
+    match row.call {
         "settings" => push_read::<Settings<'_>>(alloc, text, out),
         "device" => push_read::<Device>(alloc, text, out),
         "tagged" => push_read::<Tagged<'_>>(alloc, text, out),
         "attributes" => push_read::<Attributes>(alloc, text, out),
         "limits" => push_limits(alloc, text, out),
-        "shown" => push_shown(alloc, text, out),
-        "shown_device" => push_device(alloc, text, out),
-        _ => return Ok(false),
-    };
-    known(pushed)
+        "shown" | "shown_device" => push_shown(alloc, row, out),
+        _ => return false,
+    }
+    true
 }
 
 /// Adds what a text is read as.
 fn push_read<'de, T: Deserialize<'de> + Debug + Drop>(
     alloc: Global,
     text: &'de str,
-    out: &mut String,
-) -> Result<(), AllocError> {
-    if push_answer(alloc, from_str::<T>(alloc, text), out)? {
-        return Ok(());
+    out: &mut Out,
+) {
+    if !push_answer(alloc, from_str::<T>(alloc, text), out) {
+        push_answer(alloc, from_str::<T>(alloc, text), out);
     }
-    push_answer(alloc, from_str::<T>(alloc, text), out).map(|_| ())
 }
 
 /// Answers `limits`.
-fn push_limits(alloc: Global, text: &str, out: &mut String) -> Result<(), AllocError> {
-    if push_answer(alloc, limits_of(alloc, text), out)? {
-        return Ok(());
+fn push_limits(alloc: Global, text: &str, out: &mut Out) {
+    if !push_answer(alloc, limits_of(alloc, text), out) {
+        push_answer(alloc, limits_of(alloc, text), out);
     }
-    push_answer(alloc, limits_of(alloc, text), out).map(|_| ())
 }
 
 /// The document's tree as limits.
@@ -78,43 +76,38 @@ fn limits_of(alloc: Global, text: &str) -> Result<Limits, Stop<Error<'_>>> {
 fn push_answer<T: Debug + Drop>(
     alloc: Global,
     read: Result<T, Stop<Error<'_>>>,
-    out: &mut String,
-) -> Result<bool, AllocError> {
-    match read {
-        Ok(value) => push_told(value, out)?,
-        Err(Stop::Fault(error)) => push_error(alloc, error, out)?,
-        Err(Stop::Memory(refused)) => {
-            push_told_line(refused, out)?;
-            return Ok(false);
-        }
+    out: &mut Out,
+) -> bool {
+    match &read {
+        Ok(value) => out.told(value),
+        Err(Stop::Fault(error)) => push_error(alloc, error, out),
+        Err(Stop::Memory(refused)) => out.told_line(refused),
     }
-    Ok(true)
+    !matches!(&read, Err(Stop::Memory(_)))
+}
+
+/// The code of an error.
+fn code_of(alloc: Global, error: &Error<'_>) -> Result<String, AllocError> {
+    Ok(error.to_diagnostic(alloc, ())?.code)
 }
 
 /// Adds the code and the place of an error, and its text.
-fn push_error(alloc: Global, error: Error<'_>, out: &mut String) -> Result<(), AllocError> {
-    let code = match error.to_diagnostic(alloc, ()) {
-        Ok(told) => told.code,
-        Err(refused) => {
-            push_told_line(refused, out)?;
-            error.to_diagnostic(alloc, ())?.code
-        }
-    };
-    let Span { start, end } = error.span();
+fn push_error(alloc: Global, error: &Error<'_>, out: &mut Out) {
+    let mut made = code_of(alloc, error);
+    if let Err(refused) = &made {
+        out.told_line(refused);
+        made = code_of(alloc, error);
+    }
+    out.made(made);
+    out.push(' ');
+    push_span(out, error.span());
     let (line, column) = error.line_info().unwrap_or((0, 0));
-    write!(out, "{code} {start}..{end} {line}:{column} {error}")
-}
-
-/// Answers `shown`.
-fn push_shown(alloc: Global, text: &str, out: &mut String) -> Result<(), AllocError> {
-    let written = match shown(alloc, text) {
-        Ok(written) => written,
-        Err(refused) => {
-            push_told_line(refused, out)?;
-            shown(alloc, text)?
-        }
-    };
-    out.push_str(written.as_str())
+    out.push(' ');
+    out.told(line);
+    out.push(':');
+    out.told(column);
+    out.push(' ');
+    out.shown(error);
 }
 
 /// The device, or why there is none.
@@ -125,14 +118,20 @@ fn device_shown(alloc: Global, text: &str) -> Result<String, AllocError> {
     }
 }
 
-/// Answers `shown_device`.
-fn push_device(alloc: Global, text: &str, out: &mut String) -> Result<(), AllocError> {
-    let written = match device_shown(alloc, text) {
-        Ok(written) => written,
-        Err(refused) => {
-            push_told_line(refused, out)?;
-            device_shown(alloc, text)?
-        }
-    };
-    out.push_str(written.as_str())
+/// What a row shows: the settings, or the device.
+fn row_shown(alloc: Global, row: Row<'_>) -> Result<String, AllocError> {
+    if row.call == "shown" {
+        return shown(alloc, row.text);
+    }
+    device_shown(alloc, row.text)
+}
+
+/// Answers `shown` and `shown_device`.
+fn push_shown(alloc: Global, row: Row<'_>, out: &mut Out) {
+    let mut made = row_shown(alloc, row);
+    if let Err(refused) = &made {
+        out.told_line(refused);
+        made = row_shown(alloc, row);
+    }
+    out.made(made);
 }

@@ -10,7 +10,7 @@ ghost use Rattle.std.specs.Prelude.{◌≤◌, IfSome};
 use crate::edits::{push_literals, push_spelled};
 use crate::faults::push_twice;
 use crate::spots::push_node_at;
-use crate::told::{known, push_told, push_told_line};
+use crate::told::Out;
 use crate::{Row, typed};
 use shown::{push_fault, push_lines};
 use std::alloc::{AllocError, Global};
@@ -42,29 +42,23 @@ pub(crate) fn limit_of(row: Row<'_>) -> Option<usize>
 }
 
 /// Adds the JSON value of a tree of which nothing is taken. It is asked for again where there is no memory for it.
-fn push_json(alloc: Global, root: &Value<'_>, out: &mut String) -> Result<(), AllocError> {
+fn push_json(alloc: Global, root: &Value<'_>, out: &mut Out) {
     if !root.is_whole() {
         return out.push_str("not whole");
     }
-    let json = match root.to_json(alloc) {
-        Ok(json) => json,
-        Err(refused) => {
-            push_told_line(refused, out)?;
-            root.to_json(alloc)?
-        }
-    };
-    let shown = json.to_string(alloc)?;
-    out.push_str(shown.as_str())
+    let mut made = root.to_json(alloc);
+    if let Err(refused) = &made {
+        out.told_line(refused);
+        made = root.to_json(alloc);
+    }
+    if let Some(json) = out.kept(made) {
+        out.made(json.to_string(alloc));
+    }
 }
 
 /// Adds what a call answers on a tree. Whether there is such a call.
-fn push_call<'t>(
-    alloc: Global,
-    row: Row<'t>,
-    root: &mut Value<'t>,
-    out: &mut String,
-) -> Result<bool, AllocError> {
-    let pushed = match row.call {
+fn push_call<'t>(alloc: Global, row: Row<'t>, root: &mut Value<'t>, out: &mut Out) -> bool {
+    match row.call {
         "parse" | "twice" => push_lines(alloc, root, 0, out),
         "json" => push_json(alloc, root, out),
         "kinds" => kinds::push_kinds(alloc, root, out),
@@ -79,8 +73,8 @@ fn push_call<'t>(
         "node_at" => return push_node_at(alloc, row, root, out),
         "write" => return writes::push_writes(alloc, row.words, root, out),
         _ => return typed::answer(alloc, row, root, out),
-    };
-    known(pushed)
+    }
+    true
 }
 
 /// The place at which a text is refused, with its line and its column.
@@ -90,55 +84,41 @@ fn refused_at(fault: &Error<'_>) -> Result<Option<(Span, usize, usize)>, AllocEr
 }
 
 /// Adds what is told of the fault of a text.
-fn push_refused(
-    alloc: Global,
-    call: &str,
-    fault: &Error<'_>,
-    out: &mut String,
-) -> Result<(), AllocError> {
+fn push_refused(alloc: Global, call: &str, fault: &Error<'_>, out: &mut Out) {
     match call {
         "diagnostics" => push_twice(alloc, fault, out),
-        "refused_at" => push_told(refused_at(fault), out),
+        "refused_at" => out.told(refused_at(fault)),
         _ => push_fault(fault, out),
     }
 }
 
 /// Adds what a first `parse` answers: `tree`, `fault`, or that there is no memory.
-fn push_first(alloc: Global, text: &str, out: &mut String) -> Result<(), AllocError> {
-    let word = match parse(alloc, text) {
-        Ok(root) => {
-            drop(root);
-            "tree\n"
-        }
-        Err(Stop::Fault(fault)) => {
-            drop(fault);
-            "fault\n"
-        }
-        Err(Stop::Memory(_)) => "AllocError\n",
-    };
-    out.push_str(word)
+fn push_first(alloc: Global, text: &str, out: &mut Out) {
+    let first = parse(alloc, text);
+    out.push_str(match &first {
+        Ok(_) => "tree\n",
+        Err(Stop::Fault(_)) => "fault\n",
+        Err(_) => "AllocError\n",
+    });
 }
 
 /// Writes the answer of a row, one line each, or says that there is no such call.
-pub fn answer(alloc: Global, row: Row<'_>, out: &mut String) -> Result<bool, AllocError> {
+pub fn answer(alloc: Global, row: Row<'_>, out: &mut Out) -> bool {
     let Some(limit) = limit_of(row) else {
-        return Ok(false);
+        return false;
     };
     if row.call == "twice" {
-        push_first(alloc, row.text, out)?;
+        push_first(alloc, row.text, out);
     }
     match parse_with_limit(alloc, row.text, limit) {
-        Ok(mut root) => {
-            let known = push_call(alloc, row, &mut root, out);
-            drop(root);
-            known
-        }
+        Ok(mut root) => push_call(alloc, row, &mut root, out),
         Err(Stop::Fault(fault)) => {
-            let pushed = push_refused(alloc, row.call, &fault, out);
-            drop(fault);
-            pushed?;
-            Ok(true)
+            push_refused(alloc, row.call, &fault, out);
+            true
         }
-        Err(Stop::Memory(refused)) => Err(refused),
+        Err(Stop::Memory(_)) => {
+            out.is_short = true;
+            true
+        }
     }
 }

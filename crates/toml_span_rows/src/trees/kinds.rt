@@ -1,9 +1,9 @@
 //! `kinds`: the line of each value, which calls give something at it, and which at what it holds: `as_str`,
 //! `as_integer`, `as_float`, `as_bool`, `as_datetime`, `as_array` and `as_table`, in this order.
-use crate::told::push_told_line;
+use crate::told::Out;
 use crate::trees::places::{Place, below};
 use crate::trees::shown::push_line;
-use std::alloc::{AllocError, Global};
+use std::alloc::Global;
 use toml_span::value::{Value, ValueInner};
 
 /// Which calls give something at a value.
@@ -32,19 +32,20 @@ fn inner_kinds(inner: &ValueInner<'_>) -> [bool; 7] {
     ]
 }
 
-fn push_place(place: &Place<'_, '_>, out: &mut String) -> Result<(), AllocError> {
-    push_line(place, 0, out)?;
-    push_told_line(value_kinds(place.value), out)?;
-    if place.value.is_taken() {
-        return Ok(());
+fn push_place(place: &Place<'_, '_>, out: &mut Out) {
+    push_line(place, 0, out);
+    out.told_line(value_kinds(place.value));
+    if !place.value.is_taken() {
+        out.told_line(inner_kinds(place.value.as_ref()));
     }
-    push_told_line(inner_kinds(place.value.as_ref()), out)
 }
 
 /// Adds the calls for each value of a tree.
-pub fn push_kinds(alloc: Global, root: &Value<'_>, out: &mut String) -> Result<(), AllocError> {
-    for place in &below(alloc, root)? {
-        push_place(place, out)?;
+pub fn push_kinds(alloc: Global, root: &Value<'_>, out: &mut Out) {
+    let Some(places) = out.kept(below(alloc, root)) else {
+        return;
+    };
+    for place in &places {
+        push_place(place, out);
     }
-    Ok(())
 }
