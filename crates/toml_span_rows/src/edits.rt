@@ -12,10 +12,10 @@ use crate::Row;
 use crate::tokens::push_span;
 use crate::told::Out;
 use crate::trees::orders::push_steps;
-use crate::trees::places::below;
+use crate::trees::places::push_path;
 use std::alloc::{AllocError, Global};
 use toml_span::Span;
-use toml_span::value::Value;
+use toml_span::value::{Value, nodes};
 use toml_span_places::{
     assignment_lines, key_places, literal_span, quote_key, quote_string, replaced, section_lines,
     to_toml, with_quotes,
@@ -97,12 +97,12 @@ pub fn push_lines(text: &str, sections: &[Section<'_>], out: &mut Out) {
 
 /// Adds of each value of a tree its path, where it is spelled, and the text there.
 pub fn push_literals(alloc: Global, text: &str, root: &Value<'_>, out: &mut Out) {
-    let Some(places) = out.kept(below(alloc, root)) else {
+    let Some(list) = out.kept(nodes(alloc, root)) else {
         return;
     };
-    for place in &places {
-        let span = literal_span(text, place.value);
-        out.push_str(place.path.as_str());
+    for visited in list.iter() {
+        let span = literal_span(text, visited.value);
+        push_path(visited.path.as_slice(), out);
         out.push(' ');
         push_span(out, span);
         out.push(' ');
@@ -112,13 +112,13 @@ pub fn push_literals(alloc: Global, text: &str, root: &Value<'_>, out: &mut Out)
 
 /// Adds each value of a tree as TOML, behind its path.
 pub fn push_spelled(alloc: Global, root: &Value<'_>, out: &mut Out) {
-    let Some(places) = out.kept(below(alloc, root)) else {
+    let Some(list) = out.kept(nodes(alloc, root)) else {
         return;
     };
-    for place in &places {
-        out.push_str(place.path.as_str());
+    for visited in list.iter() {
+        push_path(visited.path.as_slice(), out);
         out.push(' ');
-        out.made(to_toml(alloc, place.value));
+        out.made(to_toml(alloc, visited.value));
         out.push('\n');
     }
 }

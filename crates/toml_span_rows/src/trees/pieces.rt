@@ -1,10 +1,9 @@
 //! `again`: numbers, truth values, dates, arrays and inline tables, cut out of a document and
 //! read again.
 use crate::told::Out;
-use crate::trees::places::below;
 use crate::trees::shown::push_lines;
 use std::alloc::Global;
-use toml_span::value::{Table, Value, ValueInner};
+use toml_span::value::{Table, Value, ValueInner, nodes};
 use toml_span::{Stop, parse};
 
 /// What stands before a piece that is read again.
@@ -84,12 +83,12 @@ fn push_piece(alloc: Global, text: &str, value: &Value<'_>, out: &mut Out) {
 
 /// Adds each piece of a document, and whether it is read as the same value.
 pub fn push_again(alloc: Global, text: &str, root: &Value<'_>, out: &mut Out) {
-    let Some(places) = out.kept(below(alloc, root)) else {
+    let Some(list) = out.kept(nodes(alloc, root)) else {
         return;
     };
-    for place in &places {
-        if is_piece(text, place.value) {
-            push_piece(alloc, text, place.value, out);
+    for visited in list.iter() {
+        if is_piece(text, visited.value) {
+            push_piece(alloc, text, visited.value, out);
         }
     }
 }

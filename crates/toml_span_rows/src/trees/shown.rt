@@ -2,10 +2,10 @@
 use crate::tokens::push_span;
 use crate::told::Out;
 use crate::trees::kinds::value_kinds;
-use crate::trees::places::{Place, below};
+use crate::trees::places::{key_of, push_path};
 use std::alloc::Global;
 use std::borrow::CowStr;
-use toml_span::value::{Key, Value, ValueInner};
+use toml_span::value::{Key, Value, ValueInner, Visited, nodes};
 use toml_span::{Error, Span, Stop};
 
 /// Adds a space, and a span whose offsets are counted from a start.
@@ -78,16 +78,21 @@ fn push_number(scalar: &ValueInner<'_>, out: &mut Out) {
     }
 }
 
-/// Adds the line of a value.
-pub fn push_line(place: &Place<'_, '_>, from: usize, out: &mut Out) {
-    let path = place.path.as_str();
-    out.push_str(if path.is_empty() { "root" } else { path });
-    out.push(' ');
-    push_kind(place.value, from, out);
-    if let Some(key) = place.key {
+/// Adds the line of a value that is visited behind others.
+pub fn push_line<'t, 'de>(
+    before: &[Visited<'t, 'de>],
+    visited: &Visited<'t, 'de>,
+    from: usize,
+    out: &mut Out,
+) {
+    let path = visited.path.as_slice();
+    push_path(path, out);
+    out.push_str(if path.is_empty() { "root " } else { " " });
+    push_kind(visited.value, from, out);
+    if let Some(key) = key_of(before, path) {
         push_key(key, from, out);
     }
-    push_scalar(place.value, out);
+    push_scalar(visited.value, out);
     out.push('\n');
 }
 
@@ -108,11 +113,12 @@ pub fn push_named(value: Option<&Value<'_>>, out: &mut Out) {
 
 /// Adds the lines of a value and of all that it holds, with offsets counted from a start.
 pub fn push_lines(alloc: Global, value: &Value<'_>, from: usize, out: &mut Out) {
-    let Some(places) = out.kept(below(alloc, value)) else {
+    let Some(list) = out.kept(nodes(alloc, value)) else {
         return;
     };
-    for place in &places {
-        push_line(place, from, out);
+    let list = list.as_slice();
+    for (index, visited) in list.iter().enumerate() {
+        push_line(&list[..index], visited, from, out);
     }
 }
 
