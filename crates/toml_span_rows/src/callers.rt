@@ -1,6 +1,6 @@
 //! Rows of the callers of `parse`.
 //!
-//! - `span_at POINTER` and `integer_at POINTER`: what stands there, if anything does.
+//! - `span_at POINTER`: where the value stands, if there is one.
 //! - `port_of`: the port of the document, if it has one.
 //! - `settings_of`: the settings of the document, or all their errors.
 //! - `port_told`: where the port of the document's server stands, or what is wrong.
@@ -17,7 +17,7 @@ use crate::typed::warned::push_warned;
 use crate::uses::first::port_told;
 use crate::uses::servers::Servers;
 use crate::uses::settings::Settings;
-use crate::uses::{integer_at, port_of, span_at};
+use crate::uses::{port_of, span_at};
 use std::alloc::Global;
 use toml_span::from_str;
 
@@ -26,7 +26,6 @@ pub fn answer(alloc: Global, row: Row<'_>, out: &mut Out) -> bool {
     let Row { call, text, .. } = row;
     match call {
         "span_at" => out.told(span_at(alloc, text, row.word(0))),
-        "integer_at" => out.told(integer_at(alloc, text, row.word(0))),
         "port_of" => out.told(port_of(alloc, text)),
         "port_told" => out.made(port_told(alloc, text)),
         "settings_of" => push_settings(alloc, text, out),

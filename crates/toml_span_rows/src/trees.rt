@@ -3,6 +3,7 @@
 //! that it prints. `twice` parses twice: what the first answers in a word, and the second whole.
 //!
 //! - `refused_at`: the place of a refusal, with its line and its column.
+//! - `integer_at POINTER`: the integer there, if there is one.
 //! - `with_value POINTER`: the tree with the number 7 where the pointer leads, if it leads anywhere.
 //! - `write_second`: whether the number 7 is put at `/b/x`, and the tree then.
 ghost use Rattle.std.specs.Prelude.{◌≤◌, IfSome};
@@ -69,12 +70,21 @@ fn push_call<'t>(alloc: Global, row: Row<'t>, root: &mut Value<'t>, out: &mut Ou
         "nodes" => orders::push_nodes(alloc, root, out),
         "diagnostics" => out.push_str("no fault"),
         "refused_at" => out.push_str("Ok(None)"),
+        "integer_at" => out.told(integer_at(root, row.word(0))),
         "with_value" | "write_second" => writes::push_changed(alloc, row, root, out),
         "node_at" => return push_node_at(alloc, row, root, out),
         "write" => return writes::push_writes(alloc, row.words, root, out),
         _ => return typed::answer(alloc, row, root, out),
     }
     true
+}
+
+/// The integer to which a pointer leads, if it leads to one.
+fn integer_at<'t>(root: &Value<'t>, pointer: &'t str) -> Result<Option<i64>, AllocError> {
+    match root.pointer(pointer) {
+        Some(value) => Ok(value.as_integer()),
+        None => Ok(None),
+    }
 }
 
 /// The place at which a text is refused, with its line and its column.

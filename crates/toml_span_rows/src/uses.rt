@@ -1,5 +1,5 @@
 //! Callers of `toml_span` that state what they conclude.
-ghost use Rattle.std.specs.Prelude.{◌≡◌, ◌↔◌, ◌∷◌, [], ℤ, pos, codes, Some, IfOk, IfErr};
+ghost use Rattle.std.specs.Prelude.{◌≡◌, ◌↔◌, ◌∷◌, [], pos, codes, Some, IfOk, IfErr};
 ghost use Rattle.toml_span_lex.specs.declared.span.Span.{Span as Bytes};
 ghost use Rattle.toml_span_tree.specs.Node.{integer};
 ghost use Rattle.toml_span_tree.specs.Path.{Place, key, shape_scalar};
@@ -29,22 +29,6 @@ pub(crate) fn span_at<'de>(
     let root = parse(alloc, text)?;
     match root.pointer(pointer) {
         Some(value) => Ok(Some(value.span)),
-        None => Ok(None),
-    }
-}
-
-/// The integer that the pointer names, if it names one.
-pub(crate) fn integer_at<'de>(
-    alloc: Global,
-    text: &'de str,
-    pointer: &'de str,
-) -> Result<Option<i64>, Stop<Error<'de>>>
-    ensures { IfOk result (λ o. IsDocument text.now (λ places. (z : ℤ) → (o ≡ Some z)
-        ↔ StandsAt pointer.now places (λ place. place.shape ≡ shape_scalar (integer z)))) }
-{
-    let root = parse(alloc, text)?;
-    match root.pointer(pointer) {
-        Some(value) => Ok(value.as_integer()),
         None => Ok(None),
     }
 }

@@ -1,12 +1,12 @@
 -- What callers conclude from the clauses of `parse` and of the tree.
-use Rattle.std.proofs.Common.{◌≡◌, ◌↔◌, ℕ, ℤ, pos, negsuc, Bool, true, false, nat_lt, if◌then◌else◌, List, Option, Some, None, option_map, Ok, length, refl, sym, ap, ◌∙◌, subst, true≢false}
+use Rattle.std.proofs.Common.{◌≡◌, ◌↔◌, ℕ, pos, negsuc, Bool, true, false, nat_lt, if◌then◌else◌, List, Option, Some, None, option_map, Ok, length, refl, sym, ap, ◌∙◌, subst, true≢false}
 use Rattle.std.proofs.lemmas.Option.{none-some, same_Some}
 use Rattle.toml_span_lex.specs.declared.span.Span.{Span}
 use Rattle.toml_span_tree.specs.declared.value.Value.{Value}
-use Rattle.toml_span_tree.specs.Node.{Node, node, Inner, taken, scalar, array, table, text, integer, float, boolean, datetime}
+use Rattle.toml_span_tree.specs.Node.{Node, node, taken, scalar, array, table, text, integer, float, boolean, datetime}
 use Rattle.toml_span_tree.specs.Path.{Path, Place, shape_scalar, shape_of, place_of, reached}
 use Rattle.toml_span_tree.specs.Pointer.{pointed}
-use Rattle.toml_span_tree.specs.Value.{view, inner_of, span_of, integer_in, is_taken}
+use Rattle.toml_span_tree.specs.Value.{view, inner_of, span_of, is_taken}
 use Rattle.toml_span_tree.proofs.PointerLaws.{pointed-is}
 use Rattle.toml_span_tree.proofs.Values.{view_is}
 use Rattle.toml_span_typed.specs.Reads.{read_integer, or_out_of, unsigned}
@@ -79,22 +79,6 @@ pub span-place : (v : Value) (k : Option Span) (span : Span) → (Some v.span �
 span-place v k span =
     let same : span_of (view v) ≡ v.span = ap span_of (view_is v) in
     (λ h. same ∙ same_Some v.span span h, λ h. ap Some (sym same ∙ h))
-
-integer-shape : (i : Inner) (z : ℤ) → (integer_in i ≡ Some z) ↔ (shape_of i ≡ shape_scalar (integer z))
-integer-shape taken z = (λ h. cc, λ h. cc)
-integer-shape (scalar (text s)) z = (λ h. cc, λ h. cc)
-integer-shape (scalar (integer y)) z = (λ h. ap (λ y. shape_scalar (integer y)) (same_Some y z h), λ h. cc)
-integer-shape (scalar (float x)) z = (λ h. cc, λ h. cc)
-integer-shape (scalar (boolean b)) z = (λ h. cc, λ h. cc)
-integer-shape (scalar (datetime d)) z = (λ h. cc, λ h. cc)
-integer-shape (array ns) z = (λ h. cc, λ h. cc)
-integer-shape (table ms) z = (λ h. cc, λ h. cc)
-
--- what `as_integer` answers
-pub integer-place : (o : Option ℤ) (i : Inner) → o ≡ integer_in i → (z : ℤ) → (o ≡ Some z) ↔ (shape_of i ≡ shape_scalar (integer z))
-integer-place o i is z =
-    let shape = integer-shape i z in
-    (λ h. shape.0 (sym is ∙ h), λ h. is ∙ shape.1 h)
 
 -- ---- a number that is read
 
