@@ -81,9 +81,9 @@ fn push_answer<T: Debug + Drop>(
     match &read {
         Ok(value) => out.told(value),
         Err(Stop::Fault(error)) => push_error(alloc, error, out),
-        Err(Stop::Memory(refused)) => out.told_line(refused),
+        Err(_) => out.told_line(AllocError),
     }
-    !matches!(&read, Err(Stop::Memory(_)))
+    matches!(&read, Ok(_) | Err(Stop::Fault(_)))
 }
 
 /// The code of an error.

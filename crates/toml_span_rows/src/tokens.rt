@@ -6,7 +6,7 @@
 //! token, `clone` keeps a copy of the tokenizer, and `swap` goes on with the copy.
 use crate::Row;
 use crate::told::Out;
-use std::alloc::Global;
+use std::alloc::{AllocError, Global};
 use std::borrow::CowStr;
 use std::mem;
 use toml_span_lex::key::Key;
@@ -65,7 +65,7 @@ fn push_stop(out: &mut Out, stop: &Stop<Error>) {
             out.push_str("error ");
             out.told(error);
         }
-        Stop::Memory(refused) => out.told(refused),
+        _ => out.told(AllocError),
     }
 }
 

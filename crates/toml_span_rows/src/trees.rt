@@ -94,11 +94,14 @@ fn refused_at(fault: &Error<'_>) -> Result<Option<(Span, usize, usize)>, AllocEr
 }
 
 /// Adds what is told of the fault of a text.
-fn push_refused(alloc: Global, call: &str, fault: &Error<'_>, out: &mut Out) {
-    match call {
-        "diagnostics" => push_twice(alloc, fault, out),
-        "refused_at" => out.told(refused_at(fault)),
-        _ => push_fault(fault, out),
+fn push_refused(alloc: Global, call: &str, stop: Stop<Error<'_>>, out: &mut Out) {
+    match &stop {
+        Stop::Fault(fault) => match call {
+            "diagnostics" => push_twice(alloc, fault, out),
+            "refused_at" => out.told(refused_at(fault)),
+            _ => push_fault(fault, out),
+        },
+        _ => out.is_short = true,
     }
 }
 
@@ -122,12 +125,8 @@ pub fn answer(alloc: Global, row: Row<'_>, out: &mut Out) -> bool {
     }
     match parse_with_limit(alloc, row.text, limit) {
         Ok(mut root) => push_call(alloc, row, &mut root, out),
-        Err(Stop::Fault(fault)) => {
-            push_refused(alloc, row.call, &fault, out);
-            true
-        }
-        Err(Stop::Memory(_)) => {
-            out.is_short = true;
+        Err(stop) => {
+            push_refused(alloc, row.call, stop, out);
             true
         }
     }

@@ -22,9 +22,9 @@ fn push_as<'de, T: Deserialize<'de> + Debug>(
         return false;
     }
     let read = T::deserialize(alloc, value);
-    let again = matches!(&read, Err(Stop::Memory(_))) && value.is_whole();
+    let is_told = matches!(&read, Ok(_) | Err(Stop::Fault(_)));
     out.told(read);
-    if again {
+    if !is_told && value.is_whole() {
         out.push('\n');
         out.told(T::deserialize(alloc, value));
     }
