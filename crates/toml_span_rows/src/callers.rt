@@ -40,21 +40,20 @@ pub fn answer(alloc: Global, row: Row<'_>, out: &mut Out) -> bool {
 
 /// Answers `settings_of`: the settings, or the errors.
 fn push_settings(alloc: Global, text: &str, out: &mut Out) {
-    let read = from_str::<Settings<'_>>(alloc, text);
-    match &read {
-        Ok(settings) => out.told((&settings.host, settings.port, settings.secure)),
+    match from_str::<Settings<'_>>(alloc, text) {
+        Ok(Settings { host, port, secure }) => out.told((host, port, secure)),
         Err(stop) => out.told(stop),
     }
 }
 
 /// Answers `servers_of`: a port each, or the errors.
 fn push_servers(alloc: Global, text: &str, out: &mut Out) {
-    let read = from_str::<Servers>(alloc, text);
-    match &read {
+    match from_str::<Servers>(alloc, text) {
         Ok(read) => {
             for server in &read.servers {
                 out.told_line(server.0);
             }
+            drop(read);
         }
         Err(stop) => out.told(stop),
     }

@@ -78,12 +78,18 @@ fn push_answer<T: Debug + Drop>(
     read: Result<T, Stop<Error<'_>>>,
     out: &mut Out,
 ) -> bool {
-    match &read {
+    match read {
         Ok(value) => out.told(value),
-        Err(Stop::Fault(error)) => push_error(alloc, error, out),
-        Err(_) => out.told_line(AllocError),
+        Err(Stop::Fault(error)) => {
+            push_error(alloc, &error, out);
+            drop(error);
+        }
+        Err(Stop::Memory(refused)) => {
+            out.told_line(refused);
+            return false;
+        }
     }
-    matches!(&read, Ok(_) | Err(Stop::Fault(_)))
+    true
 }
 
 /// The code of an error.

@@ -105,10 +105,11 @@ fn push_reports(alloc: Global, reports: &[Report], text: &str, form: Form, out: 
 
 /// Answers `lint`, `lint_lines` and `lint_json`.
 fn push_linted(alloc: Global, text: &str, form: Form, out: &mut Out) {
-    let read = parse(alloc, text);
-    match &read {
+    match parse(alloc, text) {
         Ok(root) => {
-            if let Some(reports) = out.kept(lint(alloc, root)) {
+            let made = lint(alloc, &root);
+            drop(root);
+            if let Some(reports) = out.kept(made) {
                 push_reports(alloc, reports.as_slice(), text, form, out);
             }
         }

@@ -33,11 +33,18 @@ fn is_within(text: &str, fault: &Error<'_>) -> bool {
 
 /// Whether a text gives a tree of which nothing is taken, or a fault within it.
 fn is_right(alloc: Global, text: &str, out: &mut Out) -> bool {
-    let read = parse(alloc, text);
-    match &read {
-        Ok(root) => root.is_whole(),
-        Err(Stop::Fault(fault)) => is_within(text, fault),
-        Err(_) => {
+    match parse(alloc, text) {
+        Ok(root) => {
+            let is_whole = root.is_whole();
+            drop(root);
+            is_whole
+        }
+        Err(Stop::Fault(fault)) => {
+            let is_within = is_within(text, &fault);
+            drop(fault);
+            is_within
+        }
+        Err(Stop::Memory(_)) => {
             out.is_short = true;
             false
         }

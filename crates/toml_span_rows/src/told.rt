@@ -74,7 +74,7 @@ impl Out {
     }
 
     /// Adds the text of an answer.
-    pub fn shown<T: Display>(&mut self, shown: &T) {
+    pub fn shown<T: Display + Drop>(&mut self, shown: T) {
         if write!(self.text, "{shown}").is_err() {
             self.is_short = true;
         }

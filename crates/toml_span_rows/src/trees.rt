@@ -94,25 +94,28 @@ fn refused_at(fault: &Error<'_>) -> Result<Option<(Span, usize, usize)>, AllocEr
 }
 
 /// Adds what is told of the fault of a text.
-fn push_refused(alloc: Global, call: &str, stop: Stop<Error<'_>>, out: &mut Out) {
-    match &stop {
-        Stop::Fault(fault) => match call {
-            "diagnostics" => push_twice(alloc, fault, out),
-            "refused_at" => out.told(refused_at(fault)),
-            _ => push_fault(fault, out),
-        },
-        _ => out.is_short = true,
+fn push_refused(alloc: Global, call: &str, fault: &Error<'_>, out: &mut Out) {
+    match call {
+        "diagnostics" => push_twice(alloc, fault, out),
+        "refused_at" => out.told(refused_at(fault)),
+        _ => push_fault(fault, out),
     }
 }
 
 /// Adds what a first `parse` answers: `tree`, `fault`, or that there is no memory.
 fn push_first(alloc: Global, text: &str, out: &mut Out) {
-    let first = parse(alloc, text);
-    out.push_str(match &first {
-        Ok(_) => "tree\n",
-        Err(Stop::Fault(_)) => "fault\n",
-        Err(_) => "AllocError\n",
-    });
+    let word = match parse(alloc, text) {
+        Ok(root) => {
+            drop(root);
+            "tree\n"
+        }
+        Err(Stop::Fault(fault)) => {
+            drop(fault);
+            "fault\n"
+        }
+        Err(Stop::Memory(_)) => "AllocError\n",
+    };
+    out.push_str(word);
 }
 
 /// Writes the answer of a row, one line each, or says that there is no such call.
@@ -124,9 +127,18 @@ pub fn answer(alloc: Global, row: Row<'_>, out: &mut Out) -> bool {
         push_first(alloc, row.text, out);
     }
     match parse_with_limit(alloc, row.text, limit) {
-        Ok(mut root) => push_call(alloc, row, &mut root, out),
-        Err(stop) => {
-            push_refused(alloc, row.call, stop, out);
+        Ok(mut root) => {
+            let known = push_call(alloc, row, &mut root, out);
+            drop(root);
+            known
+        }
+        Err(Stop::Fault(fault)) => {
+            push_refused(alloc, row.call, &fault, out);
+            drop(fault);
+            true
+        }
+        Err(Stop::Memory(_)) => {
+            out.is_short = true;
             true
         }
     }

@@ -9,20 +9,25 @@ use toml_span::{Stop, parse};
 /// What stands before a piece that is read again.
 const FRONT: &str = "x = ";
 
+/// Adds the lines of the value at `/x`, with offsets counted from its start.
+fn push_moved_lines(alloc: Global, root: &Value<'_>, out: &mut Out) {
+    if let Some(value) = root.pointer("/x") {
+        push_lines(alloc, value, FRONT.len(), out);
+    }
+}
+
 /// Adds what a value's text, behind `x = `, is read as, with offsets counted from the value's start.
 fn push_reread(alloc: Global, piece: &str, out: &mut Out) {
     let Some(text) = out.kept(format!(in alloc; "{FRONT}{piece}")) else {
         return;
     };
-    let read = parse(alloc, text.as_str());
-    match &read {
+    match parse(alloc, text.as_str()) {
         Ok(root) => {
-            if let Some(value) = root.pointer("/x") {
-                push_lines(alloc, value, FRONT.len(), out);
-            }
+            push_moved_lines(alloc, &root, out);
+            drop(root);
         }
-        Err(Stop::Fault(_)) => {}
-        Err(_) => out.is_short = true,
+        Err(Stop::Fault(fault)) => drop(fault),
+        Err(Stop::Memory(_)) => out.is_short = true,
     }
 }
 

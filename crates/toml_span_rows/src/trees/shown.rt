@@ -103,6 +103,12 @@ pub fn push_back(said: &str, value: &Value<'_>, out: &mut Out) {
     push_scalar(value, out);
 }
 
+/// The same of a value that is told once.
+pub fn push_told_back(said: &str, value: Value<'_>, out: &mut Out) {
+    push_back(said, &value, out);
+    drop(value);
+}
+
 /// Adds what a pointer names.
 pub fn push_named(value: Option<&Value<'_>>, out: &mut Out) {
     match value {
@@ -147,8 +153,11 @@ pub fn push_fault(fault: &Error<'_>, out: &mut Out) {
 
 /// Adds what is told of the fault for which a call gave nothing.
 pub fn push_stop(stop: Stop<Error<'_>>, out: &mut Out) {
-    match &stop {
-        Stop::Fault(fault) => push_fault(fault, out),
-        _ => out.is_short = true,
+    match stop {
+        Stop::Fault(fault) => {
+            push_fault(&fault, out);
+            drop(fault);
+        }
+        Stop::Memory(_) => out.is_short = true,
     }
 }

@@ -15,7 +15,7 @@
 //! | `has_key=NAME`, `has_keys`, `whole` | `has_key`, `has_keys` and `is_whole` of the root |
 use crate::Row;
 use crate::told::Out;
-use crate::trees::shown::{push_back, push_lines, push_named, push_string};
+use crate::trees::shown::{push_lines, push_named, push_string, push_told_back};
 use std::alloc::Global;
 use toml_span::value::{Pointer, Value, ValueInner};
 
@@ -59,18 +59,19 @@ fn push_take_string(value: &mut Value<'_>, message: Option<&str>, out: &mut Out)
     if value.is_taken() {
         return out.push_str("taken");
     }
-    let taken = value.take_string(message);
-    match &taken {
-        Ok(text) => push_string(text, out),
+    match value.take_string(message) {
+        Ok(text) => {
+            push_string(&text, out);
+            drop(text);
+        }
         Err(fault) => out.told(fault),
     }
 }
 
 fn push_replace<'t>(root: &mut Value<'t>, operation: Operation<'t>, number: i64, out: &mut Out) {
-    let replaced = root.replace(operation.place, Value::new(ValueInner::Integer(number)));
-    match &replaced {
-        Ok(old) => push_back("gives ", old, out),
-        Err(back) => push_back("gives back ", back, out),
+    match root.replace(operation.place, Value::new(ValueInner::Integer(number))) {
+        Ok(old) => push_told_back("gives ", old, out),
+        Err(back) => push_told_back("gives back ", back, out),
     }
 }
 
@@ -99,12 +100,10 @@ fn push_lent<'t>(
 
 /// Adds what the `Pointer` of a text names, if there is one.
 fn push_at(alloc: Global, root: &Value<'_>, text: &str, out: &mut Out) {
-    let Some(made) = out.kept(Pointer::new(alloc, text)) else {
-        return;
-    };
-    match &made {
-        Some(pointer) => push_named(root.at(pointer), out),
-        None => out.push_str("no pointer"),
+    match Pointer::new(alloc, text) {
+        Ok(Some(pointer)) => push_named(root.at(&pointer), out),
+        Ok(None) => out.push_str("no pointer"),
+        Err(_) => out.is_short = true,
     }
 }
 

@@ -7,8 +7,8 @@ ghost use Rattle.std.specs.Prelude.{IfSome};
 ghost use Rattle.toml_span_typed.specs.TableHelper.{AllWhole, state_of};
 
 use crate::told::Out;
-use crate::trees::shown::push_back;
-use crate::typed::lists::push_lists;
+use crate::trees::shown::push_told_back;
+use crate::typed::lists::push_told_lists;
 use std::alloc::{AllocError, Global};
 use std::fmt::Debug;
 use toml_span::de_helpers::{TableHelper, Unfinished};
@@ -77,12 +77,14 @@ fn push_call<'de>(helper: &mut TableHelper<'de>, call: &'de str, out: &mut Out) 
 
 /// Adds an entry that was taken, if there was one.
 fn push_entry(entry: Result<Option<(Key<'_>, Value<'_>)>, AllocError>, out: &mut Out) {
-    match &entry {
+    match entry {
         Ok(Some((key, value))) => {
-            out.told((key, key.span));
-            push_back(" ", value, out);
+            out.told((&key, key.span));
+            drop(key);
+            push_told_back(" ", value, out);
         }
-        other => out.told(other),
+        Ok(None) => out.push_str("Ok(None)"),
+        Err(_) => out.push_str("Err(AllocError)"),
     }
 }
 
@@ -132,8 +134,11 @@ fn push_as<'de, T: Deserialize<'de> + Debug>(
 
 /// Adds what was read with its place.
 fn push_spanned<T: Debug + Drop>(read: Result<Spanned<T>, Stop<Error<'_>>>, out: &mut Out) {
-    match &read {
-        Ok(found) => out.told((found, found.span)),
+    match read {
+        Ok(found) => {
+            let span = found.span;
+            out.told((found, span));
+        }
         other => out.told(other),
     }
 }
@@ -152,7 +157,7 @@ fn push_last<'de>(
     };
     match ended {
         Ok(()) => out.push_str("no error"),
-        Err(Unfinished::Faults(errors)) => push_lists(&errors, out),
+        Err(Unfinished::Faults(errors)) => push_told_lists(errors, out),
         Err(Unfinished::Memory(helper)) => {
             out.told_line(AllocError);
             push_ended(helper.finalize(None), out);
@@ -163,9 +168,12 @@ fn push_last<'de>(
 
 /// Adds the errors of a call that is made again.
 fn push_ended(ended: Result<(), Unfinished<'_>>, out: &mut Out) {
-    match &ended {
+    match ended {
         Ok(()) => out.push_str("no error"),
-        Err(Unfinished::Faults(errors)) => push_lists(errors, out),
-        Err(Unfinished::Memory(_)) => out.told(AllocError),
+        Err(Unfinished::Faults(errors)) => push_told_lists(errors, out),
+        Err(Unfinished::Memory(helper)) => {
+            drop(helper);
+            out.told(AllocError);
+        }
     }
 }

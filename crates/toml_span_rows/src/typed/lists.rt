@@ -16,3 +16,9 @@ pub fn push_lists(errors: &DeserError<'_>, out: &mut Out) {
     out.told_line(errors.last());
     out.shown(errors);
 }
+
+/// The same for errors that are told once.
+pub fn push_told_lists(errors: DeserError<'_>, out: &mut Out) {
+    push_lists(&errors, out);
+    drop(errors);
+}

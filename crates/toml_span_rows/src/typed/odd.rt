@@ -13,6 +13,15 @@ fn custom<'de>(message: &'de str, span: Span) -> DeserError<'de> {
     Error::from((kind, span)).into()
 }
 
+/// Two errors.
+fn two_faults<'de>(alloc: Global, span: Span) -> Stop<DeserError<'de>> {
+    let mut faults = custom("one", span);
+    match faults.merge(alloc, custom("two", span)) {
+        Ok(()) => faults.into(),
+        Err(unmerged) => unmerged.error.into(),
+    }
+}
+
 /// What takes its value and fails with two errors.
 #[derive(Debug, Drop)]
 pub struct Odd;
@@ -23,12 +32,8 @@ impl<'de> Deserialize<'de> for Odd {
     ghost starved = { λ _ _. Unit {0} };
 
     fn deserialize(alloc: Global, value: &mut Value<'de>) -> Result<Odd, Stop<DeserError<'de>>> {
-        let _inner = value.take();
-        let mut faults = custom("one", value.span);
-        match faults.merge(alloc, custom("two", value.span)) {
-            Ok(()) => Err(faults.into()),
-            Err(unmerged) => Err(unmerged.error.into()),
-        }
+        drop(value.take());
+        Err(two_faults(alloc, value.span))
     }
 }
 

@@ -69,11 +69,12 @@ fn load(rt: &HostRuntime, name: &str) -> Result<Listener, LoadError> {
 
 /// Adds a listener, or why there is none.
 fn push_listener(read: Result<Listener, LoadError>, out: &mut Out) {
-    match &read {
+    match read {
         Ok(listener) => out.told(listener),
         Err(LoadError::Reported(reported)) => {
+            let count = reported.reports.len();
             out.shown(reported);
-            out.told_line(reported.reports.len());
+            out.told_line(count);
         }
         Err(other) => {
             out.shown(other);

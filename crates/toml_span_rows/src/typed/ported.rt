@@ -178,7 +178,7 @@ pub fn push_ported<'de>(alloc: Global, name: &str, value: &mut Value<'de>, out: 
 
 /// Adds the text of why there is no number.
 fn push_text(read: Result<u8, Stop<DeserError<'_>>>, out: &mut Out) {
-    match &read {
+    match read {
         Ok(number) => out.told(number),
         Err(stop) => out.shown(stop),
     }
@@ -191,11 +191,17 @@ fn push_names(alloc: Global, name: &str, read: Result<Names, Stop<DeserError<'_>
             if name == "list" {
                 push_list(alloc, errors, out);
             } else {
-                push_twice(alloc, errors.last(), out);
+                push_last(alloc, errors, out);
             }
         }
         other => out.told(other),
     }
+}
+
+/// Adds the last of errors, and its diagnostic.
+fn push_last(alloc: Global, errors: DeserError<'_>, out: &mut Out) {
+    push_twice(alloc, errors.last(), out);
+    drop(errors);
 }
 
 /// Adds errors as a list, and what is made of that list.
