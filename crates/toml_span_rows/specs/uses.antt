@@ -1,4 +1,1 @@
 pub mod Fields
-pub mod Settings
-pub mod Servers
-pub mod Writes

@@ -7,7 +7,8 @@
 //!
 //! What there is no memory for is tried once more.
 use crate::Row;
-use crate::told::{known, push_told, push_told_line};
+use crate::tokens::push_span;
+use crate::told::Out;
 use attributes::Attributes;
 use choices::Choices;
 use device::{Device, Tagged};
@@ -16,7 +17,7 @@ use settings::{Settings, shown};
 use std::alloc::{AllocError, Global};
 use std::collections::BTreeMap;
 use std::fmt::Debug;
-use toml_span::{Span, Stop, parse};
+use toml_span::{Stop, parse};
 use toml_span_serde::{Error, Spanned, Style, from_str, from_value, render_stop};
 
 mod attributes;
@@ -28,41 +29,37 @@ mod settings;
 type Limits = BTreeMap<Spanned<String>, Spanned<i8>>;
 
 /// Writes the answer of a row, or says that there is no such call.
-pub fn answer(alloc: Global, row: Row<'_>, out: &mut String) -> Result<bool, AllocError> {
+pub fn answer(alloc: Global, row: Row<'_>, out: &mut Out) -> bool {
     let text = row.text;
-    let pushed = match row.call {
+    match row.call {
         "settings" => push_read::<Settings<'_>>(alloc, text, out),
         "device" => push_read::<Device>(alloc, text, out),
         "tagged" => push_read::<Tagged<'_>>(alloc, text, out),
         "attributes" => push_read::<Attributes>(alloc, text, out),
         "choices" => push_read::<Choices<'_>>(alloc, text, out),
         "limits" => push_limits(alloc, text, out),
-        "shown" => push_shown(alloc, text, out),
-        "shown_device" => push_rendered::<Device>(alloc, text, "device.toml", out),
-        "shown_choices" => push_rendered::<Choices<'_>>(alloc, text, "choices.toml", out),
-        _ => return Ok(false),
-    };
-    known(pushed)
+        "shown" | "shown_device" | "shown_choices" => push_shown(alloc, row, out),
+        _ => return false,
+    }
+    true
 }
 
 /// Adds what a text is read as.
 fn push_read<'de, T: Deserialize<'de> + Debug + Drop>(
     alloc: Global,
     text: &'de str,
-    out: &mut String,
-) -> Result<(), AllocError> {
-    if push_answer(alloc, from_str::<T>(alloc, text), out)? {
-        return Ok(());
+    out: &mut Out,
+) {
+    if !push_answer(alloc, from_str::<T>(alloc, text), out) {
+        push_answer(alloc, from_str::<T>(alloc, text), out);
     }
-    push_answer(alloc, from_str::<T>(alloc, text), out).map(|_| ())
 }
 
 /// Answers `limits`.
-fn push_limits(alloc: Global, text: &str, out: &mut String) -> Result<(), AllocError> {
-    if push_answer(alloc, limits_of(alloc, text), out)? {
-        return Ok(());
+fn push_limits(alloc: Global, text: &str, out: &mut Out) {
+    if !push_answer(alloc, limits_of(alloc, text), out) {
+        push_answer(alloc, limits_of(alloc, text), out);
     }
-    push_answer(alloc, limits_of(alloc, text), out).map(|_| ())
 }
 
 /// The document's tree as limits.
@@ -83,43 +80,44 @@ fn limits_of(alloc: Global, text: &str) -> Result<Limits, Stop<Error<'_>>> {
 fn push_answer<T: Debug + Drop>(
     alloc: Global,
     read: Result<T, Stop<Error<'_>>>,
-    out: &mut String,
-) -> Result<bool, AllocError> {
+    out: &mut Out,
+) -> bool {
     match read {
-        Ok(value) => push_told(value, out)?,
-        Err(Stop::Fault(error)) => push_error(alloc, error, out)?,
+        Ok(value) => out.told(value),
+        Err(Stop::Fault(error)) => {
+            push_error(alloc, &error, out);
+            drop(error);
+        }
         Err(Stop::Memory(refused)) => {
-            push_told_line(refused, out)?;
-            return Ok(false);
+            out.told_line(refused);
+            return false;
         }
     }
-    Ok(true)
+    true
+}
+
+/// The code of an error.
+fn code_of(alloc: Global, error: &Error<'_>) -> Result<String, AllocError> {
+    Ok(error.to_diagnostic(alloc, ())?.code)
 }
 
 /// Adds the code and the place of an error, and its text.
-fn push_error(alloc: Global, error: Error<'_>, out: &mut String) -> Result<(), AllocError> {
-    let code = match error.to_diagnostic(alloc, ()) {
-        Ok(told) => told.code,
-        Err(refused) => {
-            push_told_line(refused, out)?;
-            error.to_diagnostic(alloc, ())?.code
-        }
-    };
-    let Span { start, end } = error.span();
+fn push_error(alloc: Global, error: &Error<'_>, out: &mut Out) {
+    let mut made = code_of(alloc, error);
+    if let Err(refused) = &made {
+        out.told_line(refused);
+        made = code_of(alloc, error);
+    }
+    out.made(made);
+    out.push(' ');
+    push_span(out, error.span());
     let (line, column) = error.line_info().unwrap_or((0, 0));
-    write!(out, "{code} {start}..{end} {line}:{column} {error}")
-}
-
-/// Answers `shown`.
-fn push_shown(alloc: Global, text: &str, out: &mut String) -> Result<(), AllocError> {
-    let written = match shown(alloc, text) {
-        Ok(written) => written,
-        Err(refused) => {
-            push_told_line(refused, out)?;
-            shown(alloc, text)?
-        }
-    };
-    out.push_str(written.as_str())
+    out.push(' ');
+    out.told(line);
+    out.push(':');
+    out.told(column);
+    out.push(' ');
+    out.shown(error);
 }
 
 /// What a text is read as, or the error with its lines.
@@ -134,19 +132,21 @@ fn rendered<'de, T: Deserialize<'de> + Debug + Drop>(
     }
 }
 
+/// What a row shows: the settings, the device, or the choices.
+fn row_shown(alloc: Global, row: Row<'_>) -> Result<String, AllocError> {
+    match row.call {
+        "shown" => shown(alloc, row.text),
+        "shown_device" => rendered::<Device>(alloc, row.text, "device.toml"),
+        _ => rendered::<Choices<'_>>(alloc, row.text, "choices.toml"),
+    }
+}
+
 /// Answers the calls that show an error with its lines.
-fn push_rendered<'de, T: Deserialize<'de> + Debug + Drop>(
-    alloc: Global,
-    text: &'de str,
-    name: &str,
-    out: &mut String,
-) -> Result<(), AllocError> {
-    let written = match rendered::<T>(alloc, text, name) {
-        Ok(written) => written,
-        Err(refused) => {
-            push_told_line(refused, out)?;
-            rendered::<T>(alloc, text, name)?
-        }
-    };
-    out.push_str(written.as_str())
+fn push_shown(alloc: Global, row: Row<'_>, out: &mut Out) {
+    let mut made = row_shown(alloc, row);
+    if let Err(refused) = &made {
+        out.told_line(refused);
+        made = row_shown(alloc, row);
+    }
+    out.made(made);
 }

@@ -10,18 +10,17 @@
 //! - `replaced WITH START..END ..: TEXT` tells the text with others in the place of these spans.
 use crate::Row;
 use crate::tokens::push_span;
-use crate::told::{known, push_told, push_told_line};
-use crate::trees::orders::push_step;
-use crate::trees::places::below;
-use crate::trees::shown::push_fault;
+use crate::told::Out;
+use crate::trees::orders::push_steps;
+use crate::trees::places::push_path;
 use std::alloc::{AllocError, Global};
-use toml_span::value::Value;
-use toml_span::{Span, Stop};
+use toml_span::Span;
+use toml_span::value::{Value, nodes};
 use toml_span_places::{
-    KeyPlace, assignment_lines, key_places, literal_span, quote_key, quote_string, replaced,
-    section_lines, to_toml, with_quotes,
+    assignment_lines, key_places, literal_span, quote_key, quote_string, replaced, section_lines,
+    to_toml, with_quotes,
 };
-use toml_span_read::{Section, read_sections};
+use toml_span_read::Section;
 
 /// The span of a word, as `START..END`.
 fn span_of(word: &str) -> Option<Span> {
@@ -44,124 +43,94 @@ fn spans_of(alloc: Global, words: &[String]) -> Result<Option<Vec<Span>>, AllocE
 }
 
 /// Adds a text with others in the place of spans. Whether the words have a text and spans.
-fn push_replaced(alloc: Global, row: Row<'_>, out: &mut String) -> Result<bool, AllocError> {
+fn push_replaced(alloc: Global, row: Row<'_>, out: &mut Out) -> bool {
     let [with, words @ ..] = row.words else {
-        return Ok(false);
+        return false;
     };
-    let Some(spans) = spans_of(alloc, words)? else {
-        return Ok(false);
+    let Some(Some(spans)) = out.kept(spans_of(alloc, words)) else {
+        return out.is_short;
     };
-    known(push_told(
-        replaced(alloc, row.text, spans.as_slice(), with.as_str())?,
-        out,
-    ))
+    let made = replaced(alloc, row.text, spans.as_slice(), with.as_str());
+    if let Some(told) = out.kept(made) {
+        out.told(told);
+    }
+    true
 }
 
 /// Adds a span with its quotes. Whether the word is a span.
-fn push_with_quotes(row: Row<'_>, out: &mut String) -> Result<bool, AllocError> {
+fn push_with_quotes(row: Row<'_>, out: &mut Out) -> bool {
     match span_of(row.word(0)) {
-        Some(span) => known(push_span(out, with_quotes(row.text, span))),
-        None => Ok(false),
+        Some(span) => {
+            push_span(out, with_quotes(row.text, span));
+            true
+        }
+        None => false,
     }
 }
 
-/// Adds where a key stands, and a line end.
-fn push_place(place: &KeyPlace<'_>, out: &mut String) -> Result<(), AllocError> {
-    for step in &place.path {
-        push_step(step, out)?;
+/// Answers `key_places`.
+pub fn push_places(alloc: Global, text: &str, sections: &[Section<'_>], out: &mut Out) {
+    let Some(places) = out.kept(key_places(alloc, text, sections)) else {
+        return;
+    };
+    for place in &places {
+        push_steps(place.path.as_slice(), out);
+        out.told_line((place.role, place.span, place.whole));
     }
-    push_told((place.role, place.span, place.whole), out)?;
-    out.push('\n')
-}
-
-fn push_places(
-    alloc: Global,
-    text: &str,
-    sections: &[Section<'_>],
-    out: &mut String,
-) -> Result<(), AllocError> {
-    for place in &key_places(alloc, text, sections)? {
-        push_place(place, out)?;
-    }
-    Ok(())
 }
 
 /// Adds the text at a span, and a line end.
-pub fn push_cut(text: &str, span: Span, out: &mut String) -> Result<(), AllocError> {
-    push_told_line(text.get(span.start..span.end).unwrap_or("no place"), out)
+pub fn push_cut(text: &str, span: Span, out: &mut Out) {
+    out.told_line(text.get(span.start..span.end).unwrap_or("no place"));
 }
 
-fn push_section_lines(
-    text: &str,
-    sections: &[Section<'_>],
-    out: &mut String,
-) -> Result<(), AllocError> {
+/// Answers `lines`.
+pub fn push_lines(text: &str, sections: &[Section<'_>], out: &mut Out) {
     for section in sections {
-        push_cut(text, section_lines(text, section), out)?;
+        push_cut(text, section_lines(text, section), out);
         for assignment in &section.assignments {
-            out.push_str("  ")?;
-            push_cut(text, assignment_lines(text, assignment), out)?;
+            out.push_str("  ");
+            push_cut(text, assignment_lines(text, assignment), out);
         }
-    }
-    Ok(())
-}
-
-/// Adds what a call answers on the sections of a text, or the fault.
-fn push_read(alloc: Global, row: Row<'_>, out: &mut String) -> Result<(), AllocError> {
-    match read_sections(alloc, row.text, 128) {
-        Ok(sections) if row.call == "lines" => push_section_lines(
-            row.text,
-            sections.as_slice(),
-            out,
-        ),
-        Ok(sections) => push_places(alloc, row.text, sections.as_slice(), out),
-        Err(Stop::Fault(fault)) => {
-            let pushed = push_fault(&fault, out);
-            drop(fault);
-            pushed
-        }
-        Err(Stop::Memory(refused)) => Err(refused),
     }
 }
 
 /// Adds of each value of a tree its path, where it is spelled, and the text there.
-pub fn push_literals(
-    alloc: Global,
-    text: &str,
-    root: &Value<'_>,
-    out: &mut String,
-) -> Result<(), AllocError> {
-    for place in &below(alloc, root)? {
-        let span = literal_span(text, place.value);
-        out.push_str(place.path.as_str())?;
-        out.push(' ')?;
-        push_span(out, span)?;
-        out.push(' ')?;
-        push_cut(text, span, out)?;
+pub fn push_literals(alloc: Global, text: &str, root: &Value<'_>, out: &mut Out) {
+    let Some(list) = out.kept(nodes(alloc, root)) else {
+        return;
+    };
+    for visited in list.iter() {
+        let span = literal_span(text, visited.value);
+        push_path(visited.path.as_slice(), out);
+        out.push(' ');
+        push_span(out, span);
+        out.push(' ');
+        push_cut(text, span, out);
     }
-    Ok(())
 }
 
 /// Adds each value of a tree as TOML, behind its path.
-pub fn push_spelled(alloc: Global, root: &Value<'_>, out: &mut String) -> Result<(), AllocError> {
-    for place in &below(alloc, root)? {
-        out.push_str(place.path.as_str())?;
-        out.push(' ')?;
-        out.push_str(to_toml(alloc, place.value)?.as_str())?;
-        out.push('\n')?;
+pub fn push_spelled(alloc: Global, root: &Value<'_>, out: &mut Out) {
+    let Some(list) = out.kept(nodes(alloc, root)) else {
+        return;
+    };
+    for visited in list.iter() {
+        push_path(visited.path.as_slice(), out);
+        out.push(' ');
+        out.made(to_toml(alloc, visited.value));
+        out.push('\n');
     }
-    Ok(())
 }
 
 /// Writes the answer of a row, or says that there is no such call.
-pub fn answer(alloc: Global, row: Row<'_>, out: &mut String) -> Result<bool, AllocError> {
-    let pushed = match row.call {
-        "key_places" | "lines" => push_read(alloc, row, out),
-        "quote_key" => out.push_str(quote_key(alloc, row.text)?.as_str()),
-        "quote_string" => out.push_str(quote_string(alloc, row.text)?.as_str()),
+pub fn answer(alloc: Global, row: Row<'_>, out: &mut Out) -> bool {
+    match row.call {
+        "quote_key" => out.made(quote_key(alloc, row.text)),
+        "quote_string" => out.made(quote_string(alloc, row.text)),
         "replaced" => return push_replaced(alloc, row, out),
         "with_quotes" => return push_with_quotes(row, out),
-        _ => return Ok(false),
-    };
-    known(pushed)
+        _ => return false,
+    }
+    true
 }

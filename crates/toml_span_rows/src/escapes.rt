@@ -27,68 +27,55 @@ fn escaped(piece: &str) -> Option<(char, &str)> {
     }
 }
 
-/// Adds an escape, which stands behind its backslash, and what follows it. Whether it is one.
-fn push_escape(piece: &str, text: &mut String) -> Result<bool, AllocError> {
-    let Some((c, rest)) = escaped(piece) else {
-        return Ok(false);
-    };
-    text.push(c)?;
-    text.push_str(rest)?;
-    Ok(true)
+/// How often a part stands that begins behind a brace, and its beginning.
+fn part_of(rest: &str) -> Option<(usize, &str)> {
+    let (digits, front) = rest.split_once(' ')?;
+    Some((digits.parse::<usize>().ok()?, front))
 }
 
-/// Adds what a text with escapes, but no parts, says. Whether each is one.
+/// Makes of the end of a text, which stands there once, so many.
+fn repeat(alloc: Global, times: usize, start: usize, text: &mut String) -> Result<(), AllocError> {
+    let part = String::from_str(alloc, text.as_str().get(start..).unwrap_or(""))?;
+    if times == 0 {
+        *text = String::from_str(alloc, text.as_str().get(..start).unwrap_or(""))?;
+    }
+    for _ in 1..times {
+        text.push_str(part.as_str())?;
+    }
+    Ok(())
+}
+
+/// Adds the text that stands with escapes in a row. Whether each is one.
 ///
 /// It is cut at its backslashes. An empty piece, but the first, stands between two of them, which are one
 /// backslash, and the piece behind it begins with no escape.
-fn push_plain(source: &str, text: &mut String) -> Result<bool, AllocError> {
+pub fn push_text(alloc: Global, source: &str, text: &mut String) -> Result<bool, AllocError> {
+    // How often the part stands that is open, and where it starts.
+    let mut part = (1, 0);
     // Whether an escape begins the next piece. Behind the last one it would.
     let mut behind = false;
     for piece in source.split('\\') {
         if !behind {
             text.push_str(piece)?;
-        } else if !push_escape(piece, text)? {
-            return Ok(false);
+        } else if let Some(rest) = piece.strip_prefix('{') {
+            let Some((times, front)) = part_of(rest) else {
+                return Ok(false);
+            };
+            part = (times, text.len());
+            text.push_str(front)?;
+        } else if let Some(rest) = piece.strip_prefix('}') {
+            repeat(alloc, part.0, part.1, text)?;
+            text.push_str(rest)?;
+        } else {
+            let Some((c, rest)) = escaped(piece) else {
+                return Ok(false);
+            };
+            text.push(c)?;
+            text.push_str(rest)?;
         }
         behind = !behind || !piece.is_empty();
     }
     Ok(behind)
-}
-
-/// How often a part stands, the part, and what follows it.
-fn part_of(piece: &str) -> Option<(usize, &str, &str)> {
-    let (inside, behind) = piece.split_once("\\}")?;
-    let (digits, part) = inside.split_once(' ')?;
-    Some((digits.parse::<usize>().ok()?, part, behind))
-}
-
-/// Adds a part, which stands behind its brace, so many times, and what follows it. Whether it is one.
-fn push_part(alloc: Global, piece: &str, text: &mut String) -> Result<bool, AllocError> {
-    let Some((times, part, behind)) = part_of(piece) else {
-        return Ok(false);
-    };
-    let mut once = String::new(alloc);
-    if !push_plain(part, &mut once)? {
-        return Ok(false);
-    }
-    for _ in 0..times {
-        text.push_str(once.as_str())?;
-    }
-    push_plain(behind, text)
-}
-
-/// Adds the text that stands with escapes in a row. Whether each is one.
-pub fn push_text(alloc: Global, source: &str, text: &mut String) -> Result<bool, AllocError> {
-    let mut pieces = source.split("\\{");
-    if !push_plain(pieces.next().unwrap_or(""), text)? {
-        return Ok(false);
-    }
-    for piece in pieces {
-        if !push_part(alloc, piece, text)? {
-            return Ok(false);
-        }
-    }
-    Ok(true)
 }
 
 /// Adds the words that a space parts, without escapes. `""` is the empty word. Whether each can be read.

@@ -29,6 +29,7 @@ use escapes::{push_text, push_words};
 use std::alloc::{AllocError, Global};
 use std::io;
 use std::process::ExitCode;
+use told::Out;
 use typed::owned::push_file;
 
 /// The answer to a row that can't be read.
@@ -64,21 +65,18 @@ fn parts_of(line: &str) -> Option<(&str, &str, &str)> {
 }
 
 /// Adds the answer of the family that has the row's call. Whether one has it.
-fn push_answer(alloc: Global, row: Row<'_>, out: &mut String) -> Result<bool, AllocError> {
-    Ok(
-        tokens::answer(alloc, row, out)?
-            || places::answer(alloc, row, out)?
-            || faults::answer(alloc, row, out)?
-            || sections::answer(alloc, row, out)?
-            || texts::answer(alloc, row, out)?
-            || edits::answer(alloc, row, out)?
-            || spots::answer(alloc, row, out)?
-            || reports::answer(alloc, row, out)?
-            || runs::answer(alloc, row, out)?
-            || callers::answer(alloc, row, out)?
-            || derived::answer(alloc, row, out)?
-            || trees::answer(alloc, row, out)?,
-    )
+fn push_answer(alloc: Global, row: Row<'_>, out: &mut Out) -> bool {
+    tokens::answer(alloc, row, out)
+        || places::answer(alloc, row, out)
+        || faults::answer(alloc, row, out)
+        || sections::answer(alloc, row, out)
+        || texts::answer(alloc, row, out)
+        || edits::answer(alloc, row, out)
+        || reports::answer(alloc, row, out)
+        || runs::answer(alloc, row, out)
+        || callers::answer(alloc, row, out)
+        || derived::answer(alloc, row, out)
+        || trees::answer(alloc, row, out)
 }
 
 /// Adds the answer to a row. Whether it can be read.
@@ -86,7 +84,7 @@ fn push_answered(
     rt: &HostRuntime,
     alloc: Global,
     line: &str,
-    out: &mut String,
+    out: &mut Out,
 ) -> Result<bool, AllocError> {
     let Some((call, front, source)) = parts_of(line) else {
         return Ok(false);
@@ -99,55 +97,58 @@ fn push_answered(
     let (words, text) = (words.as_slice(), text.as_str());
     let row = Row { call, words, text };
     if call == "load_file" {
-        return push_file(rt, row.word(0), out);
+        push_file(rt, row.word(0), out);
+        return Ok(true);
     }
-    push_answer(alloc, row, out)
+    Ok(push_answer(alloc, row, out))
 }
 
 /// Adds each line of a text, behind four spaces.
-fn push_indented(out: &mut String, text: &str) -> Result<(), AllocError> {
+fn push_indented(out: &mut Out, text: &str) {
     for line in text.lines() {
-        writeln!(out, "    {line}")?;
+        out.push_str("    ");
+        out.push_str(line);
+        out.push('\n');
     }
-    Ok(())
 }
 
 /// Adds what is said to a row. Whether it can be read.
-fn push_row(
-    rt: &HostRuntime,
-    alloc: Global,
-    line: &str,
-    out: &mut String,
-) -> Result<bool, AllocError> {
-    let mut answer = String::new(alloc);
-    let known = push_answered(rt, alloc, line, &mut answer)?;
-    push_indented(out, if known { answer.as_str() } else { NO_SUCH_ROW })?;
-    Ok(known)
+fn push_row(rt: &HostRuntime, alloc: Global, line: &str, out: &mut Out) -> bool {
+    let mut answer = Out::new(alloc);
+    let answered = push_answered(rt, alloc, line, &mut answer);
+    let known = out.kept(answered).unwrap_or(false);
+    push_indented(
+        out,
+        if known {
+            answer.text.as_str()
+        } else {
+            NO_SUCH_ROW
+        },
+    );
+    out.is_short = out.is_short || answer.is_short;
+    known
 }
 
 /// Adds all lines with what is said to them. Whether each row of them can be read.
-fn push_lines(
-    rt: &HostRuntime,
-    alloc: Global,
-    input: &str,
-    out: &mut String,
-) -> Result<bool, AllocError> {
+fn push_lines(rt: &HostRuntime, alloc: Global, input: &str, out: &mut Out) -> bool {
     let mut readable = true;
     for line in input.lines() {
-        writeln!(out, "{line}")?;
+        out.push_str(line);
+        out.push('\n');
         if !line.is_empty() && !line.starts_with('#') {
-            readable = push_row(rt, alloc, line, out)? && readable;
+            readable = push_row(rt, alloc, line, out) && readable;
         }
     }
-    Ok(readable)
+    readable
 }
 
 fn main(rt: HostRuntime) -> io::Result<ExitCode> {
     let alloc = rt.alloc();
     let input = io::read_to_string(alloc, rt.stdin())?;
-    let mut out = String::new(alloc);
-    let readable = push_lines(&rt, alloc, input.as_str(), &mut out)?;
-    print!(rt; "{out}")?;
+    let mut out = Out::new(alloc);
+    let readable = push_lines(&rt, alloc, input.as_str(), &mut out);
+    let written = out.whole()?;
+    print!(rt; "{written}")?;
     Ok(if readable {
         ExitCode::SUCCESS
     } else {

@@ -12,7 +12,7 @@
 mod lint;
 
 use crate::Row;
-use crate::told::{known, push_told};
+use crate::told::Out;
 use lint::lint;
 use std::alloc::{AllocError, Global};
 use std::collections::BTreeMap;
@@ -25,7 +25,7 @@ use toml_span_report::{
 /// The name of the file.
 const FILE: &str = "a.toml";
 
-#[derive(Debug, Drop)]
+#[derive(Drop)]
 struct Server {
     host: String,
     port: u16,
@@ -37,7 +37,7 @@ impl<'de> Deserialize<'de> for Server {
     }
 }
 
-#[derive(Debug, Drop)]
+#[derive(Drop)]
 struct Servers {
     name: String,
     server: Option<BTreeMap<String, Server>>,
@@ -50,8 +50,8 @@ impl<'de> Deserialize<'de> for Servers {
 }
 
 /// Writes the answer of a row, or says that there is no such call.
-pub fn answer(alloc: Global, row: Row<'_>, out: &mut String) -> Result<bool, AllocError> {
-    let pushed = match row.call {
+pub fn answer(alloc: Global, row: Row<'_>, out: &mut Out) -> bool {
+    match row.call {
         "nearest" => push_nearest(alloc, row, out),
         "lint" => push_linted(alloc, row.text, Form::All, out),
         "lint_lines" => push_linted(alloc, row.text, Form::Lines, out),
@@ -59,18 +59,23 @@ pub fn answer(alloc: Global, row: Row<'_>, out: &mut String) -> Result<bool, All
         "read_servers" => push_servers(alloc, row.text, out),
         "without_labels" => push_without_labels(alloc, row, out),
         "coloured" => push_coloured(alloc, row, out),
-        "quoted" => push_quoted(alloc, out, row.text),
+        "quoted" => {
+            let pushed = push_quoted(alloc, &mut out.text, row.text);
+            out.kept(pushed);
+        }
         "visible" => push_seen(alloc, row.text, out),
-        "visible_lines" => push_told(visible_lines(alloc, row.text), out),
-        _ => return Ok(false),
-    };
-    known(pushed)
+        "visible_lines" => out.told(visible_lines(alloc, row.text)),
+        _ => return false,
+    }
+    true
 }
 
 /// Answers `nearest`.
-fn push_nearest(alloc: Global, row: Row<'_>, out: &mut String) -> Result<(), AllocError> {
-    let names: Vec<&str> = row.text.split(' ').collect(alloc)?;
-    push_told(nearest(alloc, row.word(0), names.as_slice()), out)
+fn push_nearest(alloc: Global, row: Row<'_>, out: &mut Out) {
+    let made: Result<Vec<&str>, AllocError> = row.text.split(' ').collect(alloc);
+    if let Some(names) = out.kept(made) {
+        out.told(nearest(alloc, row.word(0), names.as_slice()));
+    }
 }
 
 /// How reports are shown.
@@ -85,54 +90,43 @@ enum Form {
 }
 
 /// Adds reports in a form.
-fn push_reports(
-    alloc: Global,
-    reports: &[Report],
-    text: &str,
-    form: Form,
-    out: &mut String,
-) -> Result<(), AllocError> {
+fn push_reports(alloc: Global, reports: &[Report], text: &str, form: Form, out: &mut Out) {
     if matches!(form, Form::All) {
-        let shown = render_all(alloc, Style::Plain, reports, FILE, text)?;
-        return out.push_str(shown.as_str());
+        return out.made(render_all(alloc, Style::Plain, reports, FILE, text));
     }
     for report in reports {
-        let line = if matches!(form, Form::Json) {
-            render_json(alloc, report, FILE, text)?
+        out.made(if matches!(form, Form::Json) {
+            render_json(alloc, report, FILE, text)
         } else {
-            render_line(alloc, report, FILE, text)?
-        };
-        out.push_str(line.as_str())?;
+            render_line(alloc, report, FILE, text)
+        });
     }
-    Ok(())
 }
 
 /// Answers `lint`, `lint_lines` and `lint_json`.
-fn push_linted(alloc: Global, text: &str, form: Form, out: &mut String) -> Result<(), AllocError> {
+fn push_linted(alloc: Global, text: &str, form: Form, out: &mut Out) {
     match parse(alloc, text) {
         Ok(root) => {
-            let reports = lint(alloc, &root)?;
-            push_reports(alloc, reports.as_slice(), text, form, out)
+            let made = lint(alloc, &root);
+            drop(root);
+            if let Some(reports) = out.kept(made) {
+                push_reports(alloc, reports.as_slice(), text, form, out);
+            }
         }
-        Err(stop) => push_told(stop, out),
+        Err(stop) => out.told(stop),
     }
 }
 
 /// Answers `read_servers`.
-fn push_servers(alloc: Global, text: &str, out: &mut String) -> Result<(), AllocError> {
+fn push_servers(alloc: Global, text: &str, out: &mut Out) {
     match from_str::<Servers>(alloc, text) {
-        Ok(servers) => push_told(servers, out),
-        Err(stop) => {
-            let shown = render_stop(alloc, Style::Plain, stop, FILE, text)?;
-            out.push_str(shown.as_str())
-        }
+        Ok(_) => out.push_str("read"),
+        Err(stop) => out.made(render_stop(alloc, Style::Plain, stop, FILE, text)),
     }
 }
 
-/// Answers `without_labels`.
-fn push_without_labels(alloc: Global, row: Row<'_>, out: &mut String) -> Result<(), AllocError> {
-    let message = row.word(0);
-    let mut reports = Vec::new(alloc);
+/// The reports of `without_labels`.
+fn reports_of(alloc: Global, message: &str) -> Result<Vec<Report>, AllocError> {
     let warning = Report::warning(alloc, "", message)?
         .secondary(Span::new(4, 5), "second")?
         .primary(Span::new(2, 3), "first")?
@@ -141,34 +135,48 @@ fn push_without_labels(alloc: Global, row: Row<'_>, out: &mut String) -> Result<
         .help("one way")?
         .note("another note")?
         .help("another way")?;
+    let mut reports = Vec::new(alloc);
     reports.push(warning)?;
     reports.push(Report::new(alloc, Severity::Note, "noted", message)?)?;
     reports.push(Report::error(alloc, "wrong", message)?)?;
-    push_reports(alloc, reports.as_slice(), row.text, Form::All, out)?;
-    push_reports(alloc, reports.as_slice(), row.text, Form::Lines, out)?;
-    push_reports(alloc, reports.as_slice(), row.text, Form::Json, out)
+    Ok(reports)
+}
+
+/// Answers `without_labels`.
+fn push_without_labels(alloc: Global, row: Row<'_>, out: &mut Out) {
+    if let Some(reports) = out.kept(reports_of(alloc, row.word(0))) {
+        for form in [Form::All, Form::Lines, Form::Json] {
+            push_reports(alloc, reports.as_slice(), row.text, form, out);
+        }
+    }
 }
 
 /// Answers `visible`: the text three times, as it is told, as it is added to another, and character by character.
-fn push_seen(alloc: Global, text: &str, out: &mut String) -> Result<(), AllocError> {
-    let seen = visible(alloc, text)?;
-    out.push_str(seen.as_str())?;
-    out.push_str("\n")?;
-    push_visible(out, text)?;
-    out.push_str("\n")?;
+fn push_seen(alloc: Global, text: &str, out: &mut Out) {
+    out.made(visible(alloc, text));
+    out.push('\n');
+    let pushed = push_visible(&mut out.text, text);
+    out.kept(pushed);
+    out.push('\n');
     for c in text.chars() {
-        push_char(out, c)?;
+        let pushed = push_char(&mut out.text, c);
+        out.kept(pushed);
     }
-    Ok(())
 }
 
-/// Answers `coloured`.
-fn push_coloured(alloc: Global, row: Row<'_>, out: &mut String) -> Result<(), AllocError> {
+/// A report of a row's severity and text.
+fn report_of(alloc: Global, row: Row<'_>) -> Result<Report, AllocError> {
     let severity = match row.word(0) {
         "warning" => Severity::Warning,
         "note" => Severity::Note,
         _ => Severity::Error,
     };
-    let report = Report::new(alloc, severity, "c", row.text)?.primary(Span::new(0, 1), "")?;
-    push_told(render(alloc, Style::Coloured, &report, FILE, row.text), out)
+    Report::new(alloc, severity, "c", row.text)?.primary(Span::new(0, 1), "")
+}
+
+/// Answers `coloured`.
+fn push_coloured(alloc: Global, row: Row<'_>, out: &mut Out) {
+    if let Some(report) = out.kept(report_of(alloc, row)) {
+        out.told(render(alloc, Style::Coloured, &report, FILE, row.text));
+    }
 }

@@ -17,12 +17,12 @@
 ghost use Rattle.std.specs.Prelude.{◌≤◌};
 
 use crate::Row;
-use crate::told::push_told_line;
+use crate::told::Out;
 use crate::trees::limit_of;
 use std::alloc::{AllocError, Global};
 use std::io;
 use std::io::{ErrorKind, Read, Write};
-use toml_span::{Stop, Value, parse};
+use toml_span::{Value, parse};
 use toml_span_lines::held::{Unwritten, write_held};
 use toml_span_lines::lines::write_lines;
 use toml_span_lines::run::{run, run_with_limit};
@@ -197,131 +197,77 @@ fn run_on(alloc: Global, limit: usize, bytes: &[u8], ends: Ends) -> Ended<'_>
 }
 
 /// Adds the status of a run, and what it wrote.
-fn push_ended(ended: &Ended<'_>, out: &mut String) -> Result<(), AllocError> {
-    let status = ended.status;
-    writeln!(out, "status {status}")?;
-    match str::from_utf8(ended.writer.bytes.as_slice()) {
-        Ok(text) => out.push_str(text),
-        Err(_) => out.push_str("no text"),
-    }
+fn push_ended(ended: &Ended<'_>, out: &mut Out) {
+    out.push_str("status ");
+    out.told_line(ended.status);
+    out.push_str(str::from_utf8(ended.writer.bytes.as_slice()).unwrap_or("no text"));
+}
+
+/// Adds a number, and what it is of.
+fn push_count(count: usize, of: &str, out: &mut Out) {
+    out.told(count);
+    out.push_str(of);
 }
 
 /// Adds the status of a run, its calls, and how many bytes it read and, of an output, wrote; or others that it wrote.
-fn push_front(ended: &Ended<'_>, whole: &[u8], out: &mut String) -> Result<(), AllocError> {
+fn push_front(ended: &Ended<'_>, whole: &[u8], out: &mut Out) {
     let bytes = ended.writer.bytes.as_slice();
     if !whole.starts_with(bytes) {
-        return push_told_line(bytes, out);
+        return out.told_line(bytes);
     }
-    let status = ended.status;
-    let (given, reads) = (ended.reader.given, ended.reader.calls);
-    let (written, writes) = (bytes.len(), ended.writer.calls);
-    writeln!(
-        out,
-        "status {status}, {given} bytes in {reads} reads, {written} bytes in {writes} writes"
-    )
-}
-
-/// Adds a line for a run in which the call of a number fails. Whether there is such a call.
-fn push_cut(
-    alloc: Global,
-    limit: usize,
-    ends: Ends,
-    whole: &Ended<'_>,
-    out: &mut String,
-) -> Result<bool, AllocError>
-    requires some { 1 ≤ limit }
-    requires small { limit ≤ 128 }
-{
-    let cut = run_on(alloc, limit, whole.reader.bytes, ends);
-    let status = cut.status;
-    let pushed = push_front(&cut, whole.writer.bytes.as_slice(), out);
-    drop(cut);
-    pushed?;
-    Ok(status == 3)
+    out.push_str("status ");
+    out.told(ended.status);
+    out.push_str(", ");
+    push_count(ended.reader.given, " bytes in ", out);
+    push_count(ended.reader.calls, " reads, ", out);
+    push_count(bytes.len(), " bytes in ", out);
+    push_count(ended.writer.calls, " writes\n", out);
 }
 
 /// Adds a line for each call that can fail, and one for a call that is not made.
-fn push_each(
-    alloc: Global,
-    limit: usize,
-    words: &[String],
-    whole: &Ended<'_>,
-    out: &mut String,
-) -> Result<(), AllocError>
+fn push_each(alloc: Global, limit: usize, words: &[String], whole: &Ended<'_>, out: &mut Out)
     requires some { 1 ≤ limit }
     requires small { limit ≤ 128 }
 {
     for call in 1..usize::MAX {
         let Some(ends) = ends_of(words, call) else {
-            return Ok(());
+            return;
         };
-        if !push_cut(alloc, limit, ends, whole, out)? {
-            return Ok(());
+        let cut = run_on(alloc, limit, whole.reader.bytes, ends);
+        push_front(&cut, whole.writer.bytes.as_slice(), out);
+        if cut.status != 3 {
+            return;
         }
     }
-    Ok(())
-}
-
-/// Adds what is said of a run.
-fn push_whole(
-    alloc: Global,
-    limit: usize,
-    words: &[String],
-    whole: &Ended<'_>,
-    out: &mut String,
-) -> Result<(), AllocError>
-    requires some { 1 ≤ limit }
-    requires small { limit ≤ 128 }
-{
-    push_ended(whole, out)?;
-    if says_each(words) {
-        return push_each(alloc, limit, words, whole, out);
-    }
-    Ok(())
 }
 
 /// Adds what three reads and three writes answer.
-fn push_calls(
-    reader: &mut Told<Given<'_>>,
-    writer: &mut Told<Taken>,
-    bytes: &[u8],
-    out: &mut String,
-) -> Result<(), AllocError> {
+fn push_calls(reader: &mut Told<Given<'_>>, writer: &mut Told<Taken>, bytes: &[u8], out: &mut Out) {
     let mut buf = [0u8; 8];
     for _ in 0..3 {
         let read = reader.read(&mut buf).ok();
         let written = writer.write(bytes).ok();
-        push_told_line(
-            (read, reader.has_failed(), written, writer.has_failed()),
-            out,
-        )?;
+        out.told_line((read, reader.has_failed(), written, writer.has_failed()));
     }
-    Ok(())
 }
 
 /// Answers `run`.
-fn push_run(
-    alloc: Global,
-    limit: usize,
-    words: &[String],
-    ends: Ends,
-    bytes: &[u8],
-    out: &mut String,
-) -> Result<(), AllocError>
+fn push_run(alloc: Global, limit: usize, words: &[String], ends: Ends, bytes: &[u8], out: &mut Out)
     requires some { 1 ≤ limit }
     requires small { limit ≤ 128 }
 {
     let whole = run_on(alloc, limit, bytes, ends);
-    let pushed = push_whole(alloc, limit, words, &whole, out);
-    drop(whole);
-    pushed
+    push_ended(&whole, out);
+    if says_each(words) {
+        push_each(alloc, limit, words, &whole, out);
+    }
 }
 
 /// Answers `ends`.
-fn push_ends(alloc: Global, ends: Ends, bytes: &[u8], out: &mut String) -> Result<(), AllocError> {
+fn push_ends(alloc: Global, ends: Ends, bytes: &[u8], out: &mut Out) {
     let mut reader = Told::new(Given::new(bytes, ends));
     let mut writer = Told::new(Taken::new(alloc, ends));
-    push_calls(&mut reader, &mut writer, bytes, out)
+    push_calls(&mut reader, &mut writer, bytes, out);
 }
 
 /// So many bytes.
@@ -332,91 +278,81 @@ fn held_bytes(alloc: Global, count: usize) -> Result<Vec<u8>, AllocError> {
 }
 
 /// Adds what a call answered, what it wrote, and how many bytes it left held.
-fn push_written(
-    answer: Result<(), Unwritten>,
-    writer: &Taken,
-    held: usize,
-    out: &mut String,
-) -> Result<(), AllocError> {
-    let told = match answer {
-        Ok(()) => "Ok",
-        Err(Unwritten::Failed) => "Failed",
-        Err(Unwritten::Memory) => "AllocError",
-    };
-    let (written, writes) = (writer.bytes.len(), writer.calls);
-    writeln!(
-        out,
-        "{told}, {written} bytes in {writes} writes, {held} held"
-    )
+fn push_written(answer: Result<(), Unwritten>, writer: &Taken, held: usize, out: &mut Out) {
+    out.push_str(match answer {
+        Ok(()) => "Ok, ",
+        Err(Unwritten::Failed) => "Failed, ",
+        Err(Unwritten::Memory) => "AllocError, ",
+    });
+    out.told(writer.bytes.len());
+    out.push_str(" bytes in ");
+    out.told(writer.calls);
+    out.push_str(" writes, ");
+    out.told(held);
+    out.push_str(" held\n");
 }
 
 /// Answers `write_lines` for a tree.
-fn push_tree(
-    alloc: Global,
-    root: &Value<'_>,
-    count: usize,
-    ends: Ends,
-    out: &mut String,
-) -> Result<(), AllocError> {
+fn push_tree(alloc: Global, root: &Value<'_>, count: usize, ends: Ends, out: &mut Out) {
+    let Some(mut held) = out.kept(held_bytes(alloc, count)) else {
+        return;
+    };
     let mut writer = Told::new(Taken::new(alloc, ends));
-    let mut held = held_bytes(alloc, count)?;
     let answer = write_lines(alloc, &mut writer, &mut held, root);
-    push_written(answer, &writer.into_inner(), held.len(), out)
+    push_written(answer, &writer.into_inner(), held.len(), out);
 }
 
 /// Answers `write_lines`.
-fn push_lines(
-    alloc: Global,
-    text: &str,
-    count: usize,
-    ends: Ends,
-    out: &mut String,
-) -> Result<(), AllocError> {
+fn push_lines(alloc: Global, text: &str, count: usize, ends: Ends, out: &mut Out) {
     match parse(alloc, text) {
         Ok(root) => push_tree(alloc, &root, count, ends, out),
-        Err(Stop::Memory(refused)) => push_told_line(refused, out),
-        Err(Stop::Fault(_)) => out.push_str("no document"),
+        Err(stop) => match stop.fault() {
+            Ok(_fault) => out.push_str("no document"),
+            Err(refused) => out.told_line(refused),
+        },
     }
 }
 
 /// Answers `write_held`.
-fn push_held(alloc: Global, count: usize, ends: Ends, out: &mut String) -> Result<(), AllocError> {
+fn push_held(alloc: Global, count: usize, ends: Ends, out: &mut Out) {
+    let Some(mut held) = out.kept(held_bytes(alloc, count)) else {
+        return;
+    };
     let mut writer = Told::new(Taken::new(alloc, ends));
-    let mut held = held_bytes(alloc, count)?;
     let answer = write_held(&mut writer, &mut held);
-    push_written(answer, &writer.into_inner(), held.len(), out)
+    push_written(answer, &writer.into_inner(), held.len(), out);
 }
 
 /// Answers `write_lines` and `write_held`.
-fn push_lined(alloc: Global, row: Row<'_>, out: &mut String) -> Result<bool, AllocError> {
+fn push_lined(alloc: Global, row: Row<'_>, out: &mut Out) -> bool {
     let words = row.words.get(1..).unwrap_or(&[]);
     let (Ok(count), Some(ends)) = (row.word(0).parse::<usize>(), ends_of(words, 0)) else {
-        return Ok(false);
+        return false;
     };
     if row.call == "write_held" {
-        push_held(alloc, count, ends, out)?;
+        push_held(alloc, count, ends, out);
     } else {
-        push_lines(alloc, row.text, count, ends, out)?;
+        push_lines(alloc, row.text, count, ends, out);
     }
-    Ok(true)
+    true
 }
 
 /// Writes the answer of a row, or says that there is no such call.
-pub fn answer(alloc: Global, row: Row<'_>, out: &mut String) -> Result<bool, AllocError> {
+pub fn answer(alloc: Global, row: Row<'_>, out: &mut Out) -> bool {
     let words = match row.call {
         "run" => row.words.get(1..).unwrap_or(&[]),
         "ends" => row.words,
         "write_lines" | "write_held" => return push_lined(alloc, row, out),
-        _ => return Ok(false),
+        _ => return false,
     };
     let (Some(limit), Some(ends)) = (limit_of(row), ends_of(words, 0)) else {
-        return Ok(false);
+        return false;
     };
     let bytes = row.text.as_bytes();
     if row.call == "ends" {
-        push_ends(alloc, ends, bytes, out)?;
+        push_ends(alloc, ends, bytes, out);
     } else {
-        push_run(alloc, limit, words, ends, bytes, out)?;
+        push_run(alloc, limit, words, ends, bytes, out);
     }
-    Ok(true)
+    true
 }

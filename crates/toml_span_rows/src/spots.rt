@@ -11,16 +11,14 @@
 //! A word that is a number is a position, and another one a key.
 use crate::Row;
 use crate::edits::push_cut;
-use crate::told::{known, push_told, push_told_line};
-use crate::trees::orders::push_step;
-use crate::trees::shown::push_fault;
+use crate::told::Out;
+use crate::trees::orders::push_steps;
 use std::alloc::{AllocError, Global};
-use toml_span::Stop;
 use toml_span::value::{Step, Value};
 use toml_span_places::{
     InsertionPoint, insertion_point, node_at, section_places, table_forms, table_places,
 };
-use toml_span_read::{Section, read_sections};
+use toml_span_read::Section;
 
 /// The step of a word.
 fn step_of(word: &str) -> Step<'_> {
@@ -39,25 +37,15 @@ fn steps_of<'r>(alloc: Global, words: &'r [String]) -> Result<Vec<Step<'r>>, All
     Ok(steps)
 }
 
-/// Adds the steps with a space behind each.
-fn push_steps(steps: &[Step<'_>], out: &mut String) -> Result<(), AllocError> {
-    for step in steps {
-        push_step(step, out)?;
+/// Answers `section_places`.
+pub fn push_sections(alloc: Global, text: &str, sections: &[Section<'_>], out: &mut Out) {
+    let Some(places) = out.kept(section_places(alloc, text, sections)) else {
+        return;
+    };
+    for place in &places {
+        push_steps(place.path.as_slice(), out);
+        out.told_line((place.form, place.header, place.body));
     }
-    Ok(())
-}
-
-fn push_sections(
-    alloc: Global,
-    text: &str,
-    sections: &[Section<'_>],
-    out: &mut String,
-) -> Result<(), AllocError> {
-    for place in &section_places(alloc, text, sections)? {
-        push_steps(place.path.as_slice(), out)?;
-        push_told_line((place.form, place.header, place.body), out)?;
-    }
-    Ok(())
 }
 
 /// The text with a line put in.
@@ -73,103 +61,60 @@ fn with_line(alloc: Global, text: &str, point: InsertionPoint) -> Result<String,
     Ok(new)
 }
 
-fn push_point(
-    alloc: Global,
-    row: Row<'_>,
-    sections: &[Section<'_>],
-    out: &mut String,
-) -> Result<(), AllocError> {
-    let steps = steps_of(alloc, row.words)?;
-    let Some(point) = insertion_point(alloc, row.text, sections, steps.as_slice())? else {
+/// Answers `insertion_point`.
+pub fn push_point(alloc: Global, row: Row<'_>, sections: &[Section<'_>], out: &mut Out) {
+    let Some(steps) = out.kept(steps_of(alloc, row.words)) else {
+        return;
+    };
+    let made = insertion_point(alloc, row.text, sections, steps.as_slice());
+    let Some(Some(point)) = out.kept(made) else {
         return out.push_str("none");
     };
-    push_told_line((point.offset, point.needs_line_end), out)?;
-    let new = with_line(alloc, row.text, point)?;
-    push_told(new.as_str(), out)
-}
-
-fn push_tables(
-    alloc: Global,
-    sections: &[Section<'_>],
-    out: &mut String,
-) -> Result<(), AllocError> {
-    for place in &table_places(alloc, sections)? {
-        push_steps(place.path.as_slice(), out)?;
-        push_told_line((place.form, place.span), out)?;
+    out.told_line((point.offset, point.needs_line_end));
+    if let Some(new) = out.kept(with_line(alloc, row.text, point)) {
+        out.told(new.as_str());
     }
-    Ok(())
 }
 
-fn push_forms(
-    alloc: Global,
-    row: Row<'_>,
-    sections: &[Section<'_>],
-    out: &mut String,
-) -> Result<(), AllocError> {
-    let steps = steps_of(alloc, row.words)?;
-    let forms = table_forms(alloc, sections, steps.as_slice())?;
+/// Answers `table_places`.
+pub fn push_tables(alloc: Global, sections: &[Section<'_>], out: &mut Out) {
+    let Some(places) = out.kept(table_places(alloc, sections)) else {
+        return;
+    };
+    for place in &places {
+        push_steps(place.path.as_slice(), out);
+        out.told_line((place.form, place.span));
+    }
+}
+
+/// Answers `table_forms`.
+pub fn push_forms(alloc: Global, row: Row<'_>, sections: &[Section<'_>], out: &mut Out) {
+    let Some(steps) = out.kept(steps_of(alloc, row.words)) else {
+        return;
+    };
+    let Some(forms) = out.kept(table_forms(alloc, sections, steps.as_slice())) else {
+        return;
+    };
     if forms.is_empty() {
-        return out.push_str("none");
+        out.push_str("none");
     }
     for form in &forms {
-        push_told_line(*form, out)?;
-    }
-    Ok(())
-}
-
-/// Adds what a call answers on the sections of a text.
-fn push_call(
-    alloc: Global,
-    row: Row<'_>,
-    sections: &[Section<'_>],
-    out: &mut String,
-) -> Result<(), AllocError> {
-    match row.call {
-        "section_places" => push_sections(alloc, row.text, sections, out),
-        "insertion_point" => push_point(alloc, row, sections, out),
-        "table_places" => push_tables(alloc, sections, out),
-        _ => push_forms(alloc, row, sections, out),
-    }
-}
-
-/// Adds what a call answers on the sections of a text, or the fault.
-fn push_read(alloc: Global, row: Row<'_>, out: &mut String) -> Result<(), AllocError> {
-    match read_sections(alloc, row.text, 128) {
-        Ok(sections) => push_call(alloc, row, sections.as_slice(), out),
-        Err(Stop::Fault(fault)) => {
-            let pushed = push_fault(&fault, out);
-            drop(fault);
-            pushed
-        }
-        Err(Stop::Memory(refused)) => Err(refused),
+        out.told_line(*form);
     }
 }
 
 /// Adds what stands at the byte of the first word. Whether the word is an offset.
-pub fn push_node_at(
-    alloc: Global,
-    row: Row<'_>,
-    root: &Value<'_>,
-    out: &mut String,
-) -> Result<bool, AllocError> {
+pub fn push_node_at(alloc: Global, row: Row<'_>, root: &Value<'_>, out: &mut Out) -> bool {
     let Ok(offset) = row.word(0).parse::<usize>() else {
-        return Ok(false);
+        return false;
     };
-    let Some(place) = node_at(alloc, root, row.text, offset)? else {
-        return known(out.push_str("none"));
+    let Some(Some(place)) = out.kept(node_at(alloc, root, row.text, offset)) else {
+        out.push_str("none");
+        return true;
     };
-    push_steps(place.path.as_slice(), out)?;
-    push_told((place.part, place.span), out)?;
-    out.push(' ')?;
-    known(push_cut(row.text, place.span, out))
-}
-
-/// Writes the answer of a row, or says that there is no such call.
-pub fn answer(alloc: Global, row: Row<'_>, out: &mut String) -> Result<bool, AllocError> {
-    match row.call {
-        "section_places" | "insertion_point" | "table_places" | "table_forms" => {
-            known(push_read(alloc, row, out))
-        }
-        _ => Ok(false),
-    }
+    push_steps(place.path.as_slice(), out);
+    out.told((place.part, place.span));
+    out.push(' ');
+    push_cut(row.text, place.span, out);
+    true
 }

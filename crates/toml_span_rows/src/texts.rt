@@ -1,16 +1,15 @@
 //! `cuts`: a text cut at each boundary of characters gives a tree, or a fault within it.
 use crate::Row;
-use crate::told::push_told;
-use std::alloc::{AllocError, Global};
+use crate::told::Out;
+use std::alloc::Global;
 use toml_span::{Error, Stop, parse};
 
 /// Writes the answer of a row, or says that there is no such call.
-pub fn answer(alloc: Global, row: Row<'_>, out: &mut String) -> Result<bool, AllocError> {
-    if row.call != "cuts" {
-        return Ok(false);
+pub fn answer(alloc: Global, row: Row<'_>, out: &mut Out) -> bool {
+    if row.call == "cuts" {
+        push_cuts(alloc, row.text, out);
     }
-    push_cuts(alloc, row.text, out)?;
-    Ok(true)
+    row.call == "cuts"
 }
 
 /// Whether a fault's bounds are right: its span starts in the text and does not end before it starts,
@@ -33,33 +32,37 @@ fn is_within(text: &str, fault: &Error<'_>) -> bool {
 }
 
 /// Whether a text gives a tree of which nothing is taken, or a fault within it.
-fn is_right(alloc: Global, text: &str) -> Result<bool, AllocError> {
+fn is_right(alloc: Global, text: &str, out: &mut Out) -> bool {
     match parse(alloc, text) {
         Ok(root) => {
-            let right = root.is_whole();
+            let is_whole = root.is_whole();
             drop(root);
-            Ok(right)
+            is_whole
         }
         Err(Stop::Fault(fault)) => {
-            let right = is_within(text, &fault);
+            let is_within = is_within(text, &fault);
             drop(fault);
-            Ok(right)
+            is_within
         }
-        Err(Stop::Memory(refused)) => Err(refused),
+        Err(Stop::Memory(_)) => {
+            out.is_short = true;
+            false
+        }
     }
 }
 
 /// Adds how many cuts there are, all of them right, or the first that is not.
-fn push_cuts(alloc: Global, text: &str, out: &mut String) -> Result<(), AllocError> {
+fn push_cuts(alloc: Global, text: &str, out: &mut Out) {
     let mut count: usize = 0;
     for end in 0..text.len() {
         let Some(front) = text.get(..end) else {
             continue;
         };
-        if !is_right(alloc, front)? {
-            return push_told(front, out);
+        if !is_right(alloc, front, out) {
+            return out.told(front);
         }
         count = count.saturating_add(1);
     }
-    write!(out, "{count} right")
+    out.told(count);
+    out.push_str(" right");
 }

@@ -5,7 +5,7 @@
 //! with its content, `Keylike(a)`. In an operation escapes may stand. `describe` is the words for the next
 //! token, `clone` keeps a copy of the tokenizer, and `swap` goes on with the copy.
 use crate::Row;
-use crate::told::{known, push_told};
+use crate::told::Out;
 use std::alloc::{AllocError, Global};
 use std::borrow::CowStr;
 use std::mem;
@@ -59,15 +59,18 @@ fn token_of(named: &str) -> Option<Token<'_>> {
 }
 
 /// Adds why a call gave no value.
-fn push_stop(out: &mut String, stop: &Stop<Error>) -> Result<(), AllocError> {
+fn push_stop(out: &mut Out, stop: &Stop<Error>) {
     match stop {
-        Stop::Fault(error) => write!(out, "error {error:?}"),
-        Stop::Memory(refused) => push_told(refused, out),
+        Stop::Fault(error) => {
+            out.push_str("error ");
+            out.told(error);
+        }
+        _ => out.told(AllocError),
     }
 }
 
 /// Adds whether a text is a part of the document.
-fn push_holder(out: &mut String, text: &CowStr<'_>) -> Result<(), AllocError> {
+fn push_holder(out: &mut Out, text: &CowStr<'_>) {
     match text {
         CowStr::Borrowed(_) => out.push_str(" borrowed"),
         CowStr::Owned(_) => out.push_str(" owned"),
@@ -75,58 +78,44 @@ fn push_holder(out: &mut String, text: &CowStr<'_>) -> Result<(), AllocError> {
 }
 
 /// Adds a span, as `start..end`.
-pub fn push_span(out: &mut String, span: Span) -> Result<(), AllocError> {
-    let start = span.start;
-    let end = span.end;
-    write!(out, "{start}..{end}")
+pub fn push_span(out: &mut Out, span: Span) {
+    out.told(span.start);
+    out.push_str("..");
+    out.told(span.end);
 }
 
-fn push_token(out: &mut String, span: Span, token: &Token<'_>) -> Result<(), AllocError> {
-    push_span(out, span)?;
-    write!(out, " {token:?}")?;
-    match token {
-        Token::String { val, .. } => push_holder(out, val),
-        _ => Ok(()),
+fn push_token(out: &mut Out, span: Span, token: &Token<'_>) {
+    push_span(out, span);
+    out.push(' ');
+    out.told(token);
+    if let Token::String { val, .. } = token {
+        push_holder(out, val);
     }
 }
 
 /// What a step answers.
 type Stepped<'t> = Result<Option<(Span, Token<'t>)>, Stop<Error>>;
 
-fn push_step(out: &mut String, answer: Stepped<'_>) -> Result<(), AllocError> {
-    let pushed = match &answer {
+/// Adds a token, or the words for it.
+fn push_step(out: &mut Out, answer: Stepped<'_>, in_words: bool) {
+    match &answer {
+        Ok(Some((_, token))) if in_words => out.push_str(token.describe()),
         Ok(Some((span, token))) => push_token(out, *span, token),
         Ok(None) => out.push_str("end"),
         Err(stop) => push_stop(out, stop),
-    };
-    drop(answer);
-    pushed
+    }
 }
 
-/// Adds the words for a token.
-fn push_words(out: &mut String, answer: Stepped<'_>) -> Result<(), AllocError> {
-    let pushed = match &answer {
-        Ok(Some((_, token))) => out.push_str(token.describe()),
-        Ok(None) => out.push_str("end"),
+fn push_key(out: &mut Out, answer: Result<Key<'_>, Stop<Error>>) {
+    match &answer {
+        Ok(key) => {
+            push_span(out, key.span);
+            out.push(' ');
+            out.shown(key);
+            push_holder(out, &key.name);
+        }
         Err(stop) => push_stop(out, stop),
-    };
-    drop(answer);
-    pushed
-}
-
-fn push_key(out: &mut String, answer: Result<Key<'_>, Stop<Error>>) -> Result<(), AllocError> {
-    let pushed = match &answer {
-        Ok(key) => push_name(out, key),
-        Err(stop) => push_stop(out, stop),
-    };
-    drop(answer);
-    pushed
-}
-
-fn push_name(out: &mut String, key: &Key<'_>) -> Result<(), AllocError> {
-    push_span(out, key.span)?;
-    write!(out, " {key}")?;
-    push_holder(out, &key.name)
+    }
 }
 
 /// Makes the call of a name that expects a token, and adds its answer. Whether there is such a call.
@@ -135,16 +124,16 @@ fn push_expecting<'t>(
     tokenizer: &mut Tokenizer<'t>,
     name: &str,
     token: Token<'t>,
-    out: &mut String,
-) -> Result<bool, AllocError> {
-    let pushed = match name {
-        "eat" => push_told(tokenizer.eat(alloc, token), out),
-        "eat_spanned" => push_told(tokenizer.eat_spanned(alloc, token), out),
-        "expect" => push_told(tokenizer.expect(alloc, token), out),
-        "expect_spanned" => push_told(tokenizer.expect_spanned(alloc, token), out),
-        _ => return Ok(false),
-    };
-    known(pushed)
+    out: &mut Out,
+) -> bool {
+    match name {
+        "eat" => out.told(tokenizer.eat(alloc, token)),
+        "eat_spanned" => out.told(tokenizer.eat_spanned(alloc, token)),
+        "expect" => out.told(tokenizer.expect(alloc, token)),
+        "expect_spanned" => out.told(tokenizer.expect_spanned(alloc, token)),
+        _ => return false,
+    }
+    true
 }
 
 /// A tokenizer, and a copy of it.
@@ -159,38 +148,38 @@ fn push_call<'t>(
     alloc: Global,
     tokenizers: &mut Tokenizers<'t>,
     name: &str,
-    out: &mut String,
-) -> Result<bool, AllocError> {
+    out: &mut Out,
+) -> bool {
     let tokenizer = &mut tokenizers.used;
-    let pushed = match name {
-        "step" => push_step(out, tokenizer.step(alloc)),
-        "peek" => push_step(out, tokenizer.peek(alloc)),
-        "describe" => push_words(out, tokenizer.step(alloc)),
+    match name {
+        "step" => push_step(out, tokenizer.step(alloc), false),
+        "peek" => push_step(out, tokenizer.peek(alloc), false),
+        "describe" => push_step(out, tokenizer.step(alloc), true),
         "table_key" => push_key(out, tokenizer.table_key(alloc)),
-        "eat_newline_or_eof" => push_told(tokenizer.eat_newline_or_eof(alloc), out),
-        "eat_comment" => push_told(tokenizer.eat_comment(), out),
-        "one" => push_told(tokenizer.one(), out),
-        "current" => push_told(tokenizer.current(), out),
+        "eat_newline_or_eof" => out.told(tokenizer.eat_newline_or_eof(alloc)),
+        "eat_comment" => out.told(tokenizer.eat_comment()),
+        "one" => out.told(tokenizer.one()),
+        "current" => out.told(tokenizer.current()),
         _ => return push_quiet_call(tokenizers, name, out),
-    };
-    known(pushed)
+    }
+    true
 }
 
 /// The same for a call that answers nothing.
-fn push_quiet_call(
-    tokenizers: &mut Tokenizers<'_>,
-    name: &str,
-    out: &mut String,
-) -> Result<bool, AllocError> {
+fn push_quiet_call(tokenizers: &mut Tokenizers<'_>, name: &str, out: &mut Out) -> bool {
     match name {
         "eat_whitespace" => tokenizers.used.eat_whitespace(),
         "skip_to_newline" => tokenizers.used.skip_to_newline(),
-        "clone" => tokenizers.copy = tokenizers.used.clone()?,
+        "clone" => {
+            if let Some(copy) = out.kept(tokenizers.used.clone()) {
+                tokenizers.copy = copy;
+            }
+        }
         "swap" => mem::swap(&mut tokenizers.used, &mut tokenizers.copy),
-        _ => return Ok(false),
+        _ => return false,
     }
-    out.push_str("done")?;
-    Ok(true)
+    out.push_str("done");
+    true
 }
 
 /// Makes the call of a word, and adds its name and its answer. Whether there is such a call.
@@ -198,66 +187,61 @@ fn push_operation<'t>(
     alloc: Global,
     tokenizers: &mut Tokenizers<'t>,
     word: &'t str,
-    out: &mut String,
-) -> Result<bool, AllocError> {
-    let Some((name, named)) = word.split_once('=') else {
-        write!(out, "{word} ")?;
-        return push_call(alloc, tokenizers, word, out);
-    };
-    let Some(token) = token_of(named) else {
-        return Ok(false);
-    };
-    write!(out, "{name} ")?;
-    push_expecting(alloc, &mut tokenizers.used, name, token, out)
+    out: &mut Out,
+) -> bool {
+    let (name, named) = word.split_once('=').unwrap_or((word, ""));
+    out.push_str(name);
+    out.push(' ');
+    if named.is_empty() {
+        return push_call(alloc, tokenizers, name, out);
+    }
+    match token_of(named) {
+        Some(token) => push_expecting(alloc, &mut tokenizers.used, name, token, out),
+        None => false,
+    }
 }
 
 /// Makes the calls that are named on one tokenizer, and adds a line for each. Whether each is a call.
-fn push_calls(
-    alloc: Global,
-    operations: &[String],
-    text: &str,
-    out: &mut String,
-) -> Result<bool, AllocError> {
+fn push_calls(alloc: Global, operations: &[String], text: &str, out: &mut Out) -> bool {
     let mut tokenizers = Tokenizers {
         used: Tokenizer::new(text),
         copy: Tokenizer::new(text),
     };
     for word in operations {
-        if !push_operation(alloc, &mut tokenizers, word.as_str(), out)? {
-            return Ok(false);
+        if !push_operation(alloc, &mut tokenizers, word.as_str(), out) {
+            return false;
         }
-        out.push('\n')?;
+        out.push('\n');
     }
-    Ok(true)
+    true
 }
 
 /// Adds the tokens of a text, one a line, up to its end or its first fault.
-fn push_tokens(alloc: Global, text: &str, out: &mut String) -> Result<(), AllocError> {
+fn push_tokens(alloc: Global, text: &str, out: &mut Out) {
     let mut tokenizer = Tokenizer::new(text);
     for _ in 0..=text.len() {
         let answer = tokenizer.step(alloc);
         let (failed, more) = (answer.is_err(), matches!(&answer, Ok(Some(_))));
-        push_step(out, answer)?;
+        push_step(out, answer, false);
         if failed {
-            let at = tokenizer.current();
-            write!(out, " then {at}")?;
+            out.push_str(" then ");
+            out.told(tokenizer.current());
         }
-        out.push('\n')?;
+        out.push('\n');
         if !more {
-            return Ok(());
+            return;
         }
     }
-    Ok(())
 }
 
 /// Writes the answer of a row, one line each, or says that there is no such call.
-pub fn answer(alloc: Global, row: Row<'_>, out: &mut String) -> Result<bool, AllocError> {
+pub fn answer(alloc: Global, row: Row<'_>, out: &mut Out) -> bool {
     match row.call {
         "tokens" => {
-            push_tokens(alloc, row.text, out)?;
-            Ok(true)
+            push_tokens(alloc, row.text, out);
+            true
         }
         "tokenizer" => push_calls(alloc, row.words, row.text, out),
-        _ => Ok(false),
+        _ => false,
     }
 }

@@ -1,19 +1,18 @@
 //! Callers of `toml_span` that state what they conclude.
-ghost use Rattle.std.specs.Prelude.{◌≡◌, ◌↔◌, ⊤, ◌∷◌, [], ℤ, pos, codes, Some, IfOk, IfErr, IfSome, IfNone};
+ghost use Rattle.std.specs.Prelude.{◌≡◌, ◌↔◌, ◌∷◌, [], pos, codes, Some, IfOk, IfErr};
 ghost use Rattle.toml_span_lex.specs.declared.span.Span.{Span as Bytes};
 ghost use Rattle.toml_span_tree.specs.Node.{integer};
 ghost use Rattle.toml_span_tree.specs.Path.{Place, key, shape_scalar};
 ghost use Rattle.toml_span.specs.Parsing.{IsRefusal};
 ghost use Rattle.toml_span_laws.specs.Document.{IsDocument, StandsAt};
-ghost use Rattle.toml_span_rows.specs.uses.Fields.{IsRefusedAt, NoPort};
+ghost use Rattle.toml_span_rows.specs.uses.Fields.{NoPort};
 ghost use Rattle.toml_span_read.specs.Limits.{depth_limit};
 
 pub(crate) mod first;
 pub(crate) mod servers;
 pub(crate) mod settings;
-pub(crate) mod writes;
 
-use std::alloc::{AllocError, Global};
+use std::alloc::Global;
 use toml_span::de_helpers::TableHelper;
 use toml_span::{Error, Span, Stop, parse};
 
@@ -31,41 +30,6 @@ pub(crate) fn span_at<'de>(
     match root.pointer(pointer) {
         Some(value) => Ok(Some(value.span)),
         None => Ok(None),
-    }
-}
-
-/// The integer that the pointer names, if it names one.
-pub(crate) fn integer_at<'de>(
-    alloc: Global,
-    text: &'de str,
-    pointer: &'de str,
-) -> Result<Option<i64>, Stop<Error<'de>>>
-    ensures { IfOk result (λ o. IsDocument text.now (λ places. (z : ℤ) → (o ≡ Some z)
-        ↔ StandsAt pointer.now places (λ place. place.shape ≡ shape_scalar (integer z)))) }
-{
-    let root = parse(alloc, text)?;
-    match root.pointer(pointer) {
-        Some(value) => Ok(value.as_integer()),
-        None => Ok(None),
-    }
-}
-
-/// Where the text is refused, if it is: the bytes, and the line and the column of the first of them, both
-/// counted from 0.
-pub(crate) fn refused_at(
-    alloc: Global,
-    text: &str,
-) -> Result<Option<(Span, usize, usize)>, AllocError>
-    ensures read { IfOk result (λ o. IfNone o (IsDocument text.now (λ _. ⊤))) }
-    ensures refused { IfOk result (λ o. IfSome o (λ at. IsRefusedAt text.now at.0 (at.1, at.2))) }
-{
-    match parse(alloc, text) {
-        Ok(_) => Ok(None),
-        Err(Stop::Memory(error)) => Err(error),
-        Err(Stop::Fault(error)) => match error.line_info {
-            Some((line, column)) => Ok(Some((error.span, line, column))),
-            None => unreachable!(),
-        },
     }
 }
 

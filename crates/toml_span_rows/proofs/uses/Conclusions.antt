@@ -1,23 +1,19 @@
 -- What callers conclude from the clauses of `parse` and of the tree.
-use Rattle.std.proofs.Common.{◌≡◌, ◌≤◌, ◌↔◌, ℕ, ℤ, pos, negsuc, Bool, true, false, nat_lt, if◌then◌else◌, List, Option, Some, None, option_map, Ok, length, refl, sym, ap, ◌∙◌, subst, inl, inr, true≢false}
+use Rattle.std.proofs.Common.{◌≡◌, ◌↔◌, ℕ, pos, negsuc, Bool, true, false, nat_lt, if◌then◌else◌, List, Option, Some, None, option_map, Ok, length, refl, sym, ap, ◌∙◌, subst, true≢false}
 use Rattle.std.proofs.lemmas.Option.{none-some, same_Some}
 use Rattle.toml_span_lex.specs.declared.span.Span.{Span}
-use Rattle.toml_span_lex.specs.declared.stop.Stop.{Stop}
-use Rattle.toml_span_lex.specs.declared.stop.Stop.TheVariants as stops
-use Rattle.toml_span_tree.specs.declared.error.Error.{Error}
 use Rattle.toml_span_tree.specs.declared.value.Value.{Value}
-use Rattle.toml_span_tree.specs.Node.{Node, node, Inner, taken, scalar, array, table, text, integer, float, boolean, datetime}
+use Rattle.toml_span_tree.specs.Node.{Node, node, taken, scalar, array, table, text, integer, float, boolean, datetime}
 use Rattle.toml_span_tree.specs.Path.{Path, Place, shape_scalar, shape_of, place_of, reached}
 use Rattle.toml_span_tree.specs.Pointer.{pointed}
-use Rattle.toml_span_tree.specs.Value.{view, inner_of, span_of, integer_in, is_taken}
+use Rattle.toml_span_tree.specs.Value.{view, inner_of, span_of, is_taken}
 use Rattle.toml_span_tree.proofs.PointerLaws.{pointed-is}
 use Rattle.toml_span_tree.proofs.Values.{view_is}
 use Rattle.toml_span_typed.specs.Reads.{read_integer, or_out_of, unsigned}
-use Rattle.toml_span_read.specs.Places.{IsLineInfo}
 use Rattle.toml_span_read.specs.Data.{Block}
 use Rattle.toml_span.specs.Claims.{claims}
 use Rattle.toml_span.specs.Flat.{flat, Shows}
-use Rattle.toml_span.specs.Parsing.{IsTree, IsRefusal}
+use Rattle.toml_span.specs.Parsing.{IsTree}
 use Rattle.toml_span_laws.specs.Document.{IsDocument, StandsAt}
 use Rattle.toml_span.proofs.ShownWhole.{shown-filled}
 
@@ -84,22 +80,6 @@ span-place v k span =
     let same : span_of (view v) ≡ v.span = ap span_of (view_is v) in
     (λ h. same ∙ same_Some v.span span h, λ h. ap Some (sym same ∙ h))
 
-integer-shape : (i : Inner) (z : ℤ) → (integer_in i ≡ Some z) ↔ (shape_of i ≡ shape_scalar (integer z))
-integer-shape taken z = (λ h. cc, λ h. cc)
-integer-shape (scalar (text s)) z = (λ h. cc, λ h. cc)
-integer-shape (scalar (integer y)) z = (λ h. ap (λ y. shape_scalar (integer y)) (same_Some y z h), λ h. cc)
-integer-shape (scalar (float x)) z = (λ h. cc, λ h. cc)
-integer-shape (scalar (boolean b)) z = (λ h. cc, λ h. cc)
-integer-shape (scalar (datetime d)) z = (λ h. cc, λ h. cc)
-integer-shape (array ns) z = (λ h. cc, λ h. cc)
-integer-shape (table ms) z = (λ h. cc, λ h. cc)
-
--- what `as_integer` answers
-pub integer-place : (o : Option ℤ) (i : Inner) → o ≡ integer_in i → (z : ℤ) → (o ≡ Some z) ↔ (shape_of i ≡ shape_scalar (integer z))
-integer-place o i is z =
-    let shape = integer-shape i z in
-    (λ h. shape.0 (sym is ∙ h), λ h. is ∙ shape.1 h)
-
 -- ---- a number that is read
 
 held-below : (b : Bool) (type : List ℕ) (span : Span) (m n : ℕ) → Ok n ≡ or_out_of type span (if b then Some m else None) → m ≡ n
@@ -116,26 +96,3 @@ number-shape limit type (node (scalar (boolean b)) span) n h = cc
 number-shape limit type (node (scalar (datetime d)) span) n h = cc
 number-shape limit type (node (array ns) span) n h = cc
 number-shape limit type (node (table ms) span) n h = cc
-
--- ---- refusals
-
--- the span starts in the text and does not end before it starts, and the two numbers are the line and the column of its start
-abbrev pub IsPlaceIn : List ℕ → Span → ℕ × ℕ → Type 0
-IsPlaceIn s span info = (span.start ≤ length s) × (span.start ≤ span.end) × IsLineInfo s span.start info.0 info.1
-
--- so it is with each error that tells of a refusal
-pub refusal-place : (s : List ℕ) (limit : ℕ) (error : Error) → IsRefusal s limit (stops.Fault error) → (info : ℕ × ℕ) × (error.line_info ≡ Some info) × IsPlaceIn s error.span info
-refusal-place s limit error (inl (fault, due, (placed, (line, column, info, is)))) =
-    ((line, column), ap (λ x. x.line_info) is, subst (λ span. IsPlaceIn s span (line, column)) (sym (ap (λ x. x.span) is)) (placed.within, placed.forward, info))
-refusal-place s limit error (inr (bs, first, has, clash)) = (
-  (clash.line, clash.column),
-  ap (λ x. x.line_info) clash.tells,
-  subst (λ span. IsPlaceIn s span (clash.line, clash.column)) (sym (ap (λ x. x.span) clash.tells)) (clash.within, clash.forward, clash.place),
-)
-
--- and the line and the column are those that it tells
-pub refusal-told : (s : List ℕ) (limit : ℕ) (stop : Stop Error) (error : Error) (info : ℕ × ℕ) → IsRefusal s limit stop → stop ≡ stops.Fault error → error.line_info ≡ Some info
-    → IsPlaceIn s error.span info
-refusal-told s limit stop error info h fault is =
-    let (found, told, place) = refusal-place s limit error (subst (IsRefusal s limit) fault h) in
-    subst (IsPlaceIn s error.span) (same_Some found info (sym told ∙ is)) place

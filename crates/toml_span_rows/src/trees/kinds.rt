@@ -1,10 +1,9 @@
 //! `kinds`: the line of each value, which calls give something at it, and which at what it holds: `as_str`,
 //! `as_integer`, `as_float`, `as_bool`, `as_datetime`, `as_array` and `as_table`, in this order.
-use crate::told::push_told_line;
-use crate::trees::places::{Place, below};
+use crate::told::Out;
 use crate::trees::shown::push_line;
-use std::alloc::{AllocError, Global};
-use toml_span::value::{Value, ValueInner};
+use std::alloc::Global;
+use toml_span::value::{Value, ValueInner, nodes};
 
 /// Which calls give something at a value.
 pub fn value_kinds(value: &Value<'_>) -> [bool; 7] {
@@ -32,19 +31,17 @@ fn inner_kinds(inner: &ValueInner<'_>) -> [bool; 7] {
     ]
 }
 
-fn push_place(place: &Place<'_, '_>, out: &mut String) -> Result<(), AllocError> {
-    push_line(place, 0, out)?;
-    push_told_line(value_kinds(place.value), out)?;
-    if place.value.is_taken() {
-        return Ok(());
-    }
-    push_told_line(inner_kinds(place.value.as_ref()), out)
-}
-
 /// Adds the calls for each value of a tree.
-pub fn push_kinds(alloc: Global, root: &Value<'_>, out: &mut String) -> Result<(), AllocError> {
-    for place in &below(alloc, root)? {
-        push_place(place, out)?;
+pub fn push_kinds(alloc: Global, root: &Value<'_>, out: &mut Out) {
+    let Some(list) = out.kept(nodes(alloc, root)) else {
+        return;
+    };
+    let list = list.as_slice();
+    for (index, visited) in list.iter().enumerate() {
+        push_line(&list[..index], visited, 0, out);
+        out.told_line(value_kinds(visited.value));
+        if !visited.value.is_taken() {
+            out.told_line(inner_kinds(visited.value.as_ref()));
+        }
     }
-    Ok(())
 }

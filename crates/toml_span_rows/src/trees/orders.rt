@@ -1,45 +1,51 @@
-//! `text_order`: the keys of the root in the order of the text; and `nodes`: the steps to each value, its kind and its key.
-use crate::told::push_told_line;
+//! `text_order`: the keys of the root in the order of the text; and `nodes`: the steps to each value, its kind and
+//! its key.
+use crate::told::Out;
 use crate::trees::shown::push_kind;
-use std::alloc::{AllocError, Global};
+use std::alloc::Global;
 use toml_span::value::{Key, Step, Value, in_text_order, nodes};
 
 /// Adds the keys of the root.
-pub fn push_order(alloc: Global, root: &Value<'_>, out: &mut String) -> Result<(), AllocError> {
+pub fn push_order(alloc: Global, root: &Value<'_>, out: &mut Out) {
     let Some(table) = root.as_table() else {
-        return Ok(());
+        return;
     };
-    for (key, _) in in_text_order(alloc, table)?.iter() {
-        push_told_line((key.name.as_str(), key.span), out)?;
+    let Some(entries) = out.kept(in_text_order(alloc, table)) else {
+        return;
+    };
+    for (key, _) in entries.iter() {
+        out.told_line((key.name.as_str(), key.span));
     }
-    Ok(())
 }
 
-/// Adds a step to a value.
-pub fn push_step(step: &Step<'_>, out: &mut String) -> Result<(), AllocError> {
-    match step {
-        Step::Key(name) => write!(out, "{name:?} "),
-        Step::Position(position) => write!(out, "{position} "),
+/// Adds steps, with a space behind each.
+pub fn push_steps(steps: &[Step<'_>], out: &mut Out) {
+    for step in steps {
+        match step {
+            Step::Key(name) => out.told(name),
+            Step::Position(position) => out.told(position),
+        }
+        out.push(' ');
     }
 }
 
 /// Adds where a value's key stands, if it has one.
-fn push_key(key: Option<&Key<'_>>, out: &mut String) -> Result<(), AllocError> {
-    match key {
-        Some(key) => write!(out, ", key {:?} {:?}", key.name.as_str(), key.span),
-        None => Ok(()),
+fn push_key(key: Option<&Key<'_>>, out: &mut Out) {
+    if let Some(key) = key {
+        out.push_str(", key ");
+        out.told((key.name.as_str(), key.span));
     }
 }
 
-/// Adds the steps to each value, its kind, and its key.
-pub fn push_nodes(alloc: Global, root: &Value<'_>, out: &mut String) -> Result<(), AllocError> {
-    for visited in nodes(alloc, root)?.iter() {
-        for step in visited.path.iter() {
-            push_step(step, out)?;
-        }
-        push_kind(visited.value, 0, out)?;
-        push_key(visited.key, out)?;
-        out.push('\n')?;
+/// Adds the steps to each value, its kind and its key.
+pub fn push_nodes(alloc: Global, root: &Value<'_>, out: &mut Out) {
+    let Some(list) = out.kept(nodes(alloc, root)) else {
+        return;
+    };
+    for visited in list.iter() {
+        push_steps(visited.path.as_slice(), out);
+        push_kind(visited.value, 0, out);
+        push_key(visited.key, out);
+        out.push('\n');
     }
-    Ok(())
 }

@@ -1,46 +1,44 @@
 //! `again`: numbers, truth values, dates, arrays and inline tables, cut out of a document and
 //! read again.
-use crate::trees::places::below;
+use crate::told::Out;
 use crate::trees::shown::push_lines;
-use std::alloc::{AllocError, Global};
-use toml_span::value::{Table, Value, ValueInner};
+use std::alloc::Global;
+use toml_span::value::{Table, Value, ValueInner, nodes};
 use toml_span::{Stop, parse};
 
 /// What stands before a piece that is read again.
 const FRONT: &str = "x = ";
 
 /// Adds the lines of the value at `/x`, with offsets counted from its start.
-fn push_moved_lines(alloc: Global, root: &Value<'_>, out: &mut String) -> Result<(), AllocError> {
-    match root.pointer("/x") {
-        Some(value) => push_lines(alloc, value, FRONT.len(), out),
-        None => Ok(()),
+fn push_moved_lines(alloc: Global, root: &Value<'_>, out: &mut Out) {
+    if let Some(value) = root.pointer("/x") {
+        push_lines(alloc, value, FRONT.len(), out);
     }
 }
 
-/// What a value's text, behind `x = `, is read as, with offsets counted from the value's start.
-fn push_reread(alloc: Global, piece: &str, out: &mut String) -> Result<(), AllocError> {
-    let text = format!(in alloc; "{FRONT}{piece}")?;
+/// Adds what a value's text, behind `x = `, is read as, with offsets counted from the value's start.
+fn push_reread(alloc: Global, piece: &str, out: &mut Out) {
+    let Some(text) = out.kept(format!(in alloc; "{FRONT}{piece}")) else {
+        return;
+    };
     match parse(alloc, text.as_str()) {
         Ok(root) => {
-            let pushed = push_moved_lines(alloc, &root, out);
+            push_moved_lines(alloc, &root, out);
             drop(root);
-            pushed
         }
-        Err(Stop::Fault(fault)) => {
-            drop(fault);
-            Ok(())
-        }
-        Err(Stop::Memory(refused)) => Err(refused),
+        Err(Stop::Fault(fault)) => drop(fault),
+        Err(Stop::Memory(_)) => out.is_short = true,
     }
 }
 
 /// Whether a piece is read as the value that stands there, with all its spans moved.
-fn is_read_again(alloc: Global, piece: &str, value: &Value<'_>) -> Result<bool, AllocError> {
-    let mut lines = String::new(alloc);
-    push_lines(alloc, value, value.span.start, &mut lines)?;
-    let mut again = String::new(alloc);
-    push_reread(alloc, piece, &mut again)?;
-    Ok(lines == again)
+fn is_read_again(alloc: Global, piece: &str, value: &Value<'_>, out: &mut Out) -> bool {
+    let mut lines = Out::new(alloc);
+    push_lines(alloc, value, value.span.start, &mut lines);
+    let mut again = Out::new(alloc);
+    push_reread(alloc, piece, &mut again);
+    out.is_short = out.is_short || lines.is_short || again.is_short;
+    lines.text == again.text
 }
 
 /// Whether a value begins with this byte of the text.
@@ -79,31 +77,23 @@ fn is_piece(text: &str, value: &Value<'_>) -> bool {
 }
 
 /// Adds the line of a piece, and whether it is read as the same value.
-fn push_piece(
-    alloc: Global,
-    text: &str,
-    value: &Value<'_>,
-    out: &mut String,
-) -> Result<(), AllocError> {
+fn push_piece(alloc: Global, text: &str, value: &Value<'_>, out: &mut Out) {
     let Some(piece) = text.get(value.span.start..value.span.end) else {
         return out.push_str("no place of the text\n");
     };
-    let read = is_read_again(alloc, piece, value)?;
-    let outcome = if read { "the same" } else { "another" };
-    writeln!(out, "{piece:?} {outcome}")
+    let is_read = is_read_again(alloc, piece, value, out);
+    out.told(piece);
+    out.push_str(if is_read { " the same\n" } else { " another\n" });
 }
 
 /// Adds each piece of a document, and whether it is read as the same value.
-pub fn push_again(
-    alloc: Global,
-    text: &str,
-    root: &Value<'_>,
-    out: &mut String,
-) -> Result<(), AllocError> {
-    for place in &below(alloc, root)? {
-        if is_piece(text, place.value) {
-            push_piece(alloc, text, place.value, out)?;
+pub fn push_again(alloc: Global, text: &str, root: &Value<'_>, out: &mut Out) {
+    let Some(list) = out.kept(nodes(alloc, root)) else {
+        return;
+    };
+    for visited in list.iter() {
+        if is_piece(text, visited.value) {
+            push_piece(alloc, text, visited.value, out);
         }
     }
-    Ok(())
 }

@@ -6,8 +6,8 @@
 ghost use Rattle.std.specs.Prelude.{IfSome};
 ghost use Rattle.toml_span_typed.specs.TableHelper.{AllWhole, state_of};
 
-use crate::told::{known, push_told, push_told_line};
-use crate::trees::shown::push_back;
+use crate::told::Out;
+use crate::trees::shown::push_told_back;
 use crate::typed::lists::push_told_lists;
 use std::alloc::{AllocError, Global};
 use std::fmt::Debug;
@@ -20,15 +20,15 @@ pub fn push_fields<'de>(
     alloc: Global,
     calls: &'de [String],
     root: &mut Value<'de>,
-    out: &mut String,
-) -> Result<bool, AllocError> {
+    out: &mut Out,
+) -> bool {
     let Some(mut helper) = opened(alloc, root) else {
-        return Ok(false);
+        return false;
     };
     let Some((last, calls)) = calls.split_last() else {
-        return Ok(false);
+        return false;
     };
-    Ok(push_calls(&mut helper, calls, out)? && push_last(helper, last.as_str(), root, out)?)
+    push_calls(&mut helper, calls, out) && push_last(helper, last.as_str(), root, out)
 }
 
 /// A helper over the root of a document.
@@ -45,59 +45,46 @@ fn opened<'de>(alloc: Global, root: &mut Value<'de>) -> Option<TableHelper<'de>>
 }
 
 /// Makes each call but the last, until there is no such call.
-fn push_calls<'de>(
-    helper: &mut TableHelper<'de>,
-    calls: &'de [String],
-    out: &mut String,
-) -> Result<bool, AllocError>
+fn push_calls<'de>(helper: &mut TableHelper<'de>, calls: &'de [String], out: &mut Out) -> bool
     requires { AllWhole (state_of helper.old) }
 {
     for call in calls {
-        write!(out, "{call}: ")?;
-        if !push_call(helper, call.as_str(), out)? {
-            return Ok(false);
+        out.push_str(call.as_str());
+        out.push_str(": ");
+        if !push_call(helper, call.as_str(), out) {
+            return false;
         }
-        out.push('\n')?;
+        out.push('\n');
     }
-    Ok(true)
+    true
 }
 
 /// Makes one call that leaves the helper open, and adds the answer. Whether there is such a call.
-fn push_call<'de>(
-    helper: &mut TableHelper<'de>,
-    call: &'de str,
-    out: &mut String,
-) -> Result<bool, AllocError>
+fn push_call<'de>(helper: &mut TableHelper<'de>, call: &'de str, out: &mut Out) -> bool
     requires { AllWhole (state_of helper.old) }
     ensures { AllWhole (state_of helper.new) }
 {
     let Some((name, arguments)) = call.split_once('=') else {
-        return Ok(false);
+        return false;
     };
-    let pushed = match name {
-        "contains" => push_told(helper.contains(arguments), out),
-        "take" => {
-            let entry = helper.take(arguments);
-            let pushed = push_entry(&entry, out);
-            drop(entry);
-            pushed
-        }
+    match name {
+        "contains" => out.told(helper.contains(arguments)),
+        "take" => push_entry(helper.take(arguments), out),
         _ => return push_field(helper, name, arguments, out),
-    };
-    known(pushed)
+    }
+    true
 }
 
 /// Adds an entry that was taken, if there was one.
-fn push_entry(
-    entry: &Result<Option<(Key<'_>, Value<'_>)>, AllocError>,
-    out: &mut String,
-) -> Result<(), AllocError> {
+fn push_entry(entry: Result<Option<(Key<'_>, Value<'_>)>, AllocError>, out: &mut Out) {
     match entry {
         Ok(Some((key, value))) => {
-            push_told((key, key.span), out)?;
-            push_back(" ", value, out)
+            out.told((&key, key.span));
+            drop(key);
+            push_told_back(" ", value, out);
         }
-        other => push_told(other, out),
+        Ok(None) => out.push_str("Ok(None)"),
+        Err(_) => out.push_str("Err(AllocError)"),
     }
 }
 
@@ -106,13 +93,13 @@ fn push_field<'de>(
     helper: &mut TableHelper<'de>,
     how: &str,
     arguments: &'de str,
-    out: &mut String,
-) -> Result<bool, AllocError>
+    out: &mut Out,
+) -> bool
     requires { AllWhole (state_of helper.old) }
     ensures { AllWhole (state_of helper.new) }
 {
     let Some((kind, name)) = arguments.split_once('=') else {
-        return Ok(false);
+        return false;
     };
     match kind {
         "u8" => push_as::<u8>(helper, how, name, out),
@@ -120,7 +107,7 @@ fn push_field<'de>(
         "bool" => push_as::<bool>(helper, how, name, out),
         "String" => push_as::<String>(helper, how, name, out),
         "Vec<u8>" => push_as::<Vec<u8>>(helper, how, name, out),
-        _ => Ok(false),
+        _ => false,
     }
 }
 
@@ -130,32 +117,29 @@ fn push_as<'de, T: Deserialize<'de> + Debug>(
     helper: &mut TableHelper<'de>,
     how: &str,
     name: &'de str,
-    out: &mut String,
-) -> Result<bool, AllocError>
+    out: &mut Out,
+) -> bool
     requires { AllWhole (state_of helper.old) }
     ensures { AllWhole (state_of helper.new) }
 {
-    let pushed = match how {
-        "required" => push_told(helper.required::<T>(name), out),
+    match how {
+        "required" => out.told(helper.required::<T>(name)),
         "required_s" => push_spanned(helper.required_s::<T>(name), out),
-        "optional" => push_told(helper.optional::<T>(name), out),
-        "optional_s" => push_told(helper.optional_s::<T>(name), out),
-        _ => return Ok(false),
-    };
-    known(pushed)
+        "optional" => out.told(helper.optional::<T>(name)),
+        "optional_s" => out.told(helper.optional_s::<T>(name)),
+        _ => return false,
+    }
+    true
 }
 
 /// Adds what was read with its place.
-fn push_spanned<T: Debug + Drop>(
-    read: Result<Spanned<T>, Stop<Error<'_>>>,
-    out: &mut String,
-) -> Result<(), AllocError> {
+fn push_spanned<T: Debug + Drop>(read: Result<Spanned<T>, Stop<Error<'_>>>, out: &mut Out) {
     match read {
         Ok(found) => {
             let span = found.span;
-            push_told((found, span), out)
+            out.told((found, span));
         }
-        other => push_told(other, out),
+        other => out.told(other),
     }
 }
 
@@ -164,34 +148,32 @@ fn push_last<'de>(
     helper: TableHelper<'de>,
     call: &str,
     root: &mut Value<'de>,
-    out: &mut String,
-) -> Result<bool, AllocError> {
+    out: &mut Out,
+) -> bool {
     let ended = match call {
         "finalize" => helper.finalize(None),
         "finalize_back" => helper.finalize(Some(root)),
-        _ => return Ok(false),
+        _ => return false,
     };
-    known(push_ended(ended, out))
-}
-
-/// Adds the errors of the last call.
-fn push_ended(ended: Result<(), Unfinished<'_>>, out: &mut String) -> Result<(), AllocError> {
     match ended {
         Ok(()) => out.push_str("no error"),
         Err(Unfinished::Faults(errors)) => push_told_lists(errors, out),
-        Err(Unfinished::Memory(helper)) => push_again(helper, out),
+        Err(Unfinished::Memory(helper)) => {
+            out.told_line(AllocError);
+            push_ended(helper.finalize(None), out);
+        }
     }
+    true
 }
 
-/// Adds that there was no memory for the last call, and what it answers now.
-fn push_again(helper: TableHelper<'_>, out: &mut String) -> Result<(), AllocError> {
-    push_told_line(AllocError, out)?;
-    match helper.finalize(None) {
+/// Adds the errors of a call that is made again.
+fn push_ended(ended: Result<(), Unfinished<'_>>, out: &mut Out) {
+    match ended {
         Ok(()) => out.push_str("no error"),
         Err(Unfinished::Faults(errors)) => push_told_lists(errors, out),
         Err(Unfinished::Memory(helper)) => {
             drop(helper);
-            push_told(AllocError, out)
+            out.told(AllocError);
         }
     }
 }

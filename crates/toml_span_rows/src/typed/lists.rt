@@ -1,26 +1,24 @@
 //! The errors of a read.
-use crate::told::push_told_line;
-use std::alloc::AllocError;
+use crate::told::Out;
 use toml_span::DeserError;
 
 /// Adds what each call answers on the errors: how many there are, each by its position and the one behind
 /// them, each in order, the last one, and the text of all.
-pub fn push_lists(errors: &DeserError<'_>, out: &mut String) -> Result<(), AllocError> {
+pub fn push_lists(errors: &DeserError<'_>, out: &mut Out) {
     let len = errors.len();
-    writeln!(out, "{len}")?;
+    out.told_line(len);
     for index in 0..=len {
-        push_told_line(errors.get(index), out)?;
+        out.told_line(errors.get(index));
     }
     for error in errors.iter() {
-        push_told_line(error, out)?;
+        out.told_line(error);
     }
-    push_told_line(errors.last(), out)?;
-    write!(out, "{errors}")
+    out.told_line(errors.last());
+    out.shown(errors);
 }
 
 /// The same for errors that are told once.
-pub fn push_told_lists(errors: DeserError<'_>, out: &mut String) -> Result<(), AllocError> {
-    let pushed = push_lists(&errors, out);
+pub fn push_told_lists(errors: DeserError<'_>, out: &mut Out) {
+    push_lists(&errors, out);
     drop(errors);
-    pushed
 }

@@ -1,10 +1,10 @@
 //! Types of a caller that say nothing of what they read, and leave their value as they like.
-use std::alloc::{AllocError, Global};
+use std::alloc::Global;
 use std::borrow::CowStr;
 use std::fmt;
 use std::fmt::{Display, Formatter, Write};
 use std::str::FromStr;
-use toml_span::de_helpers::{TableHelper, Unfinished};
+use toml_span::de_helpers::TableHelper;
 use toml_span::{DeserError, Deserialize, Error, ErrorKind, Span, Stop, Value};
 
 /// One error with a message of the caller.
@@ -17,8 +17,8 @@ fn custom<'de>(message: &'de str, span: Span) -> DeserError<'de> {
 fn two_faults<'de>(alloc: Global, span: Span) -> Stop<DeserError<'de>> {
     let mut faults = custom("one", span);
     match faults.merge(alloc, custom("two", span)) {
-        Ok(()) => Stop::Fault(faults),
-        Err(unmerged) => Stop::Memory(unmerged.error),
+        Ok(()) => faults.into(),
+        Err(unmerged) => unmerged.error.into(),
     }
 }
 
@@ -32,7 +32,7 @@ impl<'de> Deserialize<'de> for Odd {
     ghost starved = { λ _ _. Unit {0} };
 
     fn deserialize(alloc: Global, value: &mut Value<'de>) -> Result<Odd, Stop<DeserError<'de>>> {
-        let _inner = value.take();
+        drop(value.take());
         Err(two_faults(alloc, value.span))
     }
 }
@@ -54,15 +54,6 @@ impl<'de> Deserialize<'de> for Untouched {
     }
 }
 
-/// Why a read of half a table stops.
-fn stopped<'de>(ended: Result<(), Unfinished<'de>>, span: Span) -> Stop<DeserError<'de>> {
-    match ended {
-        Ok(()) => Stop::Fault(custom("half", span)),
-        Err(Unfinished::Faults(faults)) => Stop::Fault(faults),
-        Err(Unfinished::Memory(_)) => Stop::Memory(AllocError),
-    }
-}
-
 /// What reads one entry of a table, puts the others back and fails.
 #[derive(Debug, Drop)]
 pub struct Half;
@@ -74,14 +65,11 @@ impl<'de> Deserialize<'de> for Half {
 
     fn deserialize(alloc: Global, value: &mut Value<'de>) -> Result<Half, Stop<DeserError<'de>>> {
         let span = value.span;
-        let mut helper = match TableHelper::new(alloc, value) {
-            Ok(helper) => helper,
-            Err(faults) => return Err(Stop::Fault(faults)),
-        };
-        if let Err(e) = helper.take("a") {
-            return Err(Stop::Memory(e));
-        }
-        Err(stopped(helper.finalize(Some(value)), span))
+        let mut helper = TableHelper::new(alloc, value)?;
+        let entry = helper.take("a")?;
+        drop(entry);
+        helper.finish_into(value)?;
+        Err(custom("half", span).into())
     }
 }
 

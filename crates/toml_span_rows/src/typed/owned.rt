@@ -4,7 +4,7 @@
 //! - `load Listener`: what is read of the document as of a file, `a.toml`, whose text is let go: the answer, or the
 //!   text of the errors, and how many reports there are.
 //! - `load_file NAME`: the same of a file that is there.
-use crate::told::push_told;
+use crate::told::Out;
 use std::alloc::{AllocError, Global};
 use toml_span::de_helpers::parse_with;
 use toml_span::{DeserError, Deserialize, Stop, Value};
@@ -68,33 +68,30 @@ fn load(rt: &HostRuntime, name: &str) -> Result<Listener, LoadError> {
 }
 
 /// Adds a listener, or why there is none.
-fn push_listener(read: Result<Listener, LoadError>, out: &mut String) -> Result<(), AllocError> {
+fn push_listener(read: Result<Listener, LoadError>, out: &mut Out) {
     match read {
-        Ok(listener) => push_told(listener, out),
+        Ok(listener) => out.told(listener),
         Err(LoadError::Reported(reported)) => {
             let count = reported.reports.len();
-            writeln!(out, "{reported}{count}")
+            out.shown(reported);
+            out.told_line(count);
         }
-        Err(other) => writeln!(out, "{other}"),
+        Err(other) => {
+            out.shown(other);
+            out.push('\n');
+        }
     }
 }
 
 /// Answers `load`.
-pub fn push_loaded(
-    alloc: Global,
-    name: &str,
-    text: &str,
-    out: &mut String,
-) -> Result<bool, AllocError> {
-    if name != "Listener" {
-        return Ok(false);
+pub fn push_loaded(alloc: Global, name: &str, text: &str, out: &mut Out) -> bool {
+    if name == "Listener" {
+        push_listener(listener_of(alloc, text), out);
     }
-    push_listener(listener_of(alloc, text), out)?;
-    Ok(true)
+    name == "Listener"
 }
 
 /// Answers `load_file`.
-pub fn push_file(rt: &HostRuntime, name: &str, out: &mut String) -> Result<bool, AllocError> {
-    push_listener(load(rt, name), out)?;
-    Ok(true)
+pub fn push_file(rt: &HostRuntime, name: &str, out: &mut Out) {
+    push_listener(load(rt, name), out);
 }

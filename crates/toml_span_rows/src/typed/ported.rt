@@ -6,7 +6,7 @@
 //! - `list`: the errors of `Names` as a list, and made of that list again.
 //! - `twice`: the last error of `Names`, and its diagnostic.
 use crate::faults::push_twice;
-use crate::told::{push_told, push_told_line};
+use crate::told::Out;
 use crate::typed::warned::{Named, Ratio, Target};
 use std::alloc::{AllocError, Global};
 use std::borrow::CowStr;
@@ -128,7 +128,7 @@ impl<'de> Deserialize<'de> for Strict {
 
 /// A port of a table that has nothing else.
 #[derive(Debug, Drop)]
-pub struct Port(u16);
+pub struct Port(pub u16);
 
 impl<'de> Deserialize<'de> for Port {
     #[tactic(auto, using(toml_span_typed::proofs::Whole::found_whole))]
@@ -155,57 +155,59 @@ impl<'de> Deserialize<'de> for Length {
 }
 
 /// Reads a value as the type of a name, and adds the answer. Whether there is such a type, and the value is whole.
-pub fn push_ported<'de>(
-    alloc: Global,
-    name: &str,
-    value: &mut Value<'de>,
-    out: &mut String,
-) -> Result<bool, AllocError> {
+pub fn push_ported<'de>(alloc: Global, name: &str, value: &mut Value<'de>, out: &mut Out) -> bool {
     if !value.is_whole() {
-        return Ok(false);
+        return false;
     }
     match name {
-        "Upload" => push_told(Upload::deserialize(alloc, value), out),
-        "Names" => push_told(Names::deserialize(alloc, value), out),
-        "Range" => push_told(Range::deserialize(alloc, value), out),
-        "Strict" => push_told(Strict::deserialize(alloc, value), out),
-        "Port" => push_told(Port::deserialize(alloc, value), out),
-        "Length" => push_told(Length::deserialize(alloc, value), out),
-        "Target" => push_told(Target::deserialize(alloc, value), out),
-        "Ratio" => push_told(Ratio::deserialize(alloc, value), out),
-        "Named" => push_told(Named::deserialize(alloc, value), out),
-        "stop" => match u8::deserialize(alloc, value) {
-            Ok(number) => push_told(number, out),
-            Err(stop) => push_text(stop, out),
-        },
-        "list" => match Names::deserialize(alloc, value) {
-            Err(Stop::Fault(errors)) => push_list(alloc, errors, out),
-            other => push_told(other, out),
-        },
-        "twice" => match Names::deserialize(alloc, value) {
-            Err(Stop::Fault(errors)) => push_last(alloc, errors, out),
-            other => push_told(other, out),
-        },
-        _ => return Ok(false),
-    }?;
-    Ok(true)
+        "Upload" => out.told(Upload::deserialize(alloc, value)),
+        "Names" => out.told(Names::deserialize(alloc, value)),
+        "Range" => out.told(Range::deserialize(alloc, value)),
+        "Strict" => out.told(Strict::deserialize(alloc, value)),
+        "Port" => out.told(Port::deserialize(alloc, value)),
+        "Length" => out.told(Length::deserialize(alloc, value)),
+        "Target" => out.told(Target::deserialize(alloc, value)),
+        "Ratio" => out.told(Ratio::deserialize(alloc, value)),
+        "Named" => out.told(Named::deserialize(alloc, value)),
+        "stop" => push_text(u8::deserialize(alloc, value), out),
+        "list" | "twice" => push_names(alloc, name, Names::deserialize(alloc, value), out),
+        _ => return false,
+    }
+    true
+}
+
+/// Adds the text of why there is no number.
+fn push_text(read: Result<u8, Stop<DeserError<'_>>>, out: &mut Out) {
+    match read {
+        Ok(number) => out.told(number),
+        Err(stop) => out.shown(stop),
+    }
+}
+
+/// Adds the errors of names: as a list, and what is made of that list, or the last one, and its diagnostic.
+fn push_names(alloc: Global, name: &str, read: Result<Names, Stop<DeserError<'_>>>, out: &mut Out) {
+    match read {
+        Err(Stop::Fault(errors)) => {
+            if name == "list" {
+                push_list(alloc, errors, out);
+            } else {
+                push_last(alloc, errors, out);
+            }
+        }
+        other => out.told(other),
+    }
 }
 
 /// Adds the last of errors, and its diagnostic.
-fn push_last(alloc: Global, errors: DeserError<'_>, out: &mut String) -> Result<(), AllocError> {
-    let pushed = push_twice(alloc, errors.last(), out);
+fn push_last(alloc: Global, errors: DeserError<'_>, out: &mut Out) {
+    push_twice(alloc, errors.last(), out);
     drop(errors);
-    pushed
-}
-
-/// Adds the text of an error.
-fn push_text<E: std::error::Error>(error: E, out: &mut String) -> Result<(), AllocError> {
-    write!(out, "{error}")
 }
 
 /// Adds errors as a list, and what is made of that list.
-fn push_list(alloc: Global, errors: DeserError<'_>, out: &mut String) -> Result<(), AllocError> {
-    let list = errors.into_errors(alloc)?;
-    push_told_line(&list, out)?;
-    push_told(DeserError::from_list(list), out)
+fn push_list(alloc: Global, errors: DeserError<'_>, out: &mut Out) {
+    if let Some(list) = out.kept(errors.into_errors(alloc)) {
+        out.told_line(&list);
+        out.told(DeserError::from_list(list));
+    }
 }

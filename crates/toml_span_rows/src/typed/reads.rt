@@ -1,11 +1,11 @@
 //! Reads as a type that a row names.
-use crate::told::push_told;
+use crate::told::Out;
 use crate::typed::marked::{Held, Placed};
 use crate::typed::odd::{Half, Odd, Untouched};
 use crate::typed::owned::Name;
 use crate::typed::ported::push_ported;
 use crate::typed::structs::{Config, Hosts, Server};
-use std::alloc::{AllocError, Global};
+use std::alloc::Global;
 use std::collections::{BTreeMap, HashMap};
 use std::fmt::Debug;
 use toml_span::value::{DateText, FloatText, Value};
@@ -16,28 +16,23 @@ use toml_span::{DeserError, Deserialize, Parsed, Stop};
 fn push_as<'de, T: Deserialize<'de> + Debug>(
     alloc: Global,
     value: &mut Value<'de>,
-    out: &mut String,
-) -> Result<bool, AllocError> {
+    out: &mut Out,
+) -> bool {
     if !value.is_whole() {
-        return Ok(false);
+        return false;
     }
     let read = T::deserialize(alloc, value);
-    let again = matches!(&read, Err(Stop::Memory(_))) && value.is_whole();
-    push_told(read, out)?;
-    if again {
-        out.push('\n')?;
-        push_told(T::deserialize(alloc, value), out)?;
+    let is_told = matches!(&read, Ok(_) | Err(Stop::Fault(_)));
+    out.told(read);
+    if !is_told && value.is_whole() {
+        out.push('\n');
+        out.told(T::deserialize(alloc, value));
     }
-    Ok(true)
+    true
 }
 
 /// Reads a value as the type of a name, and adds the answer. Whether there is such a type, and the value is whole.
-pub fn push_read<'de>(
-    alloc: Global,
-    name: &str,
-    value: &mut Value<'de>,
-    out: &mut String,
-) -> Result<bool, AllocError> {
+pub fn push_read<'de>(alloc: Global, name: &str, value: &mut Value<'de>, out: &mut Out) -> bool {
     match name {
         "u8" => push_as::<u8>(alloc, value, out),
         "u16" => push_as::<u16>(alloc, value, out),
@@ -55,12 +50,7 @@ pub fn push_read<'de>(
 }
 
 /// The same for a type that is neither an integer nor a truth value.
-fn push_other<'de>(
-    alloc: Global,
-    name: &str,
-    value: &mut Value<'de>,
-    out: &mut String,
-) -> Result<bool, AllocError> {
+fn push_other<'de>(alloc: Global, name: &str, value: &mut Value<'de>, out: &mut Out) -> bool {
     match name {
         "String" => push_as::<String>(alloc, value, out),
         "CowStr" => push_as::<Held<'de>>(alloc, value, out),
@@ -78,12 +68,7 @@ fn push_other<'de>(
 }
 
 /// The same for a table as a map, a value behind a box, and what `FromStr` makes of a string.
-fn push_held<'de>(
-    alloc: Global,
-    name: &str,
-    value: &mut Value<'de>,
-    out: &mut String,
-) -> Result<bool, AllocError> {
+fn push_held<'de>(alloc: Global, name: &str, value: &mut Value<'de>, out: &mut Out) -> bool {
     match name {
         "BTreeMap<String,u8>" => push_as::<BTreeMap<String, u8>>(alloc, value, out),
         "HashMap<String,u8>" => push_as::<HashMap<String, u8>>(alloc, value, out),
@@ -95,12 +80,7 @@ fn push_held<'de>(
 }
 
 /// The same for a type of a caller.
-fn push_own<'de>(
-    alloc: Global,
-    name: &str,
-    value: &mut Value<'de>,
-    out: &mut String,
-) -> Result<bool, AllocError> {
+fn push_own<'de>(alloc: Global, name: &str, value: &mut Value<'de>, out: &mut Out) -> bool {
     match name {
         "Vec<Odd>" => push_as::<Vec<Odd>>(alloc, value, out),
         "Vec<Untouched>" => push_as::<Vec<Untouched>>(alloc, value, out),
@@ -118,27 +98,34 @@ fn push_own<'de>(
 fn errors_as<'de, T: Deserialize<'de>>(
     alloc: Global,
     value: &mut Value<'de>,
-) -> Result<Option<DeserError<'de>>, AllocError> {
+    out: &mut Out,
+) -> Option<DeserError<'de>> {
     if !value.is_whole() {
-        return Ok(None);
+        return None;
     }
     match T::deserialize(alloc, value) {
-        Ok(_) => Ok(None),
-        Err(Stop::Fault(errors)) => Ok(Some(errors)),
-        Err(Stop::Memory(error)) => Err(error),
+        Ok(_) => None,
+        Err(Stop::Fault(errors)) => Some(errors),
+        Err(Stop::Memory(_)) => {
+            out.is_short = true;
+            None
+        }
     }
 }
 
-/// The errors of a read as the type of a name, if there is such a type.
-pub fn errors_of<'de>(
+/// The errors of a read of what stands at a place, as the type of a name, if there are such a type and place.
+pub fn errors_at<'de>(
     alloc: Global,
     name: &str,
-    value: &mut Value<'de>,
-) -> Result<Option<DeserError<'de>>, AllocError> {
+    root: &mut Value<'de>,
+    place: &'de str,
+    out: &mut Out,
+) -> Option<DeserError<'de>> {
+    let value = root.pointer_mut(place)?;
     match name {
-        "bool" => errors_as::<bool>(alloc, value),
-        "Vec<u8>" => errors_as::<Vec<u8>>(alloc, value),
-        "Vec<Odd>" => errors_as::<Vec<Odd>>(alloc, value),
-        _ => Ok(None),
+        "bool" => errors_as::<bool>(alloc, value, out),
+        "Vec<u8>" => errors_as::<Vec<u8>>(alloc, value, out),
+        "Vec<Odd>" => errors_as::<Vec<Odd>>(alloc, value, out),
+        _ => None,
     }
 }

@@ -1,7 +1,7 @@
 //! Documents of types that warn, of enums with data and of structs within structs.
 //!
 //! - `warned TYPE` reads the document: what `from_str_with_warnings` gives, and each warning, a line each.
-use crate::told::{push_told, push_told_line};
+use crate::told::Out;
 use std::alloc::{AllocError, Global};
 use std::borrow::CowStr;
 use toml_span::{
@@ -114,26 +114,19 @@ impl<'de> Deserialize<'de> for Ratio {
 }
 
 /// Answers `warned`.
-pub fn push_warned(
-    alloc: Global,
-    name: &str,
-    text: &str,
-    out: &mut String,
-) -> Result<bool, AllocError> {
+pub fn push_warned(alloc: Global, name: &str, text: &str, out: &mut Out) -> bool {
     let mut warnings = Vec::new(alloc);
     match name {
-        "Limits" => push_told_line(
-            from_str_with_warnings::<Limits>(alloc, text, &mut warnings),
-            out,
-        )?,
-        "Service" => push_told_line(
-            from_str_with_warnings::<Service>(alloc, text, &mut warnings),
-            out,
-        )?,
-        _ => return Ok(false),
+        "Limits" => {
+            out.told_line(from_str_with_warnings::<Limits>(alloc, text, &mut warnings));
+        }
+        "Service" => {
+            out.told_line(from_str_with_warnings::<Service>(alloc, text, &mut warnings));
+        }
+        _ => return false,
     }
     for warning in warnings.iter() {
-        push_told_line(warning, out)?;
+        out.told_line(warning);
     }
-    Ok(true)
+    true
 }
