@@ -7,7 +7,6 @@ pub mod FloatsAgain
 pub mod CleanedFloats
 pub mod DatesAgain
 pub mod SpelledAgain
-pub mod HeldValues
 pub mod KeyLemmas
 pub mod OpenedLemmas
 pub mod PointLemmas
