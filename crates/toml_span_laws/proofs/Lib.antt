@@ -4,7 +4,8 @@ pub mod NumberLaws
 pub mod NumberFaults
 pub mod ScalarLaws
 pub mod ValueLaws
-pub mod KeyFaults
+pub mod TokenFaults
+pub mod Readings
 pub mod ValueFaults
 pub mod WiderLimit
 pub mod LineLaws

@@ -1,5 +1,5 @@
 -- At each place of a text a key stands, or one is stuck.
-use Rattle.std.proofs.Common.{◌≡◌, ℕ, zero, suc, ◌+◌, ◌<◌, ◌≤◌, ◌⊎◌, Bool, true, false, List, [], ◌∷◌, length, get_or, arith, inl, inr, refl, ◌∙◌, Option, Some, None}
+use Rattle.std.proofs.Common.{◌≡◌, ℕ, zero, suc, ◌+◌, ◌<◌, ◌≤◌, ◌⊎◌, Bool, true, false, List, [], ◌∷◌, length, get_or, arith, inl, inr, refl, ◌∙◌, Option, Some, None, Result, Ok, Err}
 use Rattle.std.specs.Prelude.{slice_range}
 use Rattle.std.specs.Str.{IsUtf8, IsCharBoundary}
 use Rattle.std.proofs.lemmas.Bool.{cases_lt, false≢true}
@@ -19,12 +19,15 @@ use Rattle.toml_span_read.specs.declared.fault.Due.TheVariants as dues
 use Rattle.toml_span_read.specs.declared.fault.Found.TheVariants as founds
 use Rattle.toml_span_read.specs.declared.fault.Fault.{Fault}
 use Rattle.toml_span_read.specs.declared.fault.FaultKind.TheVariants as kinds
-use Rattle.toml_span_read.specs.Faults.{fault_at, token_fault, NoSimpleKey, found_of, IsTokenFault, IsWanted, IsNoValue, wanted_fault}
+use Rattle.toml_span_read.specs.Faults.{fault_at, token_fault, found_of, IsTokenFault, IsWanted, IsNoValue, wanted_fault}
 use Rattle.toml_span_read.specs.code.Gaps.{Further, DotGives}
 use Rattle.toml_span_read.specs.Gaps.{Dot, NoDot}
 use Rattle.toml_span_laws.specs.code.Judged.{Judged}
-use Rattle.toml_span_read.specs.Keys.{SimpleKey, SpellsSimpleKey, opens_string, Onward, SpellsKey}
-use Rattle.toml_span_read.specs.code.Stuck.{StuckOnward, StuckKey, StuckHeaderKey, part_here, dotted_on, no_first, onward, header_part_here, header_on}
+use Rattle.toml_span_read.specs.Grammar.{from_to}
+use Rattle.toml_span_read.specs.Keys.{SimpleKey, opens_string, SpellsKey}
+use Rattle.toml_span_read.specs.Read as read
+use Rattle.toml_span_read.specs.Read.{Past, Parts, behind}
+use Rattle.toml_span_read.proofs.KeyLemmas.{key_sound}
 use Rattle.toml_span_read.proofs.NumberLemmas.{bool_cases}
 use Rattle.toml_span_read.proofs.Places.{run_some}
 
@@ -87,25 +90,36 @@ string_stands text i u o (inr (inr (j, e, h))) = inr (token_fault e, (j, e, h, r
 
 -- ---- keys
 
-abbrev pub KeyAt : List ℕ → ℕ → Type 0
-KeyAt text i = ((j : ℕ) × (p : SimpleKey) × SpellsSimpleKey p text i j × Further text i j) ⊎ ((fault : Fault) × NoSimpleKey text i fault)
+-- where what is read ends
+abbrev EndsOn : {A : Type 0} → List ℕ → ℕ → Result (A × ℕ) Fault → Type 0
+EndsOn text i (Ok f) = Further text i f.1
+EndsOn text i (Err e) = Unit {0}
 
-quoted_key : (text : List ℕ) (i j : ℕ) (s : Span) (src v : List ℕ) (m : Bool) → IsString text i j s src v m → Further text i j → KeyAt text i
-quoted_key text i j s src v true h f =
-    inr (record { kind = kinds.MultilineStringKey; span = record { start = i; end = i + length v } }, inl (record { end = j; span = s; source = src; value = v; here = h; fault_is = refl }))
-quoted_key text i j s src v false h f = inl (j, record { name = v; span = s }, inr (src, h), f)
+abbrev KeyAt : List ℕ → ℕ → Type 0
+KeyAt text i = (r : Result (SimpleKey × ℕ) Fault) × read.simple_key text i r × EndsOn text i r
 
-pub key_stands : (text : List ℕ) (i : ℕ) → IsUtf8 text → Judged text i → KeyAt text i
+abbrev PartsAt : Past → List ℕ → ℕ → ℕ → Type 0
+PartsAt past text left i = (r : Result Parts Fault) × read.key past text left i r × EndsOn text i r
+
+quoted_stands : (text : List ℕ) (i : ℕ) → is_keylike (get_or text i 0) ≡ false → opens_string (get_or text i 0) ≡ true → StringAt text i → KeyAt text i
+quoted_stands text i n o s =
+    let q : read.StringAt = record { value = s.value; span = s.span; multi = s.multi; end = s.end } in
+    elim (bool_cases s.multi) [
+      | inl m ↦ (Err (record { kind = kinds.MultilineStringKey; span = from_to i (i + length s.value) }), inr (n, inl (o, inl (q, (s.source, s.here), inl (m, refl)))), tt)
+      | inr m ↦ (Ok (record { name = s.value; span = s.span }, s.end), inr (n, inl (o, inl (q, (s.source, s.here), inr (m, refl)))), s.further)
+    ]
+
+key_stands : (text : List ℕ) (i : ℕ) → IsUtf8 text → Judged text i → KeyAt text i
 key_stands text i u g =
     elim (bool_cases (is_keylike (get_or text i 0))) [
       | inl k ↦
           let j = g.run.0 in
           let l : i < j = run_some is_keylike text i j refl k g.run.1 in
-          inl (j, record { name = slice_range text i j; span = record { start = i; end = j } }, inl ((l, g.run.1, refl), refl), record { on = l; boundary = g.run.2 })
-      | inr k ↦
+          (Ok (record { name = slice_range text i j; span = from_to i j }, j), inl (k, ((l, g.run.1, refl), refl)), record { on = l; boundary = g.run.2 })
+      | inr n ↦
           elim (bool_cases (opens_string (get_or text i 0))) [
-            | inl o ↦ elim (string_stands text i u o g.stands) [ inl s ↦ quoted_key text i s.end s.span s.source s.value s.multi s.here s.further | inr x ↦ inr (x.0, inr (inl (o, x.1))) ]
-            | inr o ↦ let w = wanted_stands text i dues.TableKey g.stands in inr (w.0, inr (inr ((rw (k, o) refl), w.1)))
+            | inl o ↦ elim (string_stands text i u o g.stands) [ inl s ↦ quoted_stands text i n o s | inr x ↦ (Err x.0, inr (n, inl (o, inr (x.0, x.1, refl))), tt) ]
+            | inr o ↦ let w = wanted_stands text i dues.TableKey g.stands in (Err w.0, inr (n, inr (o, w.1)), tt)
           ]
     ]
 
@@ -115,72 +129,37 @@ dot_sum : (text : List ℕ) (i : ℕ) → (found : Option ℕ) × DotGives text 
 dot_sum text i (None, h) = inl h
 dot_sum text i (Some j, h) = inr (j, h.0, h.1)
 
-abbrev OnwardAt : List ℕ → ℕ → ℕ → ℕ → Type 0
-OnwardAt text limit n m =
-    ((j : ℕ) × (ss : List SimpleKey) × Onward ss text m j × (n + length ss ≤ limit) × (m ≤ j) × IsCharBoundary text j) ⊎ ((fault : Fault) × StuckOnward text limit n m fault)
+behind_on : (ss : List SimpleKey) (text : List ℕ) (i p : ℕ) (r : Result Parts Fault) → i ≤ p → EndsOn text p r → EndsOn text i (behind ss r)
+behind_on ss text i p (Ok f) l h = further_on text i p f.1 l h
+behind_on ss text i p (Err e) l h = tt
 
-onward_stands : (fuel : ℕ) (text : List ℕ) (limit n m : ℕ) → IsUtf8 text → AllJudged text → length text < m + fuel → n ≤ limit → IsCharBoundary text m → OnwardAt text limit n m
-onward_stands zero text limit n m u all l few b = absurd (omega (arith, l, b.0))
-onward_stands (suc fuel) text limit n m u all l few b =
-    elim (dot_sum text m (all m b).dot) [
-      | inl none ↦ inl (m, [], (refl, none), omega (arith, few), omega arith, b)
-      | inr d ↦
-          elim (key_stands text d.0 u (all d.0 d.2.boundary)) [
-            | inr x ↦ inr (x.0, part_here n m d.0 x.0 d.1 (inl x.1))
-            | inl k ↦
-                elim (cases_lt n limit) [
-                  | inr past ↦ inr (fault_at kinds.ExceededDepthLimit d.0, part_here n m d.0 (fault_at kinds.ExceededDepthLimit d.0) d.1 (inr (k.1, k.0, k.2, past, refl)))
-                  | inl under ↦
-                      elim (onward_stands fuel text limit (n + 1) k.0 u all (omega (arith, l, d.2.on, k.3.on)) (omega (arith, under)) k.3.boundary) [
-                        | inl o ↦ inl (o.0, k.1 ∷ o.1, (d.0, k.0, d.1, k.2, o.2), omega (arith, o.3), omega (arith, d.2.on, k.3.on, o.4), o.5)
-                        | inr x ↦ inr (x.0, dotted_on n m d.0 k.0 k.1 x.0 d.1 k.2 under x.1)
-                      ]
-                ]
-          ]
-    ]
+past_stands : (past : Past) (text : List ℕ) (i : ℕ) → KeyAt text i → PartsAt past text 0 i
+unfolding read.key
+past_stands past text i (Ok (s, m), h, f) = (Err (past i s), inl ((s, m), h, refl), tt)
+past_stands past text i (Err e, h, f) = (Err e, inr (e, h, refl), tt)
 
--- a dotted key within the limit, with its end further on, or where one is stuck
-abbrev pub DottedAt : List ℕ → ℕ → ℕ → Type 0
-DottedAt text limit i =
-    ((j : ℕ) × (ss : List SimpleKey) × SpellsKey ss text i j × (length ss ≤ limit) × Further text i j) ⊎ ((fault : Fault) × StuckKey text limit i fault)
+more_stands : (past : Past) (text : List ℕ) (n i : ℕ) → AllJudged text → ((p : ℕ) → IsCharBoundary text p → PartsAt past text n p) → KeyAt text i → PartsAt past text (suc n) i
+unfolding read.key
+more_stands past text n i all next (Err e, h, f) = (Err e, inr (e, h, refl), tt)
+more_stands past text n i all next (Ok (s, m), h, f) = elim (dot_sum text m (all m f.boundary).dot) [
+  | inl none ↦ (Ok (s ∷ [], m), inl ((s, m), h, inl (none, refl)), f)
+  | inr d ↦
+      let q = next d.0 d.2.boundary in
+      (behind (s ∷ []) q.0, inl ((s, m), h, inr (d.0, d.1, q.0, q.1, refl)), behind_on (s ∷ []) text i d.0 q.0 (omega (arith, f.on, d.2.on)) q.2)
+]
 
-pub dotted_stands : (text : List ℕ) (limit i : ℕ) → IsUtf8 text → AllJudged text → 1 ≤ limit → IsCharBoundary text i → DottedAt text limit i
-dotted_stands text limit i u all some b =
-    elim (key_stands text i u (all i b)) [
-      | inr x ↦ inr (x.0, no_first i x.0 (inl x.1))
-      | inl k ↦
-          elim (onward_stands (length text + 1) text limit 1 k.0 u all (omega arith) some k.3.boundary) [
-            | inl o ↦ inl (o.0, k.1 ∷ o.1, (k.0, k.2, o.2), omega (arith, o.3), record { on = omega (arith, k.3.on, o.4); boundary = o.5 })
-            | inr x ↦ inr (x.0, onward i k.0 k.1 x.0 k.2 some x.1)
-          ]
-    ]
+pub parts_stand : (past : Past) (text : List ℕ) (left i : ℕ) → IsUtf8 text → AllJudged text → IsCharBoundary text i → PartsAt past text left i
+parts_stand past text zero i u all b = past_stands past text i (key_stands text i u (all i b))
+parts_stand past text (suc n) i u all b = more_stands past text n i all (λ p c. parts_stand past text n p u all c) (key_stands text i u (all i b))
 
--- ---- headers
+-- a key within the limit, with its end further on, or the fault that is told
+abbrev pub DottedAt : Past → List ℕ → ℕ → ℕ → Type 0
+DottedAt past text limit i =
+    ((j : ℕ) × (ss : List SimpleKey) × SpellsKey ss text i j × (length ss ≤ limit) × Further text i j) ⊎ ((fault : Fault) × read.key past text limit i (Err fault))
 
-abbrev HeaderKeyAt : List ℕ → ℕ → ℕ → ℕ → Type 0
-HeaderKeyAt text limit n i =
-    ((j : ℕ) × (ss : List SimpleKey) × SpellsKey ss text i j × (n + length ss ≤ limit) × Further text i j) ⊎ ((fault : Fault) × StuckHeaderKey text limit n i fault)
+read_stands : (past : Past) (text : List ℕ) (limit i : ℕ) → PartsAt past text limit i → DottedAt past text limit i
+read_stands past text limit i (Ok (ss, j), h, f) = let k = key_sound past text limit i j ss h in inl (j, ss, k.0, k.1, f)
+read_stands past text limit i (Err e, h, f) = inr (e, h)
 
-one_more : (s : SimpleKey) (ss : List SimpleKey) (text : List ℕ) (i m p j : ℕ) → SpellsSimpleKey s text i m → Dot text m p → SpellsKey ss text p j → SpellsKey (s ∷ ss) text i j
-one_more s [] text i m p j k d h = absurd h
-one_more s (t ∷ ts) text i m p j k d (q, l, h) = (m, k, (p, q, d, l, h))
-
-pub header_key_stands : (fuel : ℕ) (text : List ℕ) (limit n i : ℕ) → IsUtf8 text → AllJudged text → length text < i + fuel → IsCharBoundary text i → HeaderKeyAt text limit n i
-header_key_stands zero text limit n i u all l b = absurd (omega (arith, l, b.0))
-header_key_stands (suc fuel) text limit n i u all l b =
-    elim (key_stands text i u (all i b)) [
-      | inr x ↦ inr (x.0, header_part_here n i x.0 (inl x.1))
-      | inl k ↦
-          elim (cases_lt n limit) [
-            | inr past ↦ inr (record { kind = kinds.ExceededDepthLimit; span = k.1.span }, header_part_here n i (record { kind = kinds.ExceededDepthLimit; span = k.1.span }) (inr (k.1, k.0, k.2, past, refl)))
-            | inl under ↦
-                elim (dot_sum text k.0 (all k.0 k.3.boundary).dot) [
-                  | inl none ↦ inl (k.0, k.1 ∷ [], (k.0, k.2, (refl, none)), omega (arith, under), k.3)
-                  | inr d ↦
-                      elim (header_key_stands fuel text limit (n + 1) d.0 u all (omega (arith, l, k.3.on, d.2.on)) d.2.boundary) [
-                        | inl o ↦ inl (o.0, k.1 ∷ o.1, one_more k.1 o.1 text i k.0 d.0 o.0 k.2 d.1 o.2, omega (arith, o.3), further_on text i d.0 o.0 (omega (arith, k.3.on, d.2.on)) o.4)
-                        | inr x ↦ inr (x.0, header_on n i k.0 d.0 k.1 x.0 k.2 under d.1 x.1)
-                      ]
-                ]
-          ]
-    ]
+pub dotted_stands : (past : Past) (text : List ℕ) (limit i : ℕ) → IsUtf8 text → AllJudged text → IsCharBoundary text i → DottedAt past text limit i
+dotted_stands past text limit i u all b = read_stands past text limit i (parts_stand past text limit i u all b)

@@ -14,8 +14,8 @@ ghost use Rattle.toml_span_laws.specs.code.Judged.{UnsignedStands, NumberStands,
 ghost use Rattle.toml_span_read.specs.Data.{ParsedValue, Block};
 ghost use Rattle.toml_span_read.specs.Due.{IsDue};
 ghost use Rattle.toml_span_read.specs.Grammar.{Spells, SpellsDocument};
-ghost use Rattle.toml_span_read.specs.code.Stuck.{StuckValue, StuckKey};
-ghost use Rattle.toml_span_read.specs.Keys.{SimpleKey, SpellsKey};
+ghost use Rattle.toml_span_read.specs.Read as read;
+ghost use Rattle.toml_span_read.specs.code.Stuck.{StuckValue};
 ghost use Rattle.toml_span_read.specs.code.Numbers.{IsRun};
 
 use toml_span_lex::bytes::{blanks_end, keylike_end};
@@ -156,11 +156,10 @@ pub fn places_are_judged(text: &str)
     place_is_judged(text, end);
 }
 
-/// At each place of a text a dotted key within the limit stands, or one is stuck there.
-pub fn key_or_stuck(text: &str)
-    ensures { (limit i : ℕ) → 1 ≤ limit → IsCharBoundary text.now i
-        → ((j : ℕ) × (parts : List SimpleKey) × SpellsKey parts text.now i j × (length parts ≤ limit))
-        ⊎ ((fault : Fault) × StuckKey text.now limit i fault) }
+/// At each place of a text a key is read, or a fault told.
+pub fn key_or_fault(text: &str)
+    ensures { (past : read.Past) (limit i : ℕ) → IsCharBoundary text.now i
+        → (found : Result read.Parts Fault) × read.key past text.now limit i found }
 {
     places_are_judged(text);
 }

@@ -1,7 +1,8 @@
 -- How dotted keys are put together.
-use Rattle.std.proofs.Common.{◌≡◌, ℕ, ◌+◌, ◌<◌, ◌≤◌, Bool, true, false, List, [], ◌∷◌, ◌++◌, length, map, get_or, arith, inl, inr, refl, ap, length-append, Result, Ok, Err}
+use Rattle.std.proofs.Common.{◌≡◌, ℕ, zero, suc, ◌+◌, ◌-◌, ◌<◌, ◌≤◌, Bool, true, false, List, [], ◌∷◌, ◌++◌, length, map, get_or, arith, inl, inr, refl, ap, subst, length-append, Result, Ok, Err}
 use Rattle.std.specs.Prelude.{not, ◌&&◌, ◌==◌, if◌then◌else◌}
 use Rattle.std.specs.Result.{IsErrAnd}
+use Rattle.std.proofs.lemmas.List.{map-append}
 use Rattle.toml_span_lex.specs.declared.key.Key.{Key}
 use Rattle.toml_span_lex.specs.declared.stop.Stop.{Stop}
 use Rattle.toml_span_lex.specs.declared.stop.Stop.TheVariants as stops
@@ -12,11 +13,12 @@ use Rattle.toml_span_lex.proofs.MadeStrings.{content_from_after}
 use Rattle.toml_span_read.specs.declared.fault.FaultKind.{FaultKind}
 use Rattle.toml_span_read.specs.Places.{StartsInside}
 use Rattle.toml_span_read.specs.declared.fault.Fault.{Fault}
-use Rattle.toml_span_read.specs.Gaps.{Dot}
-use Rattle.toml_span_read.specs.Keys.{SimpleKey, simple_key, SpellsSimpleKey, Onward, SpellsKey}
-use Rattle.toml_span_read.specs.code.Keys.{KeyGives, DottedGives, HeaderKeyGives, PartGives}
+use Rattle.toml_span_read.specs.Gaps.{Dot, NoDot}
+use Rattle.toml_span_read.specs.Keys.{SimpleKey, simple_key, SpellsSimpleKey, SpellsKey}
+use Rattle.toml_span_read.specs.Read as read
+use Rattle.toml_span_read.specs.Read.{Past, past_dotted, past_header, Parts, behind, onward}
+use Rattle.toml_span_read.specs.code.Keys.{Gives, key_found, parts_found, header_found, PartGives}
 use Rattle.toml_span_read.specs.code.Faults.{IsPlacedStop}
-use Rattle.toml_span_read.specs.code.Stuck.{StuckOnward, part_here, StuckKey, no_first, onward, StuckHeaderKey, header_part_here}
 
 -- an error that `?` hands on
 pub handed_on : {T E : Type 0} (r : Result T E) (x : E) → IsErrAnd r (λ y. y ≡ x) → r ≡ Err x
@@ -30,61 +32,126 @@ pub map_more : {A B : Type 0} (f : A → B) (xs : List A) (x : A) (rest : List B
 map_more f [] x rest = refl
 map_more f (y ∷ ys) x rest = ap (λ z. f y ∷ z) (map_more f ys x rest)
 
--- ---- dotted keys
+-- ---- keys as they are read
 
-pub first_fault : (stop : Stop Fault) (text : List ℕ) (limit i : ℕ) → KeyGives text i (Err stop) → DottedGives text limit i (Err stop)
-first_fault (stops.Memory e) text limit i h = tt
-first_fault (stops.Fault e) text limit i h = no_first i e (inl h)
+pub key_stops : (past : Past) (text : List ℕ) (left i : ℕ) (e : Fault) → read.simple_key text i (Err e) → read.key past text left i (Err e)
+unfolding read.key
+key_stops past text zero i e h = inr (e, h, refl)
+key_stops past text (suc left) i e h = inr (e, h, refl)
 
-pub part_fault : (stop : Stop Fault) (text : List ℕ) (limit i n m p : ℕ) → ((e : Fault) → StuckOnward text limit n m e → StuckKey text limit i e)
-    → Dot text m p → KeyGives text p (Err stop) → DottedGives text limit i (Err stop)
-part_fault (stops.Memory e) text limit i n m p stuck d h = tt
-part_fault (stops.Fault e) text limit i n m p stuck d h = stuck e (part_here n m p e d (inl h))
+pub key_past : (past : Past) (text : List ℕ) (left i j : ℕ) (s : SimpleKey) → left ≡ 0 → read.simple_key text i (Ok (s, j)) → read.key past text left i (Err (past i s))
+unfolding read.key
+key_past past text left i j s z h = rw z (inl ((s, j), h, refl))
 
-pub same_stuck : (e f : Fault) (text : List ℕ) (limit i : ℕ) → e ≡ f → StuckKey text limit i f → StuckKey text limit i e
-same_stuck e f text limit i is h = rw is h
+key_more : (past : Past) (text : List ℕ) (left n i m : ℕ) (s : SimpleKey) (r : Result Parts Fault) → left ≡ suc n → read.simple_key text i (Ok (s, m)) → onward (read.key past text n) text s m r → read.key past text left i r
+unfolding read.key
+key_more past text left n i m s r z h o = rw z (inl ((s, m), h, o))
 
--- behind the first part
-pub dotted_first : (ps : List Key) (last : Key) (text : List ℕ) (limit i m : ℕ) → ps ≡ [] → SpellsSimpleKey (simple_key last) text i m → 0 < limit
-    → (length ps ≡ 0)
-    × ((tail : List SimpleKey) (j : ℕ) → Onward tail text m j → SpellsKey (map simple_key ps ++ (simple_key last ∷ tail)) text i j)
-    × ((e : Fault) → StuckOnward text limit (length ps + 1) m e → StuckKey text limit i e)
-dotted_first ps last text limit i m e k some =
-    (rw e refl, (λ tail j h. rw e (m, k, h)), (λ x h. let s : StuckOnward text limit 1 m x = rw e at h in onward i m (simple_key last) x k some s))
+pub first_stops : {A : Type 0} (view : A → Parts) (past : Past) (stop : Stop Fault) (text : List ℕ) (left i : ℕ) → Gives key_found (read.simple_key text i) (Err stop) → Gives view (read.key past text left i) (Err stop)
+first_stops view past (stops.Memory e) text left i h = tt
+first_stops view past (stops.Fault e) text left i h = key_stops past text left i e h
 
-pub dotted_more : (ps qs : List Key) (last item key dest : Key) (text : List ℕ) (i m p q : ℕ) → qs ≡ ps ++ (item ∷ []) → item ≡ last → dest ≡ key
-    → ((tail : List SimpleKey) (j : ℕ) → Onward tail text m j → SpellsKey (map simple_key ps ++ (simple_key last ∷ tail)) text i j)
-    → Dot text m p → SpellsSimpleKey (simple_key key) text p q
-    → (tail : List SimpleKey) (j : ℕ) → Onward tail text q j → SpellsKey (map simple_key qs ++ (simple_key dest ∷ tail)) text i j
-dotted_more ps qs last item key dest text i m p q e f g whole d k tail j rest =
-    rw (e, g, f, map_more simple_key ps last (simple_key key ∷ tail)) (whole (simple_key key ∷ tail) j (p, q, d, k, rest))
+behind_none : (r : Result Parts Fault) → behind [] r ≡ r
+behind_none (Ok f) = refl
+behind_none (Err e) = refl
 
-pub parts_length : (inner : List Key) (last : Key) → length (map simple_key inner ++ (simple_key last ∷ [])) ≡ length inner + 1
-parts_length [] last = refl
-parts_length (k ∷ ks) last = let h = parts_length ks last in omega arith
+behind_more : (ps : List Key) (s : Key) (r : Result Parts Fault) → behind (map simple_key (ps ++ (s ∷ []))) r ≡ behind (map simple_key ps) (behind (simple_key s ∷ []) r)
+behind_more ps s (Ok (ss, j)) = ap (λ l. Ok (l, j)) (map_more simple_key ps s ss)
+behind_more ps s (Err e) = refl
 
--- ---- the parts of headers
+-- whatever is read behind these parts, of which the last ends at m, is read from i on with them before it
+abbrev pub Rest : List ℕ → ℕ → ℕ → List Key → Key → ℕ → Type 0
+Rest text limit i ps last m =
+    (n : ℕ) (r : Result Parts Fault) → length ps + suc n ≡ limit → onward (read.key past_dotted text n) text (simple_key last) m r
+    → read.key past_dotted text limit i (behind (map simple_key ps) r)
 
-pub no_part : (stop : Stop Fault) (text : List ℕ) (limit i : ℕ) (ps qs : List Key) → KeyGives text i (Err stop) → IsPlacedStop text stop → PartGives text limit i ps qs (Err stop)
-no_part (stops.Memory e) text limit i ps qs h placed = tt
-no_part (stops.Fault e) text limit i ps qs h placed = (inl h, placed)
+pub rest_first : (ps : List Key) (last : Key) (text : List ℕ) (limit i m : ℕ) → ps ≡ [] → read.simple_key text i (Ok (simple_key last, m)) → Rest text limit i ps last m
+rest_first ps last text limit i m e h n r few o =
+    let z : length ps ≡ 0 = rw e refl in
+    rw (e, behind_none r) (key_more past_dotted text limit n i m (simple_key last) r (omega arith) h o)
 
-pub header_fault : (stop : Stop Fault) (text : List ℕ) (limit i m : ℕ) (ps qs : List Key) → ((e : Fault) → StuckHeaderKey text limit (length ps) m e → StuckHeaderKey text limit 0 i e)
-    → PartGives text limit m ps qs (Err stop) → HeaderKeyGives text limit i (Err stop)
-header_fault (stops.Memory e) text limit i m ps qs stuck h = tt
-header_fault (stops.Fault e) text limit i m ps qs stuck h = stuck e (header_part_here _ m e h.0)
+pub rest_more : (ps qs : List Key) (last item key dest : Key) (text : List ℕ) (limit i m p q : ℕ) → qs ≡ ps ++ (item ∷ []) → item ≡ last → dest ≡ key → Rest text limit i ps last m
+    → Dot text m p → read.simple_key text p (Ok (simple_key key, q)) → Rest text limit i qs dest q
+rest_more ps qs last item key dest text limit i m p q e f g rest d h n r few o =
+    let l = one_more ps qs item e in
+    let k = key_more past_dotted text (suc n) n p q (simple_key key) r refl h (rw g at o) in
+    rw (e, f, behind_more ps last r) (rest (suc n) (behind (simple_key last ∷ []) r) (omega arith) (inr (p, d, r, k, refl)))
+
+pub rest_stops : (stop : Stop Fault) (ps : List Key) (last : Key) (text : List ℕ) (limit i m p n : ℕ) → Rest text limit i ps last m → length ps + suc n ≡ limit → Dot text m p
+    → Gives key_found (read.simple_key text p) (Err stop) → Gives parts_found (read.key past_dotted text limit i) (Err stop)
+rest_stops (stops.Memory e) ps last text limit i m p n rest few d h = tt
+rest_stops (stops.Fault e) ps last text limit i m p n rest few d h = rest n (Err e) few (inr (p, d, Err e, key_stops past_dotted text n p e h, refl))
+
+-- the same where the next part begins at m
+abbrev pub Next : List ℕ → ℕ → ℕ → List Key → ℕ → Type 0
+Next text limit i ps m =
+    (n : ℕ) (r : Result Parts Fault) → length ps + n ≡ limit → read.key past_header text n m r → read.key past_header text limit i (behind (map simple_key ps) r)
+
+pub next_first : (ps : List Key) (text : List ℕ) (limit i : ℕ) → ps ≡ [] → Next text limit i ps i
+next_first ps text limit i e n r few k =
+    let z : length ps ≡ 0 = rw e refl in
+    let same : n ≡ limit = omega arith in
+    rw (e, behind_none r) (rw same at k)
+
+pub next_more : (ps qs : List Key) (s : Key) (text : List ℕ) (limit i m k p : ℕ) → qs ≡ ps ++ (s ∷ []) → Next text limit i ps m → read.simple_key text m (Ok (simple_key s, k)) → Dot text k p → Next text limit i qs p
+next_more ps qs s text limit i m k p e next h d n r few o =
+    let l = one_more ps qs s e in
+    rw (e, behind_more ps s r) (next (suc n) (behind (simple_key s ∷ []) r) (omega arith) (key_more past_header text (suc n) n m k (simple_key s) (behind (simple_key s ∷ []) r) refl h (inr (p, d, r, o, refl))))
+
+pub next_last : (ps qs : List Key) (s : Key) (text : List ℕ) (limit i m k : ℕ) → qs ≡ ps ++ (s ∷ []) → length ps < limit → Next text limit i ps m → read.simple_key text m (Ok (simple_key s, k)) → NoDot text k
+    → read.key past_header text limit i (Ok (map simple_key qs, k))
+next_last ps qs s text limit i m k e few next h none =
+    let n : ℕ = limit - (length ps + 1) in
+    rw (e, map-append simple_key ps (s ∷ [])) (next (suc n) (Ok (simple_key s ∷ [], k)) (omega arith) (key_more past_header text (suc n) n m k (simple_key s) (Ok (simple_key s ∷ [], k)) refl h (inl (none, refl))))
+
+pub next_stops : (stop : Stop Fault) (ps qs : List Key) (text : List ℕ) (limit i m : ℕ) → length ps ≤ limit → Next text limit i ps m → PartGives text limit m ps qs (Err stop)
+    → Gives header_found (read.key past_header text limit i) (Err stop)
+next_stops (stops.Memory e) ps qs text limit i m few next h = tt
+next_stops (stops.Fault e) ps qs text limit i m few next h = next (limit - length ps) (Err e) (omega arith) h.0
+
+pub part_stops : (stop : Stop Fault) (text : List ℕ) (limit i : ℕ) (ps qs : List Key) → Gives key_found (read.simple_key text i) (Err stop) → IsPlacedStop text stop → PartGives text limit i ps qs (Err stop)
+part_stops (stops.Memory e) text limit i ps qs h placed = tt
+part_stops (stops.Fault e) text limit i ps qs h placed = (key_stops past_header text _ i e h, placed)
 
 pub part_placed : (stop : Stop Fault) (text : List ℕ) (limit m : ℕ) (ps qs : List Key) → PartGives text limit m ps qs (Err stop) → IsPlacedStop text stop
 part_placed (stops.Memory e) text limit m ps qs h = tt
 part_placed (stops.Fault e) text limit m ps qs h = h.1
 
-pub header_more : (ps qs : List Key) (key : Key) (text : List ℕ) (i m n p : ℕ) → qs ≡ ps ++ (key ∷ [])
-    → ((tail : List SimpleKey) (j : ℕ) → SpellsKey tail text m j → SpellsKey (map simple_key ps ++ tail) text i j)
-    → SpellsSimpleKey (simple_key key) text m n → Dot text n p
-    → (tail : List SimpleKey) (j : ℕ) → SpellsKey tail text p j → SpellsKey (map simple_key qs ++ tail) text i j
-header_more ps qs key text i m n p e whole k d [] j rest = absurd rest
-header_more ps qs key text i m n p e whole k d (t ∷ ts) j (q, first, rest) =
-    rw (e, map_more simple_key ps key (t ∷ ts)) (whole (simple_key key ∷ t ∷ ts) j (n, k, (p, q, d, first, rest)))
+pub parts_length : (inner : List Key) (last : Key) → length (map simple_key inner ++ (simple_key last ∷ [])) ≡ length inner + 1
+parts_length [] last = refl
+parts_length (k ∷ ks) last = let h = parts_length ks last in omega arith
+
+-- ---- what is read is spelled
+
+given : {A : Type 0} (x y : A) (P : A → Type 0) → ◌≡◌ {A = Result A Fault} (Ok x) (Ok y) → P y → P x
+given x y P u h = let e : y ≡ x = cc in subst P e h
+
+pub simple_sound : (s : SimpleKey) (text : List ℕ) (i m : ℕ) → read.simple_key text i (Ok (s, m)) → SpellsSimpleKey s text i m
+simple_sound s text i m (inl (k, bare)) = inl bare
+simple_sound s text i m (inr (n, inl (o, inl (q, h, inl (multi, u))))) = absurd cc
+simple_sound s text i m (inr (n, inl (o, inl (q, (src, h), inr (one, u))))) =
+    given (s, m) (record { name = q.value; span = q.span }, q.end) (λ f. SpellsSimpleKey f.0 text i f.1) u (inr (src, (rw one at h)))
+simple_sound s text i m (inr (n, inl (o, inr (e, h, u)))) = absurd cc
+simple_sound s text i m (inr (n, inr (o, h))) = absurd h
+
+dotted_more : (s : SimpleKey) (ss : List SimpleKey) (text : List ℕ) (i m p j : ℕ) → SpellsSimpleKey s text i m → Dot text m p → SpellsKey ss text p j → SpellsKey (s ∷ ss) text i j
+dotted_more s [] text i m p j k d h = absurd h
+dotted_more s (t ∷ ts) text i m p j k d (q, l, h) = (m, k, (p, q, d, l, h))
+
+abbrev KeyHere : ℕ → List ℕ → ℕ → Parts → Type 0
+KeyHere left text i f = SpellsKey f.0 text i f.1 × (length f.0 ≤ left)
+
+pub key_sound : (past : Past) (text : List ℕ) (left i j : ℕ) (ss : List SimpleKey) → read.key past text left i (Ok (ss, j)) → SpellsKey ss text i j × (length ss ≤ left)
+unfolding read.key
+key_sound past text zero i j ss (inl (f, h, u)) = absurd cc
+key_sound past text zero i j ss (inr (e, h, u)) = absurd cc
+key_sound past text (suc n) i j ss (inl ((s, m), h, inl (none, u))) =
+    given (ss, j) (s ∷ [], m) (KeyHere (suc n) text i) u ((m, simple_sound s text i m h, (refl, none)), omega arith)
+key_sound past text (suc n) i j ss (inl ((s, m), h, inr (p, d, Ok (ts, l), k, u))) =
+    let r = key_sound past text n p l ts k in
+    given (ss, j) (s ∷ ts, l) (KeyHere (suc n) text i) u (dotted_more s ts text i m p l (simple_sound s text i m h) d r.0, omega (arith, r.1))
+key_sound past text (suc n) i j ss (inl ((s, m), h, inr (p, d, Err e, k, u))) = absurd cc
+key_sound past text (suc n) i j ss (inr (e, h, u)) = absurd cc
 
 -- ---- spans
 

@@ -4,7 +4,8 @@ ghost use Rattle.std.specs.Str.{IsCharBoundary};
 ghost use Rattle.toml_span_lex.specs.Bytes.{quotation_mark, apostrophe};
 ghost use Rattle.toml_span_lex.specs.Strings.{BorrowsWhereSame};
 ghost use Rattle.toml_span_read.specs.Borrowed.{AreWrittenRight, dotted_written, keys_written};
-ghost use Rattle.toml_span_read.specs.code.Keys.{KeyGives, DottedGives, HeaderKeyGives, PartGives};
+ghost use Rattle.toml_span_read.specs.Read as spec;
+ghost use Rattle.toml_span_read.specs.code.Keys.{Gives, key_found, parts_found, header_found, PartGives};
 ghost use Rattle.toml_span_read.specs.code.Faults.{Advances};
 
 use crate::fault::{Due, Fault, FaultKind, fault_at};
@@ -38,7 +39,7 @@ fn quoted_key<'de>(
 ) -> Result<(Key<'de>, usize), Stop<Fault>>
     requires within { at < length text.now }
     requires quote { (slice_index text.now at ≡ quotation_mark) ⊎ (slice_index text.now at ≡ apostrophe) }
-    ensures gives { KeyGives text.now at result }
+    ensures gives { Gives key_found (spec.quoted_key text.now at) result }
     ensures borrows { IfOk result (λ found. BorrowsWhereSame text.now found.0.span found.0.name) }
     ensures advances { Advances text.now at result }
 {
@@ -70,7 +71,7 @@ pub(crate) fn simple_key<'de>(
     at: usize,
 ) -> Result<(Key<'de>, usize), Stop<Fault>>
     requires { IsCharBoundary text.now at }
-    ensures gives { KeyGives text.now at result }
+    ensures gives { Gives key_found (spec.simple_key text.now at) result }
     ensures borrows { IfOk result (λ found. BorrowsWhereSame text.now found.0.span found.0.name) }
     ensures advances { Advances text.now at result }
 {
@@ -99,7 +100,7 @@ pub(crate) fn dotted_key<'de>(
 ) -> Result<(DottedKey<'de>, usize), Stop<Fault>>
     requires boundary { IsCharBoundary text.now at }
     requires some { 1 ≤ limit }
-    ensures gives { DottedGives text.now limit at result }
+    ensures gives { Gives parts_found (spec.key spec.past_dotted text.now limit at) result }
     ensures borrows { IfOk result (λ found. AreWrittenRight text.now (dotted_written found.0)) }
     ensures advances { Advances text.now at result }
 {
@@ -129,7 +130,7 @@ pub(crate) fn header_key<'de>(
 ) -> Result<(SmallVec<Key<'de>, 5>, usize), Stop<Fault>>
     requires boundary { IsCharBoundary text.now at }
     requires some { 1 ≤ limit }
-    ensures gives { HeaderKeyGives text.now limit at result }
+    ensures gives { Gives header_found (spec.key spec.past_header text.now limit at) result }
     ensures borrows { IfOk result (λ found. AreWrittenRight text.now (keys_written found.0.items)) }
     ensures advances { Advances text.now at result }
 {

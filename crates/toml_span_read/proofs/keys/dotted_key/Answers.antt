@@ -1,37 +1,40 @@
-use Rattle.std.proofs.Common.{arith, [], ◌∷◌, inr, refl}
-use Rattle.toml_span_read.specs.code.Stuck.{part_here, dotted_on}
+use Rattle.std.proofs.Common.{arith, [], ◌∷◌, ◌+◌, ◌-◌, length, Ok, Err, inl, inr, refl}
 use Rattle.toml_span_read.specs.Borrowed.{IsWrittenRight, key_written, keys_written}
+use Rattle.toml_span_read.specs.Keys.{simple_key}
+use Rattle.toml_span_read.specs.Read.{past_dotted}
+use Rattle.toml_span_read.specs.code.Keys.{parts_found}
 use Rattle.toml_span_read.proofs.BorrowLemmas.{all_append, keys_more}
-use Rattle.toml_span_read.proofs.KeyLemmas.{handed_on, one_more, first_fault, part_fault, dotted_first, dotted_more, same_stuck}
+use Rattle.toml_span_read.proofs.KeyLemmas.{handed_on, one_more, first_stops, key_past, rest_first, rest_more, rest_stops}
 use Rattle.toml_span_read.proofs.keys.dotted_key.Goals as goal
 
 pub returns-in_err-last-clause-gives : goal.returns-in_err-last-clause-gives
 returns-in_err-last-clause-gives c =
     rw (handed_on c.from_residual.result c.in_err-last.field-0.0 c.from_residual.ensures.1)
-    (first_fault c.in_err-last.field-0.0 c.args.text.now c.args.limit c.args.at c.in_err-last.ensures.gives)
+    (first_stops parts_found past_dotted c.in_err-last.field-0.0 c.args.text.now c.args.limit c.args.at c.in_err-last.ensures.gives)
 
 pub parts-init : goal.parts-init
 parts-init c =
     let k = c.in_ok-last.ensures in
-    let f = dotted_first c.new-inner.result.items c.in_ok-last.last c.args.text.now c.args.limit c.args.at c.in_ok-last.end c.new-inner.ensures.items k.gives c.requires.some in
+    let z : length c.new-inner.result.items ≡ 0 = rw c.new-inner.ensures.items refl in
     record {
       forward = k.advances.on;
       boundary = k.advances.boundary;
       borrows = (rw c.new-inner.ensures.items tt, k.borrows);
-      few = omega (arith, f.0, c.requires.some);
-      whole = f.1;
-      stuck = f.2;
+      few = omega (arith, z, c.requires.some);
+      rest = rest_first c.new-inner.result.items c.in_ok-last.last c.args.text.now c.args.limit c.args.at c.in_ok-last.end c.new-inner.ensures.items k.gives;
     }
 
 pub returns-in_err-key-clause-gives : goal.returns-in_err-key-clause-gives
 returns-in_err-key-clause-gives c =
     rw (handed_on c.from_residual-in_err-key.result c.in_err-key.field-0.0 c.from_residual-in_err-key.ensures.1)
-    (part_fault c.in_err-key.field-0.0 c.args.text.now c.args.limit c.args.at _ c.parts.end c.in-Some.next c.parts.invariant.stuck c.in-Some.ensures.0 c.in_err-key.ensures.gives)
+    (rest_stops c.in_err-key.field-0.0 c.parts.inner.items c.parts.last c.args.text.now c.args.limit c.args.at c.parts.end c.in-Some.next (c.args.limit - (length c.parts.inner.items + 1)) c.parts.invariant.rest
+    (omega (arith, c.parts.invariant.few)) c.in-Some.ensures.0 c.in_err-key.ensures.gives)
 
 pub returns-then-len-limit-clause-gives : goal.returns-then-len-limit-clause-gives
 returns-then-len-limit-clause-gives c =
-    same_stuck c.fault_at.result _ c.args.text.now c.args.limit c.args.at c.fault_at.ensures
-    (c.parts.invariant.stuck _ (part_here _ _ _ _ c.in-Some.ensures.0 (inr (_, _, c.in_ok-key.ensures.gives, omega (arith, c.len.ensures), refl))))
+    rw c.fault_at.ensures
+    (c.parts.invariant.rest 0 (Err _) (omega (arith, c.parts.invariant.few, c.len.ensures))
+    (inr (_, c.in-Some.ensures.0, Err _, key_past past_dotted _ 0 _ _ (simple_key c.in_ok-key.key) refl c.in_ok-key.ensures.gives, refl)))
 
 pub parts-preserved : goal.parts-preserved
 parts-preserved c =
@@ -46,9 +49,13 @@ parts-preserved c =
         rw c.replace.ensures.after k.borrows,
       );
       few = omega (arith, n, c.len.ensures);
-      whole = dotted_more c.parts.inner.items c.add.new.items.items c.parts.last _ c.in_ok-key.key c.replace.new.dest c.args.text.now c.args.at c.parts.end _ _ c.in_default-add.ensures c.replace.ensures.value c.replace.ensures.after c.parts.invariant.whole d.0 k.gives;
-      stuck = λ e h. c.parts.invariant.stuck e (dotted_on _ _ _ _ _ _ d.0 k.gives (omega (arith, c.len.ensures)) (rw n at h));
+      rest = rest_more c.parts.inner.items c.add.new.items.items c.parts.last _ c.in_ok-key.key c.replace.new.dest c.args.text.now c.args.limit c.args.at c.parts.end _ _ c.in_default-add.ensures c.replace.ensures.value c.replace.ensures.after
+          c.parts.invariant.rest d.0 k.gives;
     }
+
+pub returns-clause-gives : goal.returns-clause-gives
+returns-clause-gives c =
+    c.parts.invariant.rest (c.args.limit - (length c.parts.inner.items + 1)) (Ok (simple_key c.parts.last ∷ [], c.parts.end)) (omega (arith, c.parts.invariant.few)) (inl (c.in_default.ensures, refl))
 
 pub returns-clause-borrows : goal.returns-clause-borrows
 returns-clause-borrows c = all_append (IsWrittenRight c.args.text.now) (keys_written c.parts.inner.items) (key_written c.parts.last ∷ []) c.parts.invariant.borrows.0 (c.parts.invariant.borrows.1, tt)
