@@ -14,7 +14,6 @@ use Rattle.toml_span_read.specs.Gaps.{MaximalGap}
 use Rattle.toml_span_read.specs.Grammar.{from_to, last_end, ClosesHeader, SpellsHeader, SpellsKeyValues}
 use Rattle.toml_span_read.specs.Keys.{SimpleKey}
 use Rattle.toml_span_read.specs.Read as read
-use Rattle.toml_span_read.specs.Read.{past_dotted, past_header}
 use Rattle.toml_span_read.specs.code.Stuck.{StuckKeyValue, StuckKeyValues, StuckSections, StuckDocument, StuckValue, StuckItems, StuckPairs, StuckPair}
 use Rattle.toml_span_read.specs.code.Stuck as l
 
@@ -36,7 +35,7 @@ FromComma text limit fs n e = ⊥
 abbrev FromKey : List ℕ → ℕ → List Frame → ℕ → Fault → Type 0
 FromKey text limit (in_section es ∷ fs) i e = StuckKeyValue text limit i e
 FromKey text limit (in_braces es ∷ fs) i e = StuckPair text limit (depth (in_braces es ∷ fs)) i e
-FromKey text limit fs i e = read.key past_dotted text limit i (Err e)
+FromKey text limit fs i e = read.key false text limit [] i (Err e)
 
 abbrev FromEquals : List ℕ → ℕ → ℕ → List Frame → ℕ → Fault → Type 0
 FromEquals text limit k (in_section es ∷ fs) n e =
@@ -64,7 +63,7 @@ From text limit a_value fs i e = StuckValue text limit (depth fs) i e
 From text limit an_element fs i e = FromElement text limit fs i e
 From text limit a_comma fs i e = FromComma text limit fs i e
 From text limit (a_verdict ev) fs i e = FromVerdict text limit ev fs i e
-From text limit a_header_key fs i e = read.key past_header text limit i (Err e)
+From text limit a_header_key fs i e = read.key true text limit [] i (Err e)
 From text limit (a_closing array) fs i e = NoClosing array text i e ⊎ ((m : ℕ) × ClosesHeader array text i m × StuckTail text m e)
 From text limit a_tail fs i e = StuckTail text i e
 From text limit a_line_end fs i e = (i < length text) × NoLineEnd text i × IsWanted text i dues.Newline e
@@ -72,7 +71,7 @@ From text limit what fs i e = ⊥
 
 -- ---- keys
 
-key_made : (fs : List Frame) (text : List ℕ) (limit i : ℕ) (e : Fault) → read.key past_dotted text limit i (Err e) → FromKey text limit fs i e
+key_made : (fs : List Frame) (text : List ℕ) (limit i : ℕ) (e : Fault) → read.key false text limit [] i (Err e) → FromKey text limit fs i e
 key_made [] text limit i e h = h
 key_made (in_section es ∷ fs) text limit i e h = l.line_key i e h
 key_made (in_brackets ∷ fs) text limit i e h = h

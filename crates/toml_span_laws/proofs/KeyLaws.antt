@@ -1,5 +1,5 @@
 -- What is read of a key is one thing, and what is spelled.
-use Rattle.std.proofs.Common.{◌≡◌, ℕ, zero, suc, ◌+◌, ◌≤◌, ◌⊎◌, Bool, true, false, List, [], ◌∷◌, length, get_or, arith, inl, inr, sym, ◌∙◌, refl, ap, Result, Ok, Err}
+use Rattle.std.proofs.Common.{◌≡◌, ℕ, zero, suc, ◌+◌, ◌≤◌, ◌⊎◌, Bool, true, false, List, [], ◌∷◌, ◌++◌, length, get_or, append-nil, append_assoc, arith, inl, inr, sym, ◌∙◌, refl, ap, Ok, Err}
 use Rattle.std.specs.Prelude.{◌==◌, ◌||◌}
 use Rattle.std.proofs.lemmas.Bool.{false≢true}
 use Rattle.std.proofs.lemmas.Bool.Decides.{nat_tests}
@@ -7,18 +7,13 @@ use Rattle.toml_span_lex.specs.Bytes.{is_blank, is_keylike, is_printed}
 use Rattle.toml_span_lex.specs.Text.{LineEnd}
 use Rattle.toml_span_lex.specs.Tokens.{keylike, string}
 use Rattle.toml_span_lex.proofs.Runs.{crlf_first}
-use Rattle.toml_span_lex.proofs.Unique.{run_unique, line_unique, or_true}
-use Rattle.toml_span_lex.proofs.OneToken.{token_unique}
-use Rattle.toml_span_read.specs.declared.fault.Due.TheVariants as dues
+use Rattle.toml_span_lex.proofs.Unique.{run_unique, line_unique}
 use Rattle.toml_span_read.specs.declared.fault.Fault.{Fault}
-use Rattle.toml_span_read.specs.declared.fault.FaultKind.TheVariants as kinds
-use Rattle.toml_span_read.specs.Faults.{IsWanted}
 use Rattle.toml_span_read.specs.Gaps.{GapPiece, begins_gap, GapBy, MaximalGap, Dot, NoDot, Separator, Closes, Neither}
 use Rattle.toml_span_read.specs.Keys.{SimpleKey, SpellsSimpleKey, opens_string, Onward, SpellsKey}
 use Rattle.toml_span_read.specs.Read as read
-use Rattle.toml_span_read.specs.Read.{Reading, stops, choice, after, StringAt, bare_key, quoted_key, Past, past_dotted, Parts, behind, onward}
-use Rattle.toml_span_laws.proofs.Readings.{One, one_is, one_stops, one_choice, one_after}
-use Rattle.toml_span_laws.proofs.TokenFaults.{token_or_token_fault, token_fault_one, wanted_one}
+use Rattle.toml_span_read.specs.Read.{Reading, token, key_of, Parts, onward}
+use Rattle.toml_span_laws.proofs.Readings.{One, one_after, one_stands}
 
 -- a byte b that is k passes where k does not
 pub clash : (p : ℕ → Bool) (b k : ℕ) → p b ≡ true → b ≡ k → p k ≡ false → ⊥
@@ -105,50 +100,12 @@ dot_or_none text i j a b =
 
 -- ---- keys
 
-part_same : (p q : SimpleKey) (j k : ℕ) → p.name ≡ q.name → p.span ≡ q.span → j ≡ k → ◌≡◌ {A = Result (SimpleKey × ℕ) Fault} (Ok (p, j)) (Ok (q, k))
-part_same p q j k a b c =
-    let e : ◌≡◌ {A = Result (SimpleKey × ℕ) Fault} (Ok (record { name = p.name; span = p.span }, j)) (Ok (record { name = q.name; span = q.span }, k)) = rw (a, b, c) refl in e
-
-bare_one : (text : List ℕ) (i : ℕ) → One (bare_key text i)
-bare_one text i (Ok (p, j)) (Ok (q, k)) (run, e) (walk, f) =
-    let u = token_unique text i j k p.span q.span (keylike p.name) (keylike q.name) (run, e) (walk, f) in
-    let x = u.2 in
-    part_same p q j k cc u.1 u.0
-bare_one text i (Ok f) (Err e) a b = absurd b
-bare_one text i (Err e) r a b = absurd a
-
-string_same : (s t : StringAt) → s.value ≡ t.value → s.span ≡ t.span → s.multi ≡ t.multi → s.end ≡ t.end → ◌≡◌ {A = Result StringAt Fault} (Ok s) (Ok t)
-string_same s t a b c d =
-    let e : ◌≡◌ {A = Result StringAt Fault} (Ok (record { value = s.value; span = s.span; multi = s.multi; end = s.end })) (Ok (record { value = t.value; span = t.span; multi = t.multi; end = t.end })) = rw (a, b, c, d) refl in e
-
-string_one : (text : List ℕ) (i : ℕ) → One (read.string text i)
-string_one text i (Ok s) (Ok t) (src, h) (other, g) =
-    let u = token_unique text i s.end t.end s.span t.span (string src s.value s.multi) (string other t.value t.multi) h g in
-    let x = u.2 in
-    string_same s t cc u.1 cc u.0
-string_one text i (Ok s) (Err f) (src, h) g = absurd (token_or_token_fault text i s.end s.span (string src s.value s.multi) f h g)
-string_one text i (Err e) (Ok t) h (other, g) = absurd (token_or_token_fault text i t.end t.span (string other t.value t.multi) e g h)
-string_one text i (Err e) (Err f) h g = ap (λ x. Err x) (token_fault_one text i e f h g)
-
-quoted_one : (text : List ℕ) (i : ℕ) → One (quoted_key text i)
-quoted_one text i = one_after (read.string text i) _ (string_one text i) (λ s. one_choice s.multi _ _ (one_is _) (one_is _))
-
 pub simple_one : (text : List ℕ) (i : ℕ) → One (read.simple_key text i)
-simple_one text i =
-    let b : ℕ = get_or text i 0 in
-    let wanted = stops {A = SimpleKey × ℕ} (IsWanted text i dues.TableKey) in
-    one_choice (is_keylike b) (bare_key text i) (choice (opens_string b) (quoted_key text i) wanted) (bare_one text i)
-    (one_choice (opens_string b) (quoted_key text i) wanted (quoted_one text i) (one_stops (IsWanted text i dues.TableKey) (wanted_one text i dues.TableKey)))
-
-quote_bare : (b : ℕ) → (b ≡ 34) ⊎ (b ≡ 39) → (is_keylike b ≡ false) × (opens_string b ≡ true)
-quote_bare b (inl e) = rw e (refl, refl)
-quote_bare b (inr e) = rw e (refl, refl)
+simple_one text i r s (a, h, u) (b, g, v) = u ∙ (ap (key_of i) (one_stands text i a b h g) ∙ sym v)
 
 pub simple_complete : (s : SimpleKey) (text : List ℕ) (i m : ℕ) → SpellsSimpleKey s text i m → read.simple_key text i (Ok (s, m))
-simple_complete s text i m (inl (run, e)) = inl (run.1.passes i (omega arith) run.0, (run, e))
-simple_complete s text i m (inr (src, h)) =
-    let q = quote_bare (get_or text i 0) h.quote in
-    inr (q.0, inl (q.1, inl (record { value = s.name; span = s.span; multi = false; end = m }, (src, h), inr (refl, refl))))
+simple_complete s text i m (inl h) = (token s.span (keylike s.name) m, h, refl)
+simple_complete s text i m (inr (source, h)) = (token s.span (string source s.name false) m, h, refl)
 
 pub key_unique : (p q : SimpleKey) (text : List ℕ) (i j k : ℕ) → SpellsSimpleKey p text i j → SpellsSimpleKey q text i k → (p ≡ q) × (j ≡ k)
 key_unique p q text i j k a b =
@@ -158,46 +115,45 @@ key_unique p q text i j k a b =
 
 -- ---- dotted keys
 
-onward_one : (next : ℕ → Reading Parts) (text : List ℕ) (s : SimpleKey) (m : ℕ) → ((p : ℕ) → One (next p)) → One (onward next text s m)
-onward_one next text s m one r t (inl (none, u)) (inl (no, v)) = u ∙ sym v
-onward_one next text s m one r t (inl (none, u)) (inr (p, d, q, k, v)) = absurd (dot_or_none text m p d none)
-onward_one next text s m one r t (inr (p, d, q, k, u)) (inl (none, v)) = absurd (dot_or_none text m p d none)
-onward_one next text s m one r t (inr (p, d, q, k, u)) (inr (l, c, x, h, v)) =
-    let e : l ≡ p = dot_unique text m l p c d in
-    u ∙ (ap (λ y. behind (s ∷ []) y) (one p q x k (rw e at h)) ∙ sym v)
+onward_one : (text : List ℕ) (ps : List SimpleKey) (m : ℕ) (next : ℕ → Reading Parts) → ((p : ℕ) → One (next p)) → One (onward text ps m next)
+onward_one text ps m next one r s (inl (none, u)) (inl (no, v)) = u ∙ sym v
+onward_one text ps m next one r s (inl (none, u)) (inr (p, d, k)) = absurd (dot_or_none text m p d none)
+onward_one text ps m next one r s (inr (p, d, k)) (inl (none, u)) = absurd (dot_or_none text m p d none)
+onward_one text ps m next one r s (inr (p, d, h)) (inr (q, c, k)) = let e : q ≡ p = dot_unique text m q p c d in one p r s h (rw e at k)
 
-pub key_one : (past : Past) (text : List ℕ) (left i : ℕ) → One (read.key past text left i)
+pub key_one : (header : Bool) (text : List ℕ) (left : ℕ) (ps : List SimpleKey) (i : ℕ) → One (read.key header text left ps i)
 unfolding read.key
-key_one past text zero i = one_after (read.simple_key text i) _ (simple_one text i) (λ f. one_is (Err (past i f.0)))
-key_one past text (suc n) i = one_after (read.simple_key text i) _ (simple_one text i) (λ f. onward_one (read.key past text n) text f.0 f.1 (key_one past text n))
+key_one header text zero ps i = one_after (read.simple_key text i) _ (simple_one text i) (λ f r s u v. u ∙ sym v)
+key_one header text (suc n) ps i =
+    one_after (read.simple_key text i) _ (simple_one text i) (λ f. onward_one text (ps ++ (f.0 ∷ [])) f.1 (read.key header text n (ps ++ (f.0 ∷ []))) (key_one header text n (ps ++ (f.0 ∷ []))))
 
-onward_complete : (ss : List SimpleKey) (past : Past) (text : List ℕ) (left : ℕ) (s : SimpleKey) (m j : ℕ) → Onward ss text m j → length ss ≤ left → onward (read.key past text left) text s m (Ok (s ∷ ss, j))
+behind_complete : (ss : List SimpleKey) (header : Bool) (text : List ℕ) (left : ℕ) (ps : List SimpleKey) (m j : ℕ) → Onward ss text m j → length ss ≤ left → onward text ps m (read.key header text left ps) (Ok (ps ++ ss, j))
 unfolding read.key
-onward_complete [] past text left s m j (e, d) few = inl (d, rw e refl)
-onward_complete (t ∷ ts) past text zero s m j h few = absurd (omega arith)
-onward_complete (t ∷ ts) past text (suc n) s m j (p, q, d, k, rest) few =
-    inr (p, d, Ok (t ∷ ts, j), inl ((t, q), simple_complete t text p q k, onward_complete ts past text n t q j rest (omega arith)), refl)
+behind_complete [] header text left ps m j (e, none) few = inl (none, rw (e, append-nil ps) refl)
+behind_complete (s ∷ ss) header text zero ps m j h few = absurd (omega arith)
+behind_complete (s ∷ ss) header text (suc n) ps m j (p, q, d, k, rest) few =
+    inr (p, d, inl ((s, q), simple_complete s text p q k, (rw (append_assoc ps (s ∷ []) ss) at (behind_complete ss header text n (ps ++ (s ∷ [])) q j rest (omega arith)))))
 
-pub key_complete : (ss : List SimpleKey) (past : Past) (text : List ℕ) (left i j : ℕ) → SpellsKey ss text i j → length ss ≤ left → read.key past text left i (Ok (ss, j))
+pub key_complete : (ss : List SimpleKey) (header : Bool) (text : List ℕ) (limit i j : ℕ) → SpellsKey ss text i j → length ss ≤ limit → read.key header text limit [] i (Ok (ss, j))
 unfolding read.key
-key_complete [] past text left i j h few = absurd h
-key_complete (s ∷ ss) past text zero i j h few = absurd (omega arith)
-key_complete (s ∷ ss) past text (suc n) i j (m, k, rest) few = inl ((s, m), simple_complete s text i m k, onward_complete ss past text n s m j rest (omega arith))
+key_complete [] header text limit i j h few = absurd h
+key_complete (s ∷ ss) header text zero i j h few = absurd (omega arith)
+key_complete (s ∷ ss) header text (suc n) i j (m, k, rest) few = inl ((s, m), simple_complete s text i m k, behind_complete ss header text n (s ∷ []) m j rest (omega arith))
 
 pub dotted_unique : (ss ts : List SimpleKey) (text : List ℕ) (i j k : ℕ) → SpellsKey ss text i j → SpellsKey ts text i k → (ss ≡ ts) × (j ≡ k)
 dotted_unique ss ts text i j k a b =
     let n : ℕ = length ss + length ts in
-    let x = key_one past_dotted text n i (Ok (ss, j)) (Ok (ts, k)) (key_complete ss past_dotted text n i j a (omega arith)) (key_complete ts past_dotted text n i k b (omega arith)) in
+    let x = key_one false text n [] i (Ok (ss, j)) (Ok (ts, k)) (key_complete ss false text n i j a (omega arith)) (key_complete ts false text n i k b (omega arith)) in
     let e : ◌≡◌ {A = Parts} (ss, j) (ts, k) = cc in
     (ap (λ f. f.0) e, ap (λ f. f.1) e)
 
-pub dotted_excluded : (past : Past) (text : List ℕ) (limit i : ℕ) (e : Fault) → read.key past text limit i (Err e) → (ss : List SimpleKey) (j : ℕ) → SpellsKey ss text i j → length ss ≤ limit → ⊥
-dotted_excluded past text limit i e h ss j a few = let x = key_one past text limit i (Err e) (Ok (ss, j)) h (key_complete ss past text limit i j a few) in absurd cc
+pub dotted_excluded : (header : Bool) (text : List ℕ) (limit i : ℕ) (e : Fault) → read.key header text limit [] i (Err e) → (ss : List SimpleKey) (j : ℕ) → SpellsKey ss text i j → length ss ≤ limit → ⊥
+dotted_excluded header text limit i e h ss j a few = let x = key_one header text limit [] i (Err e) (Ok (ss, j)) h (key_complete ss header text limit i j a few) in absurd cc
 
-pub dotted_one : (past : Past) (text : List ℕ) (limit i : ℕ) (e f : Fault) → read.key past text limit i (Err e) → read.key past text limit i (Err f) → e ≡ f
-dotted_one past text limit i e f h g = let x = key_one past text limit i (Err e) (Err f) h g in cc
+pub dotted_one : (header : Bool) (text : List ℕ) (limit i : ℕ) (e f : Fault) → read.key header text limit [] i (Err e) → read.key header text limit [] i (Err f) → e ≡ f
+dotted_one header text limit i e f h g = let x = key_one header text limit [] i (Err e) (Err f) h g in cc
 
 pub dotted_byte : (ss : List SimpleKey) (text : List ℕ) (i j : ℕ) → SpellsKey ss text i j → (is_keylike (get_or text i 0) || opens_string (get_or text i 0)) ≡ true
 dotted_byte [] text i j h = absurd h
 dotted_byte (s ∷ ss) text i j (m, inl (run, e), rest) = let b : is_keylike (get_or text i 0) ≡ true = run.1.passes i (omega arith) run.0 in rw b refl
-dotted_byte (s ∷ ss) text i j (m, inr (src, h), rest) = rw (quote_bare (get_or text i 0) h.quote).1 (or_true (is_keylike (get_or text i 0)))
+dotted_byte (s ∷ ss) text i j (m, inr (src, h), rest) = elim h.quote [ inl e ↦ rw e refl | inr e ↦ rw e refl ]

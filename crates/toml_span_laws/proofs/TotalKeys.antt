@@ -1,6 +1,5 @@
 -- At each place of a text a key stands, or one is stuck.
-use Rattle.std.proofs.Common.{◌≡◌, ℕ, zero, suc, ◌+◌, ◌<◌, ◌≤◌, ◌⊎◌, Bool, true, false, List, [], ◌∷◌, length, get_or, arith, inl, inr, refl, ◌∙◌, Option, Some, None, Result, Ok, Err}
-use Rattle.std.specs.Prelude.{slice_range}
+use Rattle.std.proofs.Common.{◌≡◌, ℕ, zero, suc, ◌+◌, ◌<◌, ◌≤◌, ◌⊎◌, Bool, true, false, List, [], ◌∷◌, ◌++◌, length, get_or, arith, inl, inr, refl, ◌∙◌, Option, Some, None, Result, Ok, Err}
 use Rattle.std.specs.Str.{IsUtf8, IsCharBoundary}
 use Rattle.std.proofs.lemmas.Bool.{cases_lt, false≢true}
 use Rattle.std.proofs.lemmas.Bool.Decides.{nat_tests}
@@ -9,7 +8,7 @@ use Rattle.toml_span_lex.specs.declared.span.Span.{Span}
 use Rattle.toml_span_lex.specs.Bytes.{is_keylike}
 use Rattle.toml_span_lex.specs.Laws.{SomethingStands}
 use Rattle.toml_span_lex.specs.Strings.{IsString}
-use Rattle.toml_span_lex.specs.Tokens.{Lexeme, string, Stands}
+use Rattle.toml_span_lex.specs.Tokens.{Lexeme, keylike, string, Stands, RunAt}
 use Rattle.toml_span_lex.proofs.NoFault.{quote_token}
 use Rattle.toml_span_lex.proofs.OneToken.{token_tag, same_token_tag}
 use Rattle.toml_span_lex.proofs.PieceLemmas.{Cut-forward, ends}
@@ -23,13 +22,12 @@ use Rattle.toml_span_read.specs.Faults.{fault_at, token_fault, found_of, IsToken
 use Rattle.toml_span_read.specs.code.Gaps.{Further, DotGives}
 use Rattle.toml_span_read.specs.Gaps.{Dot, NoDot}
 use Rattle.toml_span_laws.specs.code.Judged.{Judged}
-use Rattle.toml_span_read.specs.Grammar.{from_to}
 use Rattle.toml_span_read.specs.Keys.{SimpleKey, opens_string, SpellsKey}
 use Rattle.toml_span_read.specs.Read as read
-use Rattle.toml_span_read.specs.Read.{Past, Parts, behind}
+use Rattle.toml_span_read.specs.Read.{Reading, after, Standing, token, text_end, no_token, StandsAt, key_of, past, Parts, onward}
 use Rattle.toml_span_read.proofs.KeyLemmas.{key_sound}
 use Rattle.toml_span_read.proofs.NumberLemmas.{bool_cases}
-use Rattle.toml_span_read.proofs.Places.{run_some}
+use Rattle.toml_span_lex.proofs.Unique.{run_unique}
 
 -- every place between two characters is judged
 abbrev pub AllJudged : List ℕ → Type 0
@@ -88,78 +86,62 @@ string_stands text i u o (inr (inl (j, s, l, h))) =
     inl (by_tag text i j s l u (same_token_tag text i j s l h ∙ quote_token (get_or text i 0) (is_quote (get_or text i 0) o)) h)
 string_stands text i u o (inr (inr (j, e, h))) = inr (token_fault e, (j, e, h, refl))
 
--- ---- keys
+-- ---- reading
 
 -- where what is read ends
 abbrev EndsOn : {A : Type 0} → List ℕ → ℕ → Result (A × ℕ) Fault → Type 0
 EndsOn text i (Ok f) = Further text i f.1
 EndsOn text i (Err e) = Unit {0}
 
-abbrev KeyAt : List ℕ → ℕ → Type 0
-KeyAt text i = (r : Result (SimpleKey × ℕ) Fault) × read.simple_key text i r × EndsOn text i r
+-- this gives something at i
+abbrev pub Sure : {A : Type 0} → List ℕ → ℕ → Reading (A × ℕ) → Type 0
+Sure {A = A} text i m = (r : Result (A × ℕ) Fault) × m r × EndsOn text i r
 
-abbrev PartsAt : Past → List ℕ → ℕ → ℕ → Type 0
-PartsAt past text left i = (r : Result Parts Fault) × read.key past text left i r × EndsOn text i r
+sure_after : {A B : Type 0} (text : List ℕ) (i : ℕ) (m : Reading (A × ℕ)) (f : A × ℕ → Reading (B × ℕ)) → Sure text i m → ((a : A × ℕ) → Further text i a.1 → Sure text i (f a)) → Sure text i (after m f)
+sure_after text i m f (Ok a, h, on) g = let r = g a on in (r.0, inl (a, h, r.1), r.2)
+sure_after text i m f (Err e, h, on) g = (Err e, inr (e, h, refl), tt)
 
-quoted_stands : (text : List ℕ) (i : ℕ) → is_keylike (get_or text i 0) ≡ false → opens_string (get_or text i 0) ≡ true → StringAt text i → KeyAt text i
-quoted_stands text i n o s =
-    let q : read.StringAt = record { value = s.value; span = s.span; multi = s.multi; end = s.end } in
-    elim (bool_cases s.multi) [
-      | inl m ↦ (Err (record { kind = kinds.MultilineStringKey; span = from_to i (i + length s.value) }), inr (n, inl (o, inl (q, (s.source, s.here), inl (m, refl)))), tt)
-      | inr m ↦ (Ok (record { name = s.value; span = s.span }, s.end), inr (n, inl (o, inl (q, (s.source, s.here), inr (m, refl)))), s.further)
-    ]
+ends_on : {A : Type 0} (text : List ℕ) (i p : ℕ) (r : Result (A × ℕ) Fault) → i ≤ p → EndsOn text p r → EndsOn text i r
+ends_on text i p (Ok f) l h = further_on text i p f.1 l h
+ends_on text i p (Err e) l h = tt
 
-key_stands : (text : List ℕ) (i : ℕ) → IsUtf8 text → Judged text i → KeyAt text i
-key_stands text i u g =
-    elim (bool_cases (is_keylike (get_or text i 0))) [
-      | inl k ↦
-          let j = g.run.0 in
-          let l : i < j = run_some is_keylike text i j refl k g.run.1 in
-          (Ok (record { name = slice_range text i j; span = from_to i j }, j), inl (k, ((l, g.run.1, refl), refl)), record { on = l; boundary = g.run.2 })
-      | inr n ↦
-          elim (bool_cases (opens_string (get_or text i 0))) [
-            | inl o ↦ elim (string_stands text i u o g.stands) [ inl s ↦ quoted_stands text i n o s | inr x ↦ (Err x.0, inr (n, inl (o, inr (x.0, x.1, refl))), tt) ]
-            | inr o ↦ let w = wanted_stands text i dues.TableKey g.stands in (Err w.0, inr (n, inr (o, w.1)), tt)
-          ]
-    ]
+standing : (text : List ℕ) (i : ℕ) → SomethingStands text i → (t : Standing) × StandsAt text i t
+standing text i (inl e) = (text_end, e)
+standing text i (inr (inl (j, s, l, h))) = (token s l j, h)
+standing text i (inr (inr (j, e, h))) = (no_token e, (j, h))
 
--- ---- dotted keys
+-- ---- keys
 
-dot_sum : (text : List ℕ) (i : ℕ) → (found : Option ℕ) × DotGives text i found → NoDot text i ⊎ ((j : ℕ) × Dot text i j × Further text i j)
-dot_sum text i (None, h) = inl h
-dot_sum text i (Some j, h) = inr (j, h.0, h.1)
+keylike_further : (text : List ℕ) (i j : ℕ) (name : List ℕ) → Judged text i → RunAt is_keylike text i j name → Further text i j
+keylike_further text i j name g h = let e : j ≡ g.run.0 = run_unique is_keylike text i j g.run.0 h.1 g.run.1 in record { on = h.0; boundary = rw e g.run.2 }
 
-behind_on : (ss : List SimpleKey) (text : List ℕ) (i p : ℕ) (r : Result Parts Fault) → i ≤ p → EndsOn text p r → EndsOn text i (behind ss r)
-behind_on ss text i p (Ok f) l h = further_on text i p f.1 l h
-behind_on ss text i p (Err e) l h = tt
+key_ends : (text : List ℕ) (i : ℕ) (t : Standing) → IsUtf8 text → Judged text i → StandsAt text i t → EndsOn text i (key_of i t)
+key_ends text i (token span (keylike name) j) u g h = keylike_further text i j name g h.0
+key_ends text i (token span (string source name false) j) u g h = string_further text i j span source name false u h
+key_ends text i t u g h = tt
 
-past_stands : (past : Past) (text : List ℕ) (i : ℕ) → KeyAt text i → PartsAt past text 0 i
+key_stands : (text : List ℕ) (i : ℕ) → IsUtf8 text → Judged text i → Sure text i (read.simple_key text i)
+key_stands text i u g = let (t, h) = standing text i g.stands in (key_of i t, (t, h, refl), key_ends text i t u g h)
+
+onward_stands : (text : List ℕ) (ps : List SimpleKey) (i m : ℕ) (next : ℕ → Reading Parts) → Further text i m → (found : Option ℕ) × DotGives text m found → ((p : ℕ) → IsCharBoundary text p → Sure text p (next p)) → Sure text i (onward text ps m next)
+onward_stands text ps i m next f (None, none) sure = (Ok (ps, m), inl (none, refl), f)
+onward_stands text ps i m next f (Some p, d) sure = let q = sure p d.1.boundary in (q.0, inr (p, d.0, q.1), ends_on text i p q.0 (omega (arith, f.on, d.1.on)) q.2)
+
+pub parts_stand : (header : Bool) (text : List ℕ) (left : ℕ) (ps : List SimpleKey) (i : ℕ) → IsUtf8 text → AllJudged text → IsCharBoundary text i → Sure text i (read.key header text left ps i)
 unfolding read.key
-past_stands past text i (Ok (s, m), h, f) = (Err (past i s), inl ((s, m), h, refl), tt)
-past_stands past text i (Err e, h, f) = (Err e, inr (e, h, refl), tt)
-
-more_stands : (past : Past) (text : List ℕ) (n i : ℕ) → AllJudged text → ((p : ℕ) → IsCharBoundary text p → PartsAt past text n p) → KeyAt text i → PartsAt past text (suc n) i
-unfolding read.key
-more_stands past text n i all next (Err e, h, f) = (Err e, inr (e, h, refl), tt)
-more_stands past text n i all next (Ok (s, m), h, f) = elim (dot_sum text m (all m f.boundary).dot) [
-  | inl none ↦ (Ok (s ∷ [], m), inl ((s, m), h, inl (none, refl)), f)
-  | inr d ↦
-      let q = next d.0 d.2.boundary in
-      (behind (s ∷ []) q.0, inl ((s, m), h, inr (d.0, d.1, q.0, q.1, refl)), behind_on (s ∷ []) text i d.0 q.0 (omega (arith, f.on, d.2.on)) q.2)
-]
-
-pub parts_stand : (past : Past) (text : List ℕ) (left i : ℕ) → IsUtf8 text → AllJudged text → IsCharBoundary text i → PartsAt past text left i
-parts_stand past text zero i u all b = past_stands past text i (key_stands text i u (all i b))
-parts_stand past text (suc n) i u all b = more_stands past text n i all (λ p c. parts_stand past text n p u all c) (key_stands text i u (all i b))
+parts_stand header text zero ps i u all b = sure_after text i (read.simple_key text i) _ (key_stands text i u (all i b)) (λ f on. (Err (past header i f.0), refl, tt))
+parts_stand header text (suc n) ps i u all b =
+    sure_after text i (read.simple_key text i) _ (key_stands text i u (all i b))
+    (λ f on. onward_stands text (ps ++ (f.0 ∷ [])) i f.1 (read.key header text n (ps ++ (f.0 ∷ []))) on (all f.1 on.boundary).dot (λ p c. parts_stand header text n (ps ++ (f.0 ∷ [])) p u all c))
 
 -- a key within the limit, with its end further on, or the fault that is told
-abbrev pub DottedAt : Past → List ℕ → ℕ → ℕ → Type 0
-DottedAt past text limit i =
-    ((j : ℕ) × (ss : List SimpleKey) × SpellsKey ss text i j × (length ss ≤ limit) × Further text i j) ⊎ ((fault : Fault) × read.key past text limit i (Err fault))
+abbrev DottedAt : Bool → List ℕ → ℕ → ℕ → Type 0
+DottedAt header text limit i =
+    ((j : ℕ) × (ss : List SimpleKey) × SpellsKey ss text i j × (length ss ≤ limit) × Further text i j) ⊎ ((fault : Fault) × read.key header text limit [] i (Err fault))
 
-read_stands : (past : Past) (text : List ℕ) (limit i : ℕ) → PartsAt past text limit i → DottedAt past text limit i
-read_stands past text limit i (Ok (ss, j), h, f) = let k = key_sound past text limit i j ss h in inl (j, ss, k.0, k.1, f)
-read_stands past text limit i (Err e, h, f) = inr (e, h)
+read_stands : (header : Bool) (text : List ℕ) (limit i : ℕ) → Sure text i (read.key header text limit [] i) → DottedAt header text limit i
+read_stands header text limit i (Ok (ss, j), h, f) = let k = key_sound header text limit i j ss h in inl (j, ss, k.0, k.1, f)
+read_stands header text limit i (Err e, h, f) = inr (e, h)
 
-pub dotted_stands : (past : Past) (text : List ℕ) (limit i : ℕ) → IsUtf8 text → AllJudged text → IsCharBoundary text i → DottedAt past text limit i
-dotted_stands past text limit i u all b = read_stands past text limit i (parts_stand past text limit i u all b)
+pub dotted_stands : (header : Bool) (text : List ℕ) (limit i : ℕ) → IsUtf8 text → AllJudged text → IsCharBoundary text i → DottedAt header text limit i
+dotted_stands header text limit i u all b = read_stands header text limit i (parts_stand header text limit [] i u all b)

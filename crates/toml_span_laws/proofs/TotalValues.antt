@@ -26,7 +26,6 @@ use Rattle.toml_span_read.specs.code.Stuck.{StuckValue, StuckItems, StuckPairs, 
 use Rattle.toml_span_laws.proofs.EarlierLaws.{every_key}
 use Rattle.toml_span_read.proofs.NumberLemmas.{bool_cases, byte_is}
 use Rattle.toml_span_read.proofs.Places.{run_some, behind_byte}
-use Rattle.toml_span_read.specs.Read.{past_dotted}
 use Rattle.toml_span_laws.proofs.TotalKeys.{AllJudged, further_on, wanted_stands, no_value_stands, string_stands, dotted_stands}
 
 -- ---- what is behind a form
@@ -282,7 +281,7 @@ mutual
   pair_stands : (fuel : ℕ) (text : List ℕ) (limit d i : ℕ) → IsUtf8 text → AllJudged text → 1 ≤ limit → 3 * length text + 2 ≤ fuel + 3 * i → IsCharBoundary text i → PairAt text limit d i
   pair_stands zero text limit d i u all some l b = absurd (omega (arith, l, b.0))
   pair_stands (suc fuel) text limit d i u all some l b =
-      elim (dotted_stands past_dotted text limit i u all b) [
+      elim (dotted_stands false text limit i u all b) [
         | inr x ↦ inr (x.0, in_key d i x.0 x.1)
         | inl k ↦
             elim (sign_sum 61 text k.0 (all k.0 k.4.boundary).sign) [

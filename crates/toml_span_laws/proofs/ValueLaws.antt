@@ -18,7 +18,6 @@ use Rattle.toml_span_read.specs.Faults.{begins_bare, opens_nested, NoBare}
 use Rattle.toml_span_read.specs.code.Values.{ValueGives, IsReadAs}
 use Rattle.toml_span_read.specs.code.Stuck.{StuckValue, value_here, in_array, in_inline, StuckItems, in_item, behind_item, item_on, StuckPairs, in_pair, crosses, behind_pair, pair_on, StuckPair, in_key, no_equals, in_value}
 use Rattle.toml_span_laws.proofs.EarlierLaws.{clear_crossing}
-use Rattle.toml_span_read.specs.Read.{past_dotted}
 use Rattle.toml_span_laws.proofs.KeyLaws.{clash, not_here, gap_unique, sign_unique, closes_unique, close_or_comma, sign_or_none, close_or_neither, comma_or_neither, dotted_unique, dotted_byte, dotted_excluded}
 use Rattle.toml_span_laws.proofs.ScalarLaws.{scalar_unique, scalar_byte, quoted_or_fault, bare_byte, bare_or_fault}
 
@@ -213,7 +212,7 @@ mutual
       pairs_excluded text limit {es = es ++ (p ∷ [])} {d = d} {i = n} {e = e} r ps j (subst (λ (q : KeyValue). SpellsPairs ps (es ++ (q ∷ [])) text limit d n j) (sym u.0) (rw f at z))
 
   pub pair_excluded : (text : List ℕ) (limit : ℕ) {d i : ℕ} {e : Fault} → StuckPair text limit d i e → (p : KeyValue) (j : ℕ) → SpellsPair p text limit d i j → ⊥
-  pair_excluded text limit (in_key d i e r) p j (a, b, key, few, eq, val, ext) = dotted_excluded past_dotted text limit i e r p.parts a key few
+  pair_excluded text limit (in_key d i e r) p j (a, b, key, few, eq, val, ext) = dotted_excluded false text limit i e r p.parts a key few
   pair_excluded text limit (no_equals d i a n ts e key few g (ne, w)) p j (a', b, key', few', eq, val, ext) =
       let u = dotted_unique p.parts ts text i a' a key' key in sign_or_none 61 text a b n (rw u.1 at eq) g ne
   pair_excluded text limit (in_value d i a b ts e key few eq r) p j (a', b', key', few', eq', val, ext) =

@@ -1,7 +1,7 @@
 //! Laws of what stands at a place: a form, or what is wrong where it is due.
 //!
 //! The bodies judge single forms: they are the proof.
-ghost use Rattle.std.specs.Prelude.{◌≡◌, ◌≤◌, ◌<◌, ◌⊎◌, ◌||◌, ◌==◌, ℕ, true, List, length, slice_index, Result};
+ghost use Rattle.std.specs.Prelude.{◌≡◌, ◌≤◌, ◌<◌, ◌⊎◌, ◌||◌, ◌==◌, ℕ, Bool, true, List, [], length, slice_index, Result};
 ghost use Rattle.std.specs.Str.{IsCharBoundary};
 ghost use Rattle.toml_span_lex.specs.Bytes.{is_keylike};
 ghost use Rattle.toml_span_tree.specs.declared.date.DateText.{DateText};
@@ -158,8 +158,8 @@ pub fn places_are_judged(text: &str)
 
 /// At each place of a text a key is read, or a fault told.
 pub fn key_or_fault(text: &str)
-    ensures { (past : read.Past) (limit i : ℕ) → IsCharBoundary text.now i
-        → (found : Result read.Parts Fault) × read.key past text.now limit i found }
+    ensures { (header : Bool) (limit i : ℕ) → IsCharBoundary text.now i
+        → (found : Result read.Parts Fault) × read.key header text.now limit [] i found }
 {
     places_are_judged(text);
 }

@@ -1,5 +1,5 @@
 //! Laws of keys.
-ghost use Rattle.std.specs.Prelude.{◌≡◌, ◌≤◌, ◌↔◌, ℕ, List, length, Result, Ok};
+ghost use Rattle.std.specs.Prelude.{◌≡◌, ◌≤◌, ◌↔◌, ℕ, Bool, List, [], length, Result, Ok};
 ghost use Rattle.toml_span_read.specs.declared.fault.Fault.{Fault};
 ghost use Rattle.toml_span_read.specs.Keys.{SimpleKey, SpellsSimpleKey, SpellsKey};
 ghost use Rattle.toml_span_read.specs.Read as read;
@@ -8,16 +8,16 @@ ghost use Rattle.toml_span_read.specs.Read as read;
 pub fn keys_are_read()
     ensures single { (text : List ℕ) (i j : ℕ) (p : SimpleKey)
         → read.simple_key text i (Ok (p, j)) ↔ SpellsSimpleKey p text i j }
-    ensures dotted { (past : read.Past) (text : List ℕ) (limit i j : ℕ) (ps : List SimpleKey)
-        → read.key past text limit i (Ok (ps, j)) ↔ (SpellsKey ps text i j × (length ps ≤ limit)) }
+    ensures dotted { (header : Bool) (text : List ℕ) (limit i j : ℕ) (ps : List SimpleKey)
+        → read.key header text limit [] i (Ok (ps, j)) ↔ (SpellsKey ps text i j × (length ps ≤ limit)) }
 {}
 
 /// Reading a key gives one thing, a key or a fault.
 pub fn one_key()
     ensures single { (text : List ℕ) (i : ℕ) (r s : Result (SimpleKey × ℕ) Fault) → read.simple_key text i r
         → read.simple_key text i s → r ≡ s }
-    ensures dotted { (past : read.Past) (text : List ℕ) (limit i : ℕ) (r s : Result read.Parts Fault)
-        → read.key past text limit i r → read.key past text limit i s → r ≡ s }
+    ensures dotted { (header : Bool) (text : List ℕ) (limit i : ℕ) (r s : Result read.Parts Fault)
+        → read.key header text limit [] i r → read.key header text limit [] i s → r ≡ s }
 {}
 
 /// At most one dotted key stands at a place.

@@ -34,7 +34,7 @@ end_is (v ∷ []) (suc k) n a l e = absurd (omega (arith, l))
 end_is (v ∷ w ∷ ws) zero n a l e = absurd (omega (arith, l))
 end_is (v ∷ w ∷ ws) (suc k) n a l e = end_is (w ∷ ws) k (key_value v).extent.end a (omega (arith, l)) e
 
-pub line_key_fault : (stop : Stop Fault) (text : List ℕ) (limit i : ℕ) → Gives parts_found (read.key read.past_dotted text limit i) (Err stop) → KeyValueGives text limit i (Err stop)
+pub line_key_fault : (stop : Stop Fault) (text : List ℕ) (limit i : ℕ) → Gives parts_found (read.key false text limit [] i) (Err stop) → KeyValueGives text limit i (Err stop)
 line_key_fault (stops.Memory e) text limit i h = tt
 line_key_fault (stops.Fault e) text limit i h = line_key i e h
 
@@ -107,7 +107,7 @@ pub close_second : (array : Bool) (stop : Stop Fault) (text : List ℕ) (i k b :
 close_second array (stops.Memory e) text i k b a run here u none h = tt
 close_second array (stops.Fault e) text i k b a run here u none h = rw a (k, run, inr (here, ((rw u at none), (rw u at h))))
 
-pub header_key_fault : (stop : Stop Fault) (array : Bool) (text : List ℕ) (limit i m k : ℕ) → OpensHeader array text i m → MaximalRun is_blank text m k → Gives header_found (read.key read.past_header text limit k) (Err stop)
+pub header_key_fault : (stop : Stop Fault) (array : Bool) (text : List ℕ) (limit i m k : ℕ) → OpensHeader array text i m → MaximalRun is_blank text m k → Gives header_found (read.key true text limit [] k) (Err stop)
     → HeaderGives text limit i (Err stop)
 header_key_fault (stops.Memory e) array text limit i m k opens run h = tt
 header_key_fault (stops.Fault e) array text limit i m k opens run h = header_key i m k array e opens run h

@@ -220,7 +220,7 @@ pub pair_spelled : (e : KeyValue) (ps : List SimpleKey) (v : ParsedValue) (text 
     → SpellsKey ps text i a → length ps ≤ limit → Separator 61 text a b → r ≡ d + length ps → Spells v text limit r b j → SpellsPair e text limit d i j
 pair_spelled e ps v text limit d r i a b j is key few sign u s = rw is (a, b, key, few, sign, (rw u at s), refl)
 
-pub key_stuck : (stop : Stop Fault) (text : List ℕ) (limit d i : ℕ) → Gives parts_found (read.key read.past_dotted text limit i) (Err stop) → PairGives text limit d i (Err stop)
+pub key_stuck : (stop : Stop Fault) (text : List ℕ) (limit d i : ℕ) → Gives parts_found (read.key false text limit [] i) (Err stop) → PairGives text limit d i (Err stop)
 key_stuck (stops.Memory e) text limit d i h = tt
 key_stuck (stops.Fault e) text limit d i h = in_key d i e h
 

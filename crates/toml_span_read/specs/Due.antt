@@ -10,7 +10,7 @@ use Rattle.toml_span_read.specs.Gaps.{MaximalGap, Skipped, Tail}
 use Rattle.toml_span_read.specs.Grammar.{Spells, SpellsPair, SpellsKeyValue, OpensHeader, HeaderFront, SpellsHeader}
 use Rattle.toml_span_read.specs.Keys.{SimpleKey, SpellsKey}
 use Rattle.toml_span_read.specs.Faults.{NoEquals, NoValue, NoComma, NoBracket, NoNewline}
-use Rattle.toml_span_read.specs.Read.{key, past_dotted, past_header}
+use Rattle.toml_span_read.specs.Read.{key}
 use Rattle.toml_span_read.specs.declared.fault.Due.TheVariants as dues
 use Rattle.toml_span_read.specs.declared.fault.Fault.{Fault}
 
@@ -120,14 +120,14 @@ pub data DueAt (text : List ℕ) (limit : ℕ) : What → List Frame → ℕ →
 -- The table: the faults that are told where this is due. Where a line, an element or the rest of a line is due, a form
 -- within it is due too, and has the fault.
 abbrev pub DueFault : List ℕ → ℕ → What → List Frame → ℕ → Fault → Type 0
-DueFault text limit a_key fs i e = key past_dotted text limit i (Err e)
+DueFault text limit a_key fs i e = key false text limit [] i (Err e)
 DueFault text limit (an_equals n) fs i e = NoEquals text i e
 DueFault text limit a_value fs i e = NoValue text limit (depth fs) i e
 DueFault text limit a_comma (in_brackets ∷ fs) i e = NoComma right_bracket dues.RightBracket text i e
 DueFault text limit a_comma (in_braces es ∷ fs) i e = NoComma right_brace dues.Comma text i e
 DueFault text limit (a_verdict ev) (in_section es ∷ fs) i e = Crossing es ev e
 DueFault text limit (a_verdict ev) (in_braces es ∷ fs) i e = Crossing es ev e
-DueFault text limit a_header_key fs i e = key past_header text limit i (Err e)
+DueFault text limit a_header_key fs i e = key true text limit [] i (Err e)
 DueFault text limit (a_closing array) fs i e = NoBracket text i e
 DueFault text limit a_line_end fs i e = NoNewline text i e
 DueFault text limit what fs i e = ⊥

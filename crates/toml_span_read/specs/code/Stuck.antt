@@ -9,7 +9,7 @@ use Rattle.toml_span_read.specs.declared.fault.Fault.{Fault}
 use Rattle.toml_span_read.specs.Gaps.{MaximalGap, Separator, Equals, Tail, NoTail}
 use Rattle.toml_span_read.specs.Faults.{NoEquals, NoValue, NoComma, NoBracket, IsWanted}
 use Rattle.toml_span_read.specs.Keys.{SimpleKey, SpellsKey}
-use Rattle.toml_span_read.specs.Read.{key, past_dotted, past_header}
+use Rattle.toml_span_read.specs.Read.{key}
 use Rattle.toml_span_read.specs.declared.fault.Due.TheVariants as dues
 use Rattle.toml_span_read.specs.Data.{ParsedValue, KeyValue, Block}
 use Rattle.toml_span_read.specs.Earlier.{Clear, Crossing}
@@ -61,7 +61,7 @@ mutual
 
   -- a pair is due at i: within `keyval = key keyval-sep val`
   pub data StuckPair (text : List ℕ) (limit : ℕ) : ℕ → ℕ → Fault → Type 0 where
-    in_key : (d i : ℕ) (e : Fault) → key past_dotted text limit i (Err e) → StuckPair text limit d i e
+    in_key : (d i : ℕ) (e : Fault) → key false text limit [] i (Err e) → StuckPair text limit d i e
     -- behind the key stands no equals sign
     no_equals : (d i a n : ℕ) (ss : List SimpleKey) (e : Fault) → SpellsKey ss text i a → length ss ≤ limit
         → MaximalGap text a n → NoEquals text n e → StuckPair text limit d i e
@@ -78,7 +78,7 @@ StuckTail text i e = (n : ℕ) × NoTail text i n × IsWanted text n dues.Newlin
 
 -- an assignment is due at i, and this fault stands there or further on: within `keyval = key keyval-sep val`
 pub data StuckKeyValue (text : List ℕ) (limit : ℕ) : ℕ → Fault → Type 0 where
-  line_key : (i : ℕ) (e : Fault) → key past_dotted text limit i (Err e) → StuckKeyValue text limit i e
+  line_key : (i : ℕ) (e : Fault) → key false text limit [] i (Err e) → StuckKeyValue text limit i e
   line_equals : (i a n : ℕ) (ps : List SimpleKey) (e : Fault) → SpellsKey ps text i a → length ps ≤ limit
       → MaximalRun is_blank text a n → NoEquals text n e → StuckKeyValue text limit i e
   line_value : (i a b : ℕ) (ps : List SimpleKey) (e : Fault) → SpellsKey ps text i a → length ps ≤ limit
@@ -116,7 +116,7 @@ NoClosing true text i e = NoBracket text i e ⊎ ((slice_index text i ≡ right_
 -- within `expression =/ ws table ws [ comment ]`, where `table = std-table / array-table`
 pub data StuckHeader (text : List ℕ) (limit : ℕ) : ℕ → Fault → Type 0 where
   header_key : (i m k : ℕ) (array : Bool) (e : Fault) → OpensHeader array text i m → MaximalRun is_blank text m k
-      → key past_header text limit k (Err e) → StuckHeader text limit i e
+      → key true text limit [] k (Err e) → StuckHeader text limit i e
   header_close : (i k : ℕ) (array : Bool) (ps : List SimpleKey) (e : Fault) → HeaderFront ps array text limit i k
       → NoClosing array text k e → StuckHeader text limit i e
   header_rest : (i k m : ℕ) (array : Bool) (ps : List SimpleKey) (e : Fault) → HeaderFront ps array text limit i k

@@ -5,4 +5,4 @@ pub returns-clause-single : goal.returns-clause-single
 returns-clause-single c = simple_one
 
 pub returns-clause-dotted : goal.returns-clause-dotted
-returns-clause-dotted c = key_one
+returns-clause-dotted c = λ header text limit i. key_one header text limit [] i

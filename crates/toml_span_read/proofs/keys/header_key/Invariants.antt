@@ -1,17 +1,17 @@
-use Rattle.std.proofs.Common.{◌≤◌, ◌-◌, length}
+use Rattle.std.proofs.Common.{◌≤◌, ◌-◌, true, length}
 use Rattle.std.specs.Str.{IsCharBoundary}
 use Rattle.toml_span_read.specs.Borrowed.{AreWrittenRight, keys_written}
-use Rattle.toml_span_read.proofs.KeyLemmas.{Next}
+use Rattle.toml_span_read.proofs.KeyLemmas.{Behind}
 use Rattle.toml_span_read.proofs.keys.header_key.Given as goal
 
--- whatever is read from here on is read from the start on, with the parts before it
+-- whatever is read from here on is read from the start on
 abbrev pub invariant-parts : goal.invariant-parts
 invariant-parts l = record {
   forward : l.at ≤ l.next;
   boundary : IsCharBoundary l.text l.next;
   borrows : AreWrittenRight l.text (keys_written l.parts.items);
   few : length l.parts.items ≤ l.limit;
-  next : Next l.text l.limit l.at l.parts.items l.next;
+  behind : Behind true l.text l.limit l.at l.parts.items l.next;
 }
 
 abbrev pub decreases-parts : goal.decreases-parts
