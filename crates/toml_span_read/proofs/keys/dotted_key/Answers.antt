@@ -11,7 +11,7 @@ parts-init c =
     let z : length c.new-inner.result.items ≡ 0 = rw none refl in
     record {
       forward = omega arith;
-      boundary = c.requires;
+      boundary = c.requires.boundary;
       borrows = rw none tt;
       few = omega arith;
       behind = none_behind false c.args.text.now c.args.limit c.args.at c.new-inner.result.items none;
@@ -33,7 +33,7 @@ returns-in_err-key-clause-borrows c = rw (handed_on c.from_residual.result c.in_
 pub returns-in-None-clause-gives : goal.returns-in-None-clause-gives
 returns-in-None-clause-gives c =
     let (h, few, on, none) = c.in_ok-key.ensures.gives in
-    last_behind false c.args.text.now c.args.limit c.args.at c.parts.next c.in_ok-key.end c.parts.inner.items c.in_ok-key.key (omega (arith, few, c.len.ensures)) h none c.parts.invariant.behind
+    last_behind false c.args.text.now c.args.limit c.args.at c.parts.next c.in_ok-key.end c.parts.inner.items c.in_ok-key.key (omega (arith, few, c.len.ensures)) h (rw c.in-None.is at none) c.parts.invariant.behind
 
 pub returns-in-None-clause-borrows : goal.returns-in-None-clause-borrows
 returns-in-None-clause-borrows c = all_append (IsWrittenRight c.args.text.now) (keys_written c.parts.inner.items) (key_written c.in_ok-key.key ∷ []) c.parts.invariant.borrows (c.in_ok-key.ensures.borrows, tt)
@@ -43,7 +43,8 @@ returns-in-None-clause-advances c = let on = c.in_ok-key.ensures.gives.2 in reco
 
 pub parts-preserved : goal.parts-preserved
 parts-preserved c =
-    let (h, few, on, dot) = c.in_ok-key.ensures.gives in
+    let (h, few, on, found) = c.in_ok-key.ensures.gives in
+    let dot = rw c.in-Some.is at found in
     let pushed = c.in_default-add.ensures in
     let n = one_more c.parts.inner.items c.add.new.items.items c.in_ok-key.key pushed in
     record {

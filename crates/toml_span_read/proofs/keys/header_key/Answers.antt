@@ -13,7 +13,7 @@ parts-init c =
     let z : length c.new-parts.result.items ≡ 0 = rw none refl in
     record {
       forward = omega arith;
-      boundary = c.requires;
+      boundary = c.requires.boundary;
       borrows = rw none tt;
       few = omega arith;
       behind = none_behind true c.args.text.now c.args.limit c.args.at c.new-parts.result.items none;
@@ -33,11 +33,12 @@ pub returns-in-None-clause-gives : goal.returns-in-None-clause-gives
 returns-in-None-clause-gives c =
     let (h, few, on, none) = c.in_ok-key.ensures.gives in
     rw (c.in_default-push.ensures.ok, map-append simple_key c.parts.parts.items (c.in_ok-key.key ∷ []))
-    (last_behind true c.args.text.now c.args.limit c.args.at c.parts.next c.in_ok-key.end c.parts.parts.items c.in_ok-key.key (omega (arith, few, c.len.ensures.value)) h none c.parts.invariant.behind)
+    (last_behind true c.args.text.now c.args.limit c.args.at c.parts.next c.in_ok-key.end c.parts.parts.items c.in_ok-key.key (omega (arith, few, c.len.ensures.value)) h (rw c.in-None.is at none) c.parts.invariant.behind)
 
 pub parts-preserved : goal.parts-preserved
 parts-preserved c =
-    let (h, few, on, dot) = c.in_ok-key.ensures.gives in
+    let (h, few, on, found) = c.in_ok-key.ensures.gives in
+    let dot = rw c.in-Some.is at found in
     let pushed = c.in_default-push.ensures.ok in
     let n = one_more c.parts.parts.items c.push.new.self.items c.in_ok-key.key pushed in
     record {
