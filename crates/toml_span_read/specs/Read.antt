@@ -22,7 +22,7 @@ Reading A = Result A Fault → Type 0
 
 -- this is read and then, with what is read, that; what stops the first stops both
 abbrev pub after : {A B : Type 0} → Reading A → (A → Reading B) → Reading B
-after m f r = ((a : A) × m (Ok a) × f a r) ⊎ ((e : Fault) × m (Err e) × (r ≡ Err e))
+after {A = A} m f r = ((a : A) × m (Ok a) × f a r) ⊎ ((e : Fault) × m (Err e) × (r ≡ Err e))
 
 -- ---- tokens
 

@@ -1,4 +1,4 @@
-use Rattle.std.proofs.Common.{arith, [], ◌∷◌, ◌≡◌, length, refl}
+use Rattle.std.proofs.Common.{arith, [], ◌∷◌, ◌≡◌, length, refl, false}
 use Rattle.toml_span_read.specs.Borrowed.{IsWrittenRight, key_written, keys_written}
 use Rattle.toml_span_read.specs.code.Keys.{parts_found}
 use Rattle.toml_span_read.proofs.BorrowLemmas.{all_append, keys_more}
@@ -20,7 +20,7 @@ parts-init c =
 pub returns-in_err-key-clause-gives : goal.returns-in_err-key-clause-gives
 returns-in_err-key-clause-gives c =
     rw (handed_on c.from_residual.result c.in_err-key.field-0.0 c.from_residual.ensures.1)
-    (stops_behind parts_found c.in_err-key.field-0.0 false c.args.text.now c.args.limit c.args.at c.parts.next _ c.parts.inner.items c.len.ensures c.parts.invariant.few c.parts.invariant.behind c.in_err-key.ensures.gives)
+    (stops_behind parts_found c.in_err-key.field-0.0 false c.args.text.now c.args.limit c.args.at c.parts.next _ c.parts.inner.items (omega (arith, c.len.ensures)) c.parts.invariant.few c.parts.invariant.behind c.in_err-key.ensures.gives)
 
 pub returns-in_err-key-clause-advances : goal.returns-in_err-key-clause-advances
 returns-in_err-key-clause-advances c =
@@ -45,7 +45,7 @@ pub parts-preserved : goal.parts-preserved
 parts-preserved c =
     let (h, few, on, found) = c.in_ok-key.ensures.gives in
     let dot = rw c.in-Some.is at found in
-    let pushed = c.in_default-add.ensures in
+    let pushed = c.in_default.ensures in
     let n = one_more c.parts.inner.items c.add.new.items.items c.in_ok-key.key pushed in
     record {
       forward = omega (arith, on.on, dot.1.on);

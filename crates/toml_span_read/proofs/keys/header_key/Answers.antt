@@ -1,4 +1,4 @@
-use Rattle.std.proofs.Common.{arith, [], ◌∷◌, ◌≡◌, length, refl}
+use Rattle.std.proofs.Common.{arith, [], ◌∷◌, ◌≡◌, length, refl, true}
 use Rattle.std.proofs.lemmas.List.{map-append}
 use Rattle.toml_span_read.specs.Borrowed.{IsWrittenRight}
 use Rattle.toml_span_read.specs.Keys.{simple_key}
@@ -9,7 +9,7 @@ use Rattle.toml_span_read.proofs.keys.header_key.Goals as goal
 
 pub parts-init : goal.parts-init
 parts-init c =
-    let none = c.new-parts.ensures in
+    let none = c.new-parts.ensures.items in
     let z : length c.new-parts.result.items ≡ 0 = rw none refl in
     record {
       forward = omega arith;
@@ -32,14 +32,14 @@ returns-in_err-key-clause-advances c =
 pub returns-in-None-clause-gives : goal.returns-in-None-clause-gives
 returns-in-None-clause-gives c =
     let (h, few, on, none) = c.in_ok-key.ensures.gives in
-    rw (c.in_default-push.ensures.ok, map-append simple_key c.parts.parts.items (c.in_ok-key.key ∷ []))
+    rw (c.in_default.ensures.ok, map-append simple_key c.parts.parts.items (c.in_ok-key.key ∷ []))
     (last_behind true c.args.text.now c.args.limit c.args.at c.parts.next c.in_ok-key.end c.parts.parts.items c.in_ok-key.key (omega (arith, few, c.len.ensures.value)) h (rw c.in-None.is at none) c.parts.invariant.behind)
 
 pub parts-preserved : goal.parts-preserved
 parts-preserved c =
     let (h, few, on, found) = c.in_ok-key.ensures.gives in
     let dot = rw c.in-Some.is at found in
-    let pushed = c.in_default-push.ensures.ok in
+    let pushed = c.in_default.ensures.ok in
     let n = one_more c.parts.parts.items c.push.new.self.items c.in_ok-key.key pushed in
     record {
       forward = omega (arith, on.on, dot.1.on);
