@@ -13,13 +13,13 @@ returns-in_err-parts-clause-gives c =
 
 pub returns-in-Err-clause-gives : goal.returns-in-Err-clause-gives
 returns-in-Err-clause-gives c =
-    let k = key_sound _ _ _ _ _ c.in_ok-parts.ensures.gives in
+    let k = key_sound _ _ _ _ _ _ c.in_ok-parts.ensures.gives in
     let q = c.in-Err.ensures in
     line_equals_fault c.wanted.result c.args.text.now c.args.limit c.args.at _ _ _ k.0 k.1 q.0 q.1 c.wanted.ensures.gives
 
 pub returns-in-Ok-value-clause-reads : goal.returns-in-Ok-value-clause-reads
 returns-in-Ok-value-clause-reads c =
-    let k = key_sound _ _ _ _ _ c.in_ok-parts.ensures.gives in
+    let k = key_sound _ _ _ _ _ _ c.in_ok-parts.ensures.gives in
     let q = c.in-Ok.ensures in
     let v = c.in-Ok-value.ensures.reads in
     let u : c.len-depth.result + 1 ≡ 0 + length (parts c.in_ok-parts.parts) = omega (arith, parts_length c.in_ok-parts.parts.inner.items c.in_ok-parts.parts.last, c.len-depth.ensures) in
@@ -28,13 +28,13 @@ returns-in-Ok-value-clause-reads c =
 
 pub returns-in-Ok-value-clause-gives : goal.returns-in-Ok-value-clause-gives
 returns-in-Ok-value-clause-gives c =
-    let k = key_sound _ _ _ _ _ c.in_ok-parts.ensures.gives in
+    let k = key_sound _ _ _ _ _ _ c.in_ok-parts.ensures.gives in
     let u : c.len-depth.result + 1 ≡ length (parts c.in_ok-parts.parts) = omega (arith, parts_length c.in_ok-parts.parts.inner.items c.in_ok-parts.parts.last, c.len-depth.ensures) in
     key_value_made _ _ _ c.args.text.now c.args.limit _ c.args.at _ c.in-Ok.from c.in-Ok-value.end c.assigned.ensures.key_value k.0 k.1 c.in-Ok.ensures.0 u c.in-Ok-value.ensures.gives
 
 pub returns-clause-gives : goal.returns-clause-gives
 returns-clause-gives c =
-    let k = key_sound _ _ _ _ _ c.in_ok-parts.ensures.gives in
+    let k = key_sound _ _ _ _ _ _ c.in_ok-parts.ensures.gives in
     let u : c.len-depth.result + 1 ≡ length (parts c.in_ok-parts.parts) = omega (arith, parts_length c.in_ok-parts.parts.inner.items c.in_ok-parts.parts.last, c.len-depth.ensures) in
     line_value_fault c.in-Err-value.stop c.args.text.now c.args.limit c.args.at _ _ _ _ k.0 k.1 c.in-Ok.ensures.0 u c.in-Err-value.ensures.gives
 
