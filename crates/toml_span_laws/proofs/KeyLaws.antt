@@ -7,7 +7,7 @@ use Rattle.toml_span_lex.specs.Bytes.{is_blank, is_keylike, is_printed}
 use Rattle.toml_span_lex.specs.Text.{LineEnd}
 use Rattle.toml_span_lex.specs.Tokens.{keylike, string}
 use Rattle.toml_span_lex.proofs.Runs.{crlf_first}
-use Rattle.toml_span_lex.proofs.Unique.{run_unique, line_unique}
+use Rattle.toml_span_lex.proofs.Unique.{run_unique, line_unique, or_true}
 use Rattle.toml_span_read.specs.declared.fault.Fault.{Fault}
 use Rattle.toml_span_read.specs.Gaps.{GapPiece, begins_gap, GapBy, MaximalGap, Dot, NoDot, Separator, Closes, Neither}
 use Rattle.toml_span_read.specs.Keys.{SimpleKey, SpellsSimpleKey, opens_string, Onward, SpellsKey}
@@ -116,7 +116,7 @@ key_unique p q text i j k a b =
 -- ---- dotted keys
 
 onward_one : (text : List ℕ) (ps : List SimpleKey) (m : ℕ) (next : ℕ → Reading Parts) → ((p : ℕ) → One (next p)) → One (onward text ps m next)
-onward_one text ps m next one r s (inl (none, u)) (inl (no, v)) = u ∙ sym v
+onward_one text ps m next one r s (inl (none, u)) (inl (other, v)) = u ∙ sym v
 onward_one text ps m next one r s (inl (none, u)) (inr (p, d, k)) = absurd (dot_or_none text m p d none)
 onward_one text ps m next one r s (inr (p, d, k)) (inl (none, u)) = absurd (dot_or_none text m p d none)
 onward_one text ps m next one r s (inr (p, d, h)) (inr (q, c, k)) = let e : q ≡ p = dot_unique text m q p c d in one p r s h (rw e at k)

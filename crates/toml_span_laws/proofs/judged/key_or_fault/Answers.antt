@@ -1,3 +1,4 @@
+use Rattle.std.proofs.Common.{[]}
 use Rattle.toml_span_laws.proofs.TotalKeys.{parts_stand}
 use Rattle.toml_span_laws.proofs.judged.key_or_fault.Goals as goal
 

@@ -1,3 +1,4 @@
+use Rattle.std.proofs.Common.{[]}
 use Rattle.toml_span_laws.proofs.KeyLaws.{simple_one, key_one}
 use Rattle.toml_span_laws.proofs.keys.one_key.Goals as goal
 
