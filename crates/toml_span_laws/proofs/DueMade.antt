@@ -1,20 +1,20 @@
 -- What is told where something is due is a fault of the document.
-use Rattle.std.proofs.Common.{◌≡◌, ℕ, ◌+◌, zero, suc, ◌<◌, ◌≤◌, ◌⊎◌, Bool, true, false, List, [], ◌∷◌, ◌++◌, length, get_or, arith, inl, inr, refl}
+use Rattle.std.proofs.Common.{◌≡◌, ℕ, ◌+◌, zero, suc, ◌<◌, ◌≤◌, ◌⊎◌, Bool, true, false, List, [], ◌∷◌, ◌++◌, length, get_or, arith, inl, inr, refl, Err}
 use Rattle.std.specs.Prelude.{◌==◌}
 use Rattle.toml_span_lex.specs.Bytes.{is_blank, equals, comma, right_bracket, right_brace, MaximalRun}
 use Rattle.toml_span_lex.specs.Text.{NoLineEnd}
 use Rattle.toml_span_read.specs.declared.fault.Due.TheVariants as dues
 use Rattle.toml_span_read.specs.declared.fault.Fault.{Fault}
-use Rattle.toml_span_read.specs.declared.fault.FaultKind.TheVariants as kinds
 use Rattle.toml_span_read.specs.Data.{KeyValue, Block}
-use Rattle.toml_span_read.specs.Due.{Frame, in_section, in_brackets, in_braces, under_key, depth, What, a_line, a_part, an_equals, a_value, an_element, a_comma, a_verdict, a_header_part, a_closing, a_tail, a_line_end, DueAt, first_line, line_part, line_equals, line_value, line_tail, tail_rest, line_verdict, next_line, part_next, opens_header, header_part_next, header_closes, closes_again, header_tail, next_section, opens_array, item_value, behind_item, behind_comma, opens_table, pair_part, pair_equals, pair_value, pair_verdict, behind_pair, DueFault, IsDue}
+use Rattle.toml_span_read.specs.Due.{Frame, in_section, in_brackets, in_braces, under_key, depth, What, a_line, a_key, an_equals, a_value, an_element, a_comma, a_verdict, a_header_key, a_closing, a_tail, a_line_end, DueAt, first_line, line_key, line_equals, line_value, line_tail, tail_rest, line_verdict, next_line, opens_header, header_closes, closes_again, header_tail, next_section, opens_array, item_value, behind_item, behind_comma, opens_table, pair_key, pair_equals, pair_value, pair_verdict, behind_pair, DueFault, IsDue}
 use Rattle.toml_span_read.specs.Earlier.{Clear, Crossing}
-use Rattle.toml_span_read.specs.Faults.{fault_at, NoSimpleKey, IsWanted}
+use Rattle.toml_span_read.specs.Faults.{IsWanted}
 use Rattle.toml_span_read.specs.code.Stuck.{NoClosing, StuckTail}
-use Rattle.toml_span_read.specs.Gaps.{MaximalGap, Dot}
+use Rattle.toml_span_read.specs.Gaps.{MaximalGap}
 use Rattle.toml_span_read.specs.Grammar.{from_to, last_end, ClosesHeader, SpellsHeader, SpellsKeyValues}
-use Rattle.toml_span_read.specs.Keys.{SimpleKey, SpellsSimpleKey}
-use Rattle.toml_span_read.specs.code.Stuck.{StuckOnward, part_here, dotted_on, StuckKey, no_first, onward, StuckHeaderKey, header_part_here, header_on, StuckKeyValue, StuckKeyValues, StuckSections, StuckDocument, StuckValue, StuckItems, StuckPairs, StuckPair}
+use Rattle.toml_span_read.specs.Keys.{SimpleKey}
+use Rattle.toml_span_read.specs.Read as read
+use Rattle.toml_span_read.specs.code.Stuck.{StuckKeyValue, StuckKeyValues, StuckSections, StuckDocument, StuckValue, StuckItems, StuckPairs, StuckPair}
 use Rattle.toml_span_read.specs.code.Stuck as l
 
 -- ---- what gets stuck from a place on
@@ -32,16 +32,10 @@ FromComma text limit (in_braces es ∷ fs) n e =
     ⊎ ((get_or text n 0 ≡ comma) × (p : ℕ) × MaximalGap text (n + 1) p × StuckPairs text limit es (depth (in_braces es ∷ fs)) p e)
 FromComma text limit fs n e = ⊥
 
--- behind n parts of a key another one is due
-data FromPart (text : List ℕ) (limit n i : ℕ) : Fault → Type 0 where
-  here : (e : Fault) → NoSimpleKey text i e → FromPart text limit n i e
-  past : (s : SimpleKey) (j : ℕ) → SpellsSimpleKey s text i j → limit ≤ n → FromPart text limit n i (fault_at kinds.ExceededDepthLimit i)
-  behind : (s : SimpleKey) (j : ℕ) (e : Fault) → SpellsSimpleKey s text i j → n < limit → StuckOnward text limit (n + 1) j e → FromPart text limit n i e
-
 abbrev FromKey : List ℕ → ℕ → List Frame → ℕ → Fault → Type 0
 FromKey text limit (in_section es ∷ fs) i e = StuckKeyValue text limit i e
 FromKey text limit (in_braces es ∷ fs) i e = StuckPair text limit (depth (in_braces es ∷ fs)) i e
-FromKey text limit fs i e = StuckKey text limit i e
+FromKey text limit fs i e = read.key false text limit [] i (Err e)
 
 abbrev FromEquals : List ℕ → ℕ → ℕ → List Frame → ℕ → Fault → Type 0
 FromEquals text limit k (in_section es ∷ fs) n e =
@@ -63,14 +57,13 @@ FromElement text limit fs i e = ⊥
 
 abbrev From : List ℕ → ℕ → What → List Frame → ℕ → Fault → Type 0
 From text limit a_line (in_section es ∷ []) i e = FromLine text limit es i e
-From text limit (a_part zero) fs i e = FromKey text limit fs i e
-From text limit (a_part (suc n)) fs i e = FromPart text limit (suc n) i e
+From text limit a_key fs i e = FromKey text limit fs i e
 From text limit (an_equals k) fs i e = FromEquals text limit k fs i e
 From text limit a_value fs i e = StuckValue text limit (depth fs) i e
 From text limit an_element fs i e = FromElement text limit fs i e
 From text limit a_comma fs i e = FromComma text limit fs i e
 From text limit (a_verdict ev) fs i e = FromVerdict text limit ev fs i e
-From text limit (a_header_part n) fs i e = StuckHeaderKey text limit n i e
+From text limit a_header_key fs i e = read.key true text limit [] i (Err e)
 From text limit (a_closing array) fs i e = NoClosing array text i e ⊎ ((m : ℕ) × ClosesHeader array text i m × StuckTail text m e)
 From text limit a_tail fs i e = StuckTail text i e
 From text limit a_line_end fs i e = (i < length text) × NoLineEnd text i × IsWanted text i dues.Newline e
@@ -78,12 +71,7 @@ From text limit what fs i e = ⊥
 
 -- ---- keys
 
-onward_made : (text : List ℕ) (limit n m p : ℕ) {e : Fault} → Dot text m p → FromPart text limit n p e → StuckOnward text limit n m e
-onward_made text limit n m p dot (here e h) = part_here n m p e dot (inl h)
-onward_made text limit n m p dot (past part j key o) = part_here n m p (fault_at kinds.ExceededDepthLimit p) dot (inr (part, j, key, o, refl))
-onward_made text limit n m p dot (behind part j e key few r) = dotted_on n m p j part e dot key few r
-
-key_made : (fs : List Frame) (text : List ℕ) (limit i : ℕ) (e : Fault) → StuckKey text limit i e → FromKey text limit fs i e
+key_made : (fs : List Frame) (text : List ℕ) (limit i : ℕ) (e : Fault) → read.key false text limit [] i (Err e) → FromKey text limit fs i e
 key_made [] text limit i e h = h
 key_made (in_section es ∷ fs) text limit i e h = l.line_key i e h
 key_made (in_brackets ∷ fs) text limit i e h = h
@@ -105,9 +93,6 @@ comma_made (under_key k ∷ fs) text limit n p e h gap r = absurd r
 outermost : (text : List ℕ) (limit k b : ℕ) (e : Fault) → StuckValue text limit (0 + k) b e → StuckValue text limit k b e
 outermost text limit k b e r = let x : 0 + k ≡ k = omega arith in rw x at r
 
-later_part : (fs : List Frame) (text : List ℕ) (limit k n p : ℕ) (e : Fault) → k ≡ suc n → From text limit (a_part k) fs p e → FromPart text limit k p e
-later_part fs text limit k n p e x r = let y : FromPart text limit (suc n) p e = rw x at r in rw x y
-
 section_made : (text : List ℕ) (limit i m k j : ℕ) (array : Bool) (ps : List SimpleKey) (evs : List KeyValue) (e : Fault) → SpellsHeader ps array text limit i m → MaximalGap text m k → SpellsKeyValues evs [] text limit k j
     → StuckSections text limit j e → StuckSections text limit i e
 section_made text limit i m k j array ps evs e h gap more r =
@@ -117,9 +102,9 @@ section_made text limit i m k j array ps evs e h gap more r =
 leads : (text : List ℕ) (limit : ℕ) {what : What} {fs : List Frame} {i : ℕ} → DueAt text limit what fs i → (e : Fault) → From text limit what fs i e → StuckDocument text limit e
 leads text limit (first_line i k begins gap) e (inl r) = l.before_headers i e begins (k, gap, r)
 leads text limit (first_line i k begins gap) e (inr (evs, j, h, r)) = l.behind_header i j evs e begins (k, gap, h) r
-leads text limit (line_part es i w on other) e r = leads text limit {what = a_line} {fs = in_section es ∷ []} {i = i} w e (inl (l.in_line es i e on other r))
-leads text limit (line_equals es i a n ps w key few run) e (inl none) = leads text limit {what = a_part 0} {fs = in_section es ∷ []} {i = i} w e (l.line_equals i a n ps e key few run none)
-leads text limit (line_equals es i a n ps w key few run) e (inr (h, b, more, r)) = leads text limit {what = a_part 0} {fs = in_section es ∷ []} {i = i} w e (l.line_value i a b ps e key few (record { at = n; before = run; here = h; behind = more }) r)
+leads text limit (line_key es i w on other) e r = leads text limit {what = a_line} {fs = in_section es ∷ []} {i = i} w e (inl (l.in_line es i e on other r))
+leads text limit (line_equals es i a n ps w key few run) e (inl none) = leads text limit {what = a_key} {fs = in_section es ∷ []} {i = i} w e (l.line_equals i a n ps e key few run none)
+leads text limit (line_equals es i a n ps w key few run) e (inr (h, b, more, r)) = leads text limit {what = a_key} {fs = in_section es ∷ []} {i = i} w e (l.line_value i a b ps e key few (record { at = n; before = run; here = h; behind = more }) r)
 leads text limit (line_value es k n b w h run) e r = leads text limit {what = an_equals k} {fs = in_section es ∷ []} {i = n} w e (inr (h, b, run, outermost text limit k b e r))
 leads text limit (line_tail es i m ev w h) e r = leads text limit {what = a_line} {fs = in_section es ∷ []} {i = i} w e (inl (l.no_newline es i m ev e h r))
 leads text limit (tail_rest fs m n w skipped) e (on, none, h) = leads text limit {what = a_tail} {fs = fs} {i = m} w e (n, (skipped, on, none), h)
@@ -127,10 +112,7 @@ leads text limit (line_verdict es i m n ev w h t) e (inl c) = leads text limit {
 leads text limit (line_verdict es i m n ev w h t) e (inr (clear, k, gap, inl r)) = leads text limit {what = a_line} {fs = in_section es ∷ []} {i = i} w e (inl (l.line_on es i m n k ev e h t clear gap r))
 leads text limit (line_verdict es i m n ev w h t) e (inr (clear, k, gap, inr (evs, j, more, r))) = leads text limit {what = a_line} {fs = in_section es ∷ []} {i = i} w e (inr (ev ∷ evs, j, (m, n, k, h, t, clear, gap, more), r))
 leads text limit (next_line es n k ev w clear gap) e r = leads text limit {what = a_verdict ev} {fs = in_section es ∷ []} {i = n} w e (inr (clear, k, gap, r))
-leads text limit (part_next fs zero i m p part w key few dot) e r = leads text limit {what = a_part 0} {fs = fs} {i = i} w e (key_made fs text limit i e (onward i m part e key few (onward_made text limit 1 m p dot r)))
-leads text limit (part_next fs (suc n) i m p part w key few dot) e r = leads text limit {what = a_part (suc n)} {fs = fs} {i = i} w e (behind part m e key few (onward_made text limit (suc n + 1) m p dot (later_part fs text limit (suc n + 1) (suc n) p e (omega arith) r)))
 leads text limit (opens_header es i m k array w opens run) e r = leads text limit {what = a_line} {fs = in_section es ∷ []} {i = i} w e (inr ([], i, refl, l.in_header i e (l.header_key i m k array e opens run r)))
-leads text limit (header_part_next fs n i m p part w key few dot) e r = leads text limit {what = a_header_part n} {fs = fs} {i = i} w e (header_on n i m p part e key few dot r)
 leads text limit (header_closes es i k array ps w front) e (inl r) = leads text limit {what = a_line} {fs = in_section es ∷ []} {i = i} w e (inr ([], i, refl, l.in_header i e (l.header_close i k array ps e front r)))
 leads text limit (header_closes es i k array ps w front) e (inr (m, shuts, r)) = leads text limit {what = a_line} {fs = in_section es ∷ []} {i = i} w e (inr ([], i, refl, l.in_header i e (l.header_rest i k m array ps e front shuts r)))
 leads text limit (closes_again fs k w h) e (inl (none, r)) = leads text limit {what = a_closing true} {fs = fs} {i = k} w e (inl (inr (h, (none, r))))
@@ -144,9 +126,9 @@ leads text limit (behind_item fs i m n v w h gap) e (inl none) = leads text limi
 leads text limit (behind_item fs i m n v w h gap) e (inr (c, p, more, r)) = leads text limit {what = an_element} {fs = in_brackets ∷ fs} {i = i} w e (l.item_on (depth (in_brackets ∷ fs)) i m p v e h (record { at = n; before = gap; here = c; behind = more }) r)
 leads text limit (behind_comma fs n p w h gap) e r = leads text limit {what = a_comma} {fs = fs} {i = n} w e (comma_made fs text limit n p e h gap r)
 leads text limit (opens_table fs i k w few h gap) e r = leads text limit {what = a_value} {fs = fs} {i = i} w e (l.in_inline (depth fs) i k e few h gap r)
-leads text limit (pair_part es fs i w other) e r = leads text limit {what = an_element} {fs = in_braces es ∷ fs} {i = i} w e (l.in_pair es (depth (in_braces es ∷ fs)) i e other r)
-leads text limit (pair_equals es fs i a n ps w key few gap) e (inl none) = leads text limit {what = a_part 0} {fs = in_braces es ∷ fs} {i = i} w e (l.no_equals (depth (in_braces es ∷ fs)) i a n ps e key few gap none)
-leads text limit (pair_equals es fs i a n ps w key few gap) e (inr (h, b, more, r)) = leads text limit {what = a_part 0} {fs = in_braces es ∷ fs} {i = i} w e (l.in_value (depth (in_braces es ∷ fs)) i a b ps e key few (record { at = n; before = gap; here = h; behind = more }) r)
+leads text limit (pair_key es fs i w other) e r = leads text limit {what = an_element} {fs = in_braces es ∷ fs} {i = i} w e (l.in_pair es (depth (in_braces es ∷ fs)) i e other r)
+leads text limit (pair_equals es fs i a n ps w key few gap) e (inl none) = leads text limit {what = a_key} {fs = in_braces es ∷ fs} {i = i} w e (l.no_equals (depth (in_braces es ∷ fs)) i a n ps e key few gap none)
+leads text limit (pair_equals es fs i a n ps w key few gap) e (inr (h, b, more, r)) = leads text limit {what = a_key} {fs = in_braces es ∷ fs} {i = i} w e (l.in_value (depth (in_braces es ∷ fs)) i a b ps e key few (record { at = n; before = gap; here = h; behind = more }) r)
 leads text limit (pair_value es fs k n b w h gap) e r = leads text limit {what = an_equals k} {fs = in_braces es ∷ fs} {i = n} w e (inr (h, b, gap, r))
 leads text limit (pair_verdict es fs i m p w h) e (inl c) = leads text limit {what = an_element} {fs = in_braces es ∷ fs} {i = i} w e (l.crosses es (depth (in_braces es ∷ fs)) i m p e h c)
 leads text limit (pair_verdict es fs i m p w h) e (inr (clear, n, gap, inl none)) = leads text limit {what = an_element} {fs = in_braces es ∷ fs} {i = i} w e (l.behind_pair es (depth (in_braces es ∷ fs)) i m n p e h clear gap none)
@@ -157,9 +139,7 @@ leads text limit (behind_pair es fs m n p w clear gap) e r = leads text limit {w
 
 told_from : (what : What) (fs : List Frame) (text : List ℕ) (limit i : ℕ) (e : Fault) → DueFault text limit what fs i e → From text limit what fs i e
 told_from a_line fs text limit i e h = absurd h
-told_from (a_part zero) fs text limit i e h = key_made fs text limit i e (no_first i e h)
-told_from (a_part (suc n)) fs text limit i e (inl h) = here e h
-told_from (a_part (suc n)) fs text limit i e (inr (part, j, key, g, u)) = rw u (past part j key g)
+told_from a_key fs text limit i e h = key_made fs text limit i e h
 told_from (an_equals k) [] text limit i e h = h
 told_from (an_equals k) (in_section es ∷ fs) text limit i e h = inl h
 told_from (an_equals k) (in_brackets ∷ fs) text limit i e h = h
@@ -177,7 +157,7 @@ told_from (a_verdict ev) (in_section es ∷ fs) text limit i e h = inl h
 told_from (a_verdict ev) (in_brackets ∷ fs) text limit i e h = absurd h
 told_from (a_verdict ev) (in_braces es ∷ fs) text limit i e h = inl h
 told_from (a_verdict ev) (under_key n ∷ fs) text limit i e h = absurd h
-told_from (a_header_part n) fs text limit i e h = header_part_here n i e h
+told_from a_header_key fs text limit i e h = h
 told_from (a_closing false) fs text limit i e h = inl h
 told_from (a_closing true) fs text limit i e h = inl (inl h)
 told_from a_tail fs text limit i e h = absurd h

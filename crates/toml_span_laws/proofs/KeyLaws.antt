@@ -1,21 +1,19 @@
--- At most one key is spelled at a place, and where one is, none gets stuck.
-use Rattle.std.proofs.Common.{◌≡◌, ℕ, ◌+◌, ◌≤◌, ◌⊎◌, Bool, true, false, List, [], ◌∷◌, length, get_or, arith, inl, inr, sym, ◌∙◌, refl, ap}
+-- What is read of a key is one thing, and what is spelled.
+use Rattle.std.proofs.Common.{◌≡◌, ℕ, zero, suc, ◌+◌, ◌≤◌, ◌⊎◌, Bool, true, false, List, [], ◌∷◌, ◌++◌, length, get_or, append-nil, append_assoc, arith, inl, inr, sym, ◌∙◌, refl, ap, Ok, Err}
 use Rattle.std.specs.Prelude.{◌==◌, ◌||◌}
 use Rattle.std.proofs.lemmas.Bool.{false≢true}
 use Rattle.std.proofs.lemmas.Bool.Decides.{nat_tests}
-use Rattle.toml_span_lex.specs.declared.span.Span.{Span}
 use Rattle.toml_span_lex.specs.Bytes.{is_blank, is_keylike, is_printed}
 use Rattle.toml_span_lex.specs.Text.{LineEnd}
-use Rattle.toml_span_lex.specs.Tokens.{Lexeme, whitespace, newline, comment, punctuator, keylike, string, Stands}
+use Rattle.toml_span_lex.specs.Tokens.{keylike, string}
 use Rattle.toml_span_lex.proofs.Runs.{crlf_first}
 use Rattle.toml_span_lex.proofs.Unique.{run_unique, line_unique, or_true}
-use Rattle.toml_span_lex.proofs.OneToken.{token_unique}
-use Rattle.toml_span_lex.proofs.NoFault.{token_or_fault}
 use Rattle.toml_span_read.specs.declared.fault.Fault.{Fault}
 use Rattle.toml_span_read.specs.Gaps.{GapPiece, begins_gap, GapBy, MaximalGap, Dot, NoDot, Separator, Closes, Neither}
-use Rattle.toml_span_read.specs.Faults.{IsTokenFault, NoSimpleKey}
 use Rattle.toml_span_read.specs.Keys.{SimpleKey, SpellsSimpleKey, opens_string, Onward, SpellsKey}
-use Rattle.toml_span_read.specs.code.Stuck.{StuckOnward, part_here, dotted_on, StuckKey, no_first, onward}
+use Rattle.toml_span_read.specs.Read as read
+use Rattle.toml_span_read.specs.Read.{Reading, token, key_of, Parts, onward}
+use Rattle.toml_span_laws.proofs.Readings.{One, one_after, one_stands}
 
 -- a byte b that is k passes where k does not
 pub clash : (p : ℕ → Bool) (b k : ℕ) → p b ≡ true → b ≡ k → p k ≡ false → ⊥
@@ -102,103 +100,60 @@ dot_or_none text i j a b =
 
 -- ---- keys
 
-abbrev name_of : Lexeme → List ℕ
-name_of (whitespace s) = []
-name_of newline = []
-name_of (comment s) = []
-name_of (punctuator c) = []
-name_of (keylike s) = s
-name_of (string src v m) = v
+pub simple_one : (text : List ℕ) (i : ℕ) → One (read.simple_key text i)
+simple_one text i r s (a, h, u) (b, g, v) = u ∙ (ap (key_of i) (one_stands text i a b h g) ∙ sym v)
 
-abbrev is_multi : Lexeme → Bool
-is_multi (whitespace s) = false
-is_multi newline = false
-is_multi (comment s) = false
-is_multi (punctuator c) = false
-is_multi (keylike s) = false
-is_multi (string src v m) = m
-
--- a key is a token
-record KeyToken (p : SimpleKey) (text : List ℕ) (i j : ℕ) : Type 0 where
-  pub lexeme : Lexeme
-  pub stands : Stands text i j p.span lexeme
-  pub name : p.name ≡ name_of lexeme
-  pub one_line : is_multi lexeme ≡ false
-
-key_token : (p : SimpleKey) (text : List ℕ) (i j : ℕ) → SpellsSimpleKey p text i j → KeyToken p text i j
-key_token p text i j (inl (run, e)) = record { lexeme = keylike p.name; stands = (run, e); name = refl; one_line = refl }
-key_token p text i j (inr (src, h)) = record { lexeme = string src p.name false; stands = h; name = refl; one_line = refl }
-
-part_same : (p q : SimpleKey) → p.name ≡ q.name → p.span ≡ q.span → p ≡ q
-part_same p q a b =
-    let e : record { name = p.name; span = p.span } ≡ record { name = q.name; span = q.span } = rw (a, b) refl in e
+pub simple_complete : (s : SimpleKey) (text : List ℕ) (i m : ℕ) → SpellsSimpleKey s text i m → read.simple_key text i (Ok (s, m))
+simple_complete s text i m (inl h) = (token s.span (keylike s.name) m, h, refl)
+simple_complete s text i m (inr (source, h)) = (token s.span (string source s.name false) m, h, refl)
 
 pub key_unique : (p q : SimpleKey) (text : List ℕ) (i j k : ℕ) → SpellsSimpleKey p text i j → SpellsSimpleKey q text i k → (p ≡ q) × (j ≡ k)
 key_unique p q text i j k a b =
-    let x = key_token p text i j a in
-    let y = key_token q text i k b in
-    let u = token_unique text i j k p.span q.span x.lexeme y.lexeme x.stands y.stands in
-    (part_same p q (x.name ∙ (ap name_of u.2 ∙ sym y.name)) u.1, u.0)
-
-pub quote_opens : (b : ℕ) → (b ≡ 34) ⊎ (b ≡ 39) → (is_keylike b || opens_string b) ≡ true
-quote_opens b (inl e) = rw e refl
-quote_opens b (inr e) = rw e refl
-
-pub key_byte : (p : SimpleKey) (text : List ℕ) (i j : ℕ) → SpellsSimpleKey p text i j → (is_keylike (get_or text i 0) || opens_string (get_or text i 0)) ≡ true
-key_byte p text i j (inl (run, e)) = let b : is_keylike (get_or text i 0) ≡ true = run.1.passes i (omega arith) run.0 in rw b refl
-key_byte p text i j (inr (src, h)) = quote_opens (get_or text i 0) h.quote
-
-pub token_or_token_fault : (text : List ℕ) (i j : ℕ) (s : Span) (l : Lexeme) (e : Fault) → Stands text i j s l → IsTokenFault text i e → ⊥
-token_or_token_fault text i j s l e h (k, x, f, is) = token_or_fault text i j k s l x h f
-
-pub key_or_none : (p : SimpleKey) (text : List ℕ) (i j : ℕ) (e : Fault) → SpellsSimpleKey p text i j → NoSimpleKey text i e → ⊥
-key_or_none p text i j e a (inl m) =
-    let x = key_token p text i j a in
-    let u = token_unique text i j m.end p.span m.span x.lexeme (string m.source m.value true) x.stands m.here in
-    false≢true (sym x.one_line ∙ ap is_multi u.2)
-key_or_none p text i j e a (inr (inl f)) = let x = key_token p text i j a in token_or_token_fault text i j p.span x.lexeme e x.stands f.1
-key_or_none p text i j e a (inr (inr w)) = false≢true (sym w.0 ∙ key_byte p text i j a)
+    let x = simple_one text i (Ok (p, j)) (Ok (q, k)) (simple_complete p text i j a) (simple_complete q text i k b) in
+    let e : ◌≡◌ {A = SimpleKey × ℕ} (p, j) (q, k) = cc in
+    (ap (λ f. f.0) e, ap (λ f. f.1) e)
 
 -- ---- dotted keys
 
-onward_unique : (ss ts : List SimpleKey) (text : List ℕ) (m j k : ℕ) → Onward ss text m j → Onward ts text m k → (ss ≡ ts) × (j ≡ k)
-onward_unique [] [] text m j k a b = (refl, a.0 ∙ sym b.0)
-onward_unique [] (t ∷ ts) text m j k a (p, q, d, key, rest) = absurd (dot_or_none text m p d a.1)
-onward_unique (s ∷ ss) [] text m j k (p, q, d, key, rest) b = absurd (dot_or_none text m p d b.1)
-onward_unique (s ∷ ss) (t ∷ ts) text m j k (p, q, d, key, rest) (p', q', d', key', rest') =
-    let e : p' ≡ p = dot_unique text m p' p d' d in
-    let u = key_unique s t text p q q' key (rw e at key') in
-    let r = onward_unique ss ts text q j k rest (rw (sym u.1) at rest') in
-    (rw (u.0, r.0) refl, r.1)
+onward_one : (text : List ℕ) (ps : List SimpleKey) (m : ℕ) (next : ℕ → Reading Parts) → ((p : ℕ) → One (next p)) → One (onward text ps m next)
+onward_one text ps m next one r s (inl (none, u)) (inl (other, v)) = u ∙ sym v
+onward_one text ps m next one r s (inl (none, u)) (inr (p, d, k)) = absurd (dot_or_none text m p d none)
+onward_one text ps m next one r s (inr (p, d, k)) (inl (none, u)) = absurd (dot_or_none text m p d none)
+onward_one text ps m next one r s (inr (p, d, h)) (inr (q, c, k)) = let e : q ≡ p = dot_unique text m q p c d in one p r s h (rw e at k)
+
+pub key_one : (header : Bool) (text : List ℕ) (left : ℕ) (ps : List SimpleKey) (i : ℕ) → One (read.key header text left ps i)
+unfolding read.key
+key_one header text zero ps i = one_after (read.simple_key text i) _ (simple_one text i) (λ f r s u v. u ∙ sym v)
+key_one header text (suc n) ps i =
+    one_after (read.simple_key text i) _ (simple_one text i) (λ f. onward_one text (ps ++ (f.0 ∷ [])) f.1 (read.key header text n (ps ++ (f.0 ∷ []))) (key_one header text n (ps ++ (f.0 ∷ []))))
+
+behind_complete : (ss : List SimpleKey) (header : Bool) (text : List ℕ) (left : ℕ) (ps : List SimpleKey) (m j : ℕ) → Onward ss text m j → length ss ≤ left → onward text ps m (read.key header text left ps) (Ok (ps ++ ss, j))
+unfolding read.key
+behind_complete [] header text left ps m j (e, none) few = inl (none, rw (e, append-nil ps) refl)
+behind_complete (s ∷ ss) header text zero ps m j h few = absurd (omega arith)
+behind_complete (s ∷ ss) header text (suc n) ps m j (p, q, d, k, rest) few =
+    inr (p, d, inl ((s, q), simple_complete s text p q k, (rw (append_assoc ps (s ∷ []) ss) at (behind_complete ss header text n (ps ++ (s ∷ [])) q j rest (omega arith)))))
+
+pub key_complete : (ss : List SimpleKey) (header : Bool) (text : List ℕ) (limit i j : ℕ) → SpellsKey ss text i j → length ss ≤ limit → read.key header text limit [] i (Ok (ss, j))
+unfolding read.key
+key_complete [] header text limit i j h few = absurd h
+key_complete (s ∷ ss) header text zero i j h few = absurd (omega arith)
+key_complete (s ∷ ss) header text (suc n) i j (m, k, rest) few = inl ((s, m), simple_complete s text i m k, behind_complete ss header text n (s ∷ []) m j rest (omega arith))
 
 pub dotted_unique : (ss ts : List SimpleKey) (text : List ℕ) (i j k : ℕ) → SpellsKey ss text i j → SpellsKey ts text i k → (ss ≡ ts) × (j ≡ k)
-dotted_unique [] ts text i j k a b = absurd a
-dotted_unique (s ∷ ss) [] text i j k a b = absurd b
-dotted_unique (s ∷ ss) (t ∷ ts) text i j k (m, key, rest) (m', key', rest') =
-    let u = key_unique s t text i m m' key key' in
-    let r = onward_unique ss ts text m j k rest (rw (sym u.1) at rest') in
-    (rw (u.0, r.0) refl, r.1)
+dotted_unique ss ts text i j k a b =
+    let n : ℕ = length ss + length ts in
+    let x = key_one false text n [] i (Ok (ss, j)) (Ok (ts, k)) (key_complete ss false text n i j a (omega arith)) (key_complete ts false text n i k b (omega arith)) in
+    let e : ◌≡◌ {A = Parts} (ss, j) (ts, k) = cc in
+    (ap (λ f. f.0) e, ap (λ f. f.1) e)
+
+pub dotted_excluded : (header : Bool) (text : List ℕ) (limit i : ℕ) (e : Fault) → read.key header text limit [] i (Err e) → (ss : List SimpleKey) (j : ℕ) → SpellsKey ss text i j → length ss ≤ limit → ⊥
+dotted_excluded header text limit i e h ss j a few = let x = key_one header text limit [] i (Err e) (Ok (ss, j)) h (key_complete ss header text limit i j a few) in absurd cc
+
+pub dotted_one : (header : Bool) (text : List ℕ) (limit i : ℕ) (e f : Fault) → read.key header text limit [] i (Err e) → read.key header text limit [] i (Err f) → e ≡ f
+dotted_one header text limit i e f h g = let x = key_one header text limit [] i (Err e) (Err f) h g in cc
 
 pub dotted_byte : (ss : List SimpleKey) (text : List ℕ) (i j : ℕ) → SpellsKey ss text i j → (is_keylike (get_or text i 0) || opens_string (get_or text i 0)) ≡ true
 dotted_byte [] text i j h = absurd h
-dotted_byte (s ∷ ss) text i j (m, key, rest) = key_byte s text i m key
-
-onward_excluded : (text : List ℕ) (limit : ℕ) {n m : ℕ} {e : Fault} → StuckOnward text limit n m e → (ss : List SimpleKey) (j : ℕ) → Onward ss text m j → n + length ss ≤ limit → ⊥
-onward_excluded text limit (part_here n m p e d (inl h)) [] j a l = dot_or_none text m p d a.1
-onward_excluded text limit (part_here n m p e d (inl h)) (s ∷ ss) j (p', q, d', key, rest) l =
-    let f : p' ≡ p = dot_unique text m p' p d' d in key_or_none s text p q e (rw f at key) h
-onward_excluded text limit (part_here n m p e d (inr (s, q, k, o, is))) [] j a l = dot_or_none text m p d a.1
-onward_excluded text limit (part_here n m p e d (inr (s, q, k, o, is))) (t ∷ ts) j a l = omega arith
-onward_excluded text limit (dotted_on n m p q s e d k few h) [] j a l = dot_or_none text m p d a.1
-onward_excluded text limit (dotted_on n m p q s e d k few h) (t ∷ ts) j (p', q', d', key, rest) l =
-    let f : p' ≡ p = dot_unique text m p' p d' d in
-    let u = key_unique t s text p q' q (rw f at key) k in
-    onward_excluded text limit {n = n + 1} {m = q} {e = e} h ts j (rw u.1 at rest) (omega arith)
-
-pub dotted_excluded : (text : List ℕ) (limit : ℕ) {i : ℕ} {e : Fault} → StuckKey text limit i e → (ss : List SimpleKey) (j : ℕ) → SpellsKey ss text i j → length ss ≤ limit → ⊥
-dotted_excluded text limit h [] j a l = a
-dotted_excluded text limit (no_first i e (inl h)) (s ∷ ss) j (m, key, rest) l = key_or_none s text i m e key h
-dotted_excluded text limit (no_first i e (inr (t, p, k, o, is))) (s ∷ ss) j a l = omega arith
-dotted_excluded text limit (onward i m s e k few h) (t ∷ ts) j (m', key, rest) l =
-    let u = key_unique t s text i m' m key k in
-    onward_excluded text limit {n = 1} {m = m} {e = e} h ts j (rw u.1 at rest) (omega arith)
+dotted_byte (s ∷ ss) text i j (m, inl (run, e), rest) = let b : is_keylike (get_or text i 0) ≡ true = run.1.passes i (omega arith) run.0 in rw b refl
+dotted_byte (s ∷ ss) text i j (m, inr (src, h), rest) = elim h.quote [ inl e ↦ rw e refl | inr e ↦ rw e refl ]

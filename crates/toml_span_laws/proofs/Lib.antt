@@ -3,7 +3,8 @@ pub mod KeyLaws
 pub mod NumberLaws
 pub mod ScalarLaws
 pub mod ValueLaws
-pub mod KeyFaults
+pub mod TokenFaults
+pub mod Readings
 pub mod ValueFaults
 pub mod WiderLimit
 pub mod LineLaws

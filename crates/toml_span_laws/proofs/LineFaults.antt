@@ -1,5 +1,5 @@
 -- Where a document is stuck, it is at one fault.
-use Rattle.std.proofs.Common.{◌≡◌, ℕ, ◌+◌, Bool, true, false, List, [], ◌∷◌, ◌++◌, length, get_or, arith, inl, inr, subst}
+use Rattle.std.proofs.Common.{◌≡◌, ℕ, ◌+◌, Bool, true, false, List, [], ◌∷◌, ◌++◌, length, get_or, arith, inl, inr, subst, Err}
 use Rattle.toml_span_lex.specs.Bytes.{is_blank, MaximalRun}
 use Rattle.toml_span_lex.proofs.Unique.{run_unique}
 use Rattle.toml_span_read.specs.declared.fault.Due.TheVariants as dues
@@ -8,13 +8,14 @@ use Rattle.toml_span_read.specs.Data.{ParsedValue, KeyValue, Block}
 use Rattle.toml_span_read.specs.Earlier.{Clear, Crossing}
 use Rattle.toml_span_read.specs.Grammar.{Spells, SpellsLines, OpensHeader, HeaderFront, SpellsHeader, SpellsSection}
 use Rattle.toml_span_read.specs.Keys.{SimpleKey}
-use Rattle.toml_span_read.specs.code.Stuck.{StuckHeaderKey, StuckKeyValue, line_key, line_equals, line_value, StuckKeyValues, in_line, no_newline, crossing, line_on, StuckLines, StuckHeader, header_key, header_close, header_rest, StuckSections, in_header, in_section, section_on, StuckDocument, before_headers, behind_header, StuckValue}
+use Rattle.toml_span_read.specs.Read as read
+use Rattle.toml_span_read.specs.code.Stuck.{StuckKeyValue, line_key, line_equals, line_value, StuckKeyValues, in_line, no_newline, crossing, line_on, StuckLines, StuckHeader, header_key, header_close, header_rest, StuckSections, in_header, in_section, section_on, StuckDocument, before_headers, behind_header, StuckValue}
 use Rattle.toml_span_read.specs.code.Stuck.{StuckTail, NoClosing}
 use Rattle.toml_span_laws.proofs.EarlierLaws.{clear_crossing, crossing_one}
-use Rattle.toml_span_laws.proofs.KeyLaws.{not_here, gap_unique, dotted_unique, dotted_excluded}
+use Rattle.toml_span_laws.proofs.KeyLaws.{not_here, gap_unique, dotted_unique, dotted_excluded, dotted_one}
 use Rattle.toml_span_laws.proofs.ValueLaws.{value_unique, value_excluded}
-use Rattle.toml_span_laws.proofs.LineLaws.{skipped_unique, tail_unique, tail_or_stuck, equals_unique, equals_or_none, key_value_unique, key_value_excluded, opens_unique, shuts_unique, shuts_or_none, front_unique, header_key_excluded, header_unique, header_excluded, stuck_byte, section_unique, lines_unique, lines_excluded, first_unique}
-use Rattle.toml_span_laws.proofs.KeyFaults.{wanted_one, dotted_one, header_key_one}
+use Rattle.toml_span_laws.proofs.LineLaws.{skipped_unique, tail_unique, tail_or_stuck, equals_unique, equals_or_none, key_value_unique, key_value_excluded, opens_unique, shuts_unique, shuts_or_none, front_unique, header_unique, header_excluded, stuck_byte, section_unique, lines_unique, lines_excluded, first_unique}
+use Rattle.toml_span_laws.proofs.TokenFaults.{wanted_one}
 use Rattle.toml_span_laws.proofs.ValueFaults.{value_one}
 
 -- where a value is spelled, nothing is stuck
@@ -24,16 +25,16 @@ none v text limit d i j e h s = value_excluded text limit {d = d} {i = i} {e = e
 -- ---- assignments
 
 pub key_value_one : (text : List ℕ) (limit i : ℕ) (e f : Fault) → StuckKeyValue text limit i e → StuckKeyValue text limit i f → e ≡ f
-key_value_one text limit i e f (line_key i' e' r) (line_key j' f' z) = dotted_one text limit {i = i} {e = e} {f = f} r z
-key_value_one text limit i e f (line_key i' e' r) (line_equals j' a n ps f' key few run (ne, w)) = absurd (dotted_excluded text limit {i = i} {e = e} r ps a key few)
-key_value_one text limit i e f (line_key i' e' r) (line_value j' a b ps f' key few eq z) = absurd (dotted_excluded text limit {i = i} {e = e} r ps a key few)
-key_value_one text limit i e f (line_equals i' a n ps e' key few run (ne, w)) (line_key j' f' z) = absurd (dotted_excluded text limit {i = i} {e = f} z ps a key few)
+key_value_one text limit i e f (line_key i' e' r) (line_key j' f' z) = dotted_one false text limit i e f r z
+key_value_one text limit i e f (line_key i' e' r) (line_equals j' a n ps f' key few run (ne, w)) = absurd (dotted_excluded false text limit i e r ps a key few)
+key_value_one text limit i e f (line_key i' e' r) (line_value j' a b ps f' key few eq z) = absurd (dotted_excluded false text limit i e r ps a key few)
+key_value_one text limit i e f (line_equals i' a n ps e' key few run (ne, w)) (line_key j' f' z) = absurd (dotted_excluded false text limit i f z ps a key few)
 key_value_one text limit i e f (line_equals i' a n ps e' key few run (ne, w)) (line_equals j' b m qs f' key' few' walk (ne', v)) =
     let u = dotted_unique qs ps text i b a key' key in
     let y : m ≡ n = run_unique is_blank text a m n (rw u.1 at walk) run in wanted_one text n dues.Equals e f w (rw y at v)
 key_value_one text limit i e f (line_equals i' a n ps e' key few run (ne, w)) (line_value j' b c qs f' key' few' eq z) =
     let u = dotted_unique qs ps text i b a key' key in absurd (equals_or_none text a c n (rw u.1 at eq) run ne)
-key_value_one text limit i e f (line_value i' a b ps e' key few eq r) (line_key j' f' z) = absurd (dotted_excluded text limit {i = i} {e = f} z ps a key few)
+key_value_one text limit i e f (line_value i' a b ps e' key few eq r) (line_key j' f' z) = absurd (dotted_excluded false text limit i f z ps a key few)
 key_value_one text limit i e f (line_value i' a b ps e' key few eq r) (line_equals j' c n qs f' key' few' run (ne, w)) =
     let u = dotted_unique ps qs text i a c key key' in absurd (equals_or_none text c b n (rw u.1 at eq) run ne)
 key_value_one text limit i e f (line_value i' a b ps e' key few eq r) (line_value j' c d qs f' key' few' eq' z) =
@@ -89,16 +90,16 @@ no_shuts_one true text i e f (inr a) (inr b) = wanted_one text (i + 1) dues.Righ
 
 -- where the parts of a header are stuck, no parts of one stand
 front_or_key : (ps : List SimpleKey) (array other : Bool) (text : List ℕ) (limit i j m k : ℕ) (e : Fault) → HeaderFront ps array text limit i j → OpensHeader other text i m → MaximalRun is_blank text m k
-    → StuckHeaderKey text limit 0 k e → ⊥
+    → read.key true text limit [] k (Err e) → ⊥
 front_or_key ps array other text limit i j m k e h opens run r =
     let o = opens_unique array other text i h.inside m h.opens opens in
     let s : h.start ≡ k = run_unique is_blank text m h.start k (rw o.1 at h.before) run in
-    header_key_excluded text limit {n = 0} {i = k} {e = e} r ps h.end (rw s at h.key) (omega (arith, h.few))
+    dotted_excluded true text limit k e r ps h.end (rw s at h.key) h.few
 
 pub header_one : (text : List ℕ) (limit i : ℕ) (e f : Fault) → StuckHeader text limit i e → StuckHeader text limit i f → e ≡ f
 header_one text limit i e f (header_key i' m k array e' opens run r) (header_key j' n l other f' opens' walk z) =
     let o = opens_unique other array text i n m opens' opens in
-    let s : l ≡ k = run_unique is_blank text m l k (rw o.1 at walk) run in header_key_one text limit {n = 0} {i = k} {e = e} {f = f} r (rw s at z)
+    let s : l ≡ k = run_unique is_blank text m l k (rw o.1 at walk) run in dotted_one true text limit k e f r (rw s at z)
 header_one text limit i e f (header_key i' m k array e' opens run r) (header_close j' n other qs f' front z) = absurd (front_or_key qs other array text limit i n m k e front opens run r)
 header_one text limit i e f (header_key i' m k array e' opens run r) (header_rest j' n l other qs f' front shut z) = absurd (front_or_key qs other array text limit i n m k e front opens run r)
 header_one text limit i e f (header_close i' k array ps e' front r) (header_key j' m l other f' opens run z) = absurd (front_or_key ps array other text limit i k m l f front opens run z)

@@ -14,10 +14,10 @@ use Rattle.toml_span_read.specs.Data.{ParsedValue, KeyValue, Block}
 use Rattle.toml_span_read.specs.Gaps.{Skipped, Tail, NoTail, Equals}
 use Rattle.toml_span_read.specs.Grammar.{Spells, from_to, SpellsKeyValue, SpellsKeyValues, SpellsLines, OpensHeader, ClosesHeader, HeaderFront, SpellsHeader, last_end, SpellsSection, SpellsSections, SpellsDocument}
 use Rattle.toml_span_read.specs.Keys.{SimpleKey, opens_string, SpellsKey}
-use Rattle.toml_span_read.specs.code.Stuck.{StuckHeaderKey, header_part_here, header_on, StuckKeyValue, line_key, line_equals, line_value, StuckKeyValues, in_line, no_newline, crossing, line_on, StuckLines, StuckHeader, header_key, header_close, header_rest, StuckSections, in_header, in_section, section_on, StuckDocument, before_headers, behind_header, StuckValue}
+use Rattle.toml_span_read.specs.code.Stuck.{StuckKeyValue, line_key, line_equals, line_value, StuckKeyValues, in_line, no_newline, crossing, line_on, StuckLines, StuckHeader, header_key, header_close, header_rest, StuckSections, in_header, in_section, section_on, StuckDocument, before_headers, behind_header, StuckValue}
 use Rattle.toml_span_read.specs.code.Stuck.{StuckTail, NoClosing}
 use Rattle.toml_span_laws.proofs.EarlierLaws.{clear_crossing}
-use Rattle.toml_span_laws.proofs.KeyLaws.{clash, not_here, gap_unique, key_unique, key_or_none, dot_unique, dot_or_none, dotted_unique, dotted_byte, dotted_excluded}
+use Rattle.toml_span_laws.proofs.KeyLaws.{clash, not_here, gap_unique, dotted_unique, dotted_byte, dotted_excluded}
 use Rattle.toml_span_read.proofs.Places.{read_within}
 
 -- the laws of values
@@ -92,7 +92,7 @@ key_value_unique one x y text limit i j k a b =
     (key_value_same x y p.0 v.0 (a.extent ∙ (span_to i j k v.1 ∙ sym b.extent)), v.1)
 
 pub key_value_excluded : ValueOrFault → (text : List ℕ) (limit i : ℕ) (e : Fault) → StuckKeyValue text limit i e → (x : KeyValue) (j : ℕ) → SpellsKeyValue x text limit i j → ⊥
-key_value_excluded none text limit i e (line_key i' e' r) x j a = dotted_excluded text limit {i = i} {e = e} r x.parts a.key_end a.key a.few
+key_value_excluded none text limit i e (line_key i' e' r) x j a = dotted_excluded false text limit i e r x.parts a.key_end a.key a.few
 key_value_excluded none text limit i e (line_equals i' m n ps e' key few run (other, w)) x j a =
     let p = dotted_unique x.parts ps text i a.key_end m a.key key in equals_or_none text m a.from n (rw p.1 at a.sign) run other
 key_value_excluded none text limit i e (line_value i' m b ps e' key few sign r) x j a =
@@ -188,22 +188,11 @@ header_unique ps qs b c text limit i j k x y =
 header_byte : (ps : List SimpleKey) (b : Bool) (text : List ℕ) (limit i j : ℕ) → SpellsHeader ps b text limit i j → get_or text i 0 ≡ 91
 header_byte ps b text limit i j h = opens_byte b text i h.front.inside h.front.opens
 
-pub header_key_excluded : (text : List ℕ) (limit : ℕ) {n i : ℕ} {e : Fault} → StuckHeaderKey text limit n i e → (ss : List SimpleKey) (j : ℕ) → SpellsKey ss text i j → n + length ss ≤ limit → ⊥
-header_key_excluded text limit h [] j a l = a
-header_key_excluded text limit (header_part_here n i e (inl h)) (s ∷ ss) j (m, key, rest) l = key_or_none s text i m e key h
-header_key_excluded text limit (header_part_here n i e (inr (s, m, k, o, is))) (t ∷ ts) j a l = omega (arith, o, l)
-header_key_excluded text limit (header_on n i m p s e k few d h) (t ∷ []) j (m', key, rest) l =
-    let u = key_unique t s text i m' m key k in dot_or_none text m p d (rw u.1 at rest.1)
-header_key_excluded text limit (header_on n i m p s e k few d h) (t ∷ t' ∷ ts) j (m', key, (p', q, d', key', rest)) l =
-    let u = key_unique t s text i m' m key k in
-    let f : p' ≡ p = dot_unique text m p' p (rw u.1 at d') d in
-    header_key_excluded text limit {n = n + 1} {i = p} {e = e} h (t' ∷ ts) j (q, (rw f at key'), rest) (omega (arith, l))
-
 pub header_excluded : (text : List ℕ) (limit i : ℕ) (e : Fault) → StuckHeader text limit i e → (ps : List SimpleKey) (b : Bool) (j : ℕ) → SpellsHeader ps b text limit i j → ⊥
 header_excluded text limit i e (header_key i' m k array e' opens run r) ps b j h =
     let o = opens_unique b array text i h.front.inside m h.front.opens opens in
     let s : h.front.start ≡ k = run_unique is_blank text m h.front.start k (rw o.1 at h.front.before) run in
-    header_key_excluded text limit {n = 0} {i = k} {e = e} r ps h.front.end (rw s at h.front.key) (omega (arith, h.front.few))
+    dotted_excluded true text limit k e r ps h.front.end (rw s at h.front.key) h.front.few
 header_excluded text limit i e (header_close i' k array qs e' front r) ps b j h =
     let f = front_unique ps qs b array text limit i h.close k h.front front in
     shuts_or_none array text k h.end e (rw (f.1, f.2) at h.shuts) r

@@ -21,7 +21,8 @@ use Rattle.toml_span_read.specs.Dates.{is_date_byte, begins_date, continues_date
 use Rattle.toml_span_read.specs.Numbers.{IsNumber, is_digit_in, behind_sign, UnsignedDecimal, radix_at, SpecialFloat, goes_on}
 use Rattle.toml_span_read.specs.Grammar.{from_to, truth_text, SpellsScalar}
 use Rattle.toml_span_laws.proofs.NumberLaws.{number_unique, number_excluded}
-use Rattle.toml_span_laws.proofs.KeyLaws.{clash, token_or_token_fault}
+use Rattle.toml_span_laws.proofs.KeyLaws.{clash}
+use Rattle.toml_span_laws.proofs.TokenFaults.{token_or_token_fault}
 
 -- ---- first bytes
 

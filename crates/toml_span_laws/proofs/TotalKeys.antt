@@ -1,6 +1,5 @@
 -- At each place of a text a key stands, or one is stuck.
-use Rattle.std.proofs.Common.{◌≡◌, ℕ, zero, suc, ◌+◌, ◌<◌, ◌≤◌, ◌⊎◌, Bool, true, false, List, [], ◌∷◌, length, get_or, arith, inl, inr, refl, ◌∙◌, Option, Some, None}
-use Rattle.std.specs.Prelude.{slice_range}
+use Rattle.std.proofs.Common.{◌≡◌, ℕ, zero, suc, ◌+◌, ◌<◌, ◌≤◌, ◌⊎◌, Bool, true, false, List, [], ◌∷◌, ◌++◌, length, get_or, arith, inl, inr, refl, ◌∙◌, Option, Some, None, Result, Ok, Err}
 use Rattle.std.specs.Str.{IsUtf8, IsCharBoundary}
 use Rattle.std.proofs.lemmas.Bool.{cases_lt, false≢true}
 use Rattle.std.proofs.lemmas.Bool.Decides.{nat_tests}
@@ -9,7 +8,7 @@ use Rattle.toml_span_lex.specs.declared.span.Span.{Span}
 use Rattle.toml_span_lex.specs.Bytes.{is_keylike}
 use Rattle.toml_span_lex.specs.Laws.{SomethingStands}
 use Rattle.toml_span_lex.specs.Strings.{IsString}
-use Rattle.toml_span_lex.specs.Tokens.{Lexeme, string, Stands}
+use Rattle.toml_span_lex.specs.Tokens.{Lexeme, keylike, string, Stands, RunAt}
 use Rattle.toml_span_lex.proofs.NoFault.{quote_token}
 use Rattle.toml_span_lex.proofs.OneToken.{token_tag, same_token_tag}
 use Rattle.toml_span_lex.proofs.PieceLemmas.{Cut-forward, ends}
@@ -19,14 +18,16 @@ use Rattle.toml_span_read.specs.declared.fault.Due.TheVariants as dues
 use Rattle.toml_span_read.specs.declared.fault.Found.TheVariants as founds
 use Rattle.toml_span_read.specs.declared.fault.Fault.{Fault}
 use Rattle.toml_span_read.specs.declared.fault.FaultKind.TheVariants as kinds
-use Rattle.toml_span_read.specs.Faults.{fault_at, token_fault, NoSimpleKey, found_of, IsTokenFault, IsWanted, IsNoValue, wanted_fault}
+use Rattle.toml_span_read.specs.Faults.{fault_at, token_fault, found_of, IsTokenFault, IsWanted, IsNoValue, wanted_fault}
 use Rattle.toml_span_read.specs.code.Gaps.{Further, DotGives}
 use Rattle.toml_span_read.specs.Gaps.{Dot, NoDot}
 use Rattle.toml_span_laws.specs.code.Judged.{Judged}
-use Rattle.toml_span_read.specs.Keys.{SimpleKey, SpellsSimpleKey, opens_string, Onward, SpellsKey}
-use Rattle.toml_span_read.specs.code.Stuck.{StuckOnward, StuckKey, StuckHeaderKey, part_here, dotted_on, no_first, onward, header_part_here, header_on}
+use Rattle.toml_span_read.specs.Keys.{SimpleKey, opens_string, SpellsKey}
+use Rattle.toml_span_read.specs.Read as read
+use Rattle.toml_span_read.specs.Read.{Reading, after, Standing, token, text_end, no_token, StandsAt, key_of, past, Parts, onward}
+use Rattle.toml_span_read.proofs.KeyLemmas.{key_sound}
 use Rattle.toml_span_read.proofs.NumberLemmas.{bool_cases}
-use Rattle.toml_span_read.proofs.Places.{run_some}
+use Rattle.toml_span_lex.proofs.Unique.{run_unique}
 
 -- every place between two characters is judged
 abbrev pub AllJudged : List ℕ → Type 0
@@ -85,102 +86,62 @@ string_stands text i u o (inr (inl (j, s, l, h))) =
     inl (by_tag text i j s l u (same_token_tag text i j s l h ∙ quote_token (get_or text i 0) (is_quote (get_or text i 0) o)) h)
 string_stands text i u o (inr (inr (j, e, h))) = inr (token_fault e, (j, e, h, refl))
 
+-- ---- reading
+
+-- where what is read ends
+abbrev EndsOn : {A : Type 0} → List ℕ → ℕ → Result (A × ℕ) Fault → Type 0
+EndsOn text i (Ok f) = Further text i f.1
+EndsOn text i (Err e) = Unit {0}
+
+-- this gives something at i
+abbrev pub Sure : {A : Type 0} → List ℕ → ℕ → Reading (A × ℕ) → Type 0
+Sure {A = A} text i m = (r : Result (A × ℕ) Fault) × m r × EndsOn text i r
+
+sure_after : {A B : Type 0} (text : List ℕ) (i : ℕ) (m : Reading (A × ℕ)) (f : A × ℕ → Reading (B × ℕ)) → Sure text i m → ((a : A × ℕ) → Further text i a.1 → Sure text i (f a)) → Sure text i (after m f)
+sure_after text i m f (Ok a, h, on) g = let r = g a on in (r.0, inl (a, h, r.1), r.2)
+sure_after text i m f (Err e, h, on) g = (Err e, inr (e, h, refl), tt)
+
+ends_on : {A : Type 0} (text : List ℕ) (i p : ℕ) (r : Result (A × ℕ) Fault) → i ≤ p → EndsOn text p r → EndsOn text i r
+ends_on text i p (Ok f) l h = further_on text i p f.1 l h
+ends_on text i p (Err e) l h = tt
+
+standing : (text : List ℕ) (i : ℕ) → SomethingStands text i → (t : Standing) × StandsAt text i t
+standing text i (inl e) = (text_end, e)
+standing text i (inr (inl (j, s, l, h))) = (token s l j, h)
+standing text i (inr (inr (j, e, h))) = (no_token e, (j, h))
+
 -- ---- keys
 
-abbrev pub KeyAt : List ℕ → ℕ → Type 0
-KeyAt text i = ((j : ℕ) × (p : SimpleKey) × SpellsSimpleKey p text i j × Further text i j) ⊎ ((fault : Fault) × NoSimpleKey text i fault)
+keylike_further : (text : List ℕ) (i j : ℕ) (name : List ℕ) → Judged text i → RunAt is_keylike text i j name → Further text i j
+keylike_further text i j name g h = let e : j ≡ g.run.0 = run_unique is_keylike text i j g.run.0 h.1 g.run.1 in record { on = h.0; boundary = rw e g.run.2 }
 
-quoted_key : (text : List ℕ) (i j : ℕ) (s : Span) (src v : List ℕ) (m : Bool) → IsString text i j s src v m → Further text i j → KeyAt text i
-quoted_key text i j s src v true h f =
-    inr (record { kind = kinds.MultilineStringKey; span = record { start = i; end = i + length v } }, inl (record { end = j; span = s; source = src; value = v; here = h; fault_is = refl }))
-quoted_key text i j s src v false h f = inl (j, record { name = v; span = s }, inr (src, h), f)
+key_ends : (text : List ℕ) (i : ℕ) (t : Standing) → IsUtf8 text → Judged text i → StandsAt text i t → EndsOn text i (key_of i t)
+key_ends text i (token span (keylike name) j) u g h = keylike_further text i j name g h.0
+key_ends text i (token span (string source name false) j) u g h = string_further text i j span source name false u h
+key_ends text i t u g h = tt
 
-pub key_stands : (text : List ℕ) (i : ℕ) → IsUtf8 text → Judged text i → KeyAt text i
-key_stands text i u g =
-    elim (bool_cases (is_keylike (get_or text i 0))) [
-      | inl k ↦
-          let j = g.run.0 in
-          let l : i < j = run_some is_keylike text i j refl k g.run.1 in
-          inl (j, record { name = slice_range text i j; span = record { start = i; end = j } }, inl ((l, g.run.1, refl), refl), record { on = l; boundary = g.run.2 })
-      | inr k ↦
-          elim (bool_cases (opens_string (get_or text i 0))) [
-            | inl o ↦ elim (string_stands text i u o g.stands) [ inl s ↦ quoted_key text i s.end s.span s.source s.value s.multi s.here s.further | inr x ↦ inr (x.0, inr (inl (o, x.1))) ]
-            | inr o ↦ let w = wanted_stands text i dues.TableKey g.stands in inr (w.0, inr (inr ((rw (k, o) refl), w.1)))
-          ]
-    ]
+key_stands : (text : List ℕ) (i : ℕ) → IsUtf8 text → Judged text i → Sure text i (read.simple_key text i)
+key_stands text i u g = let (t, h) = standing text i g.stands in (key_of i t, (t, h, refl), key_ends text i t u g h)
 
--- ---- dotted keys
+onward_stands : (text : List ℕ) (ps : List SimpleKey) (i m : ℕ) (next : ℕ → Reading Parts) → Further text i m → (found : Option ℕ) × DotGives text m found → ((p : ℕ) → IsCharBoundary text p → Sure text p (next p)) → Sure text i (onward text ps m next)
+onward_stands text ps i m next f (None, none) sure = (Ok (ps, m), inl (none, refl), f)
+onward_stands text ps i m next f (Some p, d) sure = let q = sure p d.1.boundary in (q.0, inr (p, d.0, q.1), ends_on text i p q.0 (omega (arith, f.on, d.1.on)) q.2)
 
-dot_sum : (text : List ℕ) (i : ℕ) → (found : Option ℕ) × DotGives text i found → NoDot text i ⊎ ((j : ℕ) × Dot text i j × Further text i j)
-dot_sum text i (None, h) = inl h
-dot_sum text i (Some j, h) = inr (j, h.0, h.1)
+pub parts_stand : (header : Bool) (text : List ℕ) (left : ℕ) (ps : List SimpleKey) (i : ℕ) → IsUtf8 text → AllJudged text → IsCharBoundary text i → Sure text i (read.key header text left ps i)
+unfolding read.key
+parts_stand header text zero ps i u all b = sure_after text i (read.simple_key text i) _ (key_stands text i u (all i b)) (λ f on. (Err (past header i f.0), refl, tt))
+parts_stand header text (suc n) ps i u all b =
+    sure_after text i (read.simple_key text i) _ (key_stands text i u (all i b))
+    (λ f on. onward_stands text (ps ++ (f.0 ∷ [])) i f.1 (read.key header text n (ps ++ (f.0 ∷ []))) on (all f.1 on.boundary).dot (λ p c. parts_stand header text n (ps ++ (f.0 ∷ [])) p u all c))
 
-abbrev OnwardAt : List ℕ → ℕ → ℕ → ℕ → Type 0
-OnwardAt text limit n m =
-    ((j : ℕ) × (ss : List SimpleKey) × Onward ss text m j × (n + length ss ≤ limit) × (m ≤ j) × IsCharBoundary text j) ⊎ ((fault : Fault) × StuckOnward text limit n m fault)
+-- a key within the limit, with its end further on, or the fault that is told
+abbrev DottedAt : Bool → List ℕ → ℕ → ℕ → Type 0
+DottedAt header text limit i =
+    ((j : ℕ) × (ss : List SimpleKey) × SpellsKey ss text i j × (length ss ≤ limit) × Further text i j) ⊎ ((fault : Fault) × read.key header text limit [] i (Err fault))
 
-onward_stands : (fuel : ℕ) (text : List ℕ) (limit n m : ℕ) → IsUtf8 text → AllJudged text → length text < m + fuel → n ≤ limit → IsCharBoundary text m → OnwardAt text limit n m
-onward_stands zero text limit n m u all l few b = absurd (omega (arith, l, b.0))
-onward_stands (suc fuel) text limit n m u all l few b =
-    elim (dot_sum text m (all m b).dot) [
-      | inl none ↦ inl (m, [], (refl, none), omega (arith, few), omega arith, b)
-      | inr d ↦
-          elim (key_stands text d.0 u (all d.0 d.2.boundary)) [
-            | inr x ↦ inr (x.0, part_here n m d.0 x.0 d.1 (inl x.1))
-            | inl k ↦
-                elim (cases_lt n limit) [
-                  | inr past ↦ inr (fault_at kinds.ExceededDepthLimit d.0, part_here n m d.0 (fault_at kinds.ExceededDepthLimit d.0) d.1 (inr (k.1, k.0, k.2, past, refl)))
-                  | inl under ↦
-                      elim (onward_stands fuel text limit (n + 1) k.0 u all (omega (arith, l, d.2.on, k.3.on)) (omega (arith, under)) k.3.boundary) [
-                        | inl o ↦ inl (o.0, k.1 ∷ o.1, (d.0, k.0, d.1, k.2, o.2), omega (arith, o.3), omega (arith, d.2.on, k.3.on, o.4), o.5)
-                        | inr x ↦ inr (x.0, dotted_on n m d.0 k.0 k.1 x.0 d.1 k.2 under x.1)
-                      ]
-                ]
-          ]
-    ]
+read_stands : (header : Bool) (text : List ℕ) (limit i : ℕ) → Sure text i (read.key header text limit [] i) → DottedAt header text limit i
+read_stands header text limit i (Ok (ss, j), h, f) = let k = key_sound header text limit i j ss h in inl (j, ss, k.0, k.1, f)
+read_stands header text limit i (Err e, h, f) = inr (e, h)
 
--- a dotted key within the limit, with its end further on, or where one is stuck
-abbrev pub DottedAt : List ℕ → ℕ → ℕ → Type 0
-DottedAt text limit i =
-    ((j : ℕ) × (ss : List SimpleKey) × SpellsKey ss text i j × (length ss ≤ limit) × Further text i j) ⊎ ((fault : Fault) × StuckKey text limit i fault)
-
-pub dotted_stands : (text : List ℕ) (limit i : ℕ) → IsUtf8 text → AllJudged text → 1 ≤ limit → IsCharBoundary text i → DottedAt text limit i
-dotted_stands text limit i u all some b =
-    elim (key_stands text i u (all i b)) [
-      | inr x ↦ inr (x.0, no_first i x.0 (inl x.1))
-      | inl k ↦
-          elim (onward_stands (length text + 1) text limit 1 k.0 u all (omega arith) some k.3.boundary) [
-            | inl o ↦ inl (o.0, k.1 ∷ o.1, (k.0, k.2, o.2), omega (arith, o.3), record { on = omega (arith, k.3.on, o.4); boundary = o.5 })
-            | inr x ↦ inr (x.0, onward i k.0 k.1 x.0 k.2 some x.1)
-          ]
-    ]
-
--- ---- headers
-
-abbrev HeaderKeyAt : List ℕ → ℕ → ℕ → ℕ → Type 0
-HeaderKeyAt text limit n i =
-    ((j : ℕ) × (ss : List SimpleKey) × SpellsKey ss text i j × (n + length ss ≤ limit) × Further text i j) ⊎ ((fault : Fault) × StuckHeaderKey text limit n i fault)
-
-one_more : (s : SimpleKey) (ss : List SimpleKey) (text : List ℕ) (i m p j : ℕ) → SpellsSimpleKey s text i m → Dot text m p → SpellsKey ss text p j → SpellsKey (s ∷ ss) text i j
-one_more s [] text i m p j k d h = absurd h
-one_more s (t ∷ ts) text i m p j k d (q, l, h) = (m, k, (p, q, d, l, h))
-
-pub header_key_stands : (fuel : ℕ) (text : List ℕ) (limit n i : ℕ) → IsUtf8 text → AllJudged text → length text < i + fuel → IsCharBoundary text i → HeaderKeyAt text limit n i
-header_key_stands zero text limit n i u all l b = absurd (omega (arith, l, b.0))
-header_key_stands (suc fuel) text limit n i u all l b =
-    elim (key_stands text i u (all i b)) [
-      | inr x ↦ inr (x.0, header_part_here n i x.0 (inl x.1))
-      | inl k ↦
-          elim (cases_lt n limit) [
-            | inr past ↦ inr (record { kind = kinds.ExceededDepthLimit; span = k.1.span }, header_part_here n i (record { kind = kinds.ExceededDepthLimit; span = k.1.span }) (inr (k.1, k.0, k.2, past, refl)))
-            | inl under ↦
-                elim (dot_sum text k.0 (all k.0 k.3.boundary).dot) [
-                  | inl none ↦ inl (k.0, k.1 ∷ [], (k.0, k.2, (refl, none)), omega (arith, under), k.3)
-                  | inr d ↦
-                      elim (header_key_stands fuel text limit (n + 1) d.0 u all (omega (arith, l, k.3.on, d.2.on)) d.2.boundary) [
-                        | inl o ↦ inl (o.0, k.1 ∷ o.1, one_more k.1 o.1 text i k.0 d.0 o.0 k.2 d.1 o.2, omega (arith, o.3), further_on text i d.0 o.0 (omega (arith, k.3.on, d.2.on)) o.4)
-                        | inr x ↦ inr (x.0, header_on n i k.0 d.0 k.1 x.0 k.2 under d.1 x.1)
-                      ]
-                ]
-          ]
-    ]
+pub dotted_stands : (header : Bool) (text : List ℕ) (limit i : ℕ) → IsUtf8 text → AllJudged text → IsCharBoundary text i → DottedAt header text limit i
+dotted_stands header text limit i u all b = read_stands header text limit i (parts_stand header text limit [] i u all b)

@@ -17,7 +17,7 @@ use Rattle.toml_span_read.specs.code.Stuck.{StuckTail, NoClosing}
 use Rattle.toml_span_laws.proofs.EarlierLaws.{every_key}
 use Rattle.toml_span_read.proofs.NumberLemmas.{bool_cases, byte_is}
 use Rattle.toml_span_read.proofs.Places.{behind_byte}
-use Rattle.toml_span_laws.proofs.TotalKeys.{AllJudged, further_on, wanted_stands, dotted_stands, header_key_stands}
+use Rattle.toml_span_laws.proofs.TotalKeys.{AllJudged, further_on, wanted_stands, dotted_stands}
 use Rattle.toml_span_laws.proofs.TotalValues.{value_or_stuck}
 
 equals_sum : (text : List ℕ) (i : ℕ) → (found : Result ℕ ℕ) × EqualsGives text i found
@@ -46,7 +46,7 @@ KeyValueAt text limit i = ((j : ℕ) × (e : KeyValue) × SpellsKeyValue e text 
 
 key_value_stands : (text : List ℕ) (limit i : ℕ) → IsUtf8 text → AllJudged text → 1 ≤ limit → IsCharBoundary text i → KeyValueAt text limit i
 key_value_stands text limit i u all some b =
-    elim (dotted_stands text limit i u all some b) [
+    elim (dotted_stands false text limit i u all b) [
       | inr x ↦ inr (x.0, line_key i x.0 x.1)
       | inl k ↦
           elim (equals_sum text k.0 (all k.0 k.4.boundary).equals) [
@@ -149,12 +149,12 @@ HeaderAt text limit i =
 header_inside : (text : List ℕ) (limit i m : ℕ) (many : Bool) → IsUtf8 text → AllJudged text → OpensHeader many text i m → i < m → IsCharBoundary text m → HeaderAt text limit i
 header_inside text limit i m many u all opens past b =
     let s = (all m b).blank in
-    elim (header_key_stands (length text + 1) text limit 0 s.0 u all (omega arith) s.2) [
+    elim (dotted_stands true text limit s.0 u all s.2) [
       | inr x ↦ inr (x.0, header_key i m s.0 many x.0 opens s.1 x.1)
       | inl k ↦
           let c = (all k.0 k.4.boundary).blank in
           let front : HeaderFront k.1 many text limit i c.0 =
-          record { inside = m; start = s.0; end = k.0; opens = opens; before = s.1; key = k.2; few = omega (arith, k.3); behind = c.1 } in
+          record { inside = m; start = s.0; end = k.0; opens = opens; before = s.1; key = k.2; few = k.3; behind = c.1 } in
           elim (shuts_stand many text c.0 u all c.2) [
             | inr x ↦ inr (x.0, header_close i c.0 many k.1 x.0 front x.1)
             | inl shut ↦

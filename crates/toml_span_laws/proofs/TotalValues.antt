@@ -274,7 +274,7 @@ mutual
   pair_stands : (fuel : ℕ) (text : List ℕ) (limit d i : ℕ) → IsUtf8 text → AllJudged text → 1 ≤ limit → 3 * length text + 2 ≤ fuel + 3 * i → IsCharBoundary text i → PairAt text limit d i
   pair_stands zero text limit d i u all some l b = absurd (omega (arith, l, b.0))
   pair_stands (suc fuel) text limit d i u all some l b =
-      elim (dotted_stands text limit i u all some b) [
+      elim (dotted_stands false text limit i u all b) [
         | inr x ↦ inr (x.0, in_key d i x.0 x.1)
         | inl k ↦
             elim (sign_sum 61 text k.0 (all k.0 k.4.boundary).sign) [

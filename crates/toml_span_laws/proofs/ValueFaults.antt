@@ -14,11 +14,11 @@ use Rattle.toml_span_read.specs.Earlier.{Clear, Crossing}
 use Rattle.toml_span_read.specs.Keys.{opens_string}
 use Rattle.toml_span_read.specs.code.Stuck.{StuckValue, value_here, in_array, in_inline, StuckItems, in_item, behind_item, item_on, StuckPairs, in_pair, crosses, behind_pair, pair_on, StuckPair, in_key, no_equals, in_value}
 use Rattle.toml_span_laws.proofs.EarlierLaws.{clear_crossing, crossing_one}
-use Rattle.toml_span_laws.proofs.KeyLaws.{clash, gap_unique, sign_unique, sign_or_none, comma_or_neither, dotted_unique, dotted_excluded, token_or_token_fault}
+use Rattle.toml_span_laws.proofs.KeyLaws.{clash, gap_unique, sign_unique, sign_or_none, comma_or_neither, dotted_unique, dotted_excluded, dotted_one}
 use Rattle.toml_span_laws.proofs.ScalarLaws.{date_byte, decimal_number, same_words, candidate_unique, bare_byte, string_byte, string_clash}
 use Rattle.toml_span_laws.proofs.NumberLaws.{number_fault}
 use Rattle.toml_span_laws.proofs.ValueLaws.{value_unique, pair_unique, front_unique, value_excluded, pair_excluded}
-use Rattle.toml_span_laws.proofs.KeyFaults.{token_fault_one, wanted_one, no_value_one, dotted_one}
+use Rattle.toml_span_laws.proofs.TokenFaults.{token_or_token_fault, token_fault_one, wanted_one, no_value_one}
 
 -- ---- bare values
 
@@ -184,16 +184,16 @@ mutual
       pairs_one text limit {es = es ++ (p ∷ [])} {d = d} {i = k} {e = e} {f = f} r (subst (λ (x : KeyValue). StuckPairs text limit (es ++ (x ∷ [])) d k f) u.0 (rw y at z))
 
   pair_one : (text : List ℕ) (limit : ℕ) {d i : ℕ} {e f : Fault} → StuckPair text limit d i e → StuckPair text limit d i f → e ≡ f
-  pair_one text limit (in_key d i e r) (in_key d' i' f z) = dotted_one text limit {i = i} {e = e} {f = f} r z
-  pair_one text limit (in_key d i e r) (no_equals d' i' a n ss f key few g (ne, w)) = absurd (dotted_excluded text limit r ss a key few)
-  pair_one text limit (in_key d i e r) (in_value d' i' a b ss f key few eq z) = absurd (dotted_excluded text limit r ss a key few)
-  pair_one text limit (no_equals d i a n ss e key few g (ne, w)) (in_key d' i' f z) = absurd (dotted_excluded text limit z ss a key few)
+  pair_one text limit (in_key d i e r) (in_key d' i' f z) = dotted_one false text limit i e f r z
+  pair_one text limit (in_key d i e r) (no_equals d' i' a n ss f key few g (ne, w)) = absurd (dotted_excluded false text limit i e r ss a key few)
+  pair_one text limit (in_key d i e r) (in_value d' i' a b ss f key few eq z) = absurd (dotted_excluded false text limit i e r ss a key few)
+  pair_one text limit (no_equals d i a n ss e key few g (ne, w)) (in_key d' i' f z) = absurd (dotted_excluded false text limit i f z ss a key few)
   pair_one text limit (no_equals d i a n ss e key few g (ne, w)) (no_equals d' i' b m ts f key' few' h (ne', v)) =
       let u = dotted_unique ts ss text i b a key' key in
       let y : m ≡ n = gap_unique text a m n (rw u.1 at h) g in wanted_one text n dues.Equals e f w (rw y at v)
   pair_one text limit (no_equals d i a n ss e key few g (ne, w)) (in_value d' i' b c ts f key' few' eq z) =
       let u = dotted_unique ts ss text i b a key' key in absurd (sign_or_none 61 text a c n (rw u.1 at eq) g ne)
-  pair_one text limit (in_value d i a b ss e key few eq r) (in_key d' i' f z) = absurd (dotted_excluded text limit z ss a key few)
+  pair_one text limit (in_value d i a b ss e key few eq r) (in_key d' i' f z) = absurd (dotted_excluded false text limit i f z ss a key few)
   pair_one text limit (in_value d i a b ss e key few eq r) (no_equals d' i' c n ts f key' few' g (ne, w)) =
       let u = dotted_unique ss ts text i a c key key' in absurd (sign_or_none 61 text c b n (rw u.1 at eq) g ne)
   pair_one text limit (in_value d i a b ss e key few eq r) (in_value d' i' c h ts f key' few' eq' z) =

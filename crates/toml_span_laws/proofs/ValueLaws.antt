@@ -212,7 +212,7 @@ mutual
       pairs_excluded text limit {es = es ++ (p ∷ [])} {d = d} {i = n} {e = e} r ps j (subst (λ (q : KeyValue). SpellsPairs ps (es ++ (q ∷ [])) text limit d n j) (sym u.0) (rw f at z))
 
   pub pair_excluded : (text : List ℕ) (limit : ℕ) {d i : ℕ} {e : Fault} → StuckPair text limit d i e → (p : KeyValue) (j : ℕ) → SpellsPair p text limit d i j → ⊥
-  pair_excluded text limit (in_key d i e r) p j (a, b, key, few, eq, val, ext) = dotted_excluded text limit r p.parts a key few
+  pair_excluded text limit (in_key d i e r) p j (a, b, key, few, eq, val, ext) = dotted_excluded false text limit i e r p.parts a key few
   pair_excluded text limit (no_equals d i a n ts e key few g (ne, w)) p j (a', b, key', few', eq, val, ext) =
       let u = dotted_unique p.parts ts text i a' a key' key in sign_or_none 61 text a b n (rw u.1 at eq) g ne
   pair_excluded text limit (in_value d i a b ts e key few eq r) p j (a', b', key', few', eq', val, ext) =

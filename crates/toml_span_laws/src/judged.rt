@@ -1,7 +1,7 @@
 //! Laws of what stands at a place: a form, or what is wrong where it is due.
 //!
 //! The bodies judge single forms: they are the proof.
-ghost use Rattle.std.specs.Prelude.{◌≡◌, ◌≤◌, ◌<◌, ◌⊎◌, ◌||◌, ◌==◌, ℕ, true, List, length, slice_index, Result};
+ghost use Rattle.std.specs.Prelude.{◌≡◌, ◌≤◌, ◌<◌, ◌⊎◌, ◌||◌, ◌==◌, ℕ, Bool, true, List, [], length, slice_index, Result};
 ghost use Rattle.std.specs.Str.{IsCharBoundary};
 ghost use Rattle.toml_span_lex.specs.Bytes.{is_keylike};
 ghost use Rattle.toml_span_tree.specs.declared.date.DateText.{DateText};
@@ -14,8 +14,8 @@ ghost use Rattle.toml_span_laws.specs.code.Judged.{NumberStands, EndsFurther, Ju
 ghost use Rattle.toml_span_read.specs.Data.{ParsedValue, Block};
 ghost use Rattle.toml_span_read.specs.Due.{IsDue};
 ghost use Rattle.toml_span_read.specs.Grammar.{Spells, SpellsDocument};
-ghost use Rattle.toml_span_read.specs.code.Stuck.{StuckValue, StuckKey};
-ghost use Rattle.toml_span_read.specs.Keys.{SimpleKey, SpellsKey};
+ghost use Rattle.toml_span_read.specs.Read as read;
+ghost use Rattle.toml_span_read.specs.code.Stuck.{StuckValue};
 
 use toml_span_lex::bytes::{blanks_end, keylike_end};
 use toml_span_lex::laws::something_stands;
@@ -90,11 +90,10 @@ pub fn places_are_judged(text: &str)
     place_is_judged(text, end);
 }
 
-/// At each place of a text a dotted key within the limit stands, or one is stuck there.
-pub fn key_or_stuck(text: &str)
-    ensures { (limit i : ℕ) → 1 ≤ limit → IsCharBoundary text.now i
-        → ((j : ℕ) × (parts : List SimpleKey) × SpellsKey parts text.now i j × (length parts ≤ limit))
-        ⊎ ((fault : Fault) × StuckKey text.now limit i fault) }
+/// At each place of a text a key is read, or a fault told.
+pub fn key_or_fault(text: &str)
+    ensures { (header : Bool) (limit i : ℕ) → IsCharBoundary text.now i
+        → (found : Result read.Parts Fault) × read.key header text.now limit [] i found }
 {
     places_are_judged(text);
 }

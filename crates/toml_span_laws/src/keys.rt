@@ -1,36 +1,27 @@
 //! Laws of keys.
-ghost use Rattle.std.specs.Prelude.{◌≡◌, ◌≤◌, ℕ, List, length};
+ghost use Rattle.std.specs.Prelude.{◌≡◌, ◌≤◌, ◌↔◌, ℕ, Bool, List, [], length, Result, Ok};
 ghost use Rattle.toml_span_read.specs.declared.fault.Fault.{Fault};
 ghost use Rattle.toml_span_read.specs.Keys.{SimpleKey, SpellsSimpleKey, SpellsKey};
-ghost use Rattle.toml_span_read.specs.Faults.{NoSimpleKey};
-ghost use Rattle.toml_span_read.specs.code.Stuck.{StuckKey, StuckHeaderKey};
+ghost use Rattle.toml_span_read.specs.Read as read;
 
-/// At most one key stands at a place.
+/// A key is read, as it is, exactly where one of at most so many parts stands.
+pub fn keys_are_read()
+    ensures single { (text : List ℕ) (i j : ℕ) (p : SimpleKey)
+        → read.simple_key text i (Ok (p, j)) ↔ SpellsSimpleKey p text i j }
+    ensures dotted { (header : Bool) (text : List ℕ) (limit i j : ℕ) (ps : List SimpleKey)
+        → read.key header text limit [] i (Ok (ps, j)) ↔ (SpellsKey ps text i j × (length ps ≤ limit)) }
+{}
+
+/// Reading a key gives one thing, a key or a fault.
 pub fn one_key()
-    ensures { (text : List ℕ) (i j k : ℕ) (p q : SimpleKey) → SpellsSimpleKey p text i j → SpellsSimpleKey q text i k
-        → (p ≡ q) × (j ≡ k) }
+    ensures single { (text : List ℕ) (i : ℕ) (r s : Result (SimpleKey × ℕ) Fault) → read.simple_key text i r
+        → read.simple_key text i s → r ≡ s }
+    ensures dotted { (header : Bool) (text : List ℕ) (limit i : ℕ) (r s : Result read.Parts Fault)
+        → read.key header text limit [] i r → read.key header text limit [] i s → r ≡ s }
 {}
 
 /// At most one dotted key stands at a place.
 pub fn one_dotted_key()
     ensures { (text : List ℕ) (i j k : ℕ) (ps qs : List SimpleKey) → SpellsKey ps text i j → SpellsKey qs text i k
         → (ps ≡ qs) × (j ≡ k) }
-{}
-
-/// Where a dotted key within the limit stands, none gets stuck.
-pub fn dotted_key_or_fault()
-    ensures { (text : List ℕ) (limit i j : ℕ) (ps : List SimpleKey) (fault : Fault) → SpellsKey ps text i j
-        → length ps ≤ limit
-        → StuckKey text limit i fault → ⊥ }
-{}
-
-/// Where a key is due and none stands, one fault does: of a single key, of a dotted one, and of the parts of a
-/// header behind some of them.
-pub fn one_key_fault()
-    ensures single { (text : List ℕ) (i : ℕ) (fault other : Fault) → NoSimpleKey text i fault → NoSimpleKey text i other
-        → fault ≡ other }
-    ensures dotted { (text : List ℕ) (limit i : ℕ) (fault other : Fault) → StuckKey text limit i fault
-        → StuckKey text limit i other → fault ≡ other }
-    ensures header { (text : List ℕ) (limit n i : ℕ) (fault other : Fault) → StuckHeaderKey text limit n i fault
-        → StuckHeaderKey text limit n i other → fault ≡ other }
 {}

@@ -2,28 +2,11 @@
 use Rattle.std.proofs.Common.{◌≡◌, ℕ, ◌+◌, ◌≤◌, Bool, true, false, List, [], ◌∷◌, ◌++◌, length, arith, inl, inr}
 use Rattle.toml_span_read.specs.declared.fault.Fault.{Fault}
 use Rattle.toml_span_read.specs.Data.{KeyValue}
-use Rattle.toml_span_read.specs.Due.{Frame, in_section, in_brackets, in_braces, under_key, depth, a_line, a_part, an_equals, a_value, an_element, a_comma, a_verdict, a_header_part, a_closing, a_tail, a_line_end, DueAt, first_line, line_part, line_equals, line_value, line_tail, tail_rest, line_verdict, next_line, part_next, opens_header, header_part_next, header_closes, closes_again, header_tail, next_section, opens_array, item_value, behind_item, behind_comma, opens_table, pair_part, pair_equals, pair_value, pair_verdict, behind_pair, IsDue}
-use Rattle.toml_span_read.specs.Gaps.{Dot}
-use Rattle.toml_span_read.specs.code.Stuck.{StuckOnward, part_here, dotted_on, StuckKey, no_first, onward, StuckHeaderKey, header_part_here, header_on, StuckKeyValue, StuckKeyValues, StuckHeader, StuckSections, StuckDocument, StuckValue, StuckItems, StuckPairs, StuckPair}
+use Rattle.toml_span_read.specs.Due.{Frame, in_section, in_brackets, in_braces, under_key, depth, a_line, a_key, an_equals, a_value, an_element, a_comma, a_verdict, a_header_key, a_closing, a_tail, a_line_end, DueAt, first_line, line_key, line_equals, line_value, line_tail, tail_rest, line_verdict, next_line, opens_header, header_closes, closes_again, header_tail, next_section, opens_array, item_value, behind_item, behind_comma, opens_table, pair_key, pair_equals, pair_value, pair_verdict, behind_pair, IsDue}
+use Rattle.toml_span_read.specs.code.Stuck.{StuckKeyValue, StuckKeyValues, StuckHeader, StuckSections, StuckDocument, StuckValue, StuckItems, StuckPairs, StuckPair}
 use Rattle.toml_span_read.specs.code.Stuck as l
 use Rattle.toml_span_read.specs.Grammar.{ClosesHeader, SpellsKeyValues}
 use Rattle.toml_span_read.specs.code.Stuck.{NoClosing, StuckTail}
-
--- ---- keys
-
-onward_due : (text : List ℕ) (limit : ℕ) {n m : ℕ} {e : Fault} → StuckOnward text limit n m e → (fs : List Frame) → ((p : ℕ) → Dot text m p → DueAt text limit (a_part n) fs p) → IsDue text limit e
-onward_due text limit (part_here n m p e dot h) fs w = (a_part n, fs, p, w p dot, h)
-onward_due text limit (dotted_on n m p q part e dot key few r) fs w =
-    onward_due text limit {n = n + 1} {m = q} {e = e} r fs (λ x d. part_next fs n p q x part (w p dot) key few d)
-
-dotted_due : (text : List ℕ) (limit : ℕ) {i : ℕ} {e : Fault} → StuckKey text limit i e → (fs : List Frame) → DueAt text limit (a_part 0) fs i → IsDue text limit e
-dotted_due text limit (no_first i e h) fs w = (a_part 0, fs, i, w, h)
-dotted_due text limit (onward i m part e key few r) fs w = onward_due text limit {n = 1} {m = m} {e = e} r fs (λ p d. part_next fs 0 i m p part w key few d)
-
-header_key_due : (text : List ℕ) (limit : ℕ) {n i : ℕ} {e : Fault} → StuckHeaderKey text limit n i e → (fs : List Frame) → DueAt text limit (a_header_part n) fs i → IsDue text limit e
-header_key_due text limit (header_part_here n i e h) fs w = (a_header_part n, fs, i, w, h)
-header_key_due text limit (header_on n i m p part e key few dot r) fs w =
-    header_key_due text limit {n = n + 1} {i = p} {e = e} r fs (header_part_next fs n i m p part w key few dot)
 
 -- ---- values
 
@@ -47,7 +30,7 @@ mutual
 
   pairs_due : (text : List ℕ) (limit : ℕ) {es : List KeyValue} {d i : ℕ} {e : Fault} → StuckPairs text limit es d i e → (fs : List Frame) → depth (in_braces es ∷ fs) ≡ d
       → DueAt text limit an_element (in_braces es ∷ fs) i → IsDue text limit e
-  pairs_due text limit (l.in_pair es d i e other r) fs u w = pair_due text limit es {d = d} {i = i} {e = e} r fs u (pair_part es fs i w other)
+  pairs_due text limit (l.in_pair es d i e other r) fs u w = pair_due text limit es {d = d} {i = i} {e = e} r fs u (pair_key es fs i w other)
   pairs_due text limit (l.crosses es d i m p e h c) fs u w = (a_verdict p, in_braces es ∷ fs, m, pair_verdict es fs i m p w (rw u h), c)
   pairs_due text limit (l.behind_pair es d i m n p e h clear gap none) fs u w =
       (a_comma, in_braces (es ++ (p ∷ [])) ∷ fs, n, behind_pair es fs m n p (pair_verdict es fs i m p w (rw u h)) clear gap, none)
@@ -56,8 +39,8 @@ mutual
       (behind_comma (in_braces (es ++ (p ∷ [])) ∷ fs) c.at n (behind_pair es fs m c.at p (pair_verdict es fs i m p w (rw u h)) clear c.before) c.here c.behind)
 
   pair_due : (text : List ℕ) (limit : ℕ) (es : List KeyValue) {d i : ℕ} {e : Fault} → StuckPair text limit d i e → (fs : List Frame) → depth (in_braces es ∷ fs) ≡ d
-      → DueAt text limit (a_part 0) (in_braces es ∷ fs) i → IsDue text limit e
-  pair_due text limit es (l.in_key d i e r) fs u w = dotted_due text limit {i = i} {e = e} r (in_braces es ∷ fs) w
+      → DueAt text limit a_key (in_braces es ∷ fs) i → IsDue text limit e
+  pair_due text limit es (l.in_key d i e r) fs u w = (a_key, in_braces es ∷ fs, i, w, r)
   pair_due text limit es (l.no_equals d i a n ps e key few gap none) fs u w = (an_equals (length ps), in_braces es ∷ fs, n, pair_equals es fs i a n ps w key few gap, none)
   pair_due text limit es (l.in_value d i a b ps e key few q r) fs u w =
       value_due text limit {d = d + length ps} {i = b} {e = e} r (under_key (length ps) ∷ (in_braces es ∷ fs)) (omega arith)
@@ -65,8 +48,8 @@ mutual
 
 -- ---- lines
 
-key_value_due : (text : List ℕ) (limit : ℕ) (es : List KeyValue) {i : ℕ} {e : Fault} → StuckKeyValue text limit i e → DueAt text limit (a_part 0) (in_section es ∷ []) i → IsDue text limit e
-key_value_due text limit es (l.line_key i e r) w = dotted_due text limit {i = i} {e = e} r (in_section es ∷ []) w
+key_value_due : (text : List ℕ) (limit : ℕ) (es : List KeyValue) {i : ℕ} {e : Fault} → StuckKeyValue text limit i e → DueAt text limit a_key (in_section es ∷ []) i → IsDue text limit e
+key_value_due text limit es (l.line_key i e r) w = (a_key, in_section es ∷ [], i, w, r)
 key_value_due text limit es (l.line_equals i a n ps e key few run none) w = (an_equals (length ps), in_section es ∷ [], n, line_equals es i a n ps w key few run, none)
 key_value_due text limit es (l.line_value i a b ps e key few q r) w =
     value_due text limit {d = length ps} {i = b} {e = e} r (under_key (length ps) ∷ (in_section es ∷ [])) (omega arith)
@@ -76,7 +59,7 @@ tail_due : (text : List ℕ) (limit i : ℕ) (e : Fault) (fs : List Frame) → S
 tail_due text limit i e fs (n, (skipped, on, none), h) w = (a_line_end, fs, n, tail_rest fs i n w skipped, (on, none, h))
 
 key_values_due : (text : List ℕ) (limit : ℕ) {es : List KeyValue} {i : ℕ} {e : Fault} → StuckKeyValues text limit es i e → DueAt text limit a_line (in_section es ∷ []) i → IsDue text limit e
-key_values_due text limit (l.in_line es i e on other r) w = key_value_due text limit es {i = i} {e = e} r (line_part es i w on other)
+key_values_due text limit (l.in_line es i e on other r) w = key_value_due text limit es {i = i} {e = e} r (line_key es i w on other)
 key_values_due text limit (l.no_newline es i m ev e h t) w = tail_due text limit m e (in_section es ∷ []) t (line_tail es i m ev w h)
 key_values_due text limit (l.crossing es i m n ev e h t c) w = (a_verdict ev, in_section es ∷ [], n, line_verdict es i m n ev w h t, c)
 key_values_due text limit (l.line_on es i m n k ev e h t clear gap r) w =
@@ -94,7 +77,7 @@ closed_due false text limit k m fs (here, u) w = rw u (header_tail fs k w here)
 closed_due true text limit k m fs (here, again, u) w = let x : m ≡ (k + 1) + 1 = omega (arith, u) in rw x (header_tail fs (k + 1) (closes_again fs k w here) again)
 
 header_due : (text : List ℕ) (limit : ℕ) {i : ℕ} {e : Fault} → StuckHeader text limit i e → (es : List KeyValue) → DueAt text limit a_line (in_section es ∷ []) i → IsDue text limit e
-header_due text limit (l.header_key i m k array e opens run r) es w = header_key_due text limit {n = 0} {i = k} {e = e} r (in_section es ∷ []) (opens_header es i m k array w opens run)
+header_due text limit (l.header_key i m k array e opens run r) es w = (a_header_key, in_section es ∷ [], k, opens_header es i m k array w opens run, r)
 header_due text limit (l.header_close i k array ps e front r) es w = closing_due array text limit k e (in_section es ∷ []) r (header_closes es i k array ps w front)
 header_due text limit (l.header_rest i k m array ps e front shuts r) es w = tail_due text limit m e (in_section es ∷ []) r (closed_due array text limit k m (in_section es ∷ []) shuts (header_closes es i k array ps w front))
 

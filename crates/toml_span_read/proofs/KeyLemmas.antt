@@ -1,22 +1,30 @@
 -- How dotted keys are put together.
-use Rattle.std.proofs.Common.{◌≡◌, ℕ, ◌+◌, ◌<◌, ◌≤◌, Bool, true, false, List, [], ◌∷◌, ◌++◌, length, map, get_or, arith, inl, inr, refl, ap, length-append, Result, Ok, Err}
+use Rattle.std.proofs.Common.{◌≡◌, ℕ, zero, suc, ◌+◌, ◌-◌, ◌<◌, ◌≤◌, ◌⊎◌, Bool, true, false, List, [], ◌∷◌, ◌++◌, length, map, get_or, arith, inl, inr, refl, sym, ◌∙◌, ap, subst, length-append, append_assoc, Result, Ok, Err}
 use Rattle.std.specs.Prelude.{not, ◌&&◌, ◌==◌, if◌then◌else◌}
 use Rattle.std.specs.Result.{IsErrAnd}
+use Rattle.std.proofs.lemmas.Bool.{false≢true}
+use Rattle.std.proofs.lemmas.List.{map-append}
 use Rattle.toml_span_lex.specs.declared.key.Key.{Key}
 use Rattle.toml_span_lex.specs.declared.stop.Stop.{Stop}
 use Rattle.toml_span_lex.specs.declared.stop.Stop.TheVariants as stops
 use Rattle.toml_span_lex.specs.declared.span.Span.{Span}
+use Rattle.toml_span_lex.specs.Bytes.{is_keylike}
 use Rattle.toml_span_lex.specs.Strings.{IsString}
+use Rattle.toml_span_lex.specs.Tokens.{Lexeme, keylike, string, Stands}
 use Rattle.toml_span_lex.proofs.Copies.{content_fits}
 use Rattle.toml_span_lex.proofs.MadeStrings.{content_from_after}
+use Rattle.toml_span_read.specs.declared.fault.Due.TheVariants as dues
 use Rattle.toml_span_read.specs.declared.fault.FaultKind.{FaultKind}
 use Rattle.toml_span_read.specs.Places.{StartsInside}
 use Rattle.toml_span_read.specs.declared.fault.Fault.{Fault}
-use Rattle.toml_span_read.specs.Gaps.{Dot}
-use Rattle.toml_span_read.specs.Keys.{SimpleKey, simple_key, SpellsSimpleKey, Onward, SpellsKey}
-use Rattle.toml_span_read.specs.code.Keys.{KeyGives, DottedGives, HeaderKeyGives, PartGives}
+use Rattle.toml_span_read.specs.Faults.{found_of, wanted_fault}
+use Rattle.toml_span_read.specs.Gaps.{Dot, NoDot}
+use Rattle.toml_span_read.specs.Keys.{SimpleKey, simple_key, SpellsSimpleKey, SpellsKey, opens_string}
+use Rattle.toml_span_read.specs.Read as read
+use Rattle.toml_span_read.specs.Read.{token, text_end, no_token, key_of, past, Parts}
+use Rattle.toml_span_read.specs.code.Keys.{Gives, key_found, PartGives}
 use Rattle.toml_span_read.specs.code.Faults.{IsPlacedStop}
-use Rattle.toml_span_read.specs.code.Stuck.{StuckOnward, part_here, StuckKey, no_first, onward, StuckHeaderKey, header_part_here}
+use Rattle.toml_span_read.specs.code.Wanted.{StringReads, WantedGives}
 
 -- an error that `?` hands on
 pub handed_on : {T E : Type 0} (r : Result T E) (x : E) → IsErrAnd r (λ y. y ≡ x) → r ≡ Err x
@@ -29,62 +37,6 @@ one_more xs ys x e = rw e (length-append xs (x ∷ []))
 pub map_more : {A B : Type 0} (f : A → B) (xs : List A) (x : A) (rest : List B) → map f (xs ++ (x ∷ [])) ++ rest ≡ map f xs ++ (f x ∷ rest)
 map_more f [] x rest = refl
 map_more f (y ∷ ys) x rest = ap (λ z. f y ∷ z) (map_more f ys x rest)
-
--- ---- dotted keys
-
-pub first_fault : (stop : Stop Fault) (text : List ℕ) (limit i : ℕ) → KeyGives text i (Err stop) → DottedGives text limit i (Err stop)
-first_fault (stops.Memory e) text limit i h = tt
-first_fault (stops.Fault e) text limit i h = no_first i e (inl h)
-
-pub part_fault : (stop : Stop Fault) (text : List ℕ) (limit i n m p : ℕ) → ((e : Fault) → StuckOnward text limit n m e → StuckKey text limit i e)
-    → Dot text m p → KeyGives text p (Err stop) → DottedGives text limit i (Err stop)
-part_fault (stops.Memory e) text limit i n m p stuck d h = tt
-part_fault (stops.Fault e) text limit i n m p stuck d h = stuck e (part_here n m p e d (inl h))
-
-pub same_stuck : (e f : Fault) (text : List ℕ) (limit i : ℕ) → e ≡ f → StuckKey text limit i f → StuckKey text limit i e
-same_stuck e f text limit i is h = rw is h
-
--- behind the first part
-pub dotted_first : (ps : List Key) (last : Key) (text : List ℕ) (limit i m : ℕ) → ps ≡ [] → SpellsSimpleKey (simple_key last) text i m → 0 < limit
-    → (length ps ≡ 0)
-    × ((tail : List SimpleKey) (j : ℕ) → Onward tail text m j → SpellsKey (map simple_key ps ++ (simple_key last ∷ tail)) text i j)
-    × ((e : Fault) → StuckOnward text limit (length ps + 1) m e → StuckKey text limit i e)
-dotted_first ps last text limit i m e k some =
-    (rw e refl, (λ tail j h. rw e (m, k, h)), (λ x h. let s : StuckOnward text limit 1 m x = rw e at h in onward i m (simple_key last) x k some s))
-
-pub dotted_more : (ps qs : List Key) (last item key dest : Key) (text : List ℕ) (i m p q : ℕ) → qs ≡ ps ++ (item ∷ []) → item ≡ last → dest ≡ key
-    → ((tail : List SimpleKey) (j : ℕ) → Onward tail text m j → SpellsKey (map simple_key ps ++ (simple_key last ∷ tail)) text i j)
-    → Dot text m p → SpellsSimpleKey (simple_key key) text p q
-    → (tail : List SimpleKey) (j : ℕ) → Onward tail text q j → SpellsKey (map simple_key qs ++ (simple_key dest ∷ tail)) text i j
-dotted_more ps qs last item key dest text i m p q e f g whole d k tail j rest =
-    rw (e, g, f, map_more simple_key ps last (simple_key key ∷ tail)) (whole (simple_key key ∷ tail) j (p, q, d, k, rest))
-
-pub parts_length : (inner : List Key) (last : Key) → length (map simple_key inner ++ (simple_key last ∷ [])) ≡ length inner + 1
-parts_length [] last = refl
-parts_length (k ∷ ks) last = let h = parts_length ks last in omega arith
-
--- ---- the parts of headers
-
-pub no_part : (stop : Stop Fault) (text : List ℕ) (limit i : ℕ) (ps qs : List Key) → KeyGives text i (Err stop) → IsPlacedStop text stop → PartGives text limit i ps qs (Err stop)
-no_part (stops.Memory e) text limit i ps qs h placed = tt
-no_part (stops.Fault e) text limit i ps qs h placed = (inl h, placed)
-
-pub header_fault : (stop : Stop Fault) (text : List ℕ) (limit i m : ℕ) (ps qs : List Key) → ((e : Fault) → StuckHeaderKey text limit (length ps) m e → StuckHeaderKey text limit 0 i e)
-    → PartGives text limit m ps qs (Err stop) → HeaderKeyGives text limit i (Err stop)
-header_fault (stops.Memory e) text limit i m ps qs stuck h = tt
-header_fault (stops.Fault e) text limit i m ps qs stuck h = stuck e (header_part_here _ m e h.0)
-
-pub part_placed : (stop : Stop Fault) (text : List ℕ) (limit m : ℕ) (ps qs : List Key) → PartGives text limit m ps qs (Err stop) → IsPlacedStop text stop
-part_placed (stops.Memory e) text limit m ps qs h = tt
-part_placed (stops.Fault e) text limit m ps qs h = h.1
-
-pub header_more : (ps qs : List Key) (key : Key) (text : List ℕ) (i m n p : ℕ) → qs ≡ ps ++ (key ∷ [])
-    → ((tail : List SimpleKey) (j : ℕ) → SpellsKey tail text m j → SpellsKey (map simple_key ps ++ tail) text i j)
-    → SpellsSimpleKey (simple_key key) text m n → Dot text n p
-    → (tail : List SimpleKey) (j : ℕ) → SpellsKey tail text p j → SpellsKey (map simple_key qs ++ tail) text i j
-header_more ps qs key text i m n p e whole k d [] j rest = absurd rest
-header_more ps qs key text i m n p e whole k d (t ∷ ts) j (q, first, rest) =
-    rw (e, map_more simple_key ps key (t ∷ ts)) (whole (simple_key key ∷ t ∷ ts) j (n, k, (p, q, d, first, rest)))
 
 -- ---- spans
 
@@ -104,6 +56,120 @@ string_span text v src i j s m h =
 pub key_placed : (text : List ℕ) (i j : ℕ) (p : SimpleKey) (kind : FaultKind) → SpellsSimpleKey p text i j → StartsInside text (record { kind = kind; span = p.span })
 key_placed text i j p kind (inl (run, e)) = record { within = rw e (omega (arith, run.0, run.1.within)); forward = rw e (omega (arith, run.0)) }
 key_placed text i j p kind (inr (src, h)) = let s = string_span text p.name src i j p.span false h in record { within = s.0; forward = s.1 }
+
+-- ---- simple keys as they are read
+
+pub string_stops : (stop : Stop Fault) (text : List ℕ) (i : ℕ) → StringReads text i (Err stop) → Gives key_found (read.simple_key text i) (Err stop)
+string_stops (stops.Memory e) text i h = tt
+string_stops (stops.Fault e) text i (j, x, h, is) = (no_token x, (j, h), ap (λ y. Err y) is)
+
+quote_opens : (b : ℕ) → (b ≡ 34) ⊎ (b ≡ 39) → opens_string b ≡ true
+quote_opens b (inl e) = rw e refl
+quote_opens b (inr e) = rw e refl
+
+-- another token than a key's stands here
+other_key : (text : List ℕ) (i j : ℕ) (s : Span) (l : Lexeme) → Stands text i j s l → is_keylike (get_or text i 0) ≡ false → opens_string (get_or text i 0) ≡ false
+    → key_of i (token s l j) ≡ Err (wanted_fault dues.TableKey (found_of l) i)
+other_key text i j s (keylike name) h k o = absurd (false≢true (sym k ∙ h.0.1.passes i (omega arith) h.0.0))
+other_key text i j s (string source name multi) h k o = absurd (false≢true (sym o ∙ quote_opens (get_or text i 0) h.quote))
+other_key text i j s l h k o = refl
+
+pub wanted_stops : (stop : Stop Fault) (text : List ℕ) (i : ℕ) → WantedGives text i dues.TableKey stop → is_keylike (get_or text i 0) ≡ false → opens_string (get_or text i 0) ≡ false
+    → Gives key_found (read.simple_key text i) (Err stop)
+wanted_stops (stops.Memory e) text i h k o = tt
+wanted_stops (stops.Fault e) text i (inl (j, found, inl (end, at, f), is)) k o = (text_end, end, (rw (is, f) refl))
+wanted_stops (stops.Fault e) text i (inl (j, found, inr (s, l, h, f), is)) k o = (token s l j, h, (rw (is, f) (sym (other_key text i j s l h k o))))
+wanted_stops (stops.Fault e) text i (inr (j, x, h, is)) k o = (no_token x, (j, h), ap (λ y. Err y) is)
+
+-- ---- keys as they are read
+
+key_stops : (header : Bool) (text : List ℕ) (left i : ℕ) (e : Fault) → read.simple_key text i (Err e) → (ps : List SimpleKey) → read.key header text left ps i (Err e)
+unfolding read.key
+key_stops header text zero i e h ps = inr (e, h, refl)
+key_stops header text (suc left) i e h ps = inr (e, h, refl)
+
+pub key_past : (header : Bool) (text : List ℕ) (left i j : ℕ) (s : SimpleKey) → left ≡ 0 → read.simple_key text i (Ok (s, j)) → (ps : List SimpleKey) → read.key header text left ps i (Err (past header i s))
+unfolding read.key
+key_past header text left i j s z h ps = rw z (inl ((s, j), h, refl))
+
+pub part_stops : (stop : Stop Fault) (header : Bool) (text : List ℕ) (limit n i : ℕ) → Gives key_found (read.simple_key text i) (Err stop) → IsPlacedStop text stop → PartGives header text limit n i (Err stop)
+part_stops (stops.Memory e) header text limit n i h placed = tt
+part_stops (stops.Fault e) header text limit n i h placed = (key_stops header text (limit - n) i e h, placed)
+
+pub part_placed : (stop : Stop Fault) (header : Bool) (text : List ℕ) (limit n i : ℕ) → PartGives header text limit n i (Err stop) → IsPlacedStop text stop
+part_placed (stops.Memory e) header text limit n i h = tt
+part_placed (stops.Fault e) header text limit n i h = h.1
+
+-- whatever is read at m behind these parts is read from i on
+abbrev pub Behind : Bool → List ℕ → ℕ → ℕ → List Key → ℕ → Type 0
+Behind header text limit i ps m =
+    (n : ℕ) (r : Result Parts Fault) → length ps + n ≡ limit → read.key header text n (map simple_key ps) m r → read.key header text limit [] i r
+
+pub none_behind : (header : Bool) (text : List ℕ) (limit i : ℕ) (ps : List Key) → ps ≡ [] → Behind header text limit i ps i
+none_behind header text limit i ps e n r few h =
+    let z : length ps ≡ 0 = rw e refl in
+    let same : limit ≡ n = omega arith in
+    rw same (rw e at h)
+
+pub more_behind : (header : Bool) (text : List ℕ) (limit i m k p : ℕ) (ps qs : List Key) (s : Key) → qs ≡ ps ++ (s ∷ []) → read.simple_key text m (Ok (simple_key s, k)) → Dot text k p → Behind header text limit i ps m
+    → Behind header text limit i qs p
+unfolding read.key
+more_behind header text limit i m k p ps qs s e h d behind n r few o =
+    let l = one_more ps qs s e in
+    behind (suc n) r (omega arith) (inl ((simple_key s, k), h, inr (p, d, (rw (e, map-append simple_key ps (s ∷ [])) at o))))
+
+pub last_behind : (header : Bool) (text : List ℕ) (limit i m k : ℕ) (ps : List Key) (s : Key) → length ps < limit → read.simple_key text m (Ok (simple_key s, k)) → NoDot text k → Behind header text limit i ps m
+    → read.key header text limit [] i (Ok (map simple_key ps ++ (simple_key s ∷ []), k))
+unfolding read.key
+last_behind header text limit i m k ps s few h none behind =
+    behind (suc (limit - (length ps + 1))) (Ok (map simple_key ps ++ (simple_key s ∷ []), k)) (omega arith) (inl ((simple_key s, k), h, inl (none, refl)))
+
+pub stops_behind : {A : Type 0} (view : A → Parts) (stop : Stop Fault) (header : Bool) (text : List ℕ) (limit i m n : ℕ) (ps : List Key) → n ≡ length ps → length ps ≤ limit → Behind header text limit i ps m
+    → PartGives header text limit n m (Err stop) → Gives view (read.key header text limit [] i) (Err stop)
+stops_behind view (stops.Memory e) header text limit i m n ps is few behind h = tt
+stops_behind view (stops.Fault e) header text limit i m n ps is few behind h = behind (limit - n) (Err e) (omega arith) (h.0 (map simple_key ps))
+
+pub parts_length : (inner : List Key) (last : Key) → length (map simple_key inner ++ (simple_key last ∷ [])) ≡ length inner + 1
+parts_length [] last = refl
+parts_length (k ∷ ks) last = let h = parts_length ks last in omega arith
+
+-- ---- what is read is spelled
+
+given : {A : Type 0} (x y : A) (P : A → Type 0) → ◌≡◌ {A = Result A Fault} (Ok x) (Ok y) → P y → P x
+given x y P u h = let e : y ≡ x = cc in subst P e h
+
+pub simple_sound : (s : SimpleKey) (text : List ℕ) (i m : ℕ) → read.simple_key text i (Ok (s, m)) → SpellsSimpleKey s text i m
+simple_sound s text i m (token span (keylike name) j, h, u) = given (s, m) (record { name = name; span = span }, j) (λ f. SpellsSimpleKey f.0 text i f.1) u (inl h)
+simple_sound s text i m (token span (string source name false) j, h, u) = given (s, m) (record { name = name; span = span }, j) (λ f. SpellsSimpleKey f.0 text i f.1) u (inr (source, h))
+simple_sound s text i m (standing, h, u) = absurd cc
+
+dotted_more : (s : SimpleKey) (ss : List SimpleKey) (text : List ℕ) (i m p j : ℕ) → SpellsSimpleKey s text i m → Dot text m p → SpellsKey ss text p j → SpellsKey (s ∷ ss) text i j
+dotted_more s [] text i m p j k d h = absurd h
+dotted_more s (t ∷ ts) text i m p j k d (q, l, h) = (m, k, (p, q, d, l, h))
+
+-- behind these parts others are spelled
+abbrev KeyBehind : List SimpleKey → List ℕ → ℕ → ℕ → Parts → Type 0
+KeyBehind ps text left i f = (ts : List SimpleKey) × (f.0 ≡ ps ++ ts) × SpellsKey ts text i f.1 × (length ts ≤ left)
+
+behind_sound : (header : Bool) (text : List ℕ) (left : ℕ) (ps : List SimpleKey) (i : ℕ) (f : Parts) → read.key header text left ps i (Ok f) → KeyBehind ps text left i f
+unfolding read.key
+behind_sound header text zero ps i f (inl (s, h, u)) = absurd cc
+behind_sound header text zero ps i f (inr (e, h, u)) = absurd cc
+behind_sound header text (suc n) ps i f (inl ((s, m), h, inl (none, u))) =
+    given f (ps ++ (s ∷ []), m) (KeyBehind ps text (suc n) i) u (s ∷ [], refl, (m, simple_sound s text i m h, (refl, none)), omega arith)
+behind_sound header text (suc n) ps i f (inl ((s, m), h, inr (p, d, k))) =
+    let (ts, is, spelled, few) = behind_sound header text n (ps ++ (s ∷ [])) p f k in
+    (s ∷ ts, is ∙ append_assoc ps (s ∷ []) ts, dotted_more s ts text i m p f.1 (simple_sound s text i m h) d spelled, omega (arith, few))
+behind_sound header text (suc n) ps i f (inr (e, h, u)) = absurd cc
+
+pub key_sound : (header : Bool) (text : List ℕ) (limit i j : ℕ) (ss : List SimpleKey) → read.key header text limit [] i (Ok (ss, j)) → SpellsKey ss text i j × (length ss ≤ limit)
+key_sound header text limit i j ss h = let (ts, is, spelled, few) = behind_sound header text limit [] i (ss, j) h in rw is (spelled, few)
+
+pub past_placed : (header : Bool) (text : List ℕ) (i j : ℕ) (s : SimpleKey) → i ≤ length text → SpellsSimpleKey s text i j → StartsInside text (past header i s)
+past_placed true text i j s within h = key_placed text i j s _ h
+past_placed false text i j s within h = record { within = within; forward = omega arith }
+
+-- ---- strings end within themselves
 
 abbrev IsInside : ℕ → ℕ → Span → Type 0
 IsInside i j s = (i ≤ s.end) × (s.end ≤ j)

@@ -17,7 +17,8 @@ use Rattle.toml_span_read.specs.code.Earlier.{AddsClear}
 use Rattle.toml_span_read.specs.Gaps.{MaximalGap, Equals, Tail}
 use Rattle.toml_span_read.specs.Grammar.{Spells, SpellsKeyValue, SpellsKeyValues, SpellsLines, OpensHeader, SpellsHeader, last_end, SpellsSection, first_block, SpellsSections, SpellsDocument}
 use Rattle.toml_span_read.specs.Keys.{SimpleKey, simple_key, SpellsKey}
-use Rattle.toml_span_read.specs.code.Keys.{DottedGives, HeaderKeyGives}
+use Rattle.toml_span_read.specs.Read as read
+use Rattle.toml_span_read.specs.code.Keys.{Gives, parts_found, header_found}
 use Rattle.toml_span_read.specs.code.Stuck.{line_key, line_equals, line_value, StuckKeyValues, in_line, no_newline, crossing, line_on, StuckLines, header_key, header_close, header_rest, StuckSections, section_on, StuckDocument, behind_header}
 use Rattle.toml_span_read.specs.code.Sections.{KeyValueGives, LineGives, LinesGive, CloseGives, HeaderGives, block_of}
 use Rattle.toml_span_read.specs.code.Values.{ValueGives}
@@ -33,7 +34,7 @@ end_is (v ∷ []) (suc k) n a l e = absurd (omega (arith, l))
 end_is (v ∷ w ∷ ws) zero n a l e = absurd (omega (arith, l))
 end_is (v ∷ w ∷ ws) (suc k) n a l e = end_is (w ∷ ws) k (key_value v).extent.end a (omega (arith, l)) e
 
-pub line_key_fault : (stop : Stop Fault) (text : List ℕ) (limit i : ℕ) → DottedGives text limit i (Err stop) → KeyValueGives text limit i (Err stop)
+pub line_key_fault : (stop : Stop Fault) (text : List ℕ) (limit i : ℕ) → Gives parts_found (read.key false text limit [] i) (Err stop) → KeyValueGives text limit i (Err stop)
 line_key_fault (stops.Memory e) text limit i h = tt
 line_key_fault (stops.Fault e) text limit i h = line_key i e h
 
@@ -106,7 +107,7 @@ pub close_second : (array : Bool) (stop : Stop Fault) (text : List ℕ) (i k b :
 close_second array (stops.Memory e) text i k b a run here u none h = tt
 close_second array (stops.Fault e) text i k b a run here u none h = rw a (k, run, inr (here, ((rw u at none), (rw u at h))))
 
-pub header_key_fault : (stop : Stop Fault) (array : Bool) (text : List ℕ) (limit i m k : ℕ) → OpensHeader array text i m → MaximalRun is_blank text m k → HeaderKeyGives text limit k (Err stop)
+pub header_key_fault : (stop : Stop Fault) (array : Bool) (text : List ℕ) (limit i m k : ℕ) → OpensHeader array text i m → MaximalRun is_blank text m k → Gives header_found (read.key true text limit [] k) (Err stop)
     → HeaderGives text limit i (Err stop)
 header_key_fault (stops.Memory e) array text limit i m k opens run h = tt
 header_key_fault (stops.Fault e) array text limit i m k opens run h = header_key i m k array e opens run h
@@ -127,7 +128,7 @@ map_length : (ks : List Key) → length (map simple_key ks) ≡ length ks
 map_length [] = refl
 map_length (k ∷ ks) = let h = map_length ks in omega (arith, h)
 
-pub few_parts : (ks : List Key) (limit : ℕ) → length ks ≤ limit → length (map simple_key ks) ≤ limit
+pub few_parts : (ks : List Key) (limit : ℕ) → length (map simple_key ks) ≤ limit → length ks ≤ limit
 few_parts ks limit h = omega (arith, map_length ks, h)
 
 pub header_made : (array : Bool) (ps : List SimpleKey) (text : List ℕ) (limit i m k a b j : ℕ) → OpensHeader array text i m → MaximalRun is_blank text m k → SpellsKey ps text k a → length ps ≤ limit

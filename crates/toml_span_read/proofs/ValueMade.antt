@@ -23,7 +23,8 @@ use Rattle.toml_span_read.specs.Faults.{opens_nested, begins_bare, begins_number
 use Rattle.toml_span_read.specs.code.Values.{IsTooDeep, BareGives, ValueGives, PairGives}
 use Rattle.toml_span_read.specs.code.Stuck.{value_here, in_array, in_inline, StuckItems, in_item, behind_item, StuckPairs, in_pair, crosses, behind_pair, pair_on, in_key, no_equals, in_value}
 use Rattle.toml_span_read.specs.Keys.{SimpleKey, opens_string, SpellsKey}
-use Rattle.toml_span_read.specs.code.Keys.{DottedGives}
+use Rattle.toml_span_read.specs.Read as read
+use Rattle.toml_span_read.specs.code.Keys.{Gives, parts_found}
 use Rattle.toml_span_read.specs.Gaps.{MaximalGap, Separator, Closes, Neither}
 use Rattle.toml_span_read.specs.code.Wanted.{NoValueGives, WantedGives, StringReads}
 use Rattle.toml_span_read.specs.Earlier.{Clear}
@@ -219,7 +220,7 @@ pub pair_spelled : (e : KeyValue) (ps : List SimpleKey) (v : ParsedValue) (text 
     → SpellsKey ps text i a → length ps ≤ limit → Separator 61 text a b → r ≡ d + length ps → Spells v text limit r b j → SpellsPair e text limit d i j
 pair_spelled e ps v text limit d r i a b j is key few sign u s = rw is (a, b, key, few, sign, (rw u at s), refl)
 
-pub key_stuck : (stop : Stop Fault) (text : List ℕ) (limit d i : ℕ) → DottedGives text limit i (Err stop) → PairGives text limit d i (Err stop)
+pub key_stuck : (stop : Stop Fault) (text : List ℕ) (limit d i : ℕ) → Gives parts_found (read.key false text limit [] i) (Err stop) → PairGives text limit d i (Err stop)
 key_stuck (stops.Memory e) text limit d i h = tt
 key_stuck (stops.Fault e) text limit d i h = in_key d i e h
 

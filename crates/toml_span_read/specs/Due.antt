@@ -1,15 +1,16 @@
 -- What is due at a place, by the text before it, and the faults that are told there.
 use Rattle.std.specs.Prelude.{◌≡◌, ℕ, ◌+◌, ◌<◌, ◌≤◌, Bool, true, false, ◌==◌, List, [], ◌∷◌, ◌++◌, length}
-use Rattle.std.specs.Prelude.{slice_index}
+use Rattle.std.specs.Prelude.{slice_index, Err}
 use Rattle.toml_span_lex.specs.Bytes.{is_blank, equals, comma, left_bracket, right_bracket, left_brace, right_brace}
 use Rattle.toml_span_lex.specs.Bytes.{MaximalRun}
 use Rattle.toml_span_lex.specs.Tokenizer.{FirstPlace}
 use Rattle.toml_span_read.specs.Data.{KeyValue, ParsedValue}
 use Rattle.toml_span_read.specs.Earlier.{Clear, Crossing}
-use Rattle.toml_span_read.specs.Gaps.{MaximalGap, Skipped, Tail, Dot}
+use Rattle.toml_span_read.specs.Gaps.{MaximalGap, Skipped, Tail}
 use Rattle.toml_span_read.specs.Grammar.{Spells, SpellsPair, SpellsKeyValue, OpensHeader, HeaderFront, SpellsHeader}
-use Rattle.toml_span_read.specs.Keys.{SimpleKey, SpellsSimpleKey, SpellsKey}
-use Rattle.toml_span_read.specs.Faults.{NoPart, NoHeaderPart, NoEquals, NoValue, NoComma, NoBracket, NoNewline}
+use Rattle.toml_span_read.specs.Keys.{SimpleKey, SpellsKey}
+use Rattle.toml_span_read.specs.Faults.{NoEquals, NoValue, NoComma, NoBracket, NoNewline}
+use Rattle.toml_span_read.specs.Read.{key}
 use Rattle.toml_span_read.specs.declared.fault.Due.TheVariants as dues
 use Rattle.toml_span_read.specs.declared.fault.Fault.{Fault}
 
@@ -33,8 +34,7 @@ depth (under_key n ∷ fs) = depth fs + n
 pub data What : Type 0 where
   -- an assignment, a header or the end of the text
   a_line : What
-  -- the part of a key behind so many others
-  a_part : ℕ → What
+  a_key : What
   -- an equals sign behind a key of so many parts
   an_equals : ℕ → What
   a_value : What
@@ -44,8 +44,7 @@ pub data What : Type 0 where
   a_comma : What
   -- whether the key of this assignment or pair goes through an earlier value
   a_verdict : KeyValue → What
-  -- the part of a header's key behind so many others
-  a_header_part : ℕ → What
+  a_header_key : What
   -- the closing bracket of a header, or both of them
   a_closing : Bool → What
   -- the rest of a line
@@ -57,10 +56,10 @@ pub data What : Type 0 where
 pub data DueAt (text : List ℕ) (limit : ℕ) : What → List Frame → ℕ → Type 0 where
   first_line : (i k : ℕ) → FirstPlace text i → MaximalGap text i k → DueAt text limit a_line (in_section [] ∷ []) k
   -- `keyval = key keyval-sep val`, and the rest of its line
-  line_part : (es : List KeyValue) (i : ℕ) → DueAt text limit a_line (in_section es ∷ []) i → i < length text
-      → (slice_index text i == left_bracket) ≡ false → DueAt text limit (a_part 0) (in_section es ∷ []) i
+  line_key : (es : List KeyValue) (i : ℕ) → DueAt text limit a_line (in_section es ∷ []) i → i < length text
+      → (slice_index text i == left_bracket) ≡ false → DueAt text limit a_key (in_section es ∷ []) i
   line_equals : (es : List KeyValue) (i a n : ℕ) (ps : List SimpleKey)
-      → DueAt text limit (a_part 0) (in_section es ∷ []) i
+      → DueAt text limit a_key (in_section es ∷ []) i
       → SpellsKey ps text i a → length ps ≤ limit → MaximalRun is_blank text a n
       → DueAt text limit (an_equals (length ps)) (in_section es ∷ []) n
   line_value : (es : List KeyValue) (k n b : ℕ) → DueAt text limit (an_equals k) (in_section es ∷ []) n
@@ -74,17 +73,11 @@ pub data DueAt (text : List ℕ) (limit : ℕ) : What → List Frame → ℕ →
       → SpellsKeyValue ev text limit i m → Tail text m n → DueAt text limit (a_verdict ev) (in_section es ∷ []) n
   next_line : (es : List KeyValue) (n k : ℕ) (ev : KeyValue) → DueAt text limit (a_verdict ev) (in_section es ∷ []) n
       → Clear es ev → MaximalGap text n k → DueAt text limit a_line (in_section (es ++ (ev ∷ [])) ∷ []) k
-  -- `key = simple-key / dotted-key`
-  part_next : (fs : List Frame) (n i m p : ℕ) (s : SimpleKey) → DueAt text limit (a_part n) fs i
-      → SpellsSimpleKey s text i m
-      → n < limit → Dot text m p → DueAt text limit (a_part (n + 1)) fs p
   -- `std-table = std-table-open key std-table-close`, `array-table = array-table-open key array-table-close`, and the
   -- rest of its line
   opens_header : (es : List KeyValue) (i m k : ℕ) (array : Bool) → DueAt text limit a_line (in_section es ∷ []) i
       → OpensHeader array text i m → MaximalRun is_blank text m k
-      → DueAt text limit (a_header_part 0) (in_section es ∷ []) k
-  header_part_next : (fs : List Frame) (n i m p : ℕ) (s : SimpleKey) → DueAt text limit (a_header_part n) fs i
-      → SpellsSimpleKey s text i m → n < limit → Dot text m p → DueAt text limit (a_header_part (n + 1)) fs p
+      → DueAt text limit a_header_key (in_section es ∷ []) k
   header_closes : (es : List KeyValue) (i k : ℕ) (array : Bool) (ps : List SimpleKey)
       → DueAt text limit a_line (in_section es ∷ []) i → HeaderFront ps array text limit i k
       → DueAt text limit (a_closing array) (in_section es ∷ []) k
@@ -108,10 +101,10 @@ pub data DueAt (text : List ℕ) (limit : ℕ) : What → List Frame → ℕ →
   -- `inline-table = inline-table-open [ inline-table-keyvals ] ws-comment-newline inline-table-close`
   opens_table : (fs : List Frame) (i k : ℕ) → DueAt text limit a_value fs i → depth fs ≤ limit
       → slice_index text i ≡ left_brace → MaximalGap text (i + 1) k → DueAt text limit an_element (in_braces [] ∷ fs) k
-  pair_part : (es : List KeyValue) (fs : List Frame) (i : ℕ) → DueAt text limit an_element (in_braces es ∷ fs) i
-      → (slice_index text i == right_brace) ≡ false → DueAt text limit (a_part 0) (in_braces es ∷ fs) i
+  pair_key : (es : List KeyValue) (fs : List Frame) (i : ℕ) → DueAt text limit an_element (in_braces es ∷ fs) i
+      → (slice_index text i == right_brace) ≡ false → DueAt text limit a_key (in_braces es ∷ fs) i
   pair_equals : (es : List KeyValue) (fs : List Frame) (i a n : ℕ) (ps : List SimpleKey)
-      → DueAt text limit (a_part 0) (in_braces es ∷ fs) i → SpellsKey ps text i a → length ps ≤ limit
+      → DueAt text limit a_key (in_braces es ∷ fs) i → SpellsKey ps text i a → length ps ≤ limit
       → MaximalGap text a n
       → DueAt text limit (an_equals (length ps)) (in_braces es ∷ fs) n
   pair_value : (es : List KeyValue) (fs : List Frame) (k n b : ℕ) → DueAt text limit (an_equals k) (in_braces es ∷ fs) n
@@ -127,14 +120,14 @@ pub data DueAt (text : List ℕ) (limit : ℕ) : What → List Frame → ℕ →
 -- The table: the faults that are told where this is due. Where a line, an element or the rest of a line is due, a form
 -- within it is due too, and has the fault.
 abbrev pub DueFault : List ℕ → ℕ → What → List Frame → ℕ → Fault → Type 0
-DueFault text limit (a_part n) fs i e = NoPart text limit n i e
+DueFault text limit a_key fs i e = key false text limit [] i (Err e)
 DueFault text limit (an_equals n) fs i e = NoEquals text i e
 DueFault text limit a_value fs i e = NoValue text limit (depth fs) i e
 DueFault text limit a_comma (in_brackets ∷ fs) i e = NoComma right_bracket dues.RightBracket text i e
 DueFault text limit a_comma (in_braces es ∷ fs) i e = NoComma right_brace dues.Comma text i e
 DueFault text limit (a_verdict ev) (in_section es ∷ fs) i e = Crossing es ev e
 DueFault text limit (a_verdict ev) (in_braces es ∷ fs) i e = Crossing es ev e
-DueFault text limit (a_header_part n) fs i e = NoHeaderPart text limit n i e
+DueFault text limit a_header_key fs i e = key true text limit [] i (Err e)
 DueFault text limit (a_closing array) fs i e = NoBracket text i e
 DueFault text limit a_line_end fs i e = NoNewline text i e
 DueFault text limit what fs i e = ⊥

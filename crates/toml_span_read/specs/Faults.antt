@@ -22,7 +22,7 @@ use Rattle.toml_span_read.specs.declared.fault.Fault.{Fault}
 use Rattle.toml_span_read.specs.declared.fault.FaultKind.{FaultKind}
 use Rattle.toml_span_read.specs.declared.fault.FaultKind.TheVariants as kinds
 use Rattle.toml_span_read.specs.Places.{IsLineInfo}
-use Rattle.toml_span_read.specs.Keys.{opens_string, SimpleKey, SpellsSimpleKey}
+use Rattle.toml_span_read.specs.Keys.{opens_string}
 use Rattle.toml_span_read.specs.Numerals.{number}
 use Rattle.toml_span_read.specs.Dates.{IsCandidate, begins_date}
 use Rattle.toml_span_read.specs.Grammar.{from_to}
@@ -146,44 +146,7 @@ IsWanted text i expected fault =
     ((j : ℕ) × (found : Found) × IsFound text i j found × (fault ≡ wanted_fault expected found i))
     ⊎ IsTokenFault text i fault
 
--- ---- where a key is due
-
--- a string of several lines stands where a key is due: `quoted-key = basic-string / literal-string` has none
-pub record IsMultilineKeyFault (text : List ℕ) (i : ℕ) (fault : Fault) : Type 0 where
-  pub end : ℕ
-  pub span : Span
-  pub source : List ℕ
-  pub value : List ℕ
-  pub here : IsString text i end span source value true
-  pub fault_is : fault ≡ record { kind = kinds.MultilineStringKey; span = record { start = i; end = i + length value } }
-
--- a key is due at i, and this fault stands there
---
--- broken: `simple-key = quoted-key / unquoted-key`
-abbrev pub NoSimpleKey : List ℕ → ℕ → Fault → Type 0
-NoSimpleKey text i fault =
-    IsMultilineKeyFault text i fault
-    ⊎ ((opens_string (slice_index text i) ≡ true) × IsTokenFault text i fault)
-    ⊎ (((is_keylike (slice_index text i) || opens_string (slice_index text i)) ≡ false)
-    × IsWanted text i dues.TableKey fault)
-
--- the part of a dotted key is due at i, behind n others: none stands there, or one too many
---
--- broken: `dotted-key = simple-key 1*( dot-sep simple-key )`; that there are too many is the limit's, not the
--- standard's
-abbrev pub NoPart : List ℕ → ℕ → ℕ → ℕ → Fault → Type 0
-NoPart text limit n i e =
-    NoSimpleKey text i e
-    ⊎ ((s : SimpleKey) × (j : ℕ) × SpellsSimpleKey s text i j × (limit ≤ n) × (e ≡ fault_at kinds.ExceededDepthLimit i))
-
--- the part of a header's key: of one too many the whole part is told
---
--- broken: the `key` of `std-table = std-table-open key std-table-close` or of `array-table`
-abbrev pub NoHeaderPart : List ℕ → ℕ → ℕ → ℕ → Fault → Type 0
-NoHeaderPart text limit n i e =
-    NoSimpleKey text i e
-    ⊎ ((s : SimpleKey) × (j : ℕ) × SpellsSimpleKey s text i j × (limit ≤ n)
-    × (e ≡ record { kind = kinds.ExceededDepthLimit; span = s.span }))
+-- ---- behind a key
 
 -- behind a key stands no equals sign
 --

@@ -8,6 +8,7 @@ pub mod Earlier
 pub mod Grammar
 pub mod Places
 pub mod Faults
+pub mod Read
 pub mod Due
 pub mod Reading
 pub mod Limits

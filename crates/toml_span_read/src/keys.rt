@@ -1,10 +1,12 @@
 //! Keys and dotted keys.
-ghost use Rattle.std.specs.Prelude.{◌≡◌, ◌<◌, ◌≤◌, ◌⊎◌, length, slice_index, [], ◌∷◌, ◌++◌, IfOk, OnOk};
+ghost use Rattle.std.specs.Prelude.{◌≡◌, ◌<◌, ◌⊎◌, true, false, length, slice_index, [], ◌∷◌, ◌++◌, IfOk, OnOk};
+ghost use Rattle.toml_span_read.specs.Keys as grammar;
 ghost use Rattle.std.specs.Str.{IsCharBoundary};
 ghost use Rattle.toml_span_lex.specs.Bytes.{quotation_mark, apostrophe};
 ghost use Rattle.toml_span_lex.specs.Strings.{BorrowsWhereSame};
 ghost use Rattle.toml_span_read.specs.Borrowed.{AreWrittenRight, dotted_written, keys_written};
-ghost use Rattle.toml_span_read.specs.code.Keys.{KeyGives, DottedGives, HeaderKeyGives, PartGives};
+ghost use Rattle.toml_span_read.specs.Read as spec;
+ghost use Rattle.toml_span_read.specs.code.Keys.{Gives, key_found, parts_found, header_found, PartGives};
 ghost use Rattle.toml_span_read.specs.code.Faults.{Advances};
 
 use crate::fault::{Due, Fault, FaultKind, fault_at};
@@ -14,7 +16,6 @@ use crate::wanted::{opens_string, string, wanted};
 use smallvec::SmallVec;
 use std::alloc::{AllocError, Global};
 use std::borrow::CowStr;
-use std::mem;
 use toml_span_lex::bytes::{is_keylike, keylike_end};
 use toml_span_lex::key::Key;
 use toml_span_lex::span::Span;
@@ -38,7 +39,7 @@ fn quoted_key<'de>(
 ) -> Result<(Key<'de>, usize), Stop<Fault>>
     requires within { at < length text.now }
     requires quote { (slice_index text.now at ≡ quotation_mark) ⊎ (slice_index text.now at ≡ apostrophe) }
-    ensures gives { KeyGives text.now at result }
+    ensures gives { Gives key_found (spec.simple_key text.now at) result }
     ensures borrows { IfOk result (λ found. BorrowsWhereSame text.now found.0.span found.0.name) }
     ensures advances { Advances text.now at result }
 {
@@ -70,7 +71,7 @@ pub(crate) fn simple_key<'de>(
     at: usize,
 ) -> Result<(Key<'de>, usize), Stop<Fault>>
     requires { IsCharBoundary text.now at }
-    ensures gives { KeyGives text.now at result }
+    ensures gives { Gives key_found (spec.simple_key text.now at) result }
     ensures borrows { IfOk result (λ found. BorrowsWhereSame text.now found.0.span found.0.name) }
     ensures advances { Advances text.now at result }
 {
@@ -87,6 +88,42 @@ pub(crate) fn simple_key<'de>(
     }
 }
 
+/// The fault of a part that is one too many: of a header all of it is told, else the place where it begins.
+fn one_too_many(key: &Key<'_>, at: usize, in_header: bool) -> Fault
+    requires { at < usize.MAX }
+    ensures { result ≡ spec.past in_header at (grammar.simple_key key.now) }
+{
+    let kind = FaultKind::ExceededDepthLimit;
+    if in_header {
+        let span = key.span;
+        Fault { kind, span }
+    } else {
+        fault_at(kind, at)
+    }
+}
+
+/// The part of a key at a place, behind so many others, where it ends, and what is behind the dot, if one follows.
+///
+/// `dot-sep simple-key` (TOML 1.1, Keys)
+fn part<'de>(
+    alloc: Global,
+    text: &'de str,
+    at: usize,
+    others: usize,
+    limit: usize,
+    in_header: bool,
+) -> Result<(Key<'de>, usize, Option<usize>), Stop<Fault>>
+    requires { IsCharBoundary text.now at }
+    ensures gives { PartGives in_header text.now limit others at result }
+    ensures borrows { IfOk result (λ found. BorrowsWhereSame text.now found.0.span found.0.name) }
+{
+    let (key, end) = simple_key(alloc, text, at)?;
+    if others >= limit {
+        return Err(Stop::Fault(one_too_many(&key, at, in_header)));
+    }
+    Ok((key, end, dot(text, end)))
+}
+
 /// The dotted key at a place, of `limit` parts at most, and where it ends. The faults are those of `simple_key`,
 /// and `ExceededDepthLimit` at the part past the limit.
 ///
@@ -98,24 +135,24 @@ pub(crate) fn dotted_key<'de>(
     limit: usize,
 ) -> Result<(DottedKey<'de>, usize), Stop<Fault>>
     requires boundary { IsCharBoundary text.now at }
-    requires some { 1 ≤ limit }
-    ensures gives { DottedGives text.now limit at result }
+    ensures gives { Gives parts_found (spec.key false text.now limit [] at) result }
     ensures borrows { IfOk result (λ found. AreWrittenRight text.now (dotted_written found.0)) }
     ensures advances { Advances text.now at result }
 {
     let mut inner = Vec::new(alloc);
-    let (mut last, mut end) = simple_key(alloc, text, at)?;
-    'parts: while let Some(next) = dot(text, end) {
-        let (key, key_end) = simple_key(alloc, text, next)?;
-        if inner.len() + 1 >= limit {
-            return Err(Stop::Fault(fault_at(FaultKind::ExceededDepthLimit, next)));
+    let mut next = at;
+    'parts: loop {
+        let (key, end, behind) = part(alloc, text, next, inner.len(), limit, false)?;
+        match behind {
+            None => return Ok((DottedKey { inner, last: key }, end)),
+            Some(on) => {
+                if let Err(e) = add(&mut inner, key) {
+                    return Err(Stop::Memory(e));
+                }
+                next = on;
+            }
         }
-        if let Err(e) = add(&mut inner, mem::replace(&mut last, key)) {
-            return Err(Stop::Memory(e));
-        }
-        end = key_end;
     }
-    Ok((DottedKey { inner, last }, end))
 }
 
 /// The parts of a header at a place, at most `limit`, and where they end, with the faults of `dotted_key`.
@@ -128,42 +165,20 @@ pub(crate) fn header_key<'de>(
     limit: usize,
 ) -> Result<(SmallVec<Key<'de>, 5>, usize), Stop<Fault>>
     requires boundary { IsCharBoundary text.now at }
-    requires some { 1 ≤ limit }
-    ensures gives { HeaderKeyGives text.now limit at result }
+    ensures gives { Gives header_found (spec.key true text.now limit [] at) result }
     ensures borrows { IfOk result (λ found. AreWrittenRight text.now (keys_written found.0.items)) }
     ensures advances { Advances text.now at result }
 {
     let mut parts = SmallVec::new(alloc);
     let mut next = at;
     'parts: loop {
-        let end = add_part(alloc, text, next, limit, &mut parts)?;
-        match dot(text, end) {
+        let (key, end, behind) = part(alloc, text, next, parts.len(), limit, true)?;
+        if let Err(e) = parts.push(key) {
+            return Err(Stop::Memory(e.into()));
+        }
+        match behind {
             None => return Ok((parts, end)),
             Some(on) => next = on,
         }
-    }
-}
-
-/// Puts the key at a place behind the other parts of a header, `limit` parts at most, and tells where it ends.
-fn add_part<'de>(
-    alloc: Global,
-    text: &'de str,
-    at: usize,
-    limit: usize,
-    parts: &mut SmallVec<Key<'de>, 5>,
-) -> Result<usize, Stop<Fault>>
-    requires { IsCharBoundary text.now at }
-    ensures { PartGives text.now limit at parts.old.items parts.new.items result }
-{
-    let (key, end) = simple_key(alloc, text, at)?;
-    if parts.len() >= limit {
-        return Err(Stop::Fault(Fault {
-            kind: FaultKind::ExceededDepthLimit,
-            span: key.span,
-        }));
-    }
-    match parts.push(key) {
-        Ok(()) => Ok(end),
-        Err(e) => Err(Stop::Memory(e.into())),
     }
 }

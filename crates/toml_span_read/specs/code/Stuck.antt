@@ -1,46 +1,21 @@
 -- What each function of reading finds where it gives a fault: the forms before it, and that one of `Faults` that stands
 -- behind them. For a document it is what is due (`specs/Due.antt`), told from the outside to the inside.
 use Rattle.std.specs.Prelude.{◌≡◌, ℕ, ◌+◌, ◌<◌, ◌≤◌, ◌⊎◌, Bool, true, false, ◌==◌}
-use Rattle.std.specs.Prelude.{List, [], ◌∷◌, ◌++◌, length, slice_index}
+use Rattle.std.specs.Prelude.{List, [], ◌∷◌, ◌++◌, length, slice_index, Err}
 use Rattle.toml_span_lex.specs.Bytes.{is_blank, equals, MaximalRun, left_bracket, comma, left_brace, right_brace}
 use Rattle.toml_span_lex.specs.Bytes.{right_bracket}
 use Rattle.toml_span_lex.specs.Tokenizer.{FirstPlace}
 use Rattle.toml_span_read.specs.declared.fault.Fault.{Fault}
-use Rattle.toml_span_read.specs.Gaps.{Dot, MaximalGap, Separator, Equals, Tail, NoTail}
-use Rattle.toml_span_read.specs.Faults.{NoPart, NoHeaderPart, NoEquals, NoValue, NoComma, NoBracket, IsWanted}
-use Rattle.toml_span_read.specs.Keys.{SimpleKey, SpellsSimpleKey, SpellsKey}
+use Rattle.toml_span_read.specs.Gaps.{MaximalGap, Separator, Equals, Tail, NoTail}
+use Rattle.toml_span_read.specs.Faults.{NoEquals, NoValue, NoComma, NoBracket, IsWanted}
+use Rattle.toml_span_read.specs.Keys.{SimpleKey, SpellsKey}
+use Rattle.toml_span_read.specs.Read.{key}
 use Rattle.toml_span_read.specs.declared.fault.Due.TheVariants as dues
 use Rattle.toml_span_read.specs.Data.{ParsedValue, KeyValue, Block}
 use Rattle.toml_span_read.specs.Earlier.{Clear, Crossing}
 use Rattle.toml_span_read.specs.Grammar.{Spells, SpellsPair, SpellsKeyValue, OpensHeader, ClosesHeader, HeaderFront}
 use Rattle.toml_span_read.specs.Grammar.{SpellsHeader}
 use Rattle.toml_span_read.specs.Grammar.{SpellsSection, SpellsLines}
-
--- ---- keys
-
--- behind n parts of a dotted key, the last of which ends at m, this fault stands
---
--- within `*( dot-sep simple-key )`
-pub data StuckOnward (text : List ℕ) (limit : ℕ) : ℕ → ℕ → Fault → Type 0 where
-  part_here : (n m p : ℕ) (e : Fault) → Dot text m p → NoPart text limit n p e → StuckOnward text limit n m e
-  dotted_on : (n m p q : ℕ) (s : SimpleKey) (e : Fault) → Dot text m p → SpellsSimpleKey s text p q → n < limit
-      → StuckOnward text limit (n + 1) q e → StuckOnward text limit n m e
-
--- a key of at most so many parts is due at i, and this fault stands there or behind its first parts
---
--- within `key = simple-key / dotted-key`
-pub data StuckKey (text : List ℕ) (limit : ℕ) : ℕ → Fault → Type 0 where
-  no_first : (i : ℕ) (e : Fault) → NoPart text limit 0 i e → StuckKey text limit i e
-  onward : (i m : ℕ) (s : SimpleKey) (e : Fault) → SpellsSimpleKey s text i m → 0 < limit
-      → StuckOnward text limit 1 m e → StuckKey text limit i e
-
--- behind n parts of a header another one is due at i, and this fault stands there or further on
---
--- within the `key` of `std-table = std-table-open key std-table-close` or of `array-table`
-pub data StuckHeaderKey (text : List ℕ) (limit : ℕ) : ℕ → ℕ → Fault → Type 0 where
-  header_part_here : (n i : ℕ) (e : Fault) → NoHeaderPart text limit n i e → StuckHeaderKey text limit n i e
-  header_on : (n i m p : ℕ) (s : SimpleKey) (e : Fault) → SpellsSimpleKey s text i m → n < limit → Dot text m p
-      → StuckHeaderKey text limit (n + 1) p e → StuckHeaderKey text limit n i e
 
 -- ---- values
 
@@ -86,7 +61,7 @@ mutual
 
   -- a pair is due at i: within `keyval = key keyval-sep val`
   pub data StuckPair (text : List ℕ) (limit : ℕ) : ℕ → ℕ → Fault → Type 0 where
-    in_key : (d i : ℕ) (e : Fault) → StuckKey text limit i e → StuckPair text limit d i e
+    in_key : (d i : ℕ) (e : Fault) → key false text limit [] i (Err e) → StuckPair text limit d i e
     -- behind the key stands no equals sign
     no_equals : (d i a n : ℕ) (ss : List SimpleKey) (e : Fault) → SpellsKey ss text i a → length ss ≤ limit
         → MaximalGap text a n → NoEquals text n e → StuckPair text limit d i e
@@ -103,7 +78,7 @@ StuckTail text i e = (n : ℕ) × NoTail text i n × IsWanted text n dues.Newlin
 
 -- an assignment is due at i, and this fault stands there or further on: within `keyval = key keyval-sep val`
 pub data StuckKeyValue (text : List ℕ) (limit : ℕ) : ℕ → Fault → Type 0 where
-  line_key : (i : ℕ) (e : Fault) → StuckKey text limit i e → StuckKeyValue text limit i e
+  line_key : (i : ℕ) (e : Fault) → key false text limit [] i (Err e) → StuckKeyValue text limit i e
   line_equals : (i a n : ℕ) (ps : List SimpleKey) (e : Fault) → SpellsKey ps text i a → length ps ≤ limit
       → MaximalRun is_blank text a n → NoEquals text n e → StuckKeyValue text limit i e
   line_value : (i a b : ℕ) (ps : List SimpleKey) (e : Fault) → SpellsKey ps text i a → length ps ≤ limit
@@ -141,7 +116,7 @@ NoClosing true text i e = NoBracket text i e ⊎ ((slice_index text i ≡ right_
 -- within `expression =/ ws table ws [ comment ]`, where `table = std-table / array-table`
 pub data StuckHeader (text : List ℕ) (limit : ℕ) : ℕ → Fault → Type 0 where
   header_key : (i m k : ℕ) (array : Bool) (e : Fault) → OpensHeader array text i m → MaximalRun is_blank text m k
-      → StuckHeaderKey text limit 0 k e → StuckHeader text limit i e
+      → key true text limit [] k (Err e) → StuckHeader text limit i e
   header_close : (i k : ℕ) (array : Bool) (ps : List SimpleKey) (e : Fault) → HeaderFront ps array text limit i k
       → NoClosing array text k e → StuckHeader text limit i e
   header_rest : (i k m : ℕ) (array : Bool) (ps : List SimpleKey) (e : Fault) → HeaderFront ps array text limit i k

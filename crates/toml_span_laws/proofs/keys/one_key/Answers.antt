@@ -1,5 +1,9 @@
-use Rattle.toml_span_laws.proofs.KeyLaws.{key_unique}
+use Rattle.std.proofs.Common.{[]}
+use Rattle.toml_span_laws.proofs.KeyLaws.{simple_one, key_one}
 use Rattle.toml_span_laws.proofs.keys.one_key.Goals as goal
 
-pub returns : goal.returns
-returns c = λ text i j k p q a b. key_unique p q text i j k a b
+pub returns-clause-single : goal.returns-clause-single
+returns-clause-single c = simple_one
+
+pub returns-clause-dotted : goal.returns-clause-dotted
+returns-clause-dotted c = λ header text limit i. key_one header text limit [] i

@@ -1,36 +1,50 @@
-use Rattle.std.proofs.Common.{arith}
-use Rattle.toml_span_read.specs.code.Stuck.{header_on}
+use Rattle.std.proofs.Common.{arith, [], ◌∷◌, ◌≡◌, length, refl, true}
+use Rattle.std.proofs.lemmas.List.{map-append}
 use Rattle.toml_span_read.specs.Borrowed.{IsWrittenRight}
+use Rattle.toml_span_read.specs.Keys.{simple_key}
+use Rattle.toml_span_read.specs.code.Keys.{header_found}
 use Rattle.toml_span_read.proofs.BorrowLemmas.{keys_more}
-use Rattle.toml_span_read.proofs.KeyLemmas.{handed_on, one_more, header_fault, header_more, part_placed}
+use Rattle.toml_span_read.proofs.KeyLemmas.{handed_on, one_more, none_behind, more_behind, last_behind, stops_behind, part_placed}
 use Rattle.toml_span_read.proofs.keys.header_key.Goals as goal
 
-pub returns-in_err-end-clause-gives : goal.returns-in_err-end-clause-gives
-returns-in_err-end-clause-gives c =
-    rw (handed_on c.from_residual.result c.in_err-end.field-0.0 c.from_residual.ensures.1)
-    (header_fault c.in_err-end.field-0.0 c.args.text.now c.args.limit c.args.at c.parts.next c.parts.parts.items c.add_part.new.parts.items c.parts.invariant.stuck c.in_err-end.ensures)
+pub parts-init : goal.parts-init
+parts-init c =
+    let none = c.new-parts.ensures.items in
+    let z : length c.new-parts.result.items ≡ 0 = rw none refl in
+    record {
+      forward = omega arith;
+      boundary = c.requires.boundary;
+      borrows = rw none tt;
+      few = omega arith;
+      behind = none_behind true c.args.text.now c.args.limit c.args.at c.new-parts.result.items none;
+    }
 
-pub returns-in_err-end-clause-advances : goal.returns-in_err-end-clause-advances
-returns-in_err-end-clause-advances c =
-    rw (handed_on c.from_residual.result c.in_err-end.field-0.0 c.from_residual.ensures.1)
-    (part_placed c.in_err-end.field-0.0 c.args.text.now c.args.limit c.parts.next c.parts.parts.items c.add_part.new.parts.items c.in_err-end.ensures)
+pub returns-in_err-key-clause-gives : goal.returns-in_err-key-clause-gives
+returns-in_err-key-clause-gives c =
+    rw (handed_on c.from_residual.result c.in_err-key.field-0.0 c.from_residual.ensures.1)
+    (stops_behind header_found c.in_err-key.field-0.0 true c.args.text.now c.args.limit c.args.at c.parts.next _ c.parts.parts.items c.len.ensures.value c.parts.invariant.few c.parts.invariant.behind c.in_err-key.ensures.gives)
+
+pub returns-in_err-key-clause-advances : goal.returns-in_err-key-clause-advances
+returns-in_err-key-clause-advances c =
+    rw (handed_on c.from_residual.result c.in_err-key.field-0.0 c.from_residual.ensures.1)
+    (part_placed c.in_err-key.field-0.0 true c.args.text.now c.args.limit _ c.parts.next c.in_err-key.ensures.gives)
+
+pub returns-in-None-clause-gives : goal.returns-in-None-clause-gives
+returns-in-None-clause-gives c =
+    let (h, few, on, none) = c.in_ok-key.ensures.gives in
+    rw (c.in_default.ensures.ok, map-append simple_key c.parts.parts.items (c.in_ok-key.key ∷ []))
+    (last_behind true c.args.text.now c.args.limit c.args.at c.parts.next c.in_ok-key.end c.parts.parts.items c.in_ok-key.key (omega (arith, few, c.len.ensures.value)) h (rw c.in-None.is at none) c.parts.invariant.behind)
 
 pub parts-preserved : goal.parts-preserved
 parts-preserved c =
-    let part = c.in_ok-end.ensures in
-    let key = part.0 in
-    let pushed = part.1 in
-    let spells = part.2 in
-    let right = part.3 in
-    let few = part.4 in
-    let on = part.5 in
-    let d = c.in-Some.ensures in
-    let n = one_more c.parts.parts.items c.add_part.new.parts.items key pushed in
+    let (h, few, on, found) = c.in_ok-key.ensures.gives in
+    let dot = rw c.in-Some.is at found in
+    let pushed = c.in_default.ensures.ok in
+    let n = one_more c.parts.parts.items c.push.new.self.items c.in_ok-key.key pushed in
     record {
-      forward = omega (arith, on.on, d.1.on);
-      boundary = d.1.boundary;
-      borrows = keys_more (IsWrittenRight c.args.text.now) c.parts.parts.items c.add_part.new.parts.items key pushed c.parts.invariant.borrows right;
-      few = omega (arith, n, few);
-      whole = header_more c.parts.parts.items c.add_part.new.parts.items key c.args.text.now c.args.at c.parts.next _ _ pushed c.parts.invariant.whole spells d.0;
-      stuck = λ e h. c.parts.invariant.stuck e (header_on _ _ _ _ _ _ spells few d.0 (rw n at h));
+      forward = omega (arith, on.on, dot.1.on);
+      boundary = dot.1.boundary;
+      borrows = keys_more (IsWrittenRight c.args.text.now) c.parts.parts.items c.push.new.self.items c.in_ok-key.key pushed c.parts.invariant.borrows c.in_ok-key.ensures.borrows;
+      few = omega (arith, n, few, c.len.ensures.value);
+      behind = more_behind true c.args.text.now c.args.limit c.args.at c.parts.next c.in_ok-key.end c.in-Some.on c.parts.parts.items c.push.new.self.items c.in_ok-key.key pushed h dot.0 c.parts.invariant.behind;
     }

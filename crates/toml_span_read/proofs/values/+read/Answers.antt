@@ -3,7 +3,7 @@ use Rattle.std.specs.Prelude.{◌==◌}
 use Rattle.toml_span_read.specs.Keys.{parts}
 use Rattle.toml_span_read.specs.Faults.{opens_nested}
 use Rattle.toml_span_read.specs.code.Stuck.{item_on}
-use Rattle.toml_span_read.proofs.KeyLemmas.{handed_on, parts_length}
+use Rattle.toml_span_read.proofs.KeyLemmas.{handed_on, parts_length, key_sound}
 use Rattle.toml_span_read.specs.Borrowed.{IsWrittenRight, written, assignment_written}
 use Rattle.toml_span_read.proofs.BorrowLemmas.{joined_more, assignment_right}
 use Rattle.toml_span_read.specs.Data.{no_items, no_pairs}
@@ -196,32 +196,32 @@ pair-returns-in_err-parts-clause-gives t c =
 
 pub pair-returns-in-Err-clause-gives : goal.pair-returns-in-Err-clause-gives
 pair-returns-in-Err-clause-gives t c =
-    let k = c.in_ok-parts.ensures.gives in
+    let k = key_sound _ _ _ _ _ _ c.in_ok-parts.ensures.gives in
     let s = c.in-Err.ensures in
     equals_stuck c.wanted.result (parts c.in_ok-parts.parts) c.args.text.now c.args.limit c.args.depth c.args.at c.in_ok-parts.key_end c.in-Err.here k.0 k.1 s.0 s.1 c.wanted.ensures.gives
 
 pub pair-returns-in-Ok-value-clause-reads : goal.pair-returns-in-Ok-value-clause-reads
 pair-returns-in-Ok-value-clause-reads t c =
-    let k = c.in_ok-parts.ensures in
+    let k = key_sound _ _ _ _ _ _ c.in_ok-parts.ensures.gives in
     let q = c.in-Ok.ensures in
     let v = c.in-Ok-value.ensures.reads in
     let u : c.args.depth + (c.len.result + 1) ≡ c.args.depth + length (parts c.in_ok-parts.parts) = omega (arith, parts_length c.in_ok-parts.parts.inner.items c.in_ok-parts.parts.last, c.len.ensures) in
-    let m = assignment_made _ _ _ _ c.args.text.now c.args.limit c.args.depth _ c.args.at _ c.in-Ok.from c.in-Ok-value.end c.assigned.ensures.key_value k.gives.0 k.gives.1 (omega (arith, q.1.on)) u v.0 v.2 in
-    (m.0, record { on = omega (arith, k.advances.on, q.1.on, v.1.on); boundary = v.1.boundary }, m.1.0, m.1.1, m.1.2)
+    let m = assignment_made _ _ _ _ c.args.text.now c.args.limit c.args.depth _ c.args.at _ c.in-Ok.from c.in-Ok-value.end c.assigned.ensures.key_value k.0 k.1 (omega (arith, q.1.on)) u v.0 v.2 in
+    (m.0, record { on = omega (arith, c.in_ok-parts.ensures.advances.on, q.1.on, v.1.on); boundary = v.1.boundary }, m.1.0, m.1.1, m.1.2)
 
 pub pair-returns-in-Ok-value-clause-borrows : goal.pair-returns-in-Ok-value-clause-borrows
 pair-returns-in-Ok-value-clause-borrows t c = assignment_right c.args.text.now _ c.in_ok-parts.parts c.in-Ok-value.value c.assigned.ensures.written c.in_ok-parts.ensures.borrows c.in-Ok-value.ensures.borrows
 
 pub pair-returns-in-Ok-value-clause-gives : goal.pair-returns-in-Ok-value-clause-gives
 pair-returns-in-Ok-value-clause-gives t c =
-    let k = c.in_ok-parts.ensures.gives in
+    let k = key_sound _ _ _ _ _ _ c.in_ok-parts.ensures.gives in
     let q = c.in-Ok.ensures in
     let u : c.args.depth + (c.len.result + 1) ≡ c.args.depth + length (parts c.in_ok-parts.parts) = omega (arith, parts_length c.in_ok-parts.parts.inner.items c.in_ok-parts.parts.last, c.len.ensures) in
     pair_spelled _ _ _ c.args.text.now c.args.limit c.args.depth _ c.args.at c.in_ok-parts.key_end c.in-Ok.from c.in-Ok-value.end c.assigned.ensures.key_value k.0 k.1 q.0 u c.in-Ok-value.ensures.gives
 
 pub pair-returns-clause-gives : goal.pair-returns-clause-gives
 pair-returns-clause-gives t c =
-    let k = c.in_ok-parts.ensures.gives in
+    let k = key_sound _ _ _ _ _ _ c.in_ok-parts.ensures.gives in
     let q = c.in-Ok.ensures in
     let u : c.args.depth + (c.len.result + 1) ≡ c.args.depth + length (parts c.in_ok-parts.parts) = omega (arith, parts_length c.in_ok-parts.parts.inner.items c.in_ok-parts.parts.last, c.len.ensures) in
     value_stuck c.in-Err-value.stop (parts c.in_ok-parts.parts) c.args.text.now c.args.limit c.args.depth _ c.args.at c.in_ok-parts.key_end c.in-Ok.from k.0 k.1 q.0 u c.in-Err-value.ensures.gives

@@ -1,0 +1,20 @@
+use Rattle.std.proofs.Common.{refl, true, false}
+use Rattle.toml_span_lex.specs.Tokens.{string}
+use Rattle.toml_span_read.specs.Read.{token}
+use Rattle.toml_span_read.proofs.KeyLemmas.{handed_on, string_stops}
+use Rattle.toml_span_read.proofs.keys.quoted_key.Goals as goal
+
+pub returns-in_err-token-clause-gives : goal.returns-in_err-token-clause-gives
+returns-in_err-token-clause-gives c =
+    rw (handed_on c.from_residual.result c.in_err-token.field-0.0 c.from_residual.ensures.1)
+    (string_stops c.in_err-token.field-0.0 c.args.text.now c.args.at c.in_err-token.ensures.gives)
+
+pub returns-then-token-clause-gives : goal.returns-then-token-clause-gives
+returns-then-token-clause-gives c =
+    let h = c.in_ok-token.ensures.gives in
+    (token c.in_ok-token.token.span (string h.0 _ true) c.in_ok-token.token.end, (rw c.if-token.true at h.1), (rw c.as_ref.ensures.value refl))
+
+pub returns-clause-gives : goal.returns-clause-gives
+returns-clause-gives c =
+    let h = c.in_ok-token.ensures.gives in
+    (token c.in_ok-token.token.span (string h.0 _ false) c.in_ok-token.token.end, (rw c.if-token.false at h.1), refl)
