@@ -117,14 +117,11 @@ fn push_row(rt: &HostRuntime, alloc: Global, line: &str, out: &mut Out) -> bool 
     let mut answer = Out::new(alloc);
     let answered = push_answered(rt, alloc, line, &mut answer);
     let known = out.kept(answered).unwrap_or(false);
-    push_indented(
-        out,
-        if known {
-            answer.text.as_str()
-        } else {
-            NO_SUCH_ROW
-        },
-    );
+    if known {
+        push_indented(out, answer.text.as_str());
+    } else {
+        push_indented(out, NO_SUCH_ROW);
+    }
     out.is_short = out.is_short || answer.is_short;
     known
 }

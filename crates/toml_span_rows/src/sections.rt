@@ -3,7 +3,8 @@
 //! - `read LIMIT`: the sections of a document, a line each. A key, a value, a header and a section have their places
 //!   behind `@`, an assignment its extent.
 //! - `reads LIMIT`: whether a document is read.
-//! - `key_places` and `lines` (`edits`), `section_places`, `insertion_point`, `table_places` and `table_forms` (`spots`).
+//! - `key_places` and `lines`, of `edits`; `section_places`, `insertion_point`, `table_places` and `table_forms`, of
+//!   `spots`.
 use crate::tokens::push_span;
 use crate::told::Out;
 use crate::trees::limit_of;
