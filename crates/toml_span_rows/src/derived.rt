@@ -66,13 +66,11 @@ fn push_limits(alloc: Global, text: &str, out: &mut Out) {
 fn limits_of(alloc: Global, text: &str) -> Result<Limits, Stop<Error<'_>>> {
     let root = match parse(alloc, text) {
         Ok(root) => root,
-        Err(Stop::Memory(e)) => return Err(Stop::Memory(e)),
-        Err(Stop::Fault(error)) => return Err(Stop::Fault(Error::Refused(error))),
+        Err(stop) => return Err(Stop::Fault(Error::Refused(stop.fault()?))),
     };
     match from_value(alloc, &root) {
         Ok(limits) => Ok(limits),
-        Err(Stop::Memory(e)) => Err(Stop::Memory(e)),
-        Err(Stop::Fault(misfit)) => Err(Stop::Fault(Error::Misfit(misfit))),
+        Err(stop) => Err(Stop::Fault(Error::Misfit(stop.fault()?))),
     }
 }
 

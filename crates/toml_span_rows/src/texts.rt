@@ -2,7 +2,7 @@
 use crate::Row;
 use crate::told::Out;
 use std::alloc::Global;
-use toml_span::{Error, Stop, parse};
+use toml_span::{Error, parse};
 
 /// Writes the answer of a row, or says that there is no such call.
 pub fn answer(alloc: Global, row: Row<'_>, out: &mut Out) -> bool {
@@ -39,14 +39,13 @@ fn is_right(alloc: Global, text: &str, out: &mut Out) -> bool {
             drop(root);
             is_whole
         }
-        Err(Stop::Fault(fault)) => {
+        Err(stop) => {
+            let Some(fault) = out.kept(stop.fault()) else {
+                return false;
+            };
             let is_within = is_within(text, &fault);
             drop(fault);
             is_within
-        }
-        Err(Stop::Memory(_)) => {
-            out.is_short = true;
-            false
         }
     }
 }

@@ -132,13 +132,11 @@ pub fn answer(alloc: Global, row: Row<'_>, out: &mut Out) -> bool {
             drop(root);
             known
         }
-        Err(Stop::Fault(fault)) => {
-            push_refused(alloc, row.call, &fault, out);
-            drop(fault);
-            true
-        }
-        Err(Stop::Memory(_)) => {
-            out.is_short = true;
+        Err(stop) => {
+            if let Some(fault) = out.kept(stop.fault()) {
+                push_refused(alloc, row.call, &fault, out);
+                drop(fault);
+            }
             true
         }
     }

@@ -3,8 +3,8 @@
 use crate::told::Out;
 use crate::trees::shown::push_lines;
 use std::alloc::Global;
+use toml_span::parse;
 use toml_span::value::{Table, Value, ValueInner, nodes};
-use toml_span::{Stop, parse};
 
 /// What stands before a piece that is read again.
 const FRONT: &str = "x = ";
@@ -26,8 +26,7 @@ fn push_reread(alloc: Global, piece: &str, out: &mut Out) {
             push_moved_lines(alloc, &root, out);
             drop(root);
         }
-        Err(Stop::Fault(fault)) => drop(fault),
-        Err(Stop::Memory(_)) => out.is_short = true,
+        Err(stop) => drop(out.kept(stop.fault())),
     }
 }
 

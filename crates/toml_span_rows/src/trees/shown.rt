@@ -153,11 +153,8 @@ pub fn push_fault(fault: &Error<'_>, out: &mut Out) {
 
 /// Adds what is told of the fault for which a call gave nothing.
 pub fn push_stop(stop: Stop<Error<'_>>, out: &mut Out) {
-    match stop {
-        Stop::Fault(fault) => {
-            push_fault(&fault, out);
-            drop(fault);
-        }
-        Stop::Memory(_) => out.is_short = true,
+    if let Some(fault) = out.kept(stop.fault()) {
+        push_fault(&fault, out);
+        drop(fault);
     }
 }

@@ -105,11 +105,7 @@ fn errors_as<'de, T: Deserialize<'de>>(
     }
     match T::deserialize(alloc, value) {
         Ok(_) => None,
-        Err(Stop::Fault(errors)) => Some(errors),
-        Err(Stop::Memory(_)) => {
-            out.is_short = true;
-            None
-        }
+        Err(stop) => out.kept(stop.fault()),
     }
 }
 
