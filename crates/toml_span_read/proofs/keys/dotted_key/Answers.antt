@@ -27,9 +27,6 @@ returns-in_err-key-clause-advances c =
     rw (handed_on c.from_residual.result c.in_err-key.field-0.0 c.from_residual.ensures.1)
     (part_placed c.in_err-key.field-0.0 false c.args.text.now c.args.limit _ c.parts.next c.in_err-key.ensures.gives)
 
-pub returns-in_err-key-clause-borrows : goal.returns-in_err-key-clause-borrows
-returns-in_err-key-clause-borrows c = rw (handed_on c.from_residual.result c.in_err-key.field-0.0 c.from_residual.ensures.1) tt
-
 pub returns-in-None-clause-gives : goal.returns-in-None-clause-gives
 returns-in-None-clause-gives c =
     let (h, few, on, none) = c.in_ok-key.ensures.gives in
@@ -37,9 +34,6 @@ returns-in-None-clause-gives c =
 
 pub returns-in-None-clause-borrows : goal.returns-in-None-clause-borrows
 returns-in-None-clause-borrows c = all_append (IsWrittenRight c.args.text.now) (keys_written c.parts.inner.items) (key_written c.in_ok-key.key ∷ []) c.parts.invariant.borrows (c.in_ok-key.ensures.borrows, tt)
-
-pub returns-in-None-clause-advances : goal.returns-in-None-clause-advances
-returns-in-None-clause-advances c = let on = c.in_ok-key.ensures.gives.2 in record { on = omega (arith, c.parts.invariant.forward, on.on); boundary = on.boundary }
 
 pub parts-preserved : goal.parts-preserved
 parts-preserved c =

@@ -14,6 +14,3 @@ returns-then-others-limit-clause-gives c =
     let k = c.in_ok-key.ensures.gives in
     rw c.one_too_many.ensures
     (key_past c.args.in_header c.args.text.now _ c.args.at c.in_ok-key.end s (omega arith) k, past_placed c.args.in_header c.args.text.now c.args.at c.in_ok-key.end s c.requires.0 (simple_sound s c.args.text.now c.args.at c.in_ok-key.end k))
-
-pub returns-clause-gives : goal.returns-clause-gives
-returns-clause-gives c = (c.in_ok-key.ensures.gives, omega arith, c.in_ok-key.ensures.advances, c.dot.ensures)
