@@ -17,23 +17,10 @@ parts-init c =
       behind = none_behind false c.args.text.now c.args.limit c.args.at c.new-inner.result.items none;
     }
 
-pub returns-in_err-key-clause-gives : goal.returns-in_err-key-clause-gives
-returns-in_err-key-clause-gives c =
-    rw (handed_on c.from_residual.result c.in_err-key.field-0.0 c.from_residual.ensures.1)
-    (stops_behind parts_found c.in_err-key.field-0.0 false c.args.text.now c.args.limit c.args.at c.parts.next _ c.parts.inner.items (omega (arith, c.len.ensures)) c.parts.invariant.few c.parts.invariant.behind c.in_err-key.ensures.gives)
-
-pub returns-in_err-key-clause-advances : goal.returns-in_err-key-clause-advances
-returns-in_err-key-clause-advances c =
-    rw (handed_on c.from_residual.result c.in_err-key.field-0.0 c.from_residual.ensures.1)
-    (part_placed c.in_err-key.field-0.0 false c.args.text.now c.args.limit _ c.parts.next c.in_err-key.ensures.gives)
-
 pub returns-in-None-clause-gives : goal.returns-in-None-clause-gives
 returns-in-None-clause-gives c =
     let (h, few, on, none) = c.in_ok-key.ensures.gives in
     last_behind false c.args.text.now c.args.limit c.args.at c.parts.next c.in_ok-key.end c.parts.inner.items c.in_ok-key.key (omega (arith, few, c.len.ensures)) h (rw c.in-None.is at none) c.parts.invariant.behind
-
-pub returns-in-None-clause-borrows : goal.returns-in-None-clause-borrows
-returns-in-None-clause-borrows c = all_append (IsWrittenRight c.args.text.now) (keys_written c.parts.inner.items) (key_written c.in_ok-key.key ∷ []) c.parts.invariant.borrows (c.in_ok-key.ensures.borrows, tt)
 
 pub parts-preserved : goal.parts-preserved
 parts-preserved c =
@@ -48,3 +35,8 @@ parts-preserved c =
       few = omega (arith, n, few, c.len.ensures);
       behind = more_behind false c.args.text.now c.args.limit c.args.at c.parts.next c.in_ok-key.end c.in-Some.on c.parts.inner.items c.add.new.items.items c.in_ok-key.key pushed h dot.0 c.parts.invariant.behind;
     }
+
+pub returns-in_err-key-clause-gives : goal.returns-in_err-key-clause-gives
+returns-in_err-key-clause-gives c =
+    rw (handed_on c.from_residual.result c.in_err-key.field-0.0 c.from_residual.ensures.1)
+    (stops_behind parts_found c.in_err-key.field-0.0 false c.args.text.now c.args.limit c.args.at c.parts.next _ c.parts.inner.items (omega (arith, c.len.ensures)) c.parts.invariant.few c.parts.invariant.behind c.in_err-key.ensures.gives)

@@ -19,16 +19,6 @@ parts-init c =
       behind = none_behind true c.args.text.now c.args.limit c.args.at c.new-parts.result.items none;
     }
 
-pub returns-in_err-key-clause-gives : goal.returns-in_err-key-clause-gives
-returns-in_err-key-clause-gives c =
-    rw (handed_on c.from_residual.result c.in_err-key.field-0.0 c.from_residual.ensures.1)
-    (stops_behind header_found c.in_err-key.field-0.0 true c.args.text.now c.args.limit c.args.at c.parts.next _ c.parts.parts.items c.len.ensures.value c.parts.invariant.few c.parts.invariant.behind c.in_err-key.ensures.gives)
-
-pub returns-in_err-key-clause-advances : goal.returns-in_err-key-clause-advances
-returns-in_err-key-clause-advances c =
-    rw (handed_on c.from_residual.result c.in_err-key.field-0.0 c.from_residual.ensures.1)
-    (part_placed c.in_err-key.field-0.0 true c.args.text.now c.args.limit _ c.parts.next c.in_err-key.ensures.gives)
-
 pub returns-in-None-clause-gives : goal.returns-in-None-clause-gives
 returns-in-None-clause-gives c =
     let (h, few, on, none) = c.in_ok-key.ensures.gives in
@@ -48,3 +38,8 @@ parts-preserved c =
       few = omega (arith, n, few, c.len.ensures.value);
       behind = more_behind true c.args.text.now c.args.limit c.args.at c.parts.next c.in_ok-key.end c.in-Some.on c.parts.parts.items c.push.new.self.items c.in_ok-key.key pushed h dot.0 c.parts.invariant.behind;
     }
+
+pub returns-in_err-key-clause-gives : goal.returns-in_err-key-clause-gives
+returns-in_err-key-clause-gives c =
+    rw (handed_on c.from_residual.result c.in_err-key.field-0.0 c.from_residual.ensures.1)
+    (stops_behind header_found c.in_err-key.field-0.0 true c.args.text.now c.args.limit c.args.at c.parts.next _ c.parts.parts.items c.len.ensures.value c.parts.invariant.few c.parts.invariant.behind c.in_err-key.ensures.gives)

@@ -3,11 +3,6 @@ use Rattle.toml_span_read.specs.Keys.{simple_key}
 use Rattle.toml_span_read.proofs.KeyLemmas.{handed_on, part_stops, key_past, past_placed, simple_sound}
 use Rattle.toml_span_read.proofs.keys.part.Goals as goal
 
-pub returns-in_err-key-clause-gives : goal.returns-in_err-key-clause-gives
-returns-in_err-key-clause-gives c =
-    rw (handed_on c.from_residual.result c.in_err-key.field-0.0 c.from_residual.ensures.1)
-    (part_stops c.in_err-key.field-0.0 c.args.in_header c.args.text.now c.args.limit c.args.others c.args.at c.in_err-key.ensures.gives c.in_err-key.ensures.advances)
-
 pub returns-then-others-limit-clause-gives : goal.returns-then-others-limit-clause-gives
 returns-then-others-limit-clause-gives c =
     let s = simple_key c.in_ok-key.key in

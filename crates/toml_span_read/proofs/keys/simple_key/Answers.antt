@@ -11,8 +11,3 @@ some c = run_some is_keylike c.args.text.now c.args.at c.keylike_end-end.result 
 
 pub returns-then-is_keylike-clause-gives : goal.returns-then-is_keylike-clause-gives
 returns-then-is_keylike-clause-gives c = (token _ (keylike c.range.result.now) _, ((some c, c.keylike_end-end.ensures.run, c.range.ensures.value), refl), refl)
-
-pub returns-else-opens_string-clause-gives : goal.returns-else-opens_string-clause-gives
-returns-else-opens_string-clause-gives c =
-    let b = c.byte_at-byte.ensures in
-    wanted_stops c.wanted.result c.args.text.now c.args.at c.wanted.ensures.gives (rw (← b) (sym c.if-is_keylike.ensures)) (rw (← b) (sym c.if-opens_string.ensures))
