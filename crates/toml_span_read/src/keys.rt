@@ -131,7 +131,7 @@ fn part<'de>(
 /// and `ExceededDepthLimit` at the part past the limit.
 ///
 /// `key = simple-key / dotted-key`, `dotted-key = simple-key 1*( dot-sep simple-key )` (TOML 1.1, Keys)
-#[tactic(auto, using(crate::proofs::KeyLemmas::part_placed))]
+#[tactic(auto, using(crate::proofs::KeyLemmas::part_placed, crate::proofs::KeyLemmas::none_behind))]
 pub(crate) fn dotted_key<'de>(
     alloc: Global,
     text: &'de str,
@@ -162,7 +162,7 @@ pub(crate) fn dotted_key<'de>(
 /// The parts of a header at a place, at most `limit`, and where they end, with the faults of `dotted_key`.
 ///
 /// `key = simple-key / dotted-key`, in `std-table = std-table-open key std-table-close` (TOML 1.1, Table)
-#[tactic(auto, using(crate::proofs::KeyLemmas::part_placed))]
+#[tactic(auto, using(crate::proofs::KeyLemmas::part_placed, crate::proofs::KeyLemmas::none_behind))]
 pub(crate) fn header_key<'de>(
     alloc: Global,
     text: &'de str,

@@ -5,18 +5,6 @@ use Rattle.toml_span_read.proofs.BorrowLemmas.{all_append, keys_more}
 use Rattle.toml_span_read.proofs.KeyLemmas.{handed_on, one_more, none_behind, more_behind, last_behind, stops_behind, part_placed}
 use Rattle.toml_span_read.proofs.keys.dotted_key.Goals as goal
 
-pub parts-init : goal.parts-init
-parts-init c =
-    let none = c.new-inner.ensures.items in
-    let z : length c.new-inner.result.items ≡ 0 = rw none refl in
-    record {
-      forward = omega arith;
-      boundary = c.requires.boundary;
-      borrows = rw none tt;
-      few = omega arith;
-      behind = none_behind false c.args.text.now c.args.limit c.args.at c.new-inner.result.items none;
-    }
-
 pub returns-in-None-clause-gives : goal.returns-in-None-clause-gives
 returns-in-None-clause-gives c =
     let (h, few, on, none) = c.in_ok-key.ensures.gives in
