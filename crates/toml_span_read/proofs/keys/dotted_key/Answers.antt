@@ -1,8 +1,8 @@
-use Rattle.std.proofs.Common.{arith, [], ◌∷◌, ◌≡◌, length, refl, false}
-use Rattle.toml_span_read.specs.Borrowed.{IsWrittenRight, key_written, keys_written}
+use Rattle.std.proofs.Common.{arith, false}
+use Rattle.toml_span_read.specs.Borrowed.{IsWrittenRight}
 use Rattle.toml_span_read.specs.code.Keys.{parts_found}
-use Rattle.toml_span_read.proofs.BorrowLemmas.{all_append, keys_more}
-use Rattle.toml_span_read.proofs.KeyLemmas.{handed_on, one_more, none_behind, more_behind, last_behind, stops_behind, part_placed}
+use Rattle.toml_span_read.proofs.BorrowLemmas.{keys_more}
+use Rattle.toml_span_read.proofs.KeyLemmas.{handed_on, one_more, more_behind, last_behind, stops_behind}
 use Rattle.toml_span_read.proofs.keys.dotted_key.Goals as goal
 
 pub returns-in-None-clause-gives : goal.returns-in-None-clause-gives

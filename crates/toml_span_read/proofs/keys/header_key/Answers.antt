@@ -1,10 +1,10 @@
-use Rattle.std.proofs.Common.{arith, [], ◌∷◌, ◌≡◌, length, refl, true}
+use Rattle.std.proofs.Common.{arith, [], ◌∷◌, true}
 use Rattle.std.proofs.lemmas.List.{map-append}
 use Rattle.toml_span_read.specs.Borrowed.{IsWrittenRight}
 use Rattle.toml_span_read.specs.Keys.{simple_key}
 use Rattle.toml_span_read.specs.code.Keys.{header_found}
 use Rattle.toml_span_read.proofs.BorrowLemmas.{keys_more}
-use Rattle.toml_span_read.proofs.KeyLemmas.{handed_on, one_more, none_behind, more_behind, last_behind, stops_behind, part_placed}
+use Rattle.toml_span_read.proofs.KeyLemmas.{handed_on, one_more, more_behind, last_behind, stops_behind}
 use Rattle.toml_span_read.proofs.keys.header_key.Goals as goal
 
 pub returns-in-None-clause-gives : goal.returns-in-None-clause-gives

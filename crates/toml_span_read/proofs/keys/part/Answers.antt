@@ -1,6 +1,6 @@
 use Rattle.std.proofs.Common.{arith}
 use Rattle.toml_span_read.specs.Keys.{simple_key}
-use Rattle.toml_span_read.proofs.KeyLemmas.{handed_on, part_stops, key_past, past_placed, simple_sound}
+use Rattle.toml_span_read.proofs.KeyLemmas.{key_past, past_placed, simple_sound}
 use Rattle.toml_span_read.proofs.keys.part.Goals as goal
 
 pub returns-then-others-limit-clause-gives : goal.returns-then-others-limit-clause-gives

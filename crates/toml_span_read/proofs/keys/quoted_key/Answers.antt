@@ -1,7 +1,6 @@
 use Rattle.std.proofs.Common.{refl, true, false}
 use Rattle.toml_span_lex.specs.Tokens.{string}
 use Rattle.toml_span_read.specs.Read.{token}
-use Rattle.toml_span_read.proofs.KeyLemmas.{handed_on, string_stops}
 use Rattle.toml_span_read.proofs.keys.quoted_key.Goals as goal
 
 pub returns-then-token-clause-gives : goal.returns-then-token-clause-gives

@@ -2,7 +2,6 @@ use Rattle.std.proofs.Common.{◌<◌, refl, sym}
 use Rattle.toml_span_lex.specs.Bytes.{is_keylike}
 use Rattle.toml_span_lex.specs.Tokens.{keylike}
 use Rattle.toml_span_read.specs.Read.{token}
-use Rattle.toml_span_read.proofs.KeyLemmas.{wanted_stops}
 use Rattle.toml_span_read.proofs.Places.{run_some}
 use Rattle.toml_span_read.proofs.keys.simple_key.Goals as goal
 
