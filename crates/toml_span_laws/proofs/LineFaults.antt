@@ -1,5 +1,5 @@
 -- Where a document is stuck, it is at one fault.
-use Rattle.std.proofs.Common.{◌≡◌, ℕ, ◌+◌, Bool, true, false, List, [], ◌∷◌, ◌++◌, length, get_or, arith, inl, inr, subst, Err}
+use Rattle.std.proofs.Common.{◌≡◌, ℕ, ◌+◌, Bool, true, false, List, [], ◌∷◌, ◌++◌, length, get_or, inl, inr, subst, Err}
 use Rattle.toml_span_lex.specs.Bytes.{is_blank, MaximalRun}
 use Rattle.toml_span_lex.proofs.Unique.{run_unique}
 use Rattle.toml_span_read.specs.declared.fault.Due.TheVariants as dues

@@ -1,5 +1,5 @@
 -- Where a text gets stuck, something is due.
-use Rattle.std.proofs.Common.{◌≡◌, ℕ, ◌+◌, ◌≤◌, Bool, true, false, List, [], ◌∷◌, ◌++◌, length, arith, inl, inr}
+use Rattle.std.proofs.Common.{◌≡◌, ℕ, ◌+◌, Bool, true, false, List, [], ◌∷◌, ◌++◌, length, arith, inl, inr}
 use Rattle.toml_span_read.specs.declared.fault.Fault.{Fault}
 use Rattle.toml_span_read.specs.Data.{KeyValue}
 use Rattle.toml_span_read.specs.Due.{Frame, in_section, in_brackets, in_braces, under_key, depth, a_line, a_key, an_equals, a_value, an_element, a_comma, a_verdict, a_header_key, a_closing, a_tail, a_line_end, DueAt, first_line, line_key, line_equals, line_value, line_tail, tail_rest, line_verdict, next_line, opens_header, header_closes, closes_again, header_tail, next_section, opens_array, item_value, behind_item, behind_comma, opens_table, pair_key, pair_equals, pair_value, pair_verdict, behind_pair, IsDue}

@@ -32,6 +32,7 @@ pub(crate) fn add<T: Drop>(items: &mut Vec<T>, item: T) -> Result<(), AllocError
 /// The string at a place as a key, and where it ends.
 ///
 /// `quoted-key = basic-string / literal-string` (TOML 1.1, Keys)
+#[tactic(auto, using(crate::proofs::KeyLemmas::string_stops))]
 fn quoted_key<'de>(
     alloc: Global,
     text: &'de str,
@@ -65,6 +66,7 @@ fn quoted_key<'de>(
 /// several lines `MultilineStringKey`; else that of the string.
 ///
 /// `simple-key = quoted-key / unquoted-key` (TOML 1.1, Keys)
+#[tactic(auto, using(crate::proofs::KeyLemmas::wanted_stops))]
 pub(crate) fn simple_key<'de>(
     alloc: Global,
     text: &'de str,
@@ -105,6 +107,7 @@ fn one_too_many(key: &Key<'_>, at: usize, in_header: bool) -> Fault
 /// The part of a key at a place, behind so many others, where it ends, and what is behind the dot, if one follows.
 ///
 /// `dot-sep simple-key` (TOML 1.1, Keys)
+#[tactic(auto, using(crate::proofs::KeyLemmas::part_stops))]
 fn part<'de>(
     alloc: Global,
     text: &'de str,
@@ -128,6 +131,7 @@ fn part<'de>(
 /// and `ExceededDepthLimit` at the part past the limit.
 ///
 /// `key = simple-key / dotted-key`, `dotted-key = simple-key 1*( dot-sep simple-key )` (TOML 1.1, Keys)
+#[tactic(auto, using(crate::proofs::KeyLemmas::part_placed, crate::proofs::KeyLemmas::none_behind))]
 pub(crate) fn dotted_key<'de>(
     alloc: Global,
     text: &'de str,
@@ -158,6 +162,7 @@ pub(crate) fn dotted_key<'de>(
 /// The parts of a header at a place, at most `limit`, and where they end, with the faults of `dotted_key`.
 ///
 /// `key = simple-key / dotted-key`, in `std-table = std-table-open key std-table-close` (TOML 1.1, Table)
+#[tactic(auto, using(crate::proofs::KeyLemmas::part_placed, crate::proofs::KeyLemmas::none_behind))]
 pub(crate) fn header_key<'de>(
     alloc: Global,
     text: &'de str,

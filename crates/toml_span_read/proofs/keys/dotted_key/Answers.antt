@@ -1,45 +1,14 @@
-use Rattle.std.proofs.Common.{arith, [], ◌∷◌, ◌≡◌, length, refl, false}
-use Rattle.toml_span_read.specs.Borrowed.{IsWrittenRight, key_written, keys_written}
+use Rattle.std.proofs.Common.{arith, false}
+use Rattle.toml_span_read.specs.Borrowed.{IsWrittenRight}
 use Rattle.toml_span_read.specs.code.Keys.{parts_found}
-use Rattle.toml_span_read.proofs.BorrowLemmas.{all_append, keys_more}
-use Rattle.toml_span_read.proofs.KeyLemmas.{handed_on, one_more, none_behind, more_behind, last_behind, stops_behind, part_placed}
+use Rattle.toml_span_read.proofs.BorrowLemmas.{keys_more}
+use Rattle.toml_span_read.proofs.KeyLemmas.{handed_on, one_more, more_behind, last_behind, stops_behind}
 use Rattle.toml_span_read.proofs.keys.dotted_key.Goals as goal
-
-pub parts-init : goal.parts-init
-parts-init c =
-    let none = c.new-inner.ensures.items in
-    let z : length c.new-inner.result.items ≡ 0 = rw none refl in
-    record {
-      forward = omega arith;
-      boundary = c.requires.boundary;
-      borrows = rw none tt;
-      few = omega arith;
-      behind = none_behind false c.args.text.now c.args.limit c.args.at c.new-inner.result.items none;
-    }
-
-pub returns-in_err-key-clause-gives : goal.returns-in_err-key-clause-gives
-returns-in_err-key-clause-gives c =
-    rw (handed_on c.from_residual.result c.in_err-key.field-0.0 c.from_residual.ensures.1)
-    (stops_behind parts_found c.in_err-key.field-0.0 false c.args.text.now c.args.limit c.args.at c.parts.next _ c.parts.inner.items (omega (arith, c.len.ensures)) c.parts.invariant.few c.parts.invariant.behind c.in_err-key.ensures.gives)
-
-pub returns-in_err-key-clause-advances : goal.returns-in_err-key-clause-advances
-returns-in_err-key-clause-advances c =
-    rw (handed_on c.from_residual.result c.in_err-key.field-0.0 c.from_residual.ensures.1)
-    (part_placed c.in_err-key.field-0.0 false c.args.text.now c.args.limit _ c.parts.next c.in_err-key.ensures.gives)
-
-pub returns-in_err-key-clause-borrows : goal.returns-in_err-key-clause-borrows
-returns-in_err-key-clause-borrows c = rw (handed_on c.from_residual.result c.in_err-key.field-0.0 c.from_residual.ensures.1) tt
 
 pub returns-in-None-clause-gives : goal.returns-in-None-clause-gives
 returns-in-None-clause-gives c =
     let (h, few, on, none) = c.in_ok-key.ensures.gives in
     last_behind false c.args.text.now c.args.limit c.args.at c.parts.next c.in_ok-key.end c.parts.inner.items c.in_ok-key.key (omega (arith, few, c.len.ensures)) h (rw c.in-None.is at none) c.parts.invariant.behind
-
-pub returns-in-None-clause-borrows : goal.returns-in-None-clause-borrows
-returns-in-None-clause-borrows c = all_append (IsWrittenRight c.args.text.now) (keys_written c.parts.inner.items) (key_written c.in_ok-key.key ∷ []) c.parts.invariant.borrows (c.in_ok-key.ensures.borrows, tt)
-
-pub returns-in-None-clause-advances : goal.returns-in-None-clause-advances
-returns-in-None-clause-advances c = let on = c.in_ok-key.ensures.gives.2 in record { on = omega (arith, c.parts.invariant.forward, on.on); boundary = on.boundary }
 
 pub parts-preserved : goal.parts-preserved
 parts-preserved c =
@@ -54,3 +23,8 @@ parts-preserved c =
       few = omega (arith, n, few, c.len.ensures);
       behind = more_behind false c.args.text.now c.args.limit c.args.at c.parts.next c.in_ok-key.end c.in-Some.on c.parts.inner.items c.add.new.items.items c.in_ok-key.key pushed h dot.0 c.parts.invariant.behind;
     }
+
+pub returns-in_err-key-clause-gives : goal.returns-in_err-key-clause-gives
+returns-in_err-key-clause-gives c =
+    rw (handed_on c.from_residual.result c.in_err-key.field-0.0 c.from_residual.ensures.1)
+    (stops_behind parts_found c.in_err-key.field-0.0 false c.args.text.now c.args.limit c.args.at c.parts.next _ c.parts.inner.items (omega (arith, c.len.ensures)) c.parts.invariant.few c.parts.invariant.behind c.in_err-key.ensures.gives)

@@ -1,33 +1,11 @@
-use Rattle.std.proofs.Common.{arith, [], ◌∷◌, ◌≡◌, length, refl, true}
+use Rattle.std.proofs.Common.{arith, [], ◌∷◌, true}
 use Rattle.std.proofs.lemmas.List.{map-append}
 use Rattle.toml_span_read.specs.Borrowed.{IsWrittenRight}
 use Rattle.toml_span_read.specs.Keys.{simple_key}
 use Rattle.toml_span_read.specs.code.Keys.{header_found}
 use Rattle.toml_span_read.proofs.BorrowLemmas.{keys_more}
-use Rattle.toml_span_read.proofs.KeyLemmas.{handed_on, one_more, none_behind, more_behind, last_behind, stops_behind, part_placed}
+use Rattle.toml_span_read.proofs.KeyLemmas.{handed_on, one_more, more_behind, last_behind, stops_behind}
 use Rattle.toml_span_read.proofs.keys.header_key.Goals as goal
-
-pub parts-init : goal.parts-init
-parts-init c =
-    let none = c.new-parts.ensures.items in
-    let z : length c.new-parts.result.items ≡ 0 = rw none refl in
-    record {
-      forward = omega arith;
-      boundary = c.requires.boundary;
-      borrows = rw none tt;
-      few = omega arith;
-      behind = none_behind true c.args.text.now c.args.limit c.args.at c.new-parts.result.items none;
-    }
-
-pub returns-in_err-key-clause-gives : goal.returns-in_err-key-clause-gives
-returns-in_err-key-clause-gives c =
-    rw (handed_on c.from_residual.result c.in_err-key.field-0.0 c.from_residual.ensures.1)
-    (stops_behind header_found c.in_err-key.field-0.0 true c.args.text.now c.args.limit c.args.at c.parts.next _ c.parts.parts.items c.len.ensures.value c.parts.invariant.few c.parts.invariant.behind c.in_err-key.ensures.gives)
-
-pub returns-in_err-key-clause-advances : goal.returns-in_err-key-clause-advances
-returns-in_err-key-clause-advances c =
-    rw (handed_on c.from_residual.result c.in_err-key.field-0.0 c.from_residual.ensures.1)
-    (part_placed c.in_err-key.field-0.0 true c.args.text.now c.args.limit _ c.parts.next c.in_err-key.ensures.gives)
 
 pub returns-in-None-clause-gives : goal.returns-in-None-clause-gives
 returns-in-None-clause-gives c =
@@ -48,3 +26,8 @@ parts-preserved c =
       few = omega (arith, n, few, c.len.ensures.value);
       behind = more_behind true c.args.text.now c.args.limit c.args.at c.parts.next c.in_ok-key.end c.in-Some.on c.parts.parts.items c.push.new.self.items c.in_ok-key.key pushed h dot.0 c.parts.invariant.behind;
     }
+
+pub returns-in_err-key-clause-gives : goal.returns-in_err-key-clause-gives
+returns-in_err-key-clause-gives c =
+    rw (handed_on c.from_residual.result c.in_err-key.field-0.0 c.from_residual.ensures.1)
+    (stops_behind header_found c.in_err-key.field-0.0 true c.args.text.now c.args.limit c.args.at c.parts.next _ c.parts.parts.items c.len.ensures.value c.parts.invariant.few c.parts.invariant.behind c.in_err-key.ensures.gives)

@@ -1,12 +1,7 @@
-use Rattle.std.proofs.Common.{arith, Result}
+use Rattle.std.proofs.Common.{arith}
 use Rattle.toml_span_read.specs.Keys.{simple_key}
-use Rattle.toml_span_read.proofs.KeyLemmas.{handed_on, part_stops, key_past, past_placed, simple_sound}
+use Rattle.toml_span_read.proofs.KeyLemmas.{key_past, past_placed, simple_sound}
 use Rattle.toml_span_read.proofs.keys.part.Goals as goal
-
-pub returns-in_err-key-clause-gives : goal.returns-in_err-key-clause-gives
-returns-in_err-key-clause-gives c =
-    rw (handed_on c.from_residual.result c.in_err-key.field-0.0 c.from_residual.ensures.1)
-    (part_stops c.in_err-key.field-0.0 c.args.in_header c.args.text.now c.args.limit c.args.others c.args.at c.in_err-key.ensures.gives c.in_err-key.ensures.advances)
 
 pub returns-then-others-limit-clause-gives : goal.returns-then-others-limit-clause-gives
 returns-then-others-limit-clause-gives c =
@@ -14,6 +9,3 @@ returns-then-others-limit-clause-gives c =
     let k = c.in_ok-key.ensures.gives in
     rw c.one_too_many.ensures
     (key_past c.args.in_header c.args.text.now _ c.args.at c.in_ok-key.end s (omega arith) k, past_placed c.args.in_header c.args.text.now c.args.at c.in_ok-key.end s c.requires.0 (simple_sound s c.args.text.now c.args.at c.in_ok-key.end k))
-
-pub returns-clause-gives : goal.returns-clause-gives
-returns-clause-gives c = (c.in_ok-key.ensures.gives, omega arith, c.in_ok-key.ensures.advances, c.dot.ensures)

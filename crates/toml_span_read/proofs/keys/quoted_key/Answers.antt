@@ -1,13 +1,7 @@
 use Rattle.std.proofs.Common.{refl, true, false}
 use Rattle.toml_span_lex.specs.Tokens.{string}
 use Rattle.toml_span_read.specs.Read.{token}
-use Rattle.toml_span_read.proofs.KeyLemmas.{handed_on, string_stops}
 use Rattle.toml_span_read.proofs.keys.quoted_key.Goals as goal
-
-pub returns-in_err-token-clause-gives : goal.returns-in_err-token-clause-gives
-returns-in_err-token-clause-gives c =
-    rw (handed_on c.from_residual.result c.in_err-token.field-0.0 c.from_residual.ensures.1)
-    (string_stops c.in_err-token.field-0.0 c.args.text.now c.args.at c.in_err-token.ensures.gives)
 
 pub returns-then-token-clause-gives : goal.returns-then-token-clause-gives
 returns-then-token-clause-gives c =
