@@ -1,5 +1,6 @@
 //! Rows of reports, on a text in the file `a.toml`.
 //!
+//! - `place OFFSET`: the line and the byte in it, and the line and the column, at which an offset of the text stands.
 //! - `nearest WORD`: the nearest of the names that stand in the text with spaces between them.
 //! - `lint`, `lint_lines` and `lint_json`: what the lint of the pages reports, all at once, each in its line, and each
 //!   as JSON.
@@ -16,10 +17,13 @@ use crate::told::Out;
 use lint::lint;
 use std::alloc::{AllocError, Global};
 use std::collections::BTreeMap;
-use toml_span::{DeserError, Deserialize, Span, Stop, Value, from_str, parse, read_table};
+use toml_span::{
+    DeserError, Deserialize, Span, Stop, Value, from_str, line_and_byte, parse, read_table,
+};
 use toml_span_report::visible::{push_char, push_quoted, push_visible, visible, visible_lines};
 use toml_span_report::{
-    Report, Severity, Style, nearest, render, render_all, render_json, render_line, render_stop,
+    Report, Severity, Style, line_column, nearest, render, render_all, render_json, render_line,
+    render_stop,
 };
 
 /// The name of the file.
@@ -52,6 +56,7 @@ impl<'de> Deserialize<'de> for Servers {
 /// Writes the answer of a row, or says that there is no such call.
 pub fn answer(alloc: Global, row: Row<'_>, out: &mut Out) -> bool {
     match row.call {
+        "place" => push_place(row, out),
         "nearest" => push_nearest(alloc, row, out),
         "lint" => push_linted(alloc, row.text, Form::All, out),
         "lint_lines" => push_linted(alloc, row.text, Form::Lines, out),
@@ -68,6 +73,15 @@ pub fn answer(alloc: Global, row: Row<'_>, out: &mut Out) -> bool {
         _ => return false,
     }
     true
+}
+
+/// Answers `place`.
+fn push_place(row: Row<'_>, out: &mut Out) {
+    if let Ok(start) = row.word(0).parse::<usize>() {
+        let span = Span { start, end: start };
+        out.told_line(line_and_byte(row.text, span));
+        out.told_line(line_column(row.text, start));
+    }
 }
 
 /// Answers `nearest`.
