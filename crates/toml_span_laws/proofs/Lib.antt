@@ -1,7 +1,6 @@
 pub mod EarlierLaws
 pub mod KeyLaws
 pub mod NumberLaws
-pub mod NumberFaults
 pub mod ScalarLaws
 pub mod ValueLaws
 pub mod KeyFaults
@@ -23,7 +22,6 @@ pub mod AgainNumbers
 pub mod AgainValues
 pub mod AgainLines
 pub mod AgainLaws
-pub mod JudgedLemmas
 pub mod TotalKeys
 pub mod TotalValues
 pub mod TotalLines

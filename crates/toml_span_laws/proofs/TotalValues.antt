@@ -5,7 +5,7 @@ use Rattle.std.specs.Str.{IsUtf8, IsCharBoundary}
 use Rattle.std.proofs.lemmas.Bool.{cases_lt, false≢true}
 use Rattle.std.proofs.lemmas.Bool.Decides.{nat_tests}
 use Rattle.toml_span_lex.specs.Bytes.{is_keylike}
-use Rattle.toml_span_tree.specs.Node.{Scalar, text as text_scalar, integer, float, boolean, datetime}
+use Rattle.toml_span_tree.specs.Node.{Scalar, text as text_scalar, boolean, datetime}
 use Rattle.toml_span_tree.specs.declared.date.DateText.{DateText}
 use Rattle.toml_span_read.specs.declared.fault.Due.TheVariants as dues
 use Rattle.toml_span_read.specs.declared.fault.Fault.{Fault}
@@ -21,11 +21,11 @@ use Rattle.toml_span_read.specs.Gaps.{MaximalGap, Separator, Closes, Neither}
 use Rattle.toml_span_read.specs.Grammar.{from_to, SpellsScalar, Spells, SpellsItems, SpellsPairs, SpellsPair}
 use Rattle.toml_span_laws.specs.code.Judged.{Judged, NumberStands, EndsFurther}
 use Rattle.toml_span_read.specs.Keys.{opens_string}
-use Rattle.toml_span_read.specs.Numbers.{IsNumber}
 use Rattle.toml_span_read.specs.code.Stuck.{StuckValue, StuckItems, StuckPairs, StuckPair, value_here, in_array, in_inline, in_item, behind_item, item_on, in_pair, crosses, behind_pair, pair_on, in_key, no_equals, in_value}
 use Rattle.toml_span_laws.proofs.EarlierLaws.{every_key}
 use Rattle.toml_span_read.proofs.NumberLemmas.{bool_cases, byte_is}
 use Rattle.toml_span_read.proofs.Places.{run_some, behind_byte}
+use Rattle.toml_span_read.proofs.ValueMade.{number_scalar}
 use Rattle.toml_span_laws.proofs.TotalKeys.{AllJudged, further_on, wanted_stands, no_value_stands, string_stands, dotted_stands}
 
 -- ---- what is behind a form
@@ -45,13 +45,6 @@ sign_sum c text i (Err j, h) = inr (j, h.0, h.1, h.2)
 
 abbrev BareAt : List ℕ → ℕ → Type 0
 BareAt text i = ((s : Scalar) × (j : ℕ) × SpellsScalar s (from_to i j) text i j × Further text i j) ⊎ ((fault : Fault) × NoBare text i fault)
-
-number_scalar : (s : Scalar) (text : List ℕ) (i j : ℕ) → begins_date text i ≡ false → IsNumber s text i j → SpellsScalar s (from_to i j) text i j
-number_scalar (integer n) text i j d h = (d, h, refl)
-number_scalar (float x) text i j d h = (d, h, refl)
-number_scalar (text_scalar x) text i j d h = absurd h
-number_scalar (boolean b) text i j d h = absurd h
-number_scalar (datetime x) text i j d h = absurd h
 
 number_bare : (text : List ℕ) (i : ℕ) → begins_date text i ≡ false → ((fault : Fault) → NumberStands text i (Err fault) → NoBare text i fault)
     → (found : Result ℕ Fault) × NumberStands text i found × EndsFurther text i found → BareAt text i

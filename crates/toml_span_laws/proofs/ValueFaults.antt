@@ -16,7 +16,7 @@ use Rattle.toml_span_read.specs.code.Stuck.{StuckValue, value_here, in_array, in
 use Rattle.toml_span_laws.proofs.EarlierLaws.{clear_crossing, crossing_one}
 use Rattle.toml_span_laws.proofs.KeyLaws.{clash, gap_unique, sign_unique, sign_or_none, comma_or_neither, dotted_unique, dotted_excluded, token_or_token_fault}
 use Rattle.toml_span_laws.proofs.ScalarLaws.{date_byte, decimal_number, same_words, candidate_unique, bare_byte, string_byte, string_clash}
-use Rattle.toml_span_laws.proofs.NumberFaults.{number_fault}
+use Rattle.toml_span_laws.proofs.NumberLaws.{number_fault}
 use Rattle.toml_span_laws.proofs.ValueLaws.{value_unique, pair_unique, front_unique, value_excluded, pair_excluded}
 use Rattle.toml_span_laws.proofs.KeyFaults.{token_fault_one, wanted_one, no_value_one, dotted_one}
 

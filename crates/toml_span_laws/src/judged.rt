@@ -10,93 +10,27 @@ ghost use Rattle.toml_span_read.specs.declared.gaps.Behind.{Behind};
 ghost use Rattle.toml_span_read.specs.code.Gaps.{BehindGives};
 ghost use Rattle.toml_span_read.specs.Dates as date_spec;
 ghost use Rattle.toml_span_read.specs.code.Dates.{DateGives};
-ghost use Rattle.toml_span_laws.specs.code.Judged.{UnsignedStands, NumberStands, EndsFurther, Judged};
+ghost use Rattle.toml_span_laws.specs.code.Judged.{NumberStands, EndsFurther, Judged};
 ghost use Rattle.toml_span_read.specs.Data.{ParsedValue, Block};
 ghost use Rattle.toml_span_read.specs.Due.{IsDue};
 ghost use Rattle.toml_span_read.specs.Grammar.{Spells, SpellsDocument};
 ghost use Rattle.toml_span_read.specs.code.Stuck.{StuckValue, StuckKey};
 ghost use Rattle.toml_span_read.specs.Keys.{SimpleKey, SpellsKey};
-ghost use Rattle.toml_span_read.specs.code.Numbers.{IsRun};
 
 use toml_span_lex::bytes::{blanks_end, keylike_end};
 use toml_span_lex::laws::something_stands;
-use toml_span_lex::span::Span;
 use toml_span_lex::tokenizer::first_place;
 use toml_span_read::dates::{begins_date, date};
-use toml_span_read::fault::{Fault, invalid_number};
 use toml_span_read::gaps::{
-    Behind, after_element, byte_at, dot, gap_end, line_equals, line_rest, pair_equals,
+    Behind, after_element, dot, gap_end, line_equals, line_rest, pair_equals,
 };
-use toml_span_read::numbers::{
-    Decimal, decimal_number, radix_integer, radix_of, special_dot, special_float,
-};
-
-/// Where the number ends whose first run is `first`, or the fault.
-fn unsigned_end(text: &str, start: usize, first: Span) -> Result<usize, Fault>
-    requires start { start ≤ first.start }
-    requires boundary { IsCharBoundary text.now first.start }
-    requires run { IsRun text.now first }
-    ensures further { EndsFurther text.now start result }
-    ensures gives { UnsignedStands text.now start first.start first.end result }
-{
-    if let Some(radix) = radix_of(text, first.start) {
-        return match radix_integer(text, first, radix) {
-            Ok(_value) => Ok(first.end),
-            Err(fault) => Err(fault),
-        };
-    }
-    if let Some(_float) = special_float(&text.as_bytes()[first.start..first.end]) {
-        if byte_at(text, first.end) == b'.' {
-            return Err(special_dot(text, start, first));
-        }
-        return Ok(first.end);
-    }
-    match decimal_number(text, start, first) {
-        Err(fault) => Err(fault),
-        Ok(Decimal::Integer(_value)) => Ok(first.end),
-        Ok(Decimal::Float(end)) => Ok(end),
-    }
-}
-
-/// Where the number at a place ends, or the fault.
-fn number_end(text: &str, at: usize) -> Result<usize, Fault>
-    requires boundary { IsCharBoundary text.now at }
-    requires begins { (is_keylike (slice_index text.now at) || slice_index text.now at == 43) ≡ true }
-    ensures further { EndsFurther text.now at result }
-    ensures gives { NumberStands text.now at result }
-{
-    if byte_at(text, at) != b'+' {
-        let first = Span {
-            start: at,
-            end: keylike_end(text, at),
-        };
-        return unsigned_end(text, at, first);
-    }
-    let start = at + 1;
-    let first = Span {
-        start,
-        end: keylike_end(text, start),
-    };
-    if first.start == first.end {
-        return Err(invalid_number(start, start));
-    }
-    if text.as_bytes()[start] == b'-' || radix_of(text, start).is_some() {
-        return Err(invalid_number(at, first.end));
-    }
-    unsigned_end(text, at, first)
-}
 
 /// Where a bare run or a plus is, the literal of a number stands, or what is wrong where it is due.
 pub fn number_or_stuck(text: &str, at: usize)
     requires { IsCharBoundary text.now at }
     ensures { (is_keylike (slice_index text.now at) || slice_index text.now at == 43) ≡ true
         → (found : Result ℕ Fault) × NumberStands text.now at found × EndsFurther text.now at found }
-{
-    let byte = byte_at(text, at);
-    if toml_span_lex::bytes::is_keylike(byte) || byte == b'+' {
-        let _ = number_end(text, at);
-    }
-}
+{}
 
 /// Where a date begins, the text of one stands, or what is wrong where it is due.
 pub fn date_or_stuck(text: &str, at: usize)

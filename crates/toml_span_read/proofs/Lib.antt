@@ -11,6 +11,7 @@ pub mod EarlierTree
 pub mod EarlierKnows
 pub mod KeyOrder
 pub mod NumberLemmas
+pub mod NumberReads
 pub mod ShortIntegers
 pub mod ShortStrings
 pub mod Views

@@ -1,10 +1,9 @@
 -- Integers of a few digits alone.
-use Rattle.std.proofs.Common.{◌≡◌, ℕ, ◌+◌, ◌-◌, ◌<◌, ◌≤◌, true, false, drop, List, length, get_or, arith, inl, inr, refl, sym, ◌∙◌, length-take, length-drop}
+use Rattle.std.proofs.Common.{◌≡◌, ℕ, ◌+◌, ◌-◌, ◌<◌, ◌≤◌, true, false, drop, List, length, get_or, arith, inl, inr, refl, sym, ◌∙◌}
 use Rattle.std.specs.Prelude.{ℤ, ◌*◌, slice_range, ◌==◌, Ok}
 use Rattle.std.specs.Str.{IsUtf8, IsCharBoundary}
 use Rattle.std.proofs.lemmas.Bool.{cases_lt, false≢true, or_cases}
 use Rattle.std.proofs.lemmas.Bool.Decides.{nat_tests}
-use Rattle.std.proofs.lemmas.List.{get_or-take, get_or-drop}
 use Rattle.toml_span_lex.specs.Bytes.{is_keylike}
 use Rattle.toml_span_lex.proofs.Runs.{boundary_after}
 use Rattle.toml_span_tree.specs.Node.{integer}
@@ -15,7 +14,7 @@ use Rattle.toml_span_read.specs.Dates.{begins_date}
 use Rattle.toml_span_read.specs.code.Gaps.{Further}
 use Rattle.toml_span_read.specs.Numbers.{is_digit_in, Digits, magnitude, DecimalInteger, IsSigned, behind_sign}
 use Rattle.toml_span_read.specs.code.Values.{BareGives}
-use Rattle.toml_span_read.proofs.NumberLemmas.{is_false, byte_is, and_left, and_right, digit_figure, no_keylike_figure, digit_no_underscore, no_sign, stands_alone, Summed, sum_goes_on}
+use Rattle.toml_span_read.proofs.NumberLemmas.{is_false, byte_is, and_left, and_right, digit_figure, no_keylike_figure, digit_no_underscore, no_sign, stands_alone, Summed, sum_goes_on, range_length, range_at}
 
 -- ---- digits
 
@@ -87,15 +86,6 @@ date_no text i j l h n c b =
 pub record FewDigits (text : List ℕ) (from at v : ℕ) : Type 0 where
   pub digits : Decimals text from at
   pub sum : (j : ℕ) → at ≤ j → j ≤ length text → Summed 10 v (drop (at - from) (slice_range text from j)) (slice_range text from j)
-
-range_length : (text : List ℕ) (a b : ℕ) → b ≤ length text → length (slice_range text a b) ≡ b - a
-range_length text a b w = omega (arith, length-take (b - a) (drop a text), length-drop a text)
-
-range_at : (text : List ℕ) (a b k : ℕ) → a ≤ k → k < b → get_or (slice_range text a b) (k - a) 0 ≡ get_or text k 0
-range_at text a b k x y =
-    let at : a + (k - a) ≡ k = omega arith in
-    let below : k - a < b - a = omega arith in
-    rw (get_or-take (b - a) (drop a text) (k - a) 0 below, get_or-drop, at) refl
 
 pub few_more : (text : List ℕ) (from at v w : ℕ) → from ≤ at → is_ascii_digit (get_or text at 0) ≡ true → w ≡ v * 10 + (get_or text at 0 - 48) → FewDigits text from at v → FewDigits text from (at + 1) w
 few_more text from at v w f h e s = record {

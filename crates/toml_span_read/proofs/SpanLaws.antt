@@ -1,62 +1,20 @@
 -- The spans of a value lie within the text that it is spelled by.
-use Rattle.std.proofs.Common.{◌≡◌, ℕ, ◌+◌, ◌<◌, ◌≤◌, ◌⊎◌, Bool, true, false, List, [], ◌∷◌, ◌++◌, length, get_or, arith, inl, inr}
-use Rattle.std.specs.Prelude.{◌==◌, ◌||◌, ◌&&◌, not, if◌then◌else◌}
+use Rattle.std.proofs.Common.{◌≡◌, ℕ, ◌+◌, ◌<◌, ◌≤◌, Bool, true, false, List, [], ◌∷◌, ◌++◌, length, get_or, arith, inl, inr}
+use Rattle.std.specs.Prelude.{◌==◌, ◌&&◌, not, if◌then◌else◌}
 use Rattle.toml_span_lex.specs.declared.span.Span.{Span}
 use Rattle.toml_span_lex.specs.Strings.{IsString}
 use Rattle.toml_span_lex.proofs.Copies.{content_fits}
 use Rattle.toml_span_lex.proofs.MadeStrings.{content_from_after}
-use Rattle.toml_span_tree.specs.Node.{Scalar, text as text_scalar, integer, float, boolean, datetime, finite, infinite, not_a_number}
+use Rattle.toml_span_tree.specs.Node.{Scalar, text as text_scalar, integer, float, boolean, datetime}
 use Rattle.toml_span_read.specs.Gaps.{Separator, Closes}
 use Rattle.toml_span_read.specs.Keys.{SimpleKey}
 use Rattle.toml_span_read.specs.Places.{Ascend, Inside, InsideItems, InsidePairs}
 use Rattle.toml_span_read.specs.Dates.{IsCandidate}
-use Rattle.toml_span_read.specs.Numbers.{IsNumber, behind_sign, UnsignedDecimal, Exponent, Fraction, FloatLiteral, SpecialFloat}
 use Rattle.toml_span_read.specs.Data.{ParsedValue, parsed, ParsedInner, scalar, array, inline, ParsedItems, no_items, item, ParsedPairs, no_pairs, pair, KeyValue}
 use Rattle.toml_span_read.specs.Grammar.{from_to, SpellsScalar, Spells, SpellsInner, SpellsItems, SpellsPairs}
+use Rattle.toml_span_read.proofs.NumberReads.{number_on}
 use Rattle.toml_span_read.proofs.Places.{read_within}
 use Rattle.toml_span_read.proofs.KeyOrder.{dotted_ascend}
-
-sign_on : (b : Bool) (i : ℕ) → i ≤ (if b then i + 1 else i)
-sign_on true i = omega arith
-sign_on false i = omega arith
-
-behind_on : (text : List ℕ) (i : ℕ) → i ≤ behind_sign text i
-behind_on text i = sign_on (get_or text i 0 == 43 || get_or text i 0 == 45) i
-
--- ---- numbers
-
-unsigned_on : (text : List ℕ) (i j : ℕ) → UnsignedDecimal text (behind_sign text i) j → (i ≤ j) × (j ≤ length text)
-unsigned_on text i j h = (omega (arith, behind_on text i, h.digits.run.forward), h.digits.run.within)
-
-exponent_on : (text : List ℕ) (i j : ℕ) → Exponent text i j → (i ≤ j) × (j ≤ length text)
-exponent_on text i j h = (omega (arith, behind_on text (i + 1), h.digits.run.forward), h.digits.run.within)
-
-fraction_on : (text : List ℕ) (i j : ℕ) → Fraction text i j → (i ≤ j) × (j ≤ length text)
-fraction_on text i j h = (omega (arith, h.digits.run.forward), h.digits.run.within)
-
-rest_on : (text : List ℕ) (i j : ℕ) → Exponent text i j ⊎ ((m : ℕ) × Fraction text i m × ((j ≡ m) ⊎ Exponent text m j)) → (i ≤ j) × (j ≤ length text)
-rest_on text i j (inl h) = exponent_on text i j h
-rest_on text i j (inr (m, f, inl e)) = let a = fraction_on text i m f in (omega (arith, a.0, e), omega (arith, a.1, e))
-rest_on text i j (inr (m, f, inr e)) = let a = fraction_on text i m f in let b = exponent_on text m j e in (omega (arith, a.0, b.0), b.1)
-
-float_on : (text : List ℕ) (i j : ℕ) → FloatLiteral text i j → (i ≤ j) × (j ≤ length text)
-float_on text i j h =
-    let a = unsigned_on text i h.integer_end h.integer_part in
-    let b = rest_on text h.integer_end j h.rest in
-    (omega (arith, a.0, b.0), b.1)
-
-special_on : (word text : List ℕ) (i j : ℕ) → SpecialFloat word text i j → (i ≤ j) × (j ≤ length text)
-special_on word text i j h = (omega (arith, behind_on text i, h.some), h.within)
-
-number_on : (s : Scalar) (text : List ℕ) (i j : ℕ) → IsNumber s text i j → (i ≤ j) × (j ≤ length text)
-number_on (integer n) text i j (inl h) = unsigned_on text i j h.digits
-number_on (integer n) text i j (inr h) = (omega (arith, h.digits.run.forward), h.digits.run.within)
-number_on (float (finite digits)) text i j h = float_on text i j h.0
-number_on (float (infinite b)) text i j h = special_on _ text i j h.0
-number_on (float (not_a_number b)) text i j h = special_on _ text i j h.0
-number_on (text_scalar x) text i j h = absurd h
-number_on (boolean b) text i j h = absurd h
-number_on (datetime d) text i j h = absurd h
 
 -- ---- scalars
 

@@ -1,6 +1,6 @@
 -- Faults: what is wrong in a text, and where: for each place where something is due, what is told of what stands there.
-use Rattle.std.specs.Prelude.{◌≡◌, ℕ, ◌+◌, ◌^◌, ◌<◌, ◌≤◌, ◌⊎◌, Bool, true, false, ◌&&◌, ◌||◌, ◌==◌, if◌then◌else◌, List}
-use Rattle.std.specs.Prelude.{length, slice_index, slice_range, Some, None, codes}
+use Rattle.std.specs.Prelude.{◌≡◌, ℕ, ◌+◌, ◌<◌, ◌≤◌, ◌⊎◌, Bool, true, false, ◌||◌, ◌==◌, if◌then◌else◌, List}
+use Rattle.std.specs.Prelude.{length, slice_index, slice_range, Some, codes, Err}
 use Rattle.std.specs.Char.{is_ascii_digit}
 use Rattle.toml_span_lex.specs.Text.{NoLineEnd}
 use Rattle.toml_span_lex.specs.declared.tokens.Error.{Error}
@@ -10,8 +10,8 @@ use Rattle.toml_span_lex.specs.Tokens.{Stands}
 use Rattle.toml_span_lex.specs.Tokens.{RunAt}
 use Rattle.toml_span_lex.specs.declared.span.Span.{Span}
 use Rattle.toml_span_lex.specs.Strings.{IsString}
-use Rattle.toml_span_lex.specs.Bytes.{is_keylike, MaximalRun, underscore, plus, period, dash, right_bracket, colon}
-use Rattle.toml_span_lex.specs.Bytes.{comma, digit_zero, equals, left_brace, left_bracket, line_feed, right_brace}
+use Rattle.toml_span_lex.specs.Bytes.{is_keylike, plus, period, dash, right_bracket, colon, comma, equals, left_brace}
+use Rattle.toml_span_lex.specs.Bytes.{left_bracket, line_feed, right_brace}
 use Rattle.toml_span_tree.specs.Error as tree
 use Rattle.toml_span_tree.specs.Date.{IsDateText}
 use Rattle.toml_span_read.specs.declared.fault.Due.{Due}
@@ -23,9 +23,7 @@ use Rattle.toml_span_read.specs.declared.fault.FaultKind.{FaultKind}
 use Rattle.toml_span_read.specs.declared.fault.FaultKind.TheVariants as kinds
 use Rattle.toml_span_read.specs.Places.{IsLineInfo}
 use Rattle.toml_span_read.specs.Keys.{opens_string, SimpleKey, SpellsSimpleKey}
-use Rattle.toml_span_read.specs.Numbers.{is_digit_in, is_figure, Digits, behind_sign, is_exponent, magnitude}
-use Rattle.toml_span_read.specs.Numbers.{is_negative}
-use Rattle.toml_span_read.specs.Numbers.{UnsignedDecimal, radix_at}
+use Rattle.toml_span_read.specs.Numerals.{number}
 use Rattle.toml_span_read.specs.Dates.{IsCandidate, begins_date}
 use Rattle.toml_span_read.specs.Grammar.{from_to}
 
@@ -64,9 +62,6 @@ found_words founds.MultilineString = codes "a multiline string"
 -- a fault of one byte
 abbrev pub fault_at : FaultKind → ℕ → Fault
 fault_at kind at = record { kind = kind; span = record { start = at; end = at + 1 } }
-
-abbrev pub invalid_number : ℕ → ℕ → Fault
-invalid_number start end = record { kind = kinds.InvalidNumber; span = record { start = start; end = end } }
 
 -- what a fault is called among the errors of a document
 abbrev pub error_kind : FaultKind → tree.Kind
@@ -196,144 +191,14 @@ NoHeaderPart text limit n i e =
 abbrev pub NoEquals : List ℕ → ℕ → Fault → Type 0
 NoEquals text i e = ((slice_index text i == equals) ≡ false) × IsWanted text i dues.Equals e
 
--- ---- where a number is due: the forms before the fault, and what stands there
---
--- The standard says nothing of where and how a wrong number is told: these fix it.
-
--- all the letters, digits, dashes and underscores from i on, of which there is one
-pub record Run (text : List ℕ) (i j : ℕ) : Type 0 where
-  pub some : i < j
-  pub run : MaximalRun is_keylike text i j
-
--- No digits are read in a piece, which begins at `start` and ends with its run at `end`; its digits are due at `from`.
---
--- broken: `zero-prefixable-int = DIGIT *( DIGIT / underscore DIGIT )`, or the same of another radix
-pub data NoDigits (radix : ℕ) (text : List ℕ) (start from end : ℕ) : Fault → Type 0 where
-  -- an underscore before any digit
-  underscore_first : slice_index text from ≡ underscore → NoDigits radix text start from end (invalid_number from end)
-  -- the piece is empty, or its first byte is neither a digit nor an underscore
-  no_digit : is_figure radix (slice_index text from) ≡ false
-      → NoDigits radix text start from end (invalid_number start end)
-  -- two underscores in a row, or an underscore as the last of the digits
-  loose_underscore : (k : ℕ) → is_digit_in radix (slice_index text from) ≡ true → from ≤ k
-      → ((l : ℕ) → from ≤ l → l ≤ k → is_figure radix (slice_index text l) ≡ true)
-      → slice_index text k ≡ underscore → is_digit_in radix (slice_index text (k + 1)) ≡ false
-      → NoDigits radix text start from end (invalid_number start end)
-
--- no integer part is read in the run that begins at `start`, behind its minus, if it has one, at `from`
---
--- broken: `unsigned-dec-int = DIGIT / digit1-9 1*( DIGIT / underscore DIGIT )`, which is `0` or begins with no 0
-pub data NoIntegerPart (text : List ℕ) (start from end : ℕ) : Fault → Type 0 where
-  no_integer_digits : (fault : Fault) → NoDigits 10 text start from end fault → NoIntegerPart text start from end fault
-  -- The digits stand as those of a literal do, and behind a leading 0 stands a digit, with an underscore between them
-  -- or not: an underscore that is out of place among the digits is told before a 0 that leads them.
-  zero_before : (m : ℕ) → Digits 10 text from m → slice_index text from ≡ digit_zero
-      → is_digit_in 10 (slice_index text (from + 1)) ≡ true
-      → NoIntegerPart text start from end (invalid_number (from + 1) end)
-  zero_underscore_before : (m : ℕ) → Digits 10 text from m → slice_index text from ≡ digit_zero
-      → slice_index text (from + 1) ≡ underscore
-      → is_digit_in 10 (slice_index text (from + 2)) ≡ true
-      → NoIntegerPart text start from end (invalid_number (from + 2) end)
-
--- a piece of an exponent is not digits throughout; the integer part is the run from a to b
---
--- broken: `float-exp-part = [ minus / plus ] zero-prefixable-int`
-pub data NoExponentDigits (text : List ℕ) (a b start from end : ℕ) : Fault → Type 0 where
-  no_exponent_digits : (fault : Fault) → NoDigits 10 text start from end fault
-      → NoExponentDigits text a b start from end fault
-  left_in_exponent : (m : ℕ) → Digits 10 text from m → m < end
-      → NoExponentDigits text a b start from end (invalid_number a b)
-
--- no exponent is read whose letter stands at `letter`, in a run that ends at `end`; the integer part is the run from a
--- to b
---
--- broken: `exp = "e" float-exp-part`
-pub data NoExponent (text : List ℕ) (a b letter end : ℕ) : Fault → Type 0 where
-  -- neither a run nor a plus and a run behind the letter
-  letter_last : end ≡ letter + 1 → (slice_index text end == plus && is_keylike (slice_index text (end + 1))) ≡ false
-      → NoExponent text a b letter end (invalid_number a b)
-  in_run : (fault : Fault) → letter + 1 < end
-      → NoExponentDigits text a b (letter + 1) (behind_sign text (letter + 1)) end fault
-      → NoExponent text a b letter end fault
-  behind_plus : (stop : ℕ) (fault : Fault) → end ≡ letter + 1 → slice_index text end ≡ plus → Run text (end + 1) stop
-      → NoExponentDigits text a b (end + 1) (end + 1) stop fault → NoExponent text a b letter end fault
-
--- no fraction is read behind the dot at b; the number begins at i, its integer part is the run from a to b
---
--- broken: `frac = decimal-point zero-prefixable-int`
-pub data NoFraction (text : List ℕ) (i a b : ℕ) : Fault → Type 0 where
-  dot_alone : is_keylike (slice_index text (b + 1)) ≡ false → NoFraction text i a b (invalid_number i (b + 1))
-  no_fraction_digits : (end : ℕ) (fault : Fault) → Run text (b + 1) end → NoDigits 10 text (b + 1) (b + 1) end fault
-      → NoFraction text i a b fault
-  left_in_fraction : (m end : ℕ) → Run text (b + 1) end → Digits 10 text (b + 1) m → m < end
-      → is_exponent (slice_index text m) ≡ false
-      → NoFraction text i a b (invalid_number a b)
-  no_fraction_exponent : (m end : ℕ) (fault : Fault) → Run text (b + 1) end → Digits 10 text (b + 1) m → m < end
-      → is_exponent (slice_index text m) ≡ true
-      → NoExponent text a b m end fault → NoFraction text i a b fault
-
--- inf or nan from a to b, with a minus or without
-abbrev pub IsSpecial : List ℕ → ℕ → ℕ → Type 0
-IsSpecial text a b =
-    (slice_range text (behind_sign text a) b ≡ codes "inf") ⊎ (slice_range text (behind_sign text a) b ≡ codes "nan")
-
--- past 64 bits
-abbrev pub IsOutside : Bool → ℕ → Type 0
-IsOutside false m = 2 ^ 63 ≤ m
-IsOutside true m = 2 ^ 63 < m
-
--- no number without a prefix is read, which begins at i; its integer part is the run from a to b
---
--- broken: `dec-int = [ minus / plus ] unsigned-dec-int`, `float = float-int-part ( exp / frac [ exp ] )` or
--- `special-float = [ minus / plus ] ( inf / nan )`; or the integer is past 64 bits
-pub data NoDecimal (text : List ℕ) (i a b : ℕ) : Fault → Type 0 where
-  no_integer_part : (fault : Fault) → (IsSpecial text a b → ⊥) → NoIntegerPart text a (behind_sign text a) b fault
-      → NoDecimal text i a b fault
-  left_in_integer : (m : ℕ) → UnsignedDecimal text (behind_sign text a) m → m < b
-      → is_exponent (slice_index text m) ≡ false → NoDecimal text i a b (invalid_number a b)
-  no_integer_exponent : (m : ℕ) (fault : Fault) → UnsignedDecimal text (behind_sign text a) m → m < b
-      → is_exponent (slice_index text m) ≡ true
-      → NoExponent text a b m b fault → NoDecimal text i a b fault
-  no_fraction : (fault : Fault) → UnsignedDecimal text (behind_sign text a) b → slice_index text b ≡ period
-      → NoFraction text i a b fault → NoDecimal text i a b fault
-  outside : UnsignedDecimal text (behind_sign text a) b → (slice_index text b == period) ≡ false
-      → IsOutside (is_negative text a) (magnitude 10 text (behind_sign text a) b)
-      → NoDecimal text i a b (invalid_number a b)
-  -- inf and nan have no fraction
-  special_dot_alone : IsSpecial text a b → slice_index text b ≡ period → is_keylike (slice_index text (b + 1)) ≡ false
-      → NoDecimal text i a b (invalid_number i (b + 1))
-  special_dot : IsSpecial text a b → slice_index text b ≡ period → is_keylike (slice_index text (b + 1)) ≡ true
-      → NoDecimal text i a b (invalid_number a b)
-
--- no integer of this radix is read behind its prefix, in a run that ends at `end`
---
--- broken: `hex-int = hex-prefix HEXDIG *( HEXDIG / underscore HEXDIG )`, `oct-int` or `bin-int`; or it is past 64 bits
-pub data NoRadixInteger (radix : ℕ) (text : List ℕ) (start end : ℕ) : Fault → Type 0 where
-  no_radix_digits : (fault : Fault) → NoDigits radix text start start end fault
-      → NoRadixInteger radix text start end fault
-  left_in_radix : (m : ℕ) → Digits radix text start m → m < end
-      → NoRadixInteger radix text start end (invalid_number start end)
-  outside_radix : Digits radix text start end → IsOutside false (magnitude radix text start end)
-      → NoRadixInteger radix text start end (invalid_number start end)
+-- ---- where a number is due
 
 -- a number is due at i, none is read, and this is the fault
 --
 -- broken: `integer = dec-int / hex-int / oct-int / bin-int` and `float = float-int-part ( exp / frac [ exp ] )`,
--- `float =/ special-float`: a sign stands before digits, inf or nan, and before no prefix
-pub data NoNumber (text : List ℕ) (i : ℕ) : Fault → Type 0 where
-  plus_alone : slice_index text i ≡ plus → is_keylike (slice_index text (i + 1)) ≡ false
-      → NoNumber text i (invalid_number (i + 1) (i + 1))
-  plus_before_minus : (b : ℕ) → slice_index text i ≡ plus → Run text (i + 1) b → slice_index text (i + 1) ≡ dash
-      → NoNumber text i (invalid_number i b)
-  plus_before_prefix : (b radix : ℕ) → slice_index text i ≡ plus → Run text (i + 1) b
-      → radix_at text (i + 1) ≡ Some radix → NoNumber text i (invalid_number i b)
-  no_radix_integer : (b radix : ℕ) (fault : Fault) → radix_at text i ≡ Some radix → Run text i b
-      → NoRadixInteger radix text (i + 2) b fault → NoNumber text i fault
-  no_decimal : (b : ℕ) (fault : Fault) → (slice_index text i == plus) ≡ false → Run text i b → radix_at text i ≡ None
-      → NoDecimal text i i b fault → NoNumber text i fault
-  no_decimal_behind_plus : (b : ℕ) (fault : Fault) → slice_index text i ≡ plus → Run text (i + 1) b
-      → (slice_index text (i + 1) == dash) ≡ false → radix_at text (i + 1) ≡ None
-      → NoDecimal text i (i + 1) b fault → NoNumber text i fault
+-- `float =/ special-float`; or the integer is past 64 bits
+abbrev pub NoNumber : List ℕ → ℕ → Fault → Type 0
+NoNumber text i fault = number text i ≡ Err fault
 
 -- ---- where a value is due
 

@@ -1,6 +1,7 @@
 pub mod Gaps
 pub mod Keys
 pub mod Numbers
+pub mod Numerals
 pub mod Dates
 pub mod Data
 pub mod Earlier

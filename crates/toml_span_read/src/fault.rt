@@ -2,6 +2,7 @@
 ghost use Rattle.std.specs.Prelude.{◌≡◌, ◌<◌, ◌≤◌, length};
 ghost use Rattle.toml_span_tree.specs.Error.{kind_of, content_of};
 ghost use Rattle.toml_span_read.specs.Faults as spec;
+ghost use Rattle.toml_span_read.specs.Numerals as numerals;
 ghost use Rattle.toml_span_read.specs.Places.{IsLineInfo};
 ghost use Rattle.toml_span_read.specs.Faults.{Tells};
 
@@ -129,7 +130,7 @@ pub(crate) fn fault_at(kind: FaultKind, at: usize) -> Fault
 
 /// The fault that these bytes are no number.
 pub fn invalid_number(start: usize, end: usize) -> Fault
-    ensures { result ≡ spec.invalid_number start end }
+    ensures { result ≡ numerals.invalid_number start end }
 {
     let span = Span { start, end };
     Fault {

@@ -1,24 +1,19 @@
 //! Numbers.
-ghost use Rattle.std.specs.Prelude.{◌≡◌, ℕ, ◌+◌, ◌*◌, ◌<◌, ◌≤◌, ◌||◌, ◌&&◌, ◌==◌, ◌⊎◌, not, true, false, length};
-ghost use Rattle.std.specs.Prelude.{slice_index, filter, string_bytes, IfOk, IfSome, Ok};
-ghost use Rattle.std.specs.Str.{IsCharBoundary};
-ghost use Rattle.toml_span_lex.specs.Bytes.{is_keylike, MaximalRun, period, underscore, plus, small_e};
+ghost use Rattle.std.specs.Prelude.{◌≡◌, ℕ, ◌+◌, ◌*◌, ◌<◌, ◌≤◌, ◌||◌, ◌==◌, not, true, false, length};
+ghost use Rattle.std.specs.Prelude.{slice_index, slice_range, filter, string_bytes, IfOk, IfSome, Ok};
 ghost use Rattle.std.specs.Char.{is_ascii_digit};
-ghost use Rattle.toml_span_read.specs.code.Gaps.{Further};
-ghost use Rattle.toml_span_read.specs.code.Values.{BareGives, IsScalarKind};
-ghost use Rattle.toml_span_read.specs.code.Faults.{Advances};
-ghost use Rattle.toml_span_read.specs.Places.{StartsInside};
-ghost use Rattle.toml_span_read.specs.Data.{kind_view, scalar};
+ghost use Rattle.std.specs.Str.{IsCharBoundary};
+ghost use Rattle.toml_span_lex.specs.Bytes.{is_keylike, period, underscore, plus, small_e};
 ghost use Rattle.toml_span_tree.specs.Node.{integer, float};
 ghost use Rattle.toml_span_tree.specs.Value.{float_value};
+ghost use Rattle.toml_span_read.specs.Data.{kind_view, scalar};
 ghost use Rattle.toml_span_read.specs.Numbers as spec;
-ghost use Rattle.toml_span_read.specs.code.Numbers.{IsRun, DigitsEnd, NumberEnds, DecimalEnds, IsPlacedFault};
-ghost use Rattle.toml_span_read.specs.code.Numbers.{DigitGives, DigitsGive, WithinGives, SignedGives, IntegerGives};
-ghost use Rattle.toml_span_read.specs.code.Numbers.{RadixIntegerGives, IntegerPartGives, ExponentDigitsGive};
-ghost use Rattle.toml_span_read.specs.code.Numbers.{ExponentGives, FractionGives, DecimalGives, SpecialGives};
-ghost use Rattle.toml_span_read.specs.code.Numbers.{UnsignedGives, NumberGives};
-ghost use Rattle.toml_span_read.specs.Faults.{Run, IsSpecial, NoDecimal};
-ghost use Rattle.toml_span_read.specs.Numbers.{UnsignedDecimal, sum_of_digits, is_digit_in, behind_sign, is_negative};
+ghost use Rattle.toml_span_read.specs.Numbers.{sum_of_digits, is_digit_in, behind_sign};
+ghost use Rattle.toml_span_read.specs.Numerals as numerals;
+ghost use Rattle.toml_span_read.specs.code.Faults.{Advances};
+ghost use Rattle.toml_span_read.specs.code.Gaps.{Further};
+ghost use Rattle.toml_span_read.specs.code.Numbers.{DigitGives, WithinGives, NumberGives, NumeralStands, Passes};
+ghost use Rattle.toml_span_read.specs.code.Values.{BareGives, IsScalarKind};
 
 use crate::fault::{Fault, invalid_number};
 use crate::gaps::byte_at;
@@ -28,6 +23,25 @@ use toml_span_lex::bytes::{is_keylike, keylike_end};
 use toml_span_lex::span::Span;
 use toml_span_lex::stop::Stop;
 use toml_span_tree::FloatText;
+
+/// A number as it is read: of a finite float its text is all.
+#[derive(Clone, Copy)]
+pub enum Numeral {
+    Integer(i64),
+    Finite,
+    Infinite { negative: bool },
+    NotANumber { negative: bool },
+}
+
+/// Where the run from a place on ends.
+#[inline]
+fn run_end(text: &str, from: usize) -> usize
+    requires { IsCharBoundary text.now from }
+    ensures gives { result ≡ numerals.run_end text.now from }
+    ensures run { Passes text.now from result }
+{
+    keylike_end(text, from)
+}
 
 /// The value of a digit of a radix.
 #[inline]
@@ -49,11 +63,10 @@ fn digit(byte: u8, radix: u8) -> Option<u8>
 /// `zero-prefixable-int = DIGIT *( DIGIT / underscore DIGIT )` (TOML 1.1, Float)
 fn digits_end(text: &str, piece: Span, from: usize, radix: u8) -> Result<usize, Fault>
     requires within { piece.end ≤ length text.now }
-    requires start { piece.start ≤ from }
     requires end { from ≤ piece.end }
     requires last { is_keylike (slice_index text.now piece.end) ≡ false }
-    ensures ends { DigitsEnd text.now from piece.end result }
-    ensures gives { DigitsGive radix text.now piece.start from piece.end result }
+    ensures ends { IfOk result (λ m. (from < m) × (m ≤ piece.end)) }
+    ensures gives { result ≡ numerals.digits_end radix text.now piece.start from piece.end }
 {
     let bytes = text.as_bytes();
     if from < piece.end && bytes[from] == b'_' {
@@ -102,8 +115,9 @@ fn magnitude(digits: &[u8], radix: u8) -> Option<u64>
 }
 
 /// A number with its sign, if it is within 64 bits.
+#[tactic(auto, unfolding(crate::specs::Numerals::signed))]
 fn signed(negative: bool, magnitude: u64) -> Option<i64>
-    ensures { SignedGives negative magnitude result }
+    ensures { result ≡ numerals.signed negative magnitude }
 {
     if !negative {
         i64::try_from(magnitude).ok()
@@ -118,22 +132,13 @@ fn signed(negative: bool, magnitude: u64) -> Option<i64>
 }
 
 /// The integer that digits write, or the fault.
-fn integer(
-    text: &str,
-    piece: Span,
-    from: usize,
-    end: usize,
-    radix: u8,
-    negative: bool,
-) -> Result<i64, Fault>
+#[tactic(auto, unfolding(crate::specs::Numerals::integer))]
+fn integer(text: &str, piece: Span, from: usize, radix: u8, negative: bool) -> Result<i64, Fault>
+    requires forward { from ≤ piece.end }
     requires within { piece.end ≤ length text.now }
-    requires start { piece.start ≤ from }
-    requires forward { from ≤ end }
-    requires end { end ≤ piece.end }
-    ensures placed { IsPlacedFault text.now result }
-    ensures gives { IntegerGives negative (spec.magnitude radix text.now from end) piece.start piece.end result }
+    ensures { result ≡ numerals.integer radix text.now negative piece.start from piece.end }
 {
-    let value = match magnitude(&text.as_bytes()[from..end], radix) {
+    let value = match magnitude(&text.as_bytes()[from..piece.end], radix) {
         Some(magnitude) => signed(negative, magnitude),
         None => None,
     };
@@ -147,7 +152,7 @@ fn integer(
 ///
 /// `hex-prefix = %x30.78`, `oct-prefix = %x30.6F`, `bin-prefix = %x30.62` (TOML 1.1, Integer)
 #[inline]
-pub fn radix_of(text: &str, run: usize) -> Option<u8>
+fn radix_of(text: &str, run: usize) -> Option<u8>
     requires { run < usize.MAX }
     ensures { result ≡ spec.radix_at text.now run }
 {
@@ -165,12 +170,12 @@ pub fn radix_of(text: &str, run: usize) -> Option<u8>
 /// The integer of a run with a radix before it.
 ///
 /// `hex-int`, `oct-int`, `bin-int` (TOML 1.1, Integer)
-pub fn radix_integer(text: &str, run: Span, radix: u8) -> Result<i64, Fault>
+#[tactic(auto, unfolding(crate::specs::Numerals::radix_integer))]
+fn radix_integer(text: &str, run: Span, radix: u8) -> Result<i64, Fault>
     requires within { run.end ≤ length text.now }
     requires prefix { run.start + 2 ≤ run.end }
     requires last { is_keylike (slice_index text.now run.end) ≡ false }
-    ensures placed { IsPlacedFault text.now result }
-    ensures gives { RadixIntegerGives radix text.now (run.start + 2) run.end result }
+    ensures { result ≡ numerals.radix_integer radix text.now (run.start + 2) run.end }
 {
     let piece = Span {
         start: run.start + 2,
@@ -180,19 +185,19 @@ pub fn radix_integer(text: &str, run: Span, radix: u8) -> Result<i64, Fault>
     if end < piece.end {
         return Err(invalid_number(piece.start, piece.end));
     }
-    integer(text, piece, piece.start, end, radix, false)
+    integer(text, piece, piece.start, radix, false)
 }
 
 /// Where the digits of the integer part of a decimal number end, or the fault.
 ///
 /// `dec-int = [ minus / plus ] unsigned-dec-int` (TOML 1.1, Integer)
+#[tactic(auto, unfolding(crate::specs::Numerals::integer_part))]
 fn integer_part(text: &str, run: Span, from: usize) -> Result<usize, Fault>
     requires within { run.end ≤ length text.now }
-    requires start { run.start ≤ from }
     requires end { from ≤ run.end }
     requires last { is_keylike (slice_index text.now run.end) ≡ false }
-    ensures ends { DigitsEnd text.now from run.end result }
-    ensures gives { IntegerPartGives text.now run.start from run.end result }
+    ensures ends { IfOk result (λ m. (from < m) × (m ≤ run.end)) }
+    ensures gives { result ≡ numerals.integer_part text.now run.start from run.end }
 {
     let end = digits_end(text, run, from, 10)?;
     if text.as_bytes()[from] == b'0' && from + 1 < end {
@@ -217,14 +222,11 @@ fn is_exponent(byte: u8) -> bool
 /// Where the exponent ends whose letter is at `letter`, in a run that ends at `end`, or the fault.
 ///
 /// `exp = "e" float-exp-part`, `float-exp-part = [ minus / plus ] zero-prefixable-int` (TOML 1.1, Float)
+#[tactic(auto, unfolding(crate::specs::Numerals::exponent))]
 fn exponent_end(text: &str, first: Span, letter: usize, end: usize) -> Result<usize, Fault>
-    requires first { first.start ≤ first.end }
-    requires within { first.end ≤ end }
-    requires run { Run text.now letter end }
-    requires letter { spec.is_exponent (slice_index text.now letter) ≡ true }
-    requires boundary { IsCharBoundary text.now end }
-    ensures ends { NumberEnds text.now end result }
-    ensures gives { ExponentGives text.now first.start first.end letter end result }
+    requires letter { letter < end }
+    requires run { Passes text.now letter end }
+    ensures { result ≡ numerals.exponent text.now first.start first.end letter end }
 {
     if letter + 1 < end {
         let piece = Span {
@@ -241,24 +243,21 @@ fn exponent_end(text: &str, first: Span, letter: usize, end: usize) -> Result<us
     let start = end + 1;
     let piece = Span {
         start,
-        end: keylike_end(text, start),
+        end: run_end(text, start),
     };
-    if piece.start == piece.end {
+    if piece.end == piece.start {
         return Err(invalid_number(first.start, first.end));
     }
     exponent_digits(text, first, piece, start)
 }
 
 /// Where the digits of an exponent end, which are all of their piece from `from` on, or the fault.
+#[tactic(auto, unfolding(crate::specs::Numerals::exponent_digits))]
 fn exponent_digits(text: &str, first: Span, piece: Span, from: usize) -> Result<usize, Fault>
-    requires first { first.start ≤ first.end }
-    requires within { first.end ≤ piece.end }
-    requires start { piece.start ≤ from }
+    requires within { piece.end ≤ length text.now }
     requires end { from ≤ piece.end }
-    requires boundary { IsCharBoundary text.now piece.end }
     requires last { is_keylike (slice_index text.now piece.end) ≡ false }
-    ensures ends { NumberEnds text.now piece.end result }
-    ensures gives { ExponentDigitsGive text.now first.start first.end piece.start from piece.end result }
+    ensures { result ≡ numerals.exponent_digits text.now first.start first.end piece.start from piece.end }
 {
     if digits_end(text, piece, from, 10)? < piece.end {
         return Err(invalid_number(first.start, first.end));
@@ -270,20 +269,18 @@ fn exponent_digits(text: &str, first: Span, piece: Span, from: usize) -> Result<
 /// number's first character.
 ///
 /// `frac = decimal-point zero-prefixable-int` (TOML 1.1, Float)
+#[tactic(auto, unfolding(crate::specs::Numerals::fraction))]
 fn fraction_end(text: &str, start: usize, first: Span) -> Result<usize, Fault>
-    requires start { start ≤ first.start }
-    requires first { first.start ≤ first.end }
-    requires boundary { IsCharBoundary text.now first.end }
+    requires within { first.end ≤ length text.now }
     requires dot { slice_index text.now first.end ≡ period }
-    ensures ends { NumberEnds text.now first.end result }
-    ensures gives { FractionGives text.now start first.start first.end result }
+    ensures { result ≡ numerals.fraction text.now start first.start first.end }
 {
     let from = first.end + 1;
     let piece = Span {
         start: from,
-        end: keylike_end(text, from),
+        end: run_end(text, from),
     };
-    if piece.start == piece.end {
+    if piece.end == piece.start {
         return Err(invalid_number(start, from));
     }
     let digits = digits_end(text, piece, from, 10)?;
@@ -310,35 +307,120 @@ fn behind_minus(text: &str, at: usize) -> usize
     }
 }
 
-/// A number without a radix: its value, or where its float ends.
-pub enum Decimal {
-    Integer(i64),
-    Float(usize),
-}
-
-/// The number without a radix that begins with the run `first`, or the fault.
+/// The number without a radix that begins with the run `first`, and where it ends, or the fault.
 ///
 /// `float = float-int-part ( exp / frac [ exp ] )` (TOML 1.1, Float)
-pub fn decimal_number(text: &str, start: usize, first: Span) -> Result<Decimal, Fault>
-    requires start { start ≤ first.start }
-    requires run { IsRun text.now first }
-    requires digits { IsSpecial text.now first.start first.end → ⊥ }
-    ensures ends { DecimalEnds text.now first.end result }
-    ensures gives { DecimalGives text.now start first.start first.end result }
+#[tactic(auto, unfolding(crate::specs::Numerals::decimal))]
+fn decimal_number(text: &str, start: usize, first: Span) -> Result<(Numeral, usize), Fault>
+    requires some { first.start < first.end }
+    requires run { Passes text.now first.start first.end }
+    ensures { result ≡ numerals.decimal text.now start first.start first.end }
 {
     let negative = byte_at(text, first.start) == b'-';
     let from = behind_minus(text, first.start);
     let end = integer_part(text, first, from)?;
     if end < first.end {
         if is_exponent(text.as_bytes()[end]) {
-            return Ok(Decimal::Float(exponent_end(text, first, end, first.end)?));
+            return Ok((Numeral::Finite, exponent_end(text, first, end, first.end)?));
         }
         return Err(invalid_number(first.start, first.end));
     }
     if byte_at(text, end) == b'.' {
-        return Ok(Decimal::Float(fraction_end(text, start, first)?));
+        return Ok((Numeral::Finite, fraction_end(text, start, first)?));
     }
-    Ok(Decimal::Integer(integer(text, first, from, end, 10, negative)?))
+    Ok((
+        Numeral::Integer(integer(text, first, from, 10, negative)?),
+        end,
+    ))
+}
+
+/// The float that a word of letters writes, `inf` or `nan`; None for other words.
+///
+/// `special-float = [ minus / plus ] ( inf / nan )` (TOML 1.1, Float)
+#[tactic(auto, unfolding(crate::specs::Numerals::special))]
+fn special_float(word: &[u8], negative: bool) -> Option<Numeral>
+    ensures { result ≡ numerals.special negative word.now }
+{
+    match word {
+        b"inf" => Some(Numeral::Infinite { negative }),
+        b"nan" => Some(Numeral::NotANumber { negative }),
+        _ => None,
+    }
+}
+
+/// Inf or nan, and where it ends, or the fault of a dot behind it, as `inf.5`: no float of letters has a fraction.
+#[tactic(auto, unfolding(crate::specs::Numerals::special_end))]
+fn special_end(
+    text: &str,
+    start: usize,
+    first: Span,
+    numeral: Numeral,
+) -> Result<(Numeral, usize), Fault>
+    requires { first.end ≤ length text.now }
+    ensures { result ≡ numerals.special_end text.now start first.start first.end numeral }
+{
+    if byte_at(text, first.end) != b'.' {
+        return Ok((numeral, first.end));
+    }
+    let behind = first.end + 1;
+    if run_end(text, behind) == behind {
+        Err(invalid_number(start, behind))
+    } else {
+        Err(invalid_number(first.start, first.end))
+    }
+}
+
+/// The number whose first character is at `start`, with its first run from `first` on, and where it
+/// ends.
+#[tactic(auto, unfolding(crate::specs::Numerals::unsigned))]
+fn unsigned(text: &str, start: usize, first: Span) -> Result<(Numeral, usize), Fault>
+    requires some { first.start < first.end }
+    requires run { Passes text.now first.start first.end }
+    ensures { result ≡ numerals.unsigned text.now start first.start first.end }
+{
+    if let Some(radix) = radix_of(text, first.start) {
+        return Ok((
+            Numeral::Integer(radix_integer(text, first, radix)?),
+            first.end,
+        ));
+    }
+    let negative = byte_at(text, first.start) == b'-';
+    let from = behind_minus(text, first.start);
+    match special_float(&text.as_bytes()[from..first.end], negative) {
+        Some(numeral) => special_end(text, start, first, numeral),
+        None => decimal_number(text, start, first),
+    }
+}
+
+/// The number at a place, and where it ends, or the fault.
+///
+/// `integer = dec-int / hex-int / oct-int / bin-int`, `float = float-int-part ( exp / frac [ exp ] )`,
+/// `float =/ special-float` (TOML 1.1, Integer, Float)
+#[tactic(auto, unfolding(crate::specs::Numerals::numeral))]
+fn number_at(text: &str, at: usize) -> Result<(Numeral, usize), Fault>
+    requires boundary { IsCharBoundary text.now at }
+    requires begins { (is_keylike (slice_index text.now at) || slice_index text.now at == plus) ≡ true }
+    ensures { result ≡ numerals.numeral text.now at }
+{
+    if byte_at(text, at) != b'+' {
+        let first = Span {
+            start: at,
+            end: run_end(text, at),
+        };
+        return unsigned(text, at, first);
+    }
+    let start = at + 1;
+    let first = Span {
+        start,
+        end: run_end(text, start),
+    };
+    if first.end == first.start {
+        return Err(invalid_number(start, start));
+    }
+    if text.as_bytes()[start] == b'-' || radix_of(text, start).is_some() {
+        return Err(invalid_number(at, first.end));
+    }
+    unsigned(text, at, first)
 }
 
 /// What the first digits at a place come to, below 2^60, and where these end.
@@ -421,38 +503,6 @@ fn cleaned(alloc: Global, literal: &str) -> Result<String, AllocError>
     Ok(text)
 }
 
-/// The float that a word of letters writes: `inf` or `nan`, with a minus before it or not; None for other words.
-///
-/// `special-float = [ minus / plus ] ( inf / nan )` (TOML 1.1, Float)
-pub fn special_float(word: &[u8]) -> Option<FloatText>
-    ensures { SpecialGives word.now result }
-{
-    match word {
-        b"inf" => Some(FloatText::Infinite { negative: false }),
-        b"-inf" => Some(FloatText::Infinite { negative: true }),
-        b"nan" => Some(FloatText::NotANumber { negative: false }),
-        b"-nan" => Some(FloatText::NotANumber { negative: true }),
-        _ => None,
-    }
-}
-
-/// The fault of a dot behind `inf` or `nan`, as `inf.5`: no float of letters has a fraction.
-pub fn special_dot(text: &str, start: usize, first: Span) -> Fault
-    requires start { start ≤ first.start }
-    requires run { IsRun text.now first }
-    requires dot { slice_index text.now first.end ≡ period }
-    requires special { IsSpecial text.now first.start first.end }
-    ensures placed { StartsInside text.now result }
-    ensures gives { NoDecimal text.now start first.start first.end result }
-{
-    let behind = first.end + 1;
-    if keylike_end(text, behind) == behind {
-        invalid_number(start, behind)
-    } else {
-        invalid_number(first.start, first.end)
-    }
-}
-
 /// The integer of this value.
 #[inline]
 fn integer_kind<'de>(value: i64) -> ValKind<'de>
@@ -469,47 +519,47 @@ fn float_kind<'de>(text: FloatText) -> ValKind<'de>
     ValKind::Float(text)
 }
 
-/// The number whose first character is at `start`, with its first run from `first` on, and where it
-/// ends.
-fn unsigned<'de>(
-    alloc: Global,
-    text: &'de str,
-    start: usize,
-    first: Span,
-) -> Result<(ValKind<'de>, usize), Stop<Fault>>
-    requires start { start ≤ first.start }
-    requires boundary { IsCharBoundary text.now first.start }
-    requires run { IsRun text.now first }
-    ensures advances { Advances text.now start result }
-    ensures scalar { IsScalarKind result }
-    ensures gives { UnsignedGives text.now start first.start first.end result }
+/// The literal of a float without its plus.
+fn float_literal<'a>(text: &'a str, at: usize, end: usize) -> &'a str
+    requires start { IsCharBoundary text.now at }
+    requires end { IsCharBoundary text.now end }
+    requires float { spec.FloatLiteral text.now at end }
+    ensures ascii { (k : ℕ) → slice_index result.now k < 128 }
+    ensures cleaned { spec.cleaned result.now ≡ spec.cleaned (slice_range text.now at end) }
 {
-    if let Some(radix) = radix_of(text, first.start) {
-        return match radix_integer(text, first, radix) {
-            Ok(value) => Ok((integer_kind(value), first.end)),
-            Err(fault) => Err(Stop::Fault(fault)),
-        };
+    if byte_at(text, at) == b'+' {
+        &text[at + 1..end]
+    } else {
+        &text[at..end]
     }
-    if let Some(float) = special_float(&text.as_bytes()[first.start..first.end]) {
-        if byte_at(text, first.end) == b'.' {
-            return Err(Stop::Fault(special_dot(text, start, first)));
+}
+
+/// The number that was read at a place, and ends at `end`.
+fn number_kind<'de>(
+    alloc: Global,
+    text: &str,
+    at: usize,
+    numeral: Numeral,
+    end: usize,
+) -> Result<ValKind<'de>, AllocError>
+    requires start { IsCharBoundary text.now at }
+    requires end { IsCharBoundary text.now end }
+    requires here { NumeralStands text.now at end numeral }
+    ensures { IfOk result
+        (λ kind. kind_view kind ≡ scalar (numerals.scalar_of numeral (slice_range text.now at end))) }
+{
+    match numeral {
+        Numeral::Integer(value) => Ok(integer_kind(value)),
+        Numeral::Infinite { negative } => Ok(float_kind(FloatText::Infinite { negative })),
+        Numeral::NotANumber { negative } => Ok(float_kind(FloatText::NotANumber { negative })),
+        Numeral::Finite => {
+            let digits = cleaned(alloc, float_literal(text, at, end))?;
+            Ok(float_kind(FloatText::Finite(digits)))
         }
-        return Ok((float_kind(float), first.end));
-    }
-    match decimal_number(text, start, first) {
-        Err(fault) => Err(Stop::Fault(fault)),
-        Ok(Decimal::Integer(value)) => Ok((integer_kind(value), first.end)),
-        Ok(Decimal::Float(end)) => match cleaned(alloc, &text[first.start..end]) {
-            Ok(digits) => Ok((float_kind(FloatText::Finite(digits)), end)),
-            Err(e) => Err(Stop::Memory(e)),
-        },
     }
 }
 
 /// The number at a place, and where it ends.
-///
-/// `integer = dec-int / hex-int / oct-int / bin-int`, `float = float-int-part ( exp / frac [ exp ] )`,
-/// `float =/ special-float` (TOML 1.1, Integer, Float)
 pub(crate) fn number<'de>(
     alloc: Global,
     text: &'de str,
@@ -522,23 +572,11 @@ pub(crate) fn number<'de>(
     // A literal is read exactly where one stands: otherwise the fault says what stands in its place.
     ensures gives { NumberGives text.now at result }
 {
-    if byte_at(text, at) != b'+' {
-        let first = Span {
-            start: at,
-            end: keylike_end(text, at),
-        };
-        return unsigned(alloc, text, at, first);
+    match number_at(text, at) {
+        Err(fault) => Err(Stop::Fault(fault)),
+        Ok((numeral, end)) => match number_kind(alloc, text, at, numeral, end) {
+            Ok(kind) => Ok((kind, end)),
+            Err(e) => Err(Stop::Memory(e)),
+        },
     }
-    let start = at + 1;
-    let first = Span {
-        start,
-        end: keylike_end(text, start),
-    };
-    if first.start == first.end {
-        return Err(Stop::Fault(invalid_number(start, start)));
-    }
-    if text.as_bytes()[start] == b'-' || radix_of(text, start).is_some() {
-        return Err(Stop::Fault(invalid_number(at, first.end)));
-    }
-    unsigned(alloc, text, at, first)
 }

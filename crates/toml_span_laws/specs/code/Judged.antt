@@ -1,26 +1,18 @@
 -- What stands at a place of a text: a form, or what is wrong where it is due.
-use Rattle.std.specs.Prelude.{◌≡◌, ℕ, ◌+◌, ◌⊎◌, true, ◌||◌, ◌==◌, List, slice_index, Result, Ok, Err, Option, Some}
-use Rattle.std.specs.Prelude.{None}
+use Rattle.std.specs.Prelude.{◌≡◌, ℕ, true, ◌||◌, ◌==◌, List, slice_index, Result, Ok, Err, Option}
 use Rattle.std.specs.Str.{IsCharBoundary}
 use Rattle.toml_span_lex.specs.Bytes.{is_blank, is_keylike, MaximalRun, equals, plus, right_brace, right_bracket}
 use Rattle.toml_span_lex.specs.Laws.{SomethingStands}
 use Rattle.toml_span_tree.specs.Node.{Scalar}
 use Rattle.toml_span_tree.specs.declared.date.DateText.{DateText}
 use Rattle.toml_span_read.specs.declared.fault.Fault.{Fault}
-use Rattle.toml_span_read.specs.Numbers.{IsNumber, radix_at}
-use Rattle.toml_span_read.specs.Faults.{NoRadixInteger, NoDecimal, NoNumber}
+use Rattle.toml_span_read.specs.Numbers.{IsNumber}
+use Rattle.toml_span_read.specs.Faults.{NoNumber}
 use Rattle.toml_span_read.specs.code.Gaps.{Further, DotGives, BehindGives, SeparatorGives, EqualsGives, TailGives}
 use Rattle.toml_span_read.specs.declared.gaps.Behind.{Behind}
 use Rattle.toml_span_read.specs.Gaps.{MaximalGap}
 use Rattle.toml_span_read.specs.Dates.{begins_date}
 use Rattle.toml_span_read.specs.code.Dates.{DateGives}
-
--- the number whose run is from a to b, behind its plus, if it has one, at i
-abbrev pub UnsignedStands : List ℕ → ℕ → ℕ → ℕ → Result ℕ Fault → Type 0
-UnsignedStands text i a b (Ok j) = (s : Scalar) × IsNumber s text a j
-UnsignedStands text i a b (Err fault) =
-    ((radix : ℕ) × (radix_at text a ≡ Some radix) × NoRadixInteger radix text (a + 2) b fault)
-    ⊎ ((radix_at text a ≡ None) × NoDecimal text i a b fault)
 
 -- the literal of a number, or the fault of none
 abbrev pub NumberStands : List ℕ → ℕ → Result ℕ Fault → Type 0

@@ -1,4 +1,4 @@
-use Rattle.toml_span_laws.proofs.NumberFaults.{number_fault}
+use Rattle.toml_span_laws.proofs.NumberLaws.{number_fault}
 use Rattle.toml_span_laws.proofs.numbers.one_number_fault.Goals as goal
 
 pub returns : goal.returns

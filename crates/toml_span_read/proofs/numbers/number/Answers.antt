@@ -1,69 +1,34 @@
-use Rattle.std.proofs.Common.{rules, arith, ◌≡◌, ◌+◌, ◌<◌, true, false, get_or, is_some, refl}
-use Rattle.std.specs.Prelude.{◌==◌}
-use Rattle.toml_span_lex.specs.Bytes.{is_keylike}
-use Rattle.toml_span_read.specs.Faults.{Run, plus_alone, plus_before_minus}
-use Rattle.toml_span_read.specs.Numbers.{radix_at}
-use Rattle.toml_span_read.proofs.Places.{behind_byte, run_some}
-use Rattle.toml_span_read.proofs.NumberLemmas.{run_stops, number_plain, number_behind_plus, plus_prefix, no_some, or_first}
+use Rattle.std.proofs.Common.{rules, ◌≡◌, Ok, Err}
+use Rattle.toml_span_read.specs.Numerals.{numeral}
+use Rattle.toml_span_read.proofs.NumberReads.{numeral_reads, number_told, number_given, number_advances}
 use Rattle.toml_span_read.proofs.numbers.number.Goals as goal
-use Rattle.toml_span_read.proofs.numbers.number.Goals.{then-as_bytes-start-eq45-via-then-as_bytes-start-eq45, then-as_bytes-start-eq45-via-else-as_bytes-start-eq45+then-is_some}
 
-pub keylike_end-requires-2 : goal.keylike_end-requires-2
-keylike_end-requires-2 c = behind_byte c.args.text.now c.args.at c.utf8.text (search rules) (search rules)
+pub returns-in-Err-clause-advances : goal.returns-in-Err-clause-advances
+returns-in-Err-clause-advances c =
+    let h : numeral c.args.text.now c.args.at ≡ Err c.in-Err.fault = search rules in
+    (numeral_reads c.args.text.now c.args.at c.requires.begins).told c.in-Err.fault h
 
-pub returns-then-byte_at-ne43-clause-gives : goal.returns-then-byte_at-ne43-clause-gives
-returns-then-byte_at-ne43-clause-gives c =
-    let text = c.args.text.now in
-    let p : (get_or text c.args.at 0 == 43) ≡ false = search rules in
-    let k : is_keylike (get_or text c.args.at 0) ≡ true = or_first _ _ c.requires.begins p in
-    let l : c.args.at < c.keylike_end.result = run_some is_keylike text _ _ refl k c.keylike_end.ensures.run in
-    number_plain _ _ _ _ p (record { some = l; run = c.keylike_end.ensures.run }) c.unsigned.ensures.gives
+pub returns-in-Err-clause-gives : goal.returns-in-Err-clause-gives
+returns-in-Err-clause-gives c =
+    let h : numeral c.args.text.now c.args.at ≡ Err c.in-Err.fault = search rules in
+    number_told c.args.text.now c.args.at c.in-Err.fault h
 
-pub returns-then-first-clause-gives : goal.returns-then-first-clause-gives
-returns-then-first-clause-gives c =
-    let text = c.args.text.now in
-    let p : get_or text c.args.at 0 ≡ 43 = search rules in
-    let e : c.keylike_end-2.result ≡ c.args.at + 1 = search rules in
-    let s : is_keylike (get_or text c.keylike_end-2.result 0) ≡ false = run_stops _ _ _ c.keylike_end-2.ensures.run in
-    rw c.invalid_number.ensures (plus_alone p (rw e at s))
+pub number_kind-requires-clause-end : goal.number_kind-requires-clause-end
+number_kind-requires-clause-end c =
+    let h : numeral c.args.text.now c.args.at ≡ Ok (c.in-Ok.numeral, c.in-Ok.end) = search rules in
+    (number_advances c.in-Ok.numeral c.args.text.now c.args.at c.in-Ok.end c.utf8.text c.requires.begins h).boundary
 
-pub returns-then-as_bytes-start-eq45-clause-gives : goal.returns-then-as_bytes-start-eq45-clause-gives
-returns-then-as_bytes-start-eq45-clause-gives c =
-    let text = c.args.text.now in
-    let p : get_or text c.args.at 0 ≡ 43 = search rules in
-    let l : c.args.at + 1 < c.keylike_end-2.result = search rules in
-    let u : Run text (c.args.at + 1) c.keylike_end-2.result = record { some = l; run = c.keylike_end-2.ensures.run } in
-    elim c.then-as_bytes-start-eq45.branch [
-      | then-as_bytes-start-eq45-via-then-as_bytes-start-eq45 w ↦
-          let m : get_or text (c.args.at + 1) 0 ≡ 45 = search rules in
-          rw c.invalid_number-then-as_bytes-start-eq45.ensures (plus_before_minus _ p u m)
-      | then-as_bytes-start-eq45-via-else-as_bytes-start-eq45+then-is_some w ↦
-          let x : is_some (radix_at text (c.args.at + 1)) ≡ true = search rules in
-          rw c.invalid_number-then-as_bytes-start-eq45.ensures (plus_prefix text c.args.at c.keylike_end-2.result p u x)
-    ]
+pub number_kind-requires-clause-here : goal.number_kind-requires-clause-here
+number_kind-requires-clause-here c =
+    let h : numeral c.args.text.now c.args.at ≡ Ok (c.in-Ok.numeral, c.in-Ok.end) = search rules in
+    (numeral_reads c.args.text.now c.args.at c.requires.begins).given (c.in-Ok.numeral, c.in-Ok.end) h
 
-pub returns-clause-gives : goal.returns-clause-gives
-returns-clause-gives c =
-    let text = c.args.text.now in
-    let p : get_or text c.args.at 0 ≡ 43 = search rules in
-    let l : c.args.at + 1 < c.keylike_end-2.result = search rules in
-    let m : (get_or text (c.args.at + 1) 0 == 45) ≡ false = search rules in
-    let x : is_some (radix_at text (c.args.at + 1)) ≡ false = search rules in
-    number_behind_plus _ _ _ _ p (record { some = l; run = c.keylike_end-2.ensures.run }) m (no_some _ x) c.unsigned-2.ensures.gives
+pub returns-in-Ok-number_kind-clause-advances : goal.returns-in-Ok-number_kind-clause-advances
+returns-in-Ok-number_kind-clause-advances c =
+    let h : numeral c.args.text.now c.args.at ≡ Ok (c.in-Ok.numeral, c.in-Ok.end) = search rules in
+    number_advances c.in-Ok.numeral c.args.text.now c.args.at c.in-Ok.end c.utf8.text c.requires.begins h
 
-pub returns-then-byte_at-ne43-clause-advances : goal.returns-then-byte_at-ne43-clause-advances
-returns-then-byte_at-ne43-clause-advances c = c.unsigned.ensures.advances
-
-pub returns-then-byte_at-ne43-clause-scalar : goal.returns-then-byte_at-ne43-clause-scalar
-returns-then-byte_at-ne43-clause-scalar c = c.unsigned.ensures.scalar
-
-pub returns-then-first-clause-advances : goal.returns-then-first-clause-advances
-returns-then-first-clause-advances c =
-    let run = c.keylike_end-2.ensures.run in
-    rw c.invalid_number.ensures (record { within = omega (arith, run.forward, run.within); forward = omega arith })
-
-pub returns-clause-advances : goal.returns-clause-advances
-returns-clause-advances c = c.unsigned-2.ensures.advances
-
-pub returns-clause-scalar : goal.returns-clause-scalar
-returns-clause-scalar c = c.unsigned-2.ensures.scalar
+pub returns-in-Ok-number_kind-clause-gives : goal.returns-in-Ok-number_kind-clause-gives
+returns-in-Ok-number_kind-clause-gives c =
+    let h : numeral c.args.text.now c.args.at ≡ Ok (c.in-Ok.numeral, c.in-Ok.end) = search rules in
+    number_given c.in-Ok.numeral c.args.text.now c.args.at c.in-Ok.end c.in-Ok-number_kind.kind c.requires.begins h c.in-Ok-number_kind.ensures

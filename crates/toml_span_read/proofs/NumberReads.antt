@@ -1,0 +1,459 @@
+-- What is read as a number is spelled, and a fault that is told stands in the text.
+use Rattle.std.proofs.Common.{◌≡◌, ℕ, ◌+◌, ◌-◌, ◌<◌, ◌≤◌, ◌⊎◌, Bool, true, false, List, length, get_or, arith, Ok, Err, Option, Some, None, is_some, inl, inr, refl, sym, ◌∙◌, subst}
+use Rattle.std.proofs.lemmas.Bool.{cases_lt, and_parts, not-true, not-false, or_parts, eqb-false, ltb-true, ltb-false, leb-true, false≢true}
+use Rattle.std.proofs.lemmas.List.Folds.{list_all_at}
+use Rattle.std.proofs.lemmas.Slice.Eq.{bytes_eq-Decides}
+use Rattle.std.specs.List.{list_all}
+use Rattle.std.specs.Option.{ok_or, option_map_or}
+use Rattle.std.specs.Prelude.{ℤ, pos, neg_ℤ, not, ◌^◌, ◌==◌, ◌||◌, ◌&&◌, nat_lt, nat_le, slice_range, codes, if◌then◌else◌}
+use Rattle.std.specs.Str.{bytes_eq, IsUtf8}
+use Rattle.toml_span_lex.specs.Bytes.{is_keylike}
+use Rattle.toml_span_lex.proofs.Runs.{behind, keylike_ascii}
+use Rattle.toml_span_tree.specs.Node.{Scalar, text as text_scalar, integer, float, boolean, datetime, finite, infinite, not_a_number}
+use Rattle.toml_span_read.specs.declared.fault.Fault.{Fault}
+use Rattle.toml_span_read.specs.declared.numbers.Numeral.{Numeral}
+use Rattle.toml_span_read.specs.declared.numbers.Numeral.TheVariants as numerals
+use Rattle.toml_span_read.specs.Numbers.{Digits, UnsignedDecimal, Exponent, Fraction, FloatLiteral, SpecialFloat, cleaned, IsNumber, IsSigned, behind_sign, is_negative, radix_at, magnitude, goes_on, is_exponent}
+use Rattle.toml_span_read.specs.Numerals as spec
+use Rattle.toml_span_read.specs.Numerals.{Read, ◌>>=◌, invalid_number, run_end, scalar_of, digits_end, integer_part, exponent_digits, exponent, fraction, signed, decimal, special, special_end, unsigned, numeral, number, radix_integer}
+use Rattle.toml_span_read.specs.Places.{StartsInside}
+use Rattle.toml_span_read.specs.code.Gaps.{Further}
+use Rattle.toml_span_read.specs.code.Numbers.{Passes, NumberGives, NumeralStands}
+use Rattle.toml_span_read.specs.Data.{kind_view, scalar}
+use Rattle.toml_span_read.specs.Faults.{NoNumber}
+use Rattle.toml_span_read.specs.declared.value.ValKind.{ValKind}
+use Rattle.toml_span_read.proofs.NumberLemmas.{is_false, bool_cases, byte_is, clash, here, figure_keylike, digits_sound, digits_on, run_passes, passes_on, sign_on, no_sign, behind_plus_sign, stands_alone, slice_some, range_length, range_at}
+
+-- ---- steps that may fail
+
+-- what holds of each value that is read, and each fault is placed
+pub record Reads {A : Type 0} (text : List ℕ) (r : Read A) (Q : A → Type 0) : Type 0 where
+  pub given : (a : A) → r ≡ Ok a → Q a
+  pub told : (e : Fault) → r ≡ Err e → StartsInside text e
+
+done : {A : Type 0} (text : List ℕ) (a : A) (Q : A → Type 0) → Q a → Reads text (Ok a) Q
+done text a Q q = record { given = λ b e. (let s : a ≡ b = cc in subst (λ x. Q x) s q); told = λ e h. absurd cc }
+
+-- a fault from s to e is placed
+abbrev Placed : List ℕ → ℕ → ℕ → Type 0
+Placed text s e = (s ≤ e) × (s ≤ length text)
+
+fails : {A : Type 0} (text : List ℕ) (s e : ℕ) (Q : A → Type 0) → Placed text s e → Reads text (Err (invalid_number s e)) Q
+fails text s e Q p = record { given = λ b h. absurd cc; told = λ x h. (let same : invalid_number s e ≡ x = cc in rw (← same) (record { within = p.1; forward = p.0 })) }
+
+after : {A B : Type 0} (text : List ℕ) (r : Read A) (f : A → Read B) (P : A → Type 0) (Q : B → Type 0) → Reads text r P → ((a : A) → P a → Reads text (f a) Q) → Reads text (r >>= f) Q
+after text (Ok a) f P Q h g = g a (h.given a refl)
+after text (Err e) f P Q h g = record { given = λ b x. absurd cc; told = λ x y. h.told x (let s : e ≡ x = cc in rw s refl) }
+
+choice : {A : Type 0} (text : List ℕ) (c : Bool) (x y : Read A) (Q : A → Type 0) → (c ≡ true → Reads text x Q) → (c ≡ false → Reads text y Q) → Reads text (if c then x else y) Q
+choice text true x y Q h g = h refl
+choice text false x y Q h g = g refl
+
+weaker : {A : Type 0} (text : List ℕ) (r : Read A) (P Q : A → Type 0) → Reads text r P → ((a : A) → P a → Q a) → Reads text r Q
+weaker text r P Q h g = record { given = λ a e. g a (h.given a e); told = h.told }
+
+some_or : {A B : Type 0} (text : List ℕ) (f : A → Read B) (o : Option A) (r : Read B) (Q : B → Type 0) → ((a : A) → o ≡ Some a → Reads text (f a) Q) → (o ≡ None → Reads text r Q) → Reads text (option_map_or f o r) Q
+some_or text f (Some a) r Q h g = h a refl
+some_or text f None r Q h g = g refl
+
+or_fails : {A : Type 0} (text : List ℕ) (s e : ℕ) (o : Option A) (Q : A → Type 0) → Placed text s e → ((a : A) → o ≡ Some a → Q a) → Reads text (ok_or o (invalid_number s e)) Q
+or_fails text s e (Some a) Q p h = done text a Q (h a refl)
+or_fails text s e None Q p h = fails text s e Q p
+
+-- ---- digits
+
+-- a piece from start to end, which is a run or the end of one, and the digits in it from `from` on
+record Piece (text : List ℕ) (start from end : ℕ) : Type 0 where
+  forward : start ≤ from
+  to : from ≤ end
+  within : end ≤ length text
+  last : is_keylike (get_or text end 0) ≡ false
+
+-- digits end before a byte of no run
+pub digits_to : (radix : ℕ) (text : List ℕ) (i j b : ℕ) → Digits radix text i j → i ≤ b → is_keylike (get_or text b 0) ≡ false → j ≤ b
+digits_to radix text i j b d g n = elim (cases_lt b j) [ inl l ↦ absurd (false≢true (sym n ∙ figure_keylike radix (get_or text b 0) (d.run.passes b g l))) | inr h ↦ h ]
+
+abbrev DigitsTo : ℕ → List ℕ → ℕ → ℕ → ℕ → Type 0
+DigitsTo radix text from end m = Digits radix text from m × (from < m) × (m ≤ end)
+
+digits_reads : (radix : ℕ) (text : List ℕ) (start from end : ℕ) → Piece text start from end → Reads text (digits_end radix text start from end) (DigitsTo radix text from end)
+unfolding digits_end
+digits_reads radix text start from end p =
+    let f = p.forward in
+    let t = p.to in
+    let w = p.within in
+    let placed : Reads text (digits_end radix text start from end) (λ m. Unit {0}) =
+    choice text (get_or text from 0 == 95) _ _ _ (λ c. fails text from end _ (t, omega arith))
+    (λ c. choice text (spec.are_digits radix text from (spec.figures_end radix text from)) _ _ _ (λ x. done text _ _ tt) (λ x. fails text start end _ (omega arith, omega arith))) in
+    record {
+      given = λ j h. (let d : Digits radix text from j = digits_sound radix text start from end j h in (d, digits_on radix text from j d, digits_to radix text from j end d t p.last));
+      told = placed.told;
+    }
+
+-- ---- the integer part
+
+abbrev PartTo : List ℕ → ℕ → ℕ → ℕ → Type 0
+PartTo text from end m = UnsignedDecimal text from m × (from < m) × (m ≤ end)
+
+leads : (text : List ℕ) (from m : ℕ) → from < m → (get_or text from 0 == 48 && nat_lt (from + 1) m) ≡ false → get_or text from 0 ≡ 48 → m ≡ from + 1
+leads text from m l c z = let n : nat_lt (from + 1) m ≡ false = rw z at c in omega (arith, ltb-false (from + 1) m n)
+
+second_in : (b : Bool) (from m end : ℕ) → from + 1 < m → m ≤ end → (if b then from + 2 else from + 1) ≤ end
+second_in true from m end l t = omega arith
+second_in false from m end l t = omega arith
+
+part_reads : (text : List ℕ) (start from end : ℕ) → Piece text start from end → Reads text (integer_part text start from end) (PartTo text from end)
+unfolding integer_part
+part_reads text start from end p =
+    let w = p.within in
+    after text (digits_end 10 text start from end) _ (DigitsTo 10 text from end) _ (digits_reads 10 text start from end p)
+    (λ m d. choice text (get_or text from 0 == 48 && nat_lt (from + 1) m) _ _ _
+    (λ c. (
+    let l : from + 1 < m = ltb-true (from + 1) m (and_parts (get_or text from 0 == 48) (nat_lt (from + 1) m) c).1 in
+    let s = second_in (get_or text (from + 1) 0 == 95) from m end l d.2 in
+    fails text (if get_or text (from + 1) 0 == 95 then from + 2 else from + 1) end _ (s, omega arith)))
+    (λ c. done text m _ (record { digits = d.0; leading = leads text from m d.1 c }, d.1, d.2)))
+
+-- ---- exponents
+
+-- what is read up to j is of this form, and its run ends there
+abbrev Whole : List ℕ → (ℕ → Type 0) → ℕ → Type 0
+Whole text Q j = Q j × (is_keylike (get_or text j 0) ≡ false)
+
+exponent_digits_reads : (text : List ℕ) (a b start from end : ℕ) → Placed text a b → Piece text start from end
+    → Reads text (exponent_digits text a b start from end) (Whole text (Digits 10 text from))
+unfolding exponent_digits
+exponent_digits_reads text a b start from end q p =
+    after text (digits_end 10 text start from end) _ (DigitsTo 10 text from end) _ (digits_reads 10 text start from end p)
+    (λ m d. choice text (nat_lt m end) _ _ _ (λ c. fails text a b _ q)
+    (λ c. done text end _ (let e : m ≡ end = omega (arith, d.2, ltb-false m end c) in (rw e at d.0, p.last))))
+
+exponent_reads : (text : List ℕ) (a b letter end : ℕ) → Placed text a b → is_exponent (get_or text letter 0) ≡ true → letter < end → Passes text letter end
+    → Reads text (exponent text a b letter end) (Whole text (Exponent text letter))
+unfolding exponent
+exponent_reads text a b letter end q x l r =
+    choice text (nat_lt (letter + 1) end) _ _ _
+    (λ c. (
+    let s = sign_on text (letter + 1) in
+    let o = ltb-true (letter + 1) end c in
+    weaker text (exponent_digits text a b (letter + 1) (behind_sign text (letter + 1)) end) (Whole text (Digits 10 text (behind_sign text (letter + 1)))) _
+    (exponent_digits_reads text a b (letter + 1) (behind_sign text (letter + 1)) end q (record { forward = s.0; to = omega arith; within = r.within; last = r.last }))
+    (λ j d. (record { letter = x; digits = d.0 }, d.1))))
+    (λ c. choice text (not (get_or text end 0 == 43)) _ _ _ (λ n. fails text a b _ q)
+    (λ n. choice text (run_end text (end + 1) == end + 1) _ _ _ (λ y. fails text a b _ q)
+    (λ y. (
+    let e : letter + 1 ≡ end = omega (arith, ltb-false (letter + 1) end c) in
+    let plus : (get_or text end 0 == 43) ≡ true = not-false (get_or text end 0 == 43) n in
+    let s : behind_sign text (letter + 1) ≡ end + 1 = rw e (behind_plus_sign text end (byte_is (get_or text end 0) 43 plus)) in
+    let k : end < length text = here (λ c. c == 43) text end refl plus in
+    let t = run_passes text (end + 1) (omega arith) in
+    weaker text (exponent_digits text a b (end + 1) (end + 1) (run_end text (end + 1))) (Whole text (Digits 10 text (end + 1))) _
+    (exponent_digits_reads text a b (end + 1) (end + 1) (run_end text (end + 1)) q (record { forward = omega arith; to = t.forward; within = t.within; last = t.last }))
+    (λ j d. (record { letter = x; digits = rw s d.0 }, d.1))))))
+
+-- ---- fractions
+
+abbrev FractionTo : List ℕ → ℕ → ℕ → Type 0
+FractionTo text b j = (m : ℕ) × Fraction text b m × ((j ≡ m) ⊎ Exponent text m j)
+
+fraction_reads : (text : List ℕ) (i a b : ℕ) → i ≤ a → Placed text a b → get_or text b 0 ≡ 46 → Reads text (fraction text i a b) (Whole text (FractionTo text b))
+unfolding fraction
+fraction_reads text i a b f q p =
+    let k : b < length text = here (λ c. c == 46) text b refl (rw p refl) in
+    let r = run_passes text (b + 1) (omega arith) in
+    let e : ℕ = run_end text (b + 1) in
+    let w = r.within in
+    choice text (e == b + 1) _ _ _ (λ c. fails text i (b + 1) _ (omega (arith, q.0), omega (arith, q.0)))
+    (λ c. after text (digits_end 10 text (b + 1) (b + 1) e) _ (DigitsTo 10 text (b + 1) e) _
+    (digits_reads 10 text (b + 1) (b + 1) e (record { forward = omega arith; to = r.forward; within = w; last = r.last }))
+    (λ m d. choice text (m == e) _ _ _
+    (λ h. done text m _ ((m, record { point = p; digits = d.0 }, inl refl), rw (byte_is m e h) r.last))
+    (λ h. choice text (is_exponent (get_or text m 0)) _ _ _
+    (λ x. (
+    let l : m < e = elim (cases_lt m e) [ inl y ↦ y | inr g ↦ let s : m ≡ e = omega (arith, d.2) in absurd (eqb-false m e h s) ] in
+    weaker text (exponent text a b m e) (Whole text (Exponent text m)) _
+    (exponent_reads text a b m e q x l (passes_on text (b + 1) m e r (omega (arith, d.1)) (omega arith)))
+    (λ j y. ((m, record { point = p; digits = d.0 }, inr y.0), y.1))))
+    (λ x. fails text a b _ q))))
+
+-- ---- integers
+
+pub signed_sound : (negative : Bool) (m : ℕ) (n : ℤ) → signed negative m ≡ Some n → IsSigned negative m n
+unfolding signed
+signed_sound false m n h = elim (bool_cases (nat_lt m (2 ^ 63))) [
+  | inl l ↦ let e : Some (pos m) ≡ Some n = rw l at h in (cc, ltb-true m (2 ^ 63) l)
+  | inr g ↦ let e : None ≡ Some n = rw g at h in absurd cc
+]
+signed_sound true m n h = elim (bool_cases (nat_le m (2 ^ 63))) [
+  | inl l ↦ let e : Some (neg_ℤ (pos m)) ≡ Some n = rw l at h in (cc, leb-true m (2 ^ 63) l)
+  | inr g ↦ let e : None ≡ Some n = rw g at h in absurd cc
+]
+
+integer_reads : (radix : ℕ) (text : List ℕ) (negative : Bool) (start from end : ℕ) → Placed text start end
+    → Reads text (spec.integer radix text negative start from end) (IsSigned negative (magnitude radix text from end))
+unfolding spec.integer
+integer_reads radix text negative start from end q =
+    or_fails text start end (signed negative (magnitude radix text from end)) _ q (λ n e. signed_sound negative (magnitude radix text from end) n e)
+
+radix_reads : (radix : ℕ) (text : List ℕ) (start end : ℕ) → Piece text start start end
+    → Reads text (radix_integer radix text start end) (λ n. Digits radix text start end × IsSigned false (magnitude radix text start end) n)
+unfolding radix_integer
+radix_reads radix text start end p =
+    let t = p.to in
+    let w = p.within in
+    after text (digits_end radix text start start end) _ (DigitsTo radix text start end) _ (digits_reads radix text start start end p)
+    (λ m d. choice text (nat_lt m end) _ _ _ (λ c. fails text start end _ (t, omega arith))
+    (λ c. (
+    let e : m ≡ end = omega (arith, d.2, ltb-false m end c) in
+    let ds : Digits radix text start end = rw e at d.0 in
+    weaker text (spec.integer radix text false start start end) (IsSigned false (magnitude radix text start end)) _
+    (integer_reads radix text false start start end (t, omega arith)) (λ n s. (ds, s)))))
+
+-- ---- numbers without a prefix
+
+-- a number begins at i, and its first run goes from a to b
+pub record First (text : List ℕ) (i a b : ℕ) : Type 0 where
+  pub forward : i ≤ a
+  pub some : a < b
+  pub run : Passes text a b
+  pub sign : behind_sign text i ≡ behind_sign text a
+  pub negative : is_negative text i ≡ is_negative text a
+  pub prefixed : (radix : ℕ) → radix_at text a ≡ Some radix → a ≡ i
+
+-- what is read at i
+abbrev pub Spelled : List ℕ → ℕ → Numeral × ℕ → Type 0
+Spelled text i p = NumeralStands text i p.1 p.0
+
+decimal_reads : (text : List ℕ) (i a b : ℕ) → First text i a b → Reads text (decimal text i a b) (Spelled text i)
+unfolding decimal
+decimal_reads text i a b g =
+    let l = g.some in
+    let r = g.run in
+    let w = r.within in
+    let s = sign_on text a in
+    let q : Placed text a b = (omega arith, omega arith) in
+    after text (integer_part text a (behind_sign text a) b) _ (PartTo text (behind_sign text a) b) _
+    (part_reads text a (behind_sign text a) b (record { forward = s.0; to = omega arith; within = w; last = r.last }))
+    (λ m u. (
+    let v : UnsignedDecimal text (behind_sign text i) m = rw g.sign u.0 in
+    choice text (nat_lt m b) _ _ _
+    (λ c. choice text (is_exponent (get_or text m 0)) _ _ _
+    (λ x. after text (exponent text a b m b) _ (Whole text (Exponent text m)) _
+    (exponent_reads text a b m b q x (ltb-true m b c) (passes_on text a m b r (omega (arith, u.1)) u.2))
+    (λ j y. done text (numerals.Finite, j) (Spelled text i) (record { integer_end = m; integer_part = v; rest = inl y.0; ends = y.1 }, refl)))
+    (λ x. fails text a b _ q))
+    (λ c. (
+    let e : m ≡ b = omega (arith, u.2, ltb-false m b c) in
+    let t : UnsignedDecimal text (behind_sign text i) b = rw e at v in
+    choice text (get_or text b 0 == 46) _ _ _
+    (λ p. after text (fraction text i a b) _ (Whole text (FractionTo text b)) _
+    (fraction_reads text i a b g.forward q (byte_is (get_or text b 0) 46 p))
+    (λ j y. done text (numerals.Finite, j) (Spelled text i) (record { integer_end = b; integer_part = t; rest = inr y.0; ends = y.1 }, refl)))
+    (λ p. after text (spec.integer 10 text (is_negative text a) a (behind_sign text a) b) _ (IsSigned (is_negative text a) (magnitude 10 text (behind_sign text a) b)) _
+    (integer_reads 10 text (is_negative text a) a (behind_sign text a) b q)
+    (λ n h. done text (numerals.Integer n, b) (Spelled text i) (inl (record { digits = t; ends = stands_alone text b r.last p; value = rw (g.sign, g.negative) h }))))))))
+
+-- ---- inf and nan
+
+special_sound : (negative : Bool) (word : List ℕ) (n : Numeral) → special negative word ≡ Some n
+    → ((n ≡ numerals.Infinite negative) × (word ≡ codes "inf")) ⊎ ((n ≡ numerals.NotANumber negative) × (word ≡ codes "nan"))
+unfolding special
+special_sound negative word n h = elim (bool_cases (bytes_eq word (codes "inf"))) [
+  | inl i ↦ let e : Some (numerals.Infinite negative) ≡ Some n = rw i at h in inl (cc, (bytes_eq-Decides word (codes "inf")).0 i)
+  | inr i ↦ elim (bool_cases (bytes_eq word (codes "nan"))) [
+    | inl m ↦ let e : Some (numerals.NotANumber negative) ≡ Some n = rw (i, m) at h in inr (cc, (bytes_eq-Decides word (codes "nan")).0 m)
+    | inr m ↦ let e : None ≡ Some n = rw (i, m) at h in absurd cc
+  ]
+]
+
+letters : (text : List ℕ) (i a b : ℕ) (n : Numeral) → First text i a b → (get_or text b 0 == 46) ≡ false → special (is_negative text a) (slice_range text (behind_sign text a) b) ≡ Some n → Spelled text i (n, b)
+letters text i a b n g p h =
+    let goes : goes_on text b ≡ false = stands_alone text b g.run.last p in
+    elim (special_sound (is_negative text a) (slice_range text (behind_sign text a) b) n h) [
+      | inl x ↦ rw x.0 (record { letters = rw g.sign x.1; some = rw g.sign (slice_some text (behind_sign text a) b _ _ x.1); within = g.run.within; ends = goes }, sym g.negative)
+      | inr x ↦ rw x.0 (record { letters = rw g.sign x.1; some = rw g.sign (slice_some text (behind_sign text a) b _ _ x.1); within = g.run.within; ends = goes }, sym g.negative)
+    ]
+
+special_reads : (text : List ℕ) (i a b : ℕ) (n : Numeral) → First text i a b → special (is_negative text a) (slice_range text (behind_sign text a) b) ≡ Some n
+    → Reads text (special_end text i a b n) (Spelled text i)
+unfolding special_end
+special_reads text i a b n g h =
+    let l = g.some in
+    let f = g.forward in
+    let w = g.run.within in
+    choice text (not (get_or text b 0 == 46)) _ _ _ (λ c. done text (n, b) _ (letters text i a b n g (not-true (get_or text b 0 == 46) c) h))
+    (λ c. choice text (run_end text (b + 1) == b + 1) _ _ _ (λ x. fails text i (b + 1) _ (omega arith, omega arith)) (λ x. fails text a b _ (omega arith, omega arith)))
+
+-- ---- prefixes
+
+pub zero_first : (text : List ℕ) (i radix : ℕ) → radix_at text i ≡ Some radix → get_or text i 0 ≡ 48
+zero_first text i radix h = elim (bool_cases (get_or text i 0 == 48)) [ inl z ↦ byte_is (get_or text i 0) 48 z | inr n ↦ let e : None ≡ Some radix = rw n at h in absurd cc ]
+
+-- no letter of a prefix
+abbrev pub NoLetter : ℕ → Type 0
+NoLetter c = ((c == 120) ≡ false) × ((c == 111) ≡ false) × ((c == 98) ≡ false)
+
+pub no_prefix : (text : List ℕ) (i : ℕ) → (get_or text i 0 ≡ 48 → NoLetter (get_or text (i + 1) 0)) → radix_at text i ≡ None
+no_prefix text i h = elim (bool_cases (get_or text i 0 == 48)) [ inl z ↦ let n = h (byte_is (get_or text i 0) 48 z) in rw (z, n.0, n.1, n.2) refl | inr n ↦ rw n refl ]
+
+pub keylike_letter : (c : ℕ) → is_keylike c ≡ false → NoLetter c
+keylike_letter c k =
+    let no : (d : ℕ) → is_keylike d ≡ true → (c == d) ≡ false = λ d t. is_false _ (λ e. clash (λ x. not (is_keylike x)) c d (rw k refl) (byte_is c d e) (rw t refl)) in
+    (no 120 refl, no 111 refl, no 98 refl)
+
+pub prefix_some : (text : List ℕ) (a b radix : ℕ) → Passes text a b → a < b → radix_at text a ≡ Some radix → a + 2 ≤ b
+prefix_some text a b radix r l h = elim (cases_lt (a + 1) b) [
+  | inl x ↦ omega arith
+  | inr g ↦
+      let e : a + 1 ≡ b = omega arith in
+      let n : None ≡ Some radix = sym (no_prefix text a (λ z. keylike_letter (get_or text (a + 1) 0) (rw e r.last))) ∙ h in absurd cc
+]
+
+-- ---- numbers
+
+unsigned_reads : (text : List ℕ) (i a b : ℕ) → First text i a b → Reads text (unsigned text i a b) (Spelled text i)
+unfolding unsigned
+unsigned_reads text i a b g =
+    some_or text _ (radix_at text a) _ _
+    (λ radix h. (
+    let o = prefix_some text a b radix g.run g.some h in
+    let same : a ≡ i = g.prefixed radix h in
+    after text (radix_integer radix text (a + 2) b) _ (λ n. Digits radix text (a + 2) b × IsSigned false (magnitude radix text (a + 2) b) n) _
+    (radix_reads radix text (a + 2) b (record { forward = omega arith; to = o; within = g.run.within; last = g.run.last }))
+    (λ n d. done text (numerals.Integer n, b) (Spelled text i)
+    (inr (record { radix = radix; prefix = rw (← same) h; digits = rw (← same) d.0; ends = g.run.last; value = rw (← same) d.1 })))))
+    (λ h. some_or text (special_end text i a b) (special (is_negative text a) (slice_range text (behind_sign text a) b)) _ _
+    (λ n e. special_reads text i a b n g e) (λ e. decimal_reads text i a b g))
+
+run_some : (text : List ℕ) (i : ℕ) → is_keylike (get_or text i 0) ≡ true → i < run_end text i
+run_some text i k =
+    let w = here is_keylike text i refl k in
+    let r = run_passes text i (omega arith) in
+    let f = r.forward in
+    elim (cases_lt i (run_end text i)) [ inl l ↦ l | inr g ↦ let e : run_end text i ≡ i = omega arith in absurd (false≢true (sym (rw e at r.last) ∙ k)) ]
+
+pub first_plain : (text : List ℕ) (i : ℕ) → is_keylike (get_or text i 0) ≡ true → First text i i (run_end text i)
+first_plain text i k =
+    let w = here is_keylike text i refl k in
+    record { forward = omega arith; some = run_some text i k; run = run_passes text i (omega arith); sign = refl; negative = refl; prefixed = λ radix h. refl }
+
+pub first_behind : (text : List ℕ) (i : ℕ) → get_or text i 0 ≡ 43 → is_keylike (get_or text (i + 1) 0) ≡ true → (get_or text (i + 1) 0 == 45) ≡ false → radix_at text (i + 1) ≡ None → First text i (i + 1) (run_end text (i + 1))
+first_behind text i p k m n =
+    let w = here is_keylike text (i + 1) refl k in
+    let q : (get_or text (i + 1) 0 == 43) ≡ false = is_false _ (λ e. clash is_keylike (get_or text (i + 1) 0) 43 k (byte_is (get_or text (i + 1) 0) 43 e) refl) in
+    record {
+      forward = omega arith;
+      some = run_some text (i + 1) k;
+      run = run_passes text (i + 1) (omega arith);
+      sign = behind_plus_sign text i p ∙ sym (no_sign text (i + 1) q m);
+      negative = rw (p, m) refl;
+      prefixed = λ radix h. (let e : None ≡ Some radix = sym n ∙ h in absurd cc);
+    }
+
+-- a digit, a letter, a dash, an underscore or a plus
+abbrev pub Starts : List ℕ → ℕ → Type 0
+Starts text i = (is_keylike (get_or text i 0) || get_or text i 0 == 43) ≡ true
+
+no_some : (o : Option ℕ) → is_some o ≡ false → o ≡ None
+no_some None h = refl
+no_some (Some n) h = absurd (false≢true (sym h))
+
+first_of_two : (a b : Bool) → (a || b) ≡ true → b ≡ false → a ≡ true
+first_of_two true b h n = refl
+first_of_two false b h n = absurd (false≢true (sym n ∙ h))
+
+-- a number is read only where one is spelled, and as that one
+pub numeral_reads : (text : List ℕ) (i : ℕ) → Starts text i → Reads text (numeral text i) (Spelled text i)
+unfolding numeral
+numeral_reads text i begins =
+    choice text (not (get_or text i 0 == 43)) _ _ _
+    (λ c. unsigned_reads text i i (run_end text i) (first_plain text i (first_of_two (is_keylike (get_or text i 0)) (get_or text i 0 == 43) begins (not-true (get_or text i 0 == 43) c))))
+    (λ c. (
+    let plus : (get_or text i 0 == 43) ≡ true = not-false (get_or text i 0 == 43) c in
+    let l : i < length text = here (λ c. c == 43) text i refl plus in
+    let r = run_passes text (i + 1) (omega arith) in
+    let f = r.forward in
+    choice text (run_end text (i + 1) == i + 1) _ _ _ (λ x. fails text (i + 1) (i + 1) _ (omega arith, omega arith))
+    (λ x. choice text (get_or text (i + 1) 0 == 45 || is_some (radix_at text (i + 1))) _ _ _ (λ y. fails text i (run_end text (i + 1)) _ (omega arith, omega arith))
+    (λ y. (
+    let o : i + 1 < run_end text (i + 1) = elim (cases_lt (i + 1) (run_end text (i + 1))) [ inl z ↦ z | inr z ↦ let e : run_end text (i + 1) ≡ i + 1 = omega arith in absurd (eqb-false (run_end text (i + 1)) (i + 1) x e) ] in
+    let q = or_parts (get_or text (i + 1) 0 == 45) (is_some (radix_at text (i + 1))) y in
+    unsigned_reads text i (i + 1) (run_end text (i + 1))
+    (first_behind text i (byte_is (get_or text i 0) 43 plus) (r.passes (i + 1) (omega arith) o) q.0 (no_some (radix_at text (i + 1)) q.1)))))))
+
+-- ---- where a number ends
+
+pub word_keylike : (text word : List ℕ) (k j : ℕ) → slice_range text k j ≡ word → list_all is_keylike word ≡ true → j ≤ length text → (l : ℕ) → k ≤ l → l < j → is_keylike (get_or text l 0) ≡ true
+word_keylike text word k j e h w l a b =
+    let s : get_or word (l - k) 0 ≡ get_or text l 0 = rw (← e) (range_at text k j l a b) in
+    let n : l - k < length word = rw (← e) (omega (arith, range_length text k j w)) in
+    elim (bool_cases (is_keylike (get_or word (l - k) 0))) [
+      | inl t ↦ rw s at t
+      | inr f ↦ absurd (false≢true (sym (list_all_at is_keylike word (l - k) 0 n f) ∙ h))
+    ]
+
+pub word_first : (text word : List ℕ) (k j : ℕ) → k < j → slice_range text k j ≡ word → get_or text k 0 ≡ get_or word 0 0
+word_first text word k j l e = let z : k - k ≡ 0 = omega arith in let s : get_or (slice_range text k j) 0 0 ≡ get_or text k 0 = rw z at (range_at text k j k (omega arith) l) in sym s ∙ (rw e refl)
+
+-- from i on something stands, whose last byte is of a run
+record Ended (text : List ℕ) (i j : ℕ) : Type 0 where
+  on : i < j
+  last : is_keylike (get_or text (j - 1) 0) ≡ true
+
+digits_ended : (radix : ℕ) (text : List ℕ) (i k j : ℕ) → i ≤ k → Digits radix text k j → Ended text i j
+digits_ended radix text i k j f d =
+    let o = digits_on radix text k j d in
+    record { on = omega arith; last = figure_keylike radix (get_or text (j - 1) 0) (d.run.passes (j - 1) (omega arith) (omega arith)) }
+
+rest_ended : (text : List ℕ) (i m j : ℕ) → i ≤ m → Exponent text m j ⊎ FractionTo text m j → Ended text i j
+rest_ended text i m j f (inl x) = let s = sign_on text (m + 1) in digits_ended 10 text i (behind_sign text (m + 1)) j (omega arith) x.digits
+rest_ended text i m j f (inr (q, y, inl e)) = rw e (digits_ended 10 text i (m + 1) q (omega arith) y.digits)
+rest_ended text i m j f (inr (q, y, inr x)) = let o = digits_on 10 text (m + 1) q y.digits in let s = sign_on text (q + 1) in digits_ended 10 text i (behind_sign text (q + 1)) j (omega arith) x.digits
+
+word_ended : (word text : List ℕ) (i j : ℕ) → list_all is_keylike word ≡ true → SpecialFloat word text i j → Ended text i j
+word_ended word text i j h f =
+    let s = sign_on text i in
+    let o = f.some in
+    record { on = omega arith; last = word_keylike text word (behind_sign text i) j f.letters h f.within (j - 1) (omega arith) (omega arith) }
+
+number_ended : (s : Scalar) (text : List ℕ) (i j : ℕ) → IsNumber s text i j → Ended text i j
+number_ended (integer n) text i j (inl d) = digits_ended 10 text i (behind_sign text i) j (sign_on text i).0 d.digits.digits
+number_ended (integer n) text i j (inr x) = digits_ended x.radix text i (i + 2) j (omega arith) x.digits
+number_ended (float (finite digits)) text i j (f, c) =
+    let o = digits_on 10 text _ _ f.integer_part.digits in rest_ended text i f.integer_end j (omega (arith, (sign_on text i).0)) f.rest
+number_ended (float (infinite b)) text i j (f, c) = word_ended (codes "inf") text i j refl f
+number_ended (float (not_a_number b)) text i j (f, c) = word_ended (codes "nan") text i j refl f
+number_ended (text_scalar x) text i j h = absurd h
+number_ended (boolean x) text i j h = absurd h
+number_ended (datetime x) text i j h = absurd h
+
+pub number_on : (s : Scalar) (text : List ℕ) (i j : ℕ) → IsNumber s text i j → (i ≤ j) × (j ≤ length text)
+number_on s text i j h =
+    let e = number_ended s text i j h in
+    let o = e.on in
+    let w = here is_keylike text (j - 1) refl e.last in
+    (omega arith, omega arith)
+
+pub float_on : (text : List ℕ) (i j : ℕ) → FloatLiteral text i j → (i < j) × (j ≤ length text)
+float_on text i j f =
+    let h : IsNumber (float (finite (cleaned (slice_range text i j)))) text i j = (f, refl) in
+    ((number_ended (float (finite (cleaned (slice_range text i j)))) text i j h).on, (number_on (float (finite (cleaned (slice_range text i j)))) text i j h).1)
+
+-- behind a number the text may be cut
+pub number_further : (s : Scalar) (text : List ℕ) (i j : ℕ) → IsUtf8 text → IsNumber s text i j → Further text i j
+number_further s text i j u h =
+    let e = number_ended s text i j h in
+    let o = e.on in
+    record { on = o; boundary = behind text (j - 1) j (omega arith) u (here is_keylike text (j - 1) refl e.last) (keylike_ascii (get_or text (j - 1) 0) e.last) }
+
+-- ---- what the code gives
+
+pub number_told : (text : List ℕ) (i : ℕ) (e : Fault) → numeral text i ≡ Err e → NoNumber text i e
+unfolding number
+number_told text i e h = rw h refl
+
+pub number_given : (n : Numeral) (text : List ℕ) (i j : ℕ) (kind : ValKind) → Starts text i → numeral text i ≡ Ok (n, j) → kind_view kind ≡ scalar (scalar_of n (slice_range text i j)) → NumberGives text i (Ok (kind, j))
+number_given n text i j kind b h k = (scalar_of n (slice_range text i j), k, (numeral_reads text i b).given (n, j) h)
+
+pub number_advances : (n : Numeral) (text : List ℕ) (i j : ℕ) → IsUtf8 text → Starts text i → numeral text i ≡ Ok (n, j) → Further text i j
+number_advances n text i j u b h = number_further (scalar_of n (slice_range text i j)) text i j u ((numeral_reads text i b).given (n, j) h)

@@ -1,0 +1,166 @@
+-- How a number is read: a function of the text and a place, which gives the number that stands there and where it ends,
+-- or the fault that is told. What spells a number is in `Numbers`. The standard says nothing of where and how a wrong
+-- number is told: this fixes it.
+--
+-- A number begins at i. Its first run, of letters, digits, dashes and underscores, goes from a to b: a is i, or behind
+-- a plus. Each later run is a piece, from start to end, whose digits begin at `from`.
+use Rattle.std.specs.List.{prefix_len, list_all, range_with_len}
+use Rattle.std.specs.Option.{ok_or, option_map_or}
+use Rattle.std.specs.Prelude.{ℕ, ℤ, pos, neg_ℤ, ◌+◌, ◌-◌, ◌^◌, Bool, true, false, not, ◌&&◌, ◌||◌, ◌==◌, nat_lt, nat_le}
+use Rattle.std.specs.Prelude.{if◌then◌else◌, List, drop, slice_index, slice_range, codes, Option, Some, None, is_some}
+use Rattle.std.specs.Prelude.{Result, Ok, Err}
+use Rattle.std.specs.Str.{bytes_eq}
+use Rattle.toml_span_lex.specs.Bytes.{is_keylike, plus, dash, period, digit_zero, underscore}
+use Rattle.toml_span_tree.specs.Node as scalars
+use Rattle.toml_span_tree.specs.Node.{Scalar, float, infinite, not_a_number}
+use Rattle.toml_span_read.specs.Numbers.{is_digit_in, is_figure, is_exponent, is_negative, behind_sign, radix_at}
+use Rattle.toml_span_read.specs.Numbers.{magnitude, cleaned}
+use Rattle.toml_span_read.specs.declared.fault.Fault.{Fault}
+use Rattle.toml_span_read.specs.declared.fault.FaultKind.TheVariants as kinds
+use Rattle.toml_span_read.specs.declared.numbers.Numeral.{Numeral}
+use Rattle.toml_span_read.specs.declared.numbers.Numeral.TheVariants as numerals
+
+-- what is read, or the fault
+abbrev pub Read : Type 0 → Type 0
+Read A = Result A Fault
+
+infixl 10 ◌>>=◌
+abbrev pub ◌>>=◌ : {A B : Type 0} → Read A → (A → Read B) → Read B
+Ok a >>= f = f a
+Err e >>= f = Err e
+
+abbrev pub invalid_number : ℕ → ℕ → Fault
+invalid_number start end = record { kind = kinds.InvalidNumber; span = record { start = start; end = end } }
+
+-- ---- digits
+
+-- where the run from i on ends
+unfoldable pub run_end : List ℕ → ℕ → ℕ
+run_end text i = i + prefix_len is_keylike (drop i text)
+
+-- where the digits and underscores from i on end
+unfoldable pub figures_end : ℕ → List ℕ → ℕ → ℕ
+figures_end radix text i = i + prefix_len (is_figure radix) (drop i text)
+
+-- of the digits and underscores from i to j the first is a digit, and behind each underscore stands a digit
+unfoldable pub are_digits : ℕ → List ℕ → ℕ → ℕ → Bool
+are_digits radix text i j =
+    is_digit_in radix (slice_index text i)
+    && list_all (λ k. not (slice_index text k == underscore) || is_digit_in radix (slice_index text (k + 1)))
+    (range_with_len i (j - i))
+
+-- `zero-prefixable-int = DIGIT *( DIGIT / underscore DIGIT )`, or the same of another radix
+unfoldable pub digits_end : ℕ → List ℕ → ℕ → ℕ → ℕ → Read ℕ
+digits_end radix text start from end =
+    if slice_index text from == underscore then Err (invalid_number from end)
+    else if are_digits radix text from (figures_end radix text from) then Ok (figures_end radix text from)
+    else Err (invalid_number start end)
+
+-- ---- integers
+
+-- `unsigned-dec-int = DIGIT / digit1-9 1*( DIGIT / underscore DIGIT )`: of a 0 before another digit that one is told
+unfoldable pub integer_part : List ℕ → ℕ → ℕ → ℕ → Read ℕ
+integer_part text start from end =
+    digits_end 10 text start from end >>= (λ m.
+    if slice_index text from == digit_zero && nat_lt (from + 1) m
+    then Err (invalid_number (if slice_index text (from + 1) == underscore then from + 2 else from + 1) end)
+    else Ok m)
+
+-- the number with its sign, if it is within 64 bits
+unfoldable pub signed : Bool → ℕ → Option ℤ
+signed false m = if nat_lt m (2 ^ 63) then Some (pos m) else None
+signed true m = if nat_le m (2 ^ 63) then Some (neg_ℤ (pos m)) else None
+
+-- the integer that the digits come to
+unfoldable pub integer : ℕ → List ℕ → Bool → ℕ → ℕ → ℕ → Read ℤ
+integer radix text negative start from end =
+    ok_or (signed negative (magnitude radix text from end)) (invalid_number start end)
+
+-- `hex-int`, `oct-int` or `bin-int`, behind its prefix
+unfoldable pub radix_integer : ℕ → List ℕ → ℕ → ℕ → Read ℤ
+radix_integer radix text start end =
+    digits_end radix text start start end >>= (λ m.
+    if nat_lt m end then Err (invalid_number start end) else integer radix text false start start end)
+
+-- ---- floats
+
+-- the digits of an exponent are all of their piece
+unfoldable pub exponent_digits : List ℕ → ℕ → ℕ → ℕ → ℕ → ℕ → Read ℕ
+exponent_digits text a b start from end =
+    digits_end 10 text start from end >>= (λ m. if nat_lt m end then Err (invalid_number a b) else Ok end)
+
+-- `exp = "e" float-exp-part`, whose letter stands in a run that ends at `end`: its digits are in that run, or in
+-- another one behind a plus
+unfoldable pub exponent : List ℕ → ℕ → ℕ → ℕ → ℕ → Read ℕ
+exponent text a b letter end =
+    if nat_lt (letter + 1) end then exponent_digits text a b (letter + 1) (behind_sign text (letter + 1)) end
+    else if not (slice_index text end == plus) then Err (invalid_number a b)
+    else if run_end text (end + 1) == end + 1 then Err (invalid_number a b)
+    else exponent_digits text a b (end + 1) (end + 1) (run_end text (end + 1))
+
+-- `frac [ exp ]`, whose point stands at b
+unfoldable pub fraction : List ℕ → ℕ → ℕ → ℕ → Read ℕ
+fraction text i a b =
+    if run_end text (b + 1) == b + 1 then Err (invalid_number i (b + 1))
+    else digits_end 10 text (b + 1) (b + 1) (run_end text (b + 1)) >>= (λ m.
+    if m == run_end text (b + 1) then Ok m
+    else if is_exponent (slice_index text m) then exponent text a b m (run_end text (b + 1))
+    else Err (invalid_number a b))
+
+abbrev pub finite : Read ℕ → Read (Numeral × ℕ)
+finite end = end >>= (λ j. Ok (numerals.Finite, j))
+
+-- `dec-int`, or `float-int-part ( exp / frac [ exp ] )`
+unfoldable pub decimal : List ℕ → ℕ → ℕ → ℕ → Read (Numeral × ℕ)
+decimal text i a b =
+    integer_part text a (behind_sign text a) b >>= (λ m.
+    if nat_lt m b
+    then (if is_exponent (slice_index text m) then finite (exponent text a b m b) else Err (invalid_number a b))
+    else if slice_index text b == period then finite (fraction text i a b)
+    else integer 10 text (is_negative text a) a (behind_sign text a) b >>= (λ n. Ok (numerals.Integer n, b)))
+
+-- `inf / nan`
+unfoldable pub special : Bool → List ℕ → Option Numeral
+special negative word =
+    if bytes_eq word (codes "inf") then Some (numerals.Infinite negative)
+    else if bytes_eq word (codes "nan") then Some (numerals.NotANumber negative)
+    else None
+
+-- inf and nan have no fraction
+unfoldable pub special_end : List ℕ → ℕ → ℕ → ℕ → Numeral → Read (Numeral × ℕ)
+special_end text i a b n =
+    if not (slice_index text b == period) then Ok (n, b)
+    else if run_end text (b + 1) == b + 1 then Err (invalid_number i (b + 1))
+    else Err (invalid_number a b)
+
+-- ---- numbers
+
+-- a number whose first run goes from a to b
+unfoldable pub unsigned : List ℕ → ℕ → ℕ → ℕ → Read (Numeral × ℕ)
+unsigned text i a b =
+    option_map_or (λ radix. radix_integer radix text (a + 2) b >>= (λ n. Ok (numerals.Integer n, b)))
+    (radix_at text a)
+    (option_map_or (special_end text i a b)
+    (special (is_negative text a) (slice_range text (behind_sign text a) b))
+    (decimal text i a b))
+
+-- `integer = dec-int / hex-int / oct-int / bin-int`, `float = float-int-part ( exp / frac [ exp ] )`,
+-- `float =/ special-float`: a plus stands before no other sign, and before no prefix
+unfoldable pub numeral : List ℕ → ℕ → Read (Numeral × ℕ)
+numeral text i =
+    if not (slice_index text i == plus) then unsigned text i i (run_end text i)
+    else if run_end text (i + 1) == i + 1 then Err (invalid_number (i + 1) (i + 1))
+    else if slice_index text (i + 1) == dash || is_some (radix_at text (i + 1))
+    then Err (invalid_number i (run_end text (i + 1)))
+    else unsigned text i (i + 1) (run_end text (i + 1))
+
+-- the number that is read with this literal
+abbrev pub scalar_of : Numeral → List ℕ → Scalar
+scalar_of (numerals.Integer n) literal = scalars.integer n
+scalar_of numerals.Finite literal = float (scalars.finite (cleaned literal))
+scalar_of (numerals.Infinite negative) literal = float (infinite negative)
+scalar_of (numerals.NotANumber negative) literal = float (not_a_number negative)
+
+-- the number at i, and where it ends, or the fault
+unfoldable pub number : List ℕ → ℕ → Read (Scalar × ℕ)
+number text i = numeral text i >>= (λ p. Ok (scalar_of p.0 (slice_range text i p.1), p.1))
