@@ -1,7 +1,8 @@
 //! Laws of what stands at a place: a form, or what is wrong where it is due.
 //!
 //! The bodies judge single forms: they are the proof.
-ghost use Rattle.std.specs.Prelude.{◌≡◌, ◌≤◌, ◌<◌, ◌⊎◌, ◌||◌, ◌==◌, ℕ, Bool, true, List, [], length, slice_index, Result};
+ghost use Rattle.std.specs.Prelude.{◌≡◌, ◌≤◌, ◌<◌, ◌⊎◌, ◌||◌, ◌==◌, ℕ, Bool, true, List, [], length, slice_index};
+ghost use Rattle.std.specs.Prelude.{Result};
 ghost use Rattle.std.specs.Str.{IsCharBoundary};
 ghost use Rattle.toml_span_lex.specs.Bytes.{is_keylike};
 ghost use Rattle.toml_span_tree.specs.declared.date.DateText.{DateText};
