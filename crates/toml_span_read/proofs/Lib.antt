@@ -21,3 +21,4 @@ pub mod MemoryLemmas
 pub mod BorrowLemmas
 pub mod StepLemmas
 pub mod DueLemmas
+pub mod ReadSound

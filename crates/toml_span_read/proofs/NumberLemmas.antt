@@ -91,7 +91,7 @@ here p text i z h = elim (cases_lt i (length text)) [ inl l ↦ l | inr g ↦ le
 -- ---- runs
 
 -- the run of what passes
-run_found : (p : ℕ → Bool) (text : List ℕ) (i : ℕ) → i ≤ length text → MaximalRun p text i (i + prefix_len p (drop i text))
+pub run_found : (p : ℕ → Bool) (text : List ℕ) (i : ℕ) → i ≤ length text → MaximalRun p text i (i + prefix_len p (drop i text))
 run_found p text i w =
     let n : ℕ = prefix_len p (drop i text) in
     let l = prefix_len-le-length p (drop i text) in
