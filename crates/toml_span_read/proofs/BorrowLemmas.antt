@@ -15,7 +15,9 @@ use Rattle.toml_span_read.specs.declared.value.Assignment.{Assignment}
 use Rattle.toml_span_read.specs.declared.value.DottedKey.{DottedKey}
 use Rattle.toml_span_read.specs.Borrowed.{Written, IsWrittenRight, AreWrittenRight, joined, key_written, keys_written, dotted_written, written, kind_written, assignment_written, assignments_written, section_written, sections_written}
 use Rattle.toml_span_read.specs.Data.{ParsedInner, scalar, kind_view}
-use Rattle.toml_span_read.specs.code.Values.{is_scalar, BareGives}
+use Rattle.toml_span_read.specs.code.Values.{is_scalar, ScalarGives}
+use Rattle.toml_span_read.specs.Read as read
+use Rattle.toml_span_read.proofs.ReadSound.{bare_sound}
 use Rattle.toml_span_read.specs.Grammar.{from_to, SpellsScalar}
 use Rattle.toml_span_read.specs.Faults.{begins_bare}
 
@@ -94,8 +96,8 @@ plain_written kind s span e other = go (out-ValKind kind) (rolled kind)
         absurd (no_array _ s seen e)
 
 -- a number, a truth value or a date has none
-pub scalar_right : (ws : List Written) (kind : ValKind) (span : Span) (text : List ℕ) (i j : ℕ) → begins_bare (get_or text i 0) ≡ true → BareGives text i (Ok (kind, j)) → ws ≡ kind_written kind span → AreWrittenRight text ws
-scalar_right ws kind span text i j b (s, e, h) is = rw (is, plain_written kind s span e (λ v same. not_text v text s (from_to i j) i j b same h)) tt
+pub scalar_right : (ws : List Written) (kind : ValKind) (span : Span) (text : List ℕ) (i j : ℕ) → begins_bare (get_or text i 0) ≡ true → ScalarGives (read.bare text i) (Ok (kind, j)) → ws ≡ kind_written kind span → AreWrittenRight text ws
+scalar_right ws kind span text i j b (s, e, h) is = rw (is, plain_written kind s span e (λ v same. not_text v text s (from_to i j) i j b same (bare_sound s text i j b h))) tt
 
 -- ---- sections
 

@@ -1,5 +1,5 @@
 -- Keys and headers of a spelled document stand inside the text.
-use Rattle.std.proofs.Common.{ℕ, ◌+◌, ◌<◌, ◌≤◌, Bool, true, false, List, [], ◌∷◌, ◌++◌, length, map, arith, inl, inr, sym, subst, ◌≡◌, Some}
+use Rattle.std.proofs.Common.{ℕ, ◌+◌, ◌<◌, ◌≤◌, Bool, true, false, List, [], ◌∷◌, ◌++◌, length, map, arith, inl, inr}
 use Rattle.toml_span_lex.specs.Text.{LineEnd}
 use Rattle.toml_span_lex.proofs.Runs.{read_within}
 use Rattle.toml_span_lex.proofs.Folded.{second}
@@ -9,8 +9,7 @@ use Rattle.toml_span_read.specs.Data.{ParsedValue, parsed, scalar, array, inline
 use Rattle.toml_span_read.specs.Gaps.{Skipped, Tail}
 use Rattle.toml_span_read.specs.Grammar.{Spells, SpellsItems, SpellsPairs, SpellsKeyValues, SpellsLines, OpensHeader, ClosesHeader, SpellsHeader, SpellsSection, first_block, SpellsSections, SpellsDocument}
 use Rattle.toml_span_read.specs.Keys.{SimpleKey, SpellsKey}
-use Rattle.toml_span_read.specs.Places.{Ascend, IsInside, PartsInside, KeysInside, ItemKeysInside, PairKeysInside, KeyValuesInside, SectionInside, SectionsInside}
-use Rattle.toml_span_read.specs.code.Sections.{first_blocks}
+use Rattle.toml_span_read.specs.Places.{Ascend, IsInside, PartsInside, KeysInside, ItemKeysInside, PairKeysInside, KeyValuesInside, SectionsInside}
 use Rattle.toml_span_read.proofs.KeyOrder.{dotted_ascend}
 
 -- ---- keys
@@ -54,7 +53,7 @@ key_values_keys [] earlier text limit i j h = tt
 key_values_keys (ev ∷ evs) earlier text limit i j (m, n, k, s, tail, clear, gap, rest) =
     ((dotted_inside ev.parts text i s.key_end s.key, value_keys ev.value text limit (length ev.parts) s.from m s.spelled), key_values_keys evs (earlier ++ (ev ∷ [])) text limit k j rest)
 
-pub lines_keys : (evs : List KeyValue) (text : List ℕ) (limit i j : ℕ) → SpellsLines evs text limit i j → KeyValuesInside (length text) evs
+lines_keys : (evs : List KeyValue) (text : List ℕ) (limit i j : ℕ) → SpellsLines evs text limit i j → KeyValuesInside (length text) evs
 lines_keys evs text limit i j (k, gap, h) = key_values_keys evs [] text limit k j h
 
 -- ---- sections
@@ -96,7 +95,7 @@ header_inside ps double text limit i j h =
     let shut = shuts_on double text h.close h.end h.shuts in
     ((omega (arith, rest.0, on, opened, shut, f.before.forward, f.behind.forward), rest.1), dotted_inside ps text f.start f.end f.key)
 
-pub section_block : (b : Block) (text : List ℕ) (limit i j : ℕ) → SpellsSection b text limit i j → BlockInside (length text) b
+section_block : (b : Block) (text : List ℕ) (limit i j : ℕ) → SpellsSection b text limit i j → BlockInside (length text) b
 section_block b text limit i j h =
     let f = header_inside b.header b.array text limit i h.end h.header in
     (rw h.header_span f.0, f.1, lines_keys b.key_values text limit h.end j h.lines)
@@ -108,13 +107,6 @@ sections_blocks (b ∷ bs) text limit i (j, s, rest) = (section_block b text lim
 first_inside : (n : ℕ) (evs : List KeyValue) (bs : List Block) → KeyValuesInside n evs → BlocksInside n bs → BlocksInside n (first_block evs ++ bs)
 first_inside n [] bs h g = g
 first_inside n (ev ∷ evs) bs h g = (((omega arith, omega arith), tt, h), g)
-
-first_alone : (n : ℕ) (evs : List KeyValue) → KeyValuesInside n evs → BlocksInside n (first_block evs)
-first_alone n [] h = tt
-first_alone n (ev ∷ evs) h = (((omega arith, omega arith), tt, h), tt)
-
-pub first_section_inside : (n : ℕ) (s : Section) (evs : List KeyValue) → first_blocks (Some s) ≡ first_block evs → KeyValuesInside n evs → SectionInside n s
-first_section_inside n s evs e h = let all : BlocksInside n (first_blocks (Some s)) = subst (BlocksInside n) (sym e) (first_alone n evs h) in all.0
 
 document_blocks : (bs : List Block) (text : List ℕ) (limit : ℕ) → SpellsDocument bs text limit → BlocksInside (length text) bs
 document_blocks bs text limit h =

@@ -10,20 +10,19 @@ use Rattle.toml_span_lex.specs.declared.stop.Stop.TheVariants as stops
 use Rattle.toml_span_lex.specs.declared.span.Span.{Span}
 use Rattle.toml_span_lex.specs.Bytes.{is_keylike}
 use Rattle.toml_span_lex.specs.Strings.{IsString}
-use Rattle.toml_span_lex.specs.Tokens.{Lexeme, keylike, string, Stands}
+use Rattle.toml_span_lex.specs.Tokens.{keylike, string}
 use Rattle.toml_span_lex.proofs.Copies.{content_fits}
 use Rattle.toml_span_lex.proofs.MadeStrings.{content_from_after}
 use Rattle.toml_span_read.specs.declared.fault.Due.TheVariants as dues
 use Rattle.toml_span_read.specs.declared.fault.FaultKind.{FaultKind}
 use Rattle.toml_span_read.specs.Places.{StartsInside}
 use Rattle.toml_span_read.specs.declared.fault.Fault.{Fault}
-use Rattle.toml_span_read.specs.Faults.{found_of, wanted_fault}
 use Rattle.toml_span_read.specs.Gaps.{Dot, NoDot}
 use Rattle.toml_span_read.specs.Keys.{SimpleKey, simple_key, SpellsSimpleKey, SpellsKey, opens_string}
 use Rattle.toml_span_read.specs.Read as read
-use Rattle.toml_span_read.specs.Read.{token, text_end, no_token, key_of, past, Parts}
-use Rattle.toml_span_read.specs.code.Keys.{Gives, key_found, PartGives}
-use Rattle.toml_span_read.specs.code.Faults.{IsPlacedStop}
+use Rattle.toml_span_read.specs.Read.{Standing, StandsAt, token, no_token, key_of, past, Parts}
+use Rattle.toml_span_read.specs.code.Keys.{key_found, PartGives}
+use Rattle.toml_span_read.specs.code.Faults.{Gives, IsPlacedStop}
 use Rattle.toml_span_read.specs.code.Wanted.{StringReads, WantedGives}
 
 -- an error that `?` hands on
@@ -68,18 +67,15 @@ quote_opens b (inl e) = rw e refl
 quote_opens b (inr e) = rw e refl
 
 -- another token than a key's stands here
-other_key : (text : List ℕ) (i j : ℕ) (s : Span) (l : Lexeme) → Stands text i j s l → is_keylike (get_or text i 0) ≡ false → opens_string (get_or text i 0) ≡ false
-    → key_of i (token s l j) ≡ Err (wanted_fault dues.TableKey (found_of l) i)
-other_key text i j s (keylike name) h k o = absurd (false≢true (sym k ∙ h.0.1.passes i (omega arith) h.0.0))
-other_key text i j s (string source name multi) h k o = absurd (false≢true (sym o ∙ quote_opens (get_or text i 0) h.quote))
-other_key text i j s l h k o = refl
+other_key : (text : List ℕ) (i : ℕ) (standing : Standing) → StandsAt text i standing → is_keylike (get_or text i 0) ≡ false → opens_string (get_or text i 0) ≡ false → key_of i standing ≡ Err (read.wanted dues.TableKey i standing)
+other_key text i (token s (keylike name) j) h k o = absurd (false≢true (sym k ∙ h.0.1.passes i (omega arith) h.0.0))
+other_key text i (token s (string source name multi) j) h k o = absurd (false≢true (sym o ∙ quote_opens (get_or text i 0) h.quote))
+other_key text i standing h k o = refl
 
 pub wanted_stops : (stop : Stop Fault) (text : List ℕ) (i : ℕ) → WantedGives text i dues.TableKey stop → is_keylike (get_or text i 0) ≡ false → opens_string (get_or text i 0) ≡ false
     → Gives key_found (read.simple_key text i) (Err stop)
 wanted_stops (stops.Memory e) text i h k o = tt
-wanted_stops (stops.Fault e) text i (inl (j, found, inl (end, at, f), is)) k o = (text_end, end, (rw (is, f) refl))
-wanted_stops (stops.Fault e) text i (inl (j, found, inr (s, l, h, f), is)) k o = (token s l j, h, (rw (is, f) (sym (other_key text i j s l h k o))))
-wanted_stops (stops.Fault e) text i (inr (j, x, h, is)) k o = (no_token x, (j, h), ap (λ y. Err y) is)
+wanted_stops (stops.Fault e) text i (standing, stands, is) k o = (standing, stands, ap (λ y. Err y) is ∙ sym (other_key text i standing stands k o))
 
 -- ---- keys as they are read
 

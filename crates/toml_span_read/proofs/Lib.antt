@@ -3,15 +3,17 @@ pub mod StringLemmas
 pub mod FaultPlaces
 pub mod KeyLemmas
 pub mod DateLemmas
-pub mod LimitLemmas
-pub mod LineLemmas
-pub mod ValueMade
+pub mod ReadSound
+pub mod CrossingPlaces
+pub mod ValueRead
+pub mod LineRead
 pub mod EarlierLemmas
 pub mod EarlierTree
 pub mod EarlierKnows
 pub mod KeyOrder
 pub mod NumberLemmas
 pub mod NumberReads
+pub mod NumberComplete
 pub mod ShortIntegers
 pub mod ShortStrings
 pub mod Views
@@ -20,5 +22,3 @@ pub mod SpanLaws
 pub mod MemoryLemmas
 pub mod BorrowLemmas
 pub mod StepLemmas
-pub mod DueLemmas
-pub mod ReadSound

@@ -1,5 +1,5 @@
 -- What is read as a number is spelled, and a fault that is told stands in the text.
-use Rattle.std.proofs.Common.{◌≡◌, ℕ, ◌+◌, ◌-◌, ◌<◌, ◌≤◌, ◌⊎◌, Bool, true, false, List, length, get_or, arith, Ok, Err, Option, Some, None, is_some, inl, inr, refl, sym, ◌∙◌, subst}
+use Rattle.std.proofs.Common.{◌≡◌, ℕ, ◌+◌, ◌-◌, ◌<◌, ◌≤◌, ◌⊎◌, Bool, true, false, List, length, get_or, arith, Ok, Err, Option, Some, None, is_some, inl, inr, refl, sym, ◌∙◌, subst, Result}
 use Rattle.std.proofs.lemmas.Bool.{cases_lt, and_parts, not-true, not-false, or_parts, eqb-false, ltb-true, ltb-false, leb-true, false≢true}
 use Rattle.std.proofs.lemmas.List.Folds.{list_all_at}
 use Rattle.std.proofs.lemmas.Slice.Eq.{bytes_eq-Decides}
@@ -18,9 +18,9 @@ use Rattle.toml_span_read.specs.Numerals as spec
 use Rattle.toml_span_read.specs.Numerals.{Read, ◌>>=◌, invalid_number, run_end, scalar_of, digits_end, integer_part, exponent_digits, exponent, fraction, signed, decimal, special, special_end, unsigned, numeral, number, radix_integer}
 use Rattle.toml_span_read.specs.Places.{StartsInside}
 use Rattle.toml_span_read.specs.code.Gaps.{Further}
-use Rattle.toml_span_read.specs.code.Numbers.{Passes, NumberGives, NumeralStands}
+use Rattle.toml_span_read.specs.code.Numbers.{Passes, NumeralStands}
+use Rattle.toml_span_read.specs.code.Values.{ScalarGives}
 use Rattle.toml_span_read.specs.Data.{kind_view, scalar}
-use Rattle.toml_span_read.specs.Faults.{NoNumber}
 use Rattle.toml_span_read.specs.declared.value.ValKind.{ValKind}
 use Rattle.toml_span_read.proofs.NumberLemmas.{is_false, bool_cases, byte_is, clash, here, figure_keylike, digits_sound, digits_on, run_passes, passes_on, sign_on, no_sign, behind_plus_sign, stands_alone, slice_some, range_length, range_at}
 
@@ -448,12 +448,13 @@ number_further s text i j u h =
 
 -- ---- what the code gives
 
-pub number_told : (text : List ℕ) (i : ℕ) (e : Fault) → numeral text i ≡ Err e → NoNumber text i e
+pub number_told : (text : List ℕ) (i : ℕ) (e : Fault) → numeral text i ≡ Err e → ◌≡◌ {A = Result (Scalar × ℕ) Fault} (Err e) (number text i)
 unfolding number
 number_told text i e h = rw h refl
 
-pub number_given : (n : Numeral) (text : List ℕ) (i j : ℕ) (kind : ValKind) → Starts text i → numeral text i ≡ Ok (n, j) → kind_view kind ≡ scalar (scalar_of n (slice_range text i j)) → NumberGives text i (Ok (kind, j))
-number_given n text i j kind b h k = (scalar_of n (slice_range text i j), k, (numeral_reads text i b).given (n, j) h)
+pub number_given : (n : Numeral) (text : List ℕ) (i j : ℕ) (kind : ValKind) → numeral text i ≡ Ok (n, j) → kind_view kind ≡ scalar (scalar_of n (slice_range text i j)) → ScalarGives (λ r. r ≡ number text i) (Ok (kind, j))
+unfolding number
+number_given n text i j kind h k = (scalar_of n (slice_range text i j), k, rw h refl)
 
 pub number_advances : (n : Numeral) (text : List ℕ) (i j : ℕ) → IsUtf8 text → Starts text i → numeral text i ≡ Ok (n, j) → Further text i j
 number_advances n text i j u b h = number_further (scalar_of n (slice_range text i j)) text i j u ((numeral_reads text i b).given (n, j) h)

@@ -134,7 +134,7 @@ pub onto_more : (vs : List ParsedValue) (v : ParsedValue) (rest : ParsedItems) �
 onto_more [] v rest = refl
 onto_more (w ∷ ws) v rest = ap (λ z. item w z) (onto_more ws v rest)
 
-abbrev ValueSound : List ℕ → ℕ → ℕ → (ℕ → Reading Found) → Type 0
+abbrev pub ValueSound : List ℕ → ℕ → ℕ → (ℕ → Reading Found) → Type 0
 ValueSound text limit d value = (v : ParsedValue) (i j : ℕ) → value i (Ok (v, j)) → Spells v text limit d i j
 
 element_on : (text : List ℕ) (limit d k : ℕ) (value : ℕ → Reading Found) → ValueSound text limit d value → (s t : Items) → ItemsFrom text limit d k s → read.element text value s (Ok (on t)) → ItemsFrom text limit d k t
@@ -193,7 +193,7 @@ pairs_onto_more [] p rest = refl
 pairs_onto_more (e ∷ es) p rest = ap (λ z. pair_node e.parts e.value e.extent z) (pairs_onto_more es p rest)
 
 -- under so many parts of a key
-abbrev PartsSound : List ℕ → ℕ → ℕ → (ℕ → ℕ → Reading Found) → Type 0
+abbrev pub PartsSound : List ℕ → ℕ → ℕ → (ℕ → ℕ → Reading Found) → Type 0
 PartsSound text limit d value = (n : ℕ) → ValueSound text limit (d + n) (value n)
 
 pair_spelled : (e : KeyValue) (text : List ℕ) (limit d : ℕ) (value : ℕ → ℕ → Reading Found) (i j : ℕ) → PartsSound text limit d value → read.key_value text limit (MaximalGap text) value i (Ok (e, j)) → SpellsPair e text limit d i j

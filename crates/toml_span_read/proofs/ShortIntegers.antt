@@ -13,7 +13,12 @@ use Rattle.std.specs.Char.{is_ascii_digit, digit_value}
 use Rattle.toml_span_read.specs.Dates.{begins_date}
 use Rattle.toml_span_read.specs.code.Gaps.{Further}
 use Rattle.toml_span_read.specs.Numbers.{is_digit_in, Digits, magnitude, DecimalInteger, IsSigned, behind_sign}
-use Rattle.toml_span_read.specs.code.Values.{BareGives}
+use Rattle.toml_span_read.specs.Faults.{begins_number}
+use Rattle.toml_span_read.specs.Numerals.{number}
+use Rattle.toml_span_read.specs.Read as read
+use Rattle.toml_span_read.specs.code.Values.{ScalarGives}
+use Rattle.toml_span_read.proofs.NumberComplete.{number_complete}
+use Rattle.toml_span_read.proofs.ValueRead.{number_first, digit_number}
 use Rattle.toml_span_read.proofs.NumberLemmas.{is_false, byte_is, and_left, and_right, digit_figure, no_keylike_figure, digit_no_underscore, no_sign, stands_alone, Summed, sum_goes_on, range_length, range_at}
 
 -- ---- digits
@@ -103,8 +108,11 @@ few_more text from at v w f h e s = record {
 
 -- ---- the integer
 
+decimal_begins : (c : ℕ) → is_ascii_digit c ≡ true → begins_number c ≡ true
+decimal_begins c h = rw h refl
+
 pub short_made : (kind : ValKind) (n : ℤ) (text : List ℕ) (i j m : ℕ) → kind_view kind ≡ scalar (integer n) → i < j → j ≤ length text → Decimals text i j → m ≡ magnitude 10 text i j
-    → (get_or text i 0 ≡ 48 → j ≡ i + 1) → is_keylike (get_or text j 0) ≡ false → (get_or text j 0 == 46) ≡ false → (get_or text j 0 == 58) ≡ false → IsSigned false m n → BareGives text i (Ok (kind, j))
+    → (get_or text i 0 ≡ 48 → j ≡ i + 1) → is_keylike (get_or text j 0) ≡ false → (get_or text j 0 == 46) ≡ false → (get_or text j 0 == 58) ≡ false → IsSigned false m n → ScalarGives (read.bare text i) (Ok (kind, j))
 short_made kind n text i j m e l w h v lead k dot colon value =
     let first = h i (omega arith) l in
     let plus : (get_or text i 0 == 43) ≡ false = is_false _ (λ x. not_decimal (get_or text i 0) 43 first (byte_is (get_or text i 0) 43 x) refl) in
@@ -115,7 +123,8 @@ short_made kind n text i j m e l w h v lead k dot colon value =
       ends = stands_alone text j k dot;
       value = rw (b, dash, ← v) value;
     } in
-    (integer n, e, (is_false _ (date_no text i j l h k colon), inl d, refl))
+    let read : number text i ≡ Ok (integer n, j) = number_complete (integer n) text i j (inl d) in
+    (integer n, e, inr (is_false _ (date_no text i j l h k colon), sym read ∙ sym (number_first text i (digit_number text i (decimal_begins (get_or text i 0) first)))))
 
 pub short_further : (text : List ℕ) (i j : ℕ) → IsUtf8 text → IsCharBoundary text i → i < j → j ≤ length text → Decimals text i j → Further text i j
 short_further text i j u b l w h = record { on = l; boundary = boundary_after is_ascii_digit text i j decimal_ascii u b (omega arith) w h }

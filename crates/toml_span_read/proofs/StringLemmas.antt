@@ -11,7 +11,8 @@ use Rattle.toml_span_lex.specs.Strings.{IsString, Borrows}
 use Rattle.toml_span_lex.specs.code.Strings.{StringGives}
 use Rattle.toml_span_lex.specs.Tokens.{Lexeme, whitespace, newline, comment, punctuator, keylike, string, IsToken, Stands}
 use Rattle.toml_span_read.specs.declared.fault.Found.{Found}
-use Rattle.toml_span_read.specs.Faults.{found_of, IsFound}
+use Rattle.toml_span_read.specs.Faults.{found_of}
+use Rattle.toml_span_read.specs.code.Wanted.{IsFound}
 
 pub string_read : (text : List ℕ) (i j : ℕ) (span : Span) (token : Token) (src : Bor (List ℕ)) (val : CowStr Global) (multi : Bool) → StringGives text i (Ok (span, token, j)) → token ≡ tokens.String src val multi
     → IsString text i j span src.now (cow_str_bytes val) multi × Borrows text i j span val

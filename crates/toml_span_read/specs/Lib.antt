@@ -9,7 +9,6 @@ pub mod Grammar
 pub mod Places
 pub mod Faults
 pub mod Read
-pub mod Due
 pub mod Reading
 pub mod Limits
 pub mod Borrowed

@@ -6,7 +6,7 @@ use Rattle.toml_span_lex.specs.declared.stop.Stop.TheVariants as stops
 use Rattle.toml_span_tree.specs.Error.{content_of}
 use Rattle.toml_span_tree.specs.declared.error.Error.{Error}
 use Rattle.toml_span_read.specs.Data.{Block, block}
-use Rattle.toml_span_read.specs.Due.{IsDue}
+use Rattle.toml_span_read.specs.Read.{document}
 use Rattle.toml_span_read.specs.Faults.{Tells}
 use Rattle.toml_span_read.specs.Gaps.{MaximalGap}
 use Rattle.toml_span_read.specs.Grammar.{SpellsDocument}
@@ -19,7 +19,7 @@ abbrev pub ReadsDocument : List ℕ → ℕ → Result (Vec Section Global) (Sto
 ReadsDocument text limit (Ok found) = SpellsDocument (map block found.items) text limit
 ReadsDocument text limit (Err (stops.Memory e)) = Unit {0}
 ReadsDocument text limit (Err (stops.Fault error)) =
-    (fault : Fault) × IsDue text limit fault × Tells text fault (content_of error)
+    (fault : Fault) × document text limit (Err fault) × Tells text fault (content_of error)
 
 -- what a text is refused for starts within the text, and does not end before it starts
 abbrev pub RefusedInside : List ℕ → Result (Vec Section Global) (Stop Error) → Type 0

@@ -2,11 +2,9 @@
 pub mod Faults
 pub mod Gaps
 pub mod Wanted
-pub mod Stuck
 pub mod Keys
 pub mod Numbers
 pub mod Dates
 pub mod Earlier
-pub mod Limits
 pub mod Values
 pub mod Sections

@@ -83,7 +83,7 @@ fn date_end(text: &str, at: usize) -> usize
 pub fn date<'de>(text: &'de str, at: usize) -> Result<(DateText<'de>, usize), Fault>
     requires boundary { IsCharBoundary text.now at }
     requires begins { spec.begins_date text.now at ≡ true }
-    ensures gives { DateGives text.now at result }
+    ensures date { DateGives text.now at result }
     ensures placed { IsPlacedFault text.now result }
 {
     let end = date_end(text, at);

@@ -6,8 +6,8 @@ ghost use Rattle.toml_span_lex.specs.Bytes.{quotation_mark, apostrophe};
 ghost use Rattle.toml_span_lex.specs.Strings.{BorrowsWhereSame};
 ghost use Rattle.toml_span_read.specs.Borrowed.{AreWrittenRight, dotted_written, keys_written};
 ghost use Rattle.toml_span_read.specs.Read as spec;
-ghost use Rattle.toml_span_read.specs.code.Keys.{Gives, key_found, parts_found, header_found, PartGives};
-ghost use Rattle.toml_span_read.specs.code.Faults.{Advances};
+ghost use Rattle.toml_span_read.specs.code.Keys.{key_found, parts_found, header_found, PartGives};
+ghost use Rattle.toml_span_read.specs.code.Faults.{Advances, Gives};
 
 use crate::fault::{Due, Fault, FaultKind, fault_at};
 use crate::gaps::{byte_at, dot};
@@ -40,7 +40,7 @@ fn quoted_key<'de>(
 ) -> Result<(Key<'de>, usize), Stop<Fault>>
     requires within { at < length text.now }
     requires quote { (slice_index text.now at ≡ quotation_mark) ⊎ (slice_index text.now at ≡ apostrophe) }
-    ensures gives { Gives key_found (spec.simple_key text.now at) result }
+    ensures key { Gives key_found (spec.simple_key text.now at) result }
     ensures borrows { IfOk result (λ found. BorrowsWhereSame text.now found.0.span found.0.name) }
     ensures advances { Advances text.now at result }
 {
@@ -73,7 +73,7 @@ pub(crate) fn simple_key<'de>(
     at: usize,
 ) -> Result<(Key<'de>, usize), Stop<Fault>>
     requires { IsCharBoundary text.now at }
-    ensures gives { Gives key_found (spec.simple_key text.now at) result }
+    ensures key { Gives key_found (spec.simple_key text.now at) result }
     ensures borrows { IfOk result (λ found. BorrowsWhereSame text.now found.0.span found.0.name) }
     ensures advances { Advances text.now at result }
 {
@@ -117,7 +117,7 @@ fn part<'de>(
     in_header: bool,
 ) -> Result<(Key<'de>, usize, Option<usize>), Stop<Fault>>
     requires { IsCharBoundary text.now at }
-    ensures gives { PartGives in_header text.now limit others at result }
+    ensures key { PartGives in_header text.now limit others at result }
     ensures borrows { IfOk result (λ found. BorrowsWhereSame text.now found.0.span found.0.name) }
 {
     let (key, end) = simple_key(alloc, text, at)?;
@@ -139,7 +139,7 @@ pub(crate) fn dotted_key<'de>(
     limit: usize,
 ) -> Result<(DottedKey<'de>, usize), Stop<Fault>>
     requires boundary { IsCharBoundary text.now at }
-    ensures gives { Gives parts_found (spec.key false text.now limit [] at) result }
+    ensures key { Gives parts_found (spec.key false text.now limit [] at) result }
     ensures borrows { IfOk result (λ found. AreWrittenRight text.now (dotted_written found.0)) }
     ensures advances { Advances text.now at result }
 {
@@ -170,7 +170,7 @@ pub(crate) fn header_key<'de>(
     limit: usize,
 ) -> Result<(SmallVec<Key<'de>, 5>, usize), Stop<Fault>>
     requires boundary { IsCharBoundary text.now at }
-    ensures gives { Gives header_found (spec.key true text.now limit [] at) result }
+    ensures key { Gives header_found (spec.key true text.now limit [] at) result }
     ensures borrows { IfOk result (λ found. AreWrittenRight text.now (keys_written found.0.items)) }
     ensures advances { Advances text.now at result }
 {

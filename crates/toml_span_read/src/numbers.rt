@@ -12,8 +12,9 @@ ghost use Rattle.toml_span_read.specs.Numbers.{sum_of_digits, is_digit_in, behin
 ghost use Rattle.toml_span_read.specs.Numerals as numerals;
 ghost use Rattle.toml_span_read.specs.code.Faults.{Advances};
 ghost use Rattle.toml_span_read.specs.code.Gaps.{Further};
-ghost use Rattle.toml_span_read.specs.code.Numbers.{DigitGives, WithinGives, NumberGives, NumeralStands, Passes};
-ghost use Rattle.toml_span_read.specs.code.Values.{BareGives, IsScalarKind};
+ghost use Rattle.toml_span_read.specs.code.Numbers.{DigitGives, WithinGives, NumeralStands, Passes};
+ghost use Rattle.toml_span_read.specs.code.Values.{ScalarGives, IsScalarKind};
+ghost use Rattle.toml_span_read.specs.Read as read;
 
 use crate::fault::{Fault, invalid_number};
 use crate::gaps::byte_at;
@@ -447,7 +448,7 @@ fn few_digits(text: &str, from: usize) -> (u64, usize)
 /// an underscore, a prefix, a dot or an exponent.
 pub(crate) fn short_integer<'de>(text: &'de str, at: usize) -> Option<(ValKind<'de>, usize)>
     requires { IsCharBoundary text.now at }
-    ensures gives { IfSome result (λ found. BareGives text.now at (Ok found)) }
+    ensures scalar { IfSome result (λ found. ScalarGives (read.bare text.now at) (Ok found)) }
     ensures further { IfSome result (λ found. Further text.now at found.1) }
 {
     let (value, end) = few_digits(text, at);
@@ -569,8 +570,7 @@ pub(crate) fn number<'de>(
     requires begins { (is_keylike (slice_index text.now at) || slice_index text.now at == plus) ≡ true }
     ensures advances { Advances text.now at result }
     ensures scalar { IsScalarKind result }
-    // A literal is read exactly where one stands: otherwise the fault says what stands in its place.
-    ensures gives { NumberGives text.now at result }
+    ensures number { ScalarGives (λ r. r ≡ numerals.number text.now at) result }
 {
     match number_at(text, at) {
         Err(fault) => Err(Stop::Fault(fault)),

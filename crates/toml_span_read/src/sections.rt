@@ -4,18 +4,19 @@ ghost use Rattle.std.specs.Str.{IsCharBoundary};
 ghost use Rattle.toml_span_read.specs.Borrowed.{AreWrittenRight, keys_written, assignment_written, assignments_written};
 ghost use Rattle.toml_span_read.specs.Borrowed.{section_written, sections_written};
 ghost use Rattle.toml_span_read.specs.Data.{key_value, block};
-ghost use Rattle.toml_span_read.specs.Grammar as spec;
+ghost use Rattle.toml_span_read.specs.Grammar as grammar;
 ghost use Rattle.toml_span_read.specs.Grammar.{OpensHeader, first_block};
-ghost use Rattle.toml_span_read.specs.code.Sections.{KeyValueGives, LineGives, LinesGive, CloseGives, HeaderGives};
-ghost use Rattle.toml_span_read.specs.code.Sections.{SectionsGive, block_of, first_blocks, FirstReads, FirstGives};
-ghost use Rattle.toml_span_read.specs.code.Sections.{SectionReads, SectionGives};
+ghost use Rattle.toml_span_read.specs.Read as spec;
+ghost use Rattle.toml_span_read.specs.code.Sections.{EndsAtHeader, HeaderReads, FirstReads, SectionReads, first_blocks};
+ghost use Rattle.toml_span_read.specs.code.Sections.{EndsBehind, LineReads, first_found, head_found, lines_found};
+ghost use Rattle.toml_span_read.specs.code.Sections.{section_found, sections_found};
+ghost use Rattle.toml_span_read.specs.code.Values.{key_value_found};
 ghost use Rattle.toml_span_read.specs.Reading.{OnlyFormsTakeMemory, ReadsDocument, RefusedInside};
+ghost use Rattle.toml_span_read.specs.code.Faults.{Advances, Gives, IsPlacedEnd};
 ghost use Rattle.toml_span_read.specs.code.Gaps.{Further};
-ghost use Rattle.toml_span_lex.specs.Bytes.{left_bracket};
+ghost use Rattle.toml_span_lex.specs.Bytes.{is_blank, left_bracket, MaximalRun};
 ghost use Rattle.toml_span_lex.specs.Tokenizer.{FirstPlace};
-ghost use Rattle.toml_span_read.specs.code.Limits.{AssignmentReads, AssignmentsRead, LineReads, HeaderReads};
-ghost use Rattle.toml_span_read.specs.code.Limits.{SectionsRead, EndsAtHeader};
-ghost use Rattle.toml_span_read.specs.Limits.{WithinSection, WithinKeyValues, depth_limit};
+ghost use Rattle.toml_span_read.specs.Limits.{depth_limit};
 
 use crate::earlier::{Earlier, add_clear};
 use crate::fault::{Due, Fault, error_of};
@@ -44,10 +45,10 @@ fn assignment<'de>(
     limit: usize,
 ) -> Result<(Assignment<'de>, usize), Stop<Fault>>
     requires boundary { IsCharBoundary text.now at }
-    requires some { 1 ≤ limit }
     requires small { limit ≤ depth_limit }
-    ensures reads { AssignmentReads text.now limit 0 at result }
-    ensures gives { KeyValueGives text.now limit at result }
+    ensures advances { Advances text.now at result }
+    ensures pair { Gives key_value_found (spec.key_value text.now limit (MaximalRun is_blank text.now)
+        (spec.value text.now limit (limit + 1)) at) result }
     ensures borrows { IfOk result (λ found. AreWrittenRight text.now (assignment_written found.0)) }
 {
     let (parts, key_end) = dotted_key(alloc, text, at, limit)?;
@@ -68,7 +69,7 @@ fn assignment<'de>(
 fn next_line(alloc: Global, text: &str, at: usize) -> Result<usize, Stop<Fault>>
     requires { IsCharBoundary text.now at }
     ensures reads { LineReads text.now at result }
-    ensures gives { LineGives text.now at result }
+    ensures rest { Gives (λ j. j) (spec.tail text.now at) result }
 {
     match line_rest(text, at) {
         Ok(next) => Ok(next),
@@ -84,11 +85,10 @@ fn assignments<'de>(
     limit: usize,
 ) -> Result<(Vec<Assignment<'de>>, usize), Stop<Fault>>
     requires boundary { IsCharBoundary text.now from }
-    requires some { 1 ≤ limit }
     requires small { limit ≤ depth_limit }
-    ensures read { AssignmentsRead text.now limit from result }
+    ensures read { EndsBehind text.now from result }
     ensures header { EndsAtHeader text.now result }
-    ensures gives { LinesGive text.now limit from result }
+    ensures lines { Gives lines_found (spec.lines text.now limit from) result }
     ensures borrows { IfOk result (λ found. AreWrittenRight text.now (assignments_written found.0.items)) }
     ensures memory { OnlyFormsTakeMemory text.now from result }
 {
@@ -134,7 +134,7 @@ fn header_open(text: &str, at: usize) -> (bool, usize)
 fn header_close(alloc: Global, text: &str, at: usize, array: bool) -> Result<usize, Stop<Fault>>
     requires { IsCharBoundary text.now at }
     ensures reads { LineReads text.now at result }
-    ensures gives { CloseGives array text.now at result }
+    ensures closes { Gives (λ j. j) (spec.behind (MaximalRun is_blank text.now) at (spec.closing array text.now)) result }
 {
     let close = blanks_end(text, at);
     if byte_at(text, close) != b']' {
@@ -168,9 +168,8 @@ fn read_header<'de>(
     limit: usize,
 ) -> Result<Header<'de>, Stop<Fault>>
     requires opens { slice_index text.now at ≡ left_bracket }
-    requires some { 1 ≤ limit }
-    ensures reads { HeaderReads text.now limit at result }
-    ensures gives { HeaderGives text.now limit at result }
+    ensures reads { HeaderReads text.now at result }
+    ensures header { Gives head_found (spec.header text.now limit at) result }
     ensures borrows { IfOk result (λ header. AreWrittenRight text.now (keys_written header.parts.items)) }
 {
     let (array, open) = header_open(text, at);
@@ -194,7 +193,7 @@ fn extent_of(assignment: &Assignment<'_>) -> Span
 
 /// Where the last of these assignments ends, or, without one, the place given.
 fn last_end(assignments: &[Assignment<'_>], without: usize) -> usize
-    ensures { result ≡ spec.last_end without (map key_value assignments.now) }
+    ensures { result ≡ grammar.last_end without (map key_value assignments.now) }
 {
     match assignments.last() {
         Some(last) => extent_of(last).end,
@@ -204,9 +203,8 @@ fn last_end(assignments: &[Assignment<'_>], without: usize) -> usize
 
 /// The section of a header with its assignments.
 fn section_of<'de>(header: Header<'de>, assignments: Vec<Assignment<'de>>) -> Section<'de>
-    ensures within { (limit : ℕ) → length header.entry.parts.items ≤ limit
-        → WithinKeyValues limit (map key_value assignments.entry.items) → WithinSection limit result }
-    ensures gives { block result ≡ block_of header.entry (map key_value assignments.entry.items) }
+    ensures block { block result
+        ≡ spec.block_at header.entry.extent.start (head_found header.entry) (map key_value assignments.entry.items) }
     ensures written { section_written result ≡ keys_written header.entry.parts.items
         ++ assignments_written assignments.entry.items }
 {
@@ -230,9 +228,7 @@ fn section_of<'de>(header: Header<'de>, assignments: Vec<Assignment<'de>>) -> Se
 
 /// The section of the assignments before the first header, if there are any.
 fn first_section<'de>(alloc: Global, assignments: Vec<Assignment<'de>>) -> Option<Section<'de>>
-    ensures within { (limit : ℕ) → WithinKeyValues limit (map key_value assignments.entry.items)
-        → IfSome result (λ section. WithinSection limit section) }
-    ensures gives { first_blocks result ≡ first_block (map key_value assignments.entry.items) }
+    ensures block { first_blocks result ≡ first_block (map key_value assignments.entry.items) }
     ensures written { IfSome result (λ section. section_written section ≡ assignments_written assignments.entry.items) }
 {
     let start = extent_of(assignments.first()?).start;
@@ -255,10 +251,9 @@ pub fn read_first<'de>(
     text: &'de str,
     limit: usize,
 ) -> Result<(Option<Section<'de>>, usize), Stop<Fault>>
-    requires some { 1 ≤ limit }
     requires small { limit ≤ depth_limit }
-    ensures reads { FirstReads text.now limit result }
-    ensures gives { FirstGives text.now limit result }
+    ensures reads { FirstReads text.now result }
+    ensures first { Gives first_found (spec.before_headers text.now limit) result }
     ensures memory { (start : ℕ) × FirstPlace text.now start × OnlyFormsTakeMemory text.now start result }
 {
     let (before, end) = assignments(alloc, text, first_place(text), limit)?;
@@ -276,10 +271,9 @@ pub fn read_section<'de>(
     limit: usize,
 ) -> Result<(Section<'de>, usize), Stop<Fault>>
     requires opens { slice_index text.now at ≡ left_bracket }
-    requires some { 1 ≤ limit }
     requires small { limit ≤ depth_limit }
-    ensures reads { SectionReads text.now limit at result }
-    ensures gives { SectionGives text.now limit at result }
+    ensures reads { SectionReads text.now at result }
+    ensures section { Gives section_found (spec.section text.now limit at) result }
 {
     let header = read_header(alloc, text, at, limit)?;
     let (behind, end) = assignments(alloc, text, header.extent.end, limit)?;
@@ -292,10 +286,9 @@ fn sections<'de>(
     text: &'de str,
     limit: usize,
 ) -> Result<Vec<Section<'de>>, Stop<Fault>>
-    requires some { 1 ≤ limit }
     requires small { limit ≤ depth_limit }
-    ensures reads { SectionsRead text.now limit result }
-    ensures gives { SectionsGive text.now limit result }
+    ensures placed { IsPlacedEnd text.now result }
+    ensures document { Gives sections_found (spec.document text.now limit) result }
     ensures borrows { IfOk result (λ found. AreWrittenRight text.now (sections_written found.items)) }
     ensures memory { (start : ℕ) × FirstPlace text.now start × OnlyFormsTakeMemory text.now start result }
 {
@@ -329,7 +322,7 @@ pub fn read_sections<'de>(
 ) -> Result<Vec<Section<'de>>, Stop<Error<'de>>>
     requires some { 1 ≤ limit }
     requires small { limit ≤ depth_limit }
-    // The sections are those that the text spells. A fault is one that the table has where something is due.
+    // The sections are those that the text spells. A fault is the one that reading the document tells.
     ensures document { ReadsDocument text.now limit result }
     ensures placed { RefusedInside text.now result }
     // Memory is wanted only where more than comments and blank lines stand in the text.

@@ -1,22 +1,22 @@
 //! Values.
 ghost use Rattle.toml_span_read.specs.Limits.{depth_limit};
-ghost use Rattle.std.specs.Prelude.{◌≡◌, ◌+◌, ◌<◌, ◌≤◌, ◌||◌, ◌==◌, ◌⊎◌, ◌++◌, ◌∷◌, [], true, false, length};
+ghost use Rattle.std.specs.Prelude.{◌≡◌, ◌+◌, ◌-◌, ◌<◌, ◌≤◌, ◌||◌, ◌==◌, ◌⊎◌, ◌++◌, ◌∷◌, [], true, false, length};
 ghost use Rattle.std.specs.Prelude.{slice_index, map, IfOk};
 ghost use Rattle.std.specs.Str.{IsCharBoundary};
 ghost use Rattle.toml_span_lex.specs.Bytes.{is_keylike, quotation_mark, apostrophe, left_bracket, left_brace};
-ghost use Rattle.toml_span_read.specs.code.Faults.{Advances, IsPlacedStop};
-ghost use Rattle.toml_span_read.specs.Places.{StartsInside};
+ghost use Rattle.toml_span_read.specs.code.Faults.{Advances, Gives, IsPlacedStop};
 ghost use Rattle.std.specs.Cow.{cow_str_bytes};
 ghost use Rattle.toml_span_tree.specs.Node.{text as text_node, boolean, datetime};
 ghost use Rattle.toml_span_tree.specs.Value.{date_bytes};
 ghost use Rattle.toml_span_read.specs.Borrowed.{AreWrittenRight, string as string_written, written, kind_written};
 ghost use Rattle.toml_span_read.specs.Borrowed.{joined};
 ghost use Rattle.toml_span_read.specs.Borrowed.{assignment_written, assignments_written, dotted_written};
-ghost use Rattle.toml_span_read.specs.Keys as spec;
-ghost use Rattle.toml_span_read.specs.code.Limits.{ValueReads, AssignmentReads};
 ghost use Rattle.toml_span_read.specs.Faults.{opens_nested, begins_bare, begins_number};
-ghost use Rattle.toml_span_read.specs.code.Values.{IsRunOf, IsTooDeep, ValueGives, BareGives, PairGives};
+ghost use Rattle.toml_span_read.specs.Gaps.{MaximalGap};
+ghost use Rattle.toml_span_read.specs.Read as spec;
+ghost use Rattle.toml_span_read.specs.code.Values.{IsRunOf, IsTooDeep, ScalarGives, value_found, key_value_found};
 ghost use Rattle.toml_span_read.specs.Dates as date_spec;
+ghost use Rattle.toml_span_read.specs.Keys as keys;
 ghost use Rattle.toml_span_read.specs.Keys.{opens_string};
 ghost use Rattle.toml_span_read.specs.Data.{view, kind_view, key_value, parsed, scalar as scalar_node};
 ghost use Rattle.toml_span_read.specs.Data.{array as array_node};
@@ -50,10 +50,9 @@ pub(crate) fn value<'de>(
     limit: usize,
 ) -> Result<(Val<'de>, usize), Stop<Fault>>
     requires boundary { IsCharBoundary text.now at }
-    requires some { 1 ≤ limit }
     requires small { limit ≤ depth_limit }
-    ensures reads { ValueReads text.now limit depth at result }
-    ensures gives { ValueGives text.now limit depth at result }
+    ensures advances { Advances text.now at result }
+    ensures value { Gives value_found (spec.value text.now limit ((limit + 1) - depth) 0 at) result }
     ensures borrows { IfOk result (λ found. AreWrittenRight text.now (written found.0)) }
 {
     match byte_at(text, at) {
@@ -68,7 +67,7 @@ pub(crate) fn value<'de>(
 /// A value that is too deep.
 fn too_deep(text: &str, at: usize) -> Stop<Fault>
     requires { at ≤ length text.now }
-    ensures gives { IsTooDeep at result }
+    ensures fault { IsTooDeep at result }
     ensures placed { IsPlacedStop text.now result }
 {
     let _text = text;
@@ -87,8 +86,8 @@ fn string_value<'de>(
 ) -> Result<(Val<'de>, usize), Stop<Fault>>
     requires boundary { IsCharBoundary text.now at }
     requires quote { (slice_index text.now at ≡ quotation_mark) ⊎ (slice_index text.now at ≡ apostrophe) }
-    ensures reads { ValueReads text.now limit depth at result }
-    ensures gives { ValueGives text.now limit depth at result }
+    ensures advances { Advances text.now at result }
+    ensures value { Gives value_found (spec.value text.now limit ((limit + 1) - depth) 0 at) result }
     ensures borrows { IfOk result (λ found. AreWrittenRight text.now (written found.0)) }
 {
     let token = string(alloc, text, at)?;
@@ -108,8 +107,8 @@ fn scalar<'de>(
 ) -> Result<(Val<'de>, usize), Stop<Fault>>
     requires boundary { IsCharBoundary text.now at }
     requires plain { (opens_nested (slice_index text.now at) || opens_string (slice_index text.now at)) ≡ false }
-    ensures reads { ValueReads text.now limit depth at result }
-    ensures gives { ValueGives text.now limit depth at result }
+    ensures advances { Advances text.now at result }
+    ensures value { Gives value_found (spec.value text.now limit ((limit + 1) - depth) 0 at) result }
     ensures borrows { IfOk result (λ found. AreWrittenRight text.now (written found.0)) }
 {
     let byte = byte_at(text, at);
@@ -130,7 +129,7 @@ fn bare<'de>(alloc: Global, text: &'de str, at: usize) -> Result<(ValKind<'de>, 
     requires boundary { IsCharBoundary text.now at }
     requires begins { begins_bare (slice_index text.now at) ≡ true }
     ensures advances { Advances text.now at result }
-    ensures gives { BareGives text.now at result }
+    ensures scalar { ScalarGives (spec.bare text.now at) result }
 {
     if let Some(found) = short_integer(text, at) {
         return Ok(found);
@@ -179,7 +178,7 @@ fn word<'de>(alloc: Global, text: &'de str, at: usize) -> Result<(ValKind<'de>, 
     requires no_date { date_spec.begins_date text.now at ≡ false }
     requires no_number { begins_number (slice_index text.now at) ≡ false }
     ensures advances { Advances text.now at result }
-    ensures gives { BareGives text.now at result }
+    ensures scalar { ScalarGives (spec.bare text.now at) result }
 {
     let end = keylike_end(text, at);
     match run_of(&text.as_bytes()[at..end]) {
@@ -206,11 +205,10 @@ fn array<'de>(
 ) -> Result<(Val<'de>, usize), Stop<Fault>>
     requires boundary { IsCharBoundary text.now at }
     requires opens { slice_index text.now at ≡ left_bracket }
-    requires some { 1 ≤ limit }
     requires small { limit ≤ depth_limit }
     requires depth { depth ≤ limit }
-    ensures reads { ValueReads text.now limit depth at result }
-    ensures gives { ValueGives text.now limit depth at result }
+    ensures advances { Advances text.now at result }
+    ensures value { Gives value_found (spec.value text.now limit ((limit + 1) - depth) 0 at) result }
     ensures borrows { IfOk result (λ found. AreWrittenRight text.now (written found.0)) }
 {
     let mut items = Vec::new(alloc);
@@ -249,11 +247,10 @@ fn inline_table<'de>(
 ) -> Result<(Val<'de>, usize), Stop<Fault>>
     requires boundary { IsCharBoundary text.now at }
     requires opens { slice_index text.now at ≡ left_brace }
-    requires some { 1 ≤ limit }
     requires small { limit ≤ depth_limit }
     requires depth { depth ≤ limit }
-    ensures reads { ValueReads text.now limit depth at result }
-    ensures gives { ValueGives text.now limit depth at result }
+    ensures advances { Advances text.now at result }
+    ensures value { Gives value_found (spec.value text.now limit ((limit + 1) - depth) 0 at) result }
     ensures borrows { IfOk result (λ found. AreWrittenRight text.now (written found.0)) }
 {
     let mut pairs = Vec::new(alloc);
@@ -291,11 +288,11 @@ fn pair<'de>(
     limit: usize,
 ) -> Result<(Assignment<'de>, usize), Stop<Fault>>
     requires boundary { IsCharBoundary text.now at }
-    requires some { 1 ≤ limit }
     requires small { limit ≤ depth_limit }
     requires depth { depth ≤ limit + 1 }
-    ensures reads { AssignmentReads text.now limit depth at result }
-    ensures gives { PairGives text.now limit depth at result }
+    ensures advances { Advances text.now at result }
+    ensures pair { Gives key_value_found
+        (spec.key_value text.now limit (MaximalGap text.now) (spec.value text.now limit ((limit + 1) - depth)) at) result }
     ensures borrows { IfOk result (λ found. AreWrittenRight text.now (assignment_written found.0)) }
 {
     let (parts, key_end) = dotted_key(alloc, text, at, limit)?;
@@ -377,7 +374,7 @@ pub(crate) fn assigned<'de>(
 ) -> Assignment<'de>
     ensures key_value { key_value result
         ≡ record {
-          parts = spec.parts parts.entry;
+          parts = keys.parts parts.entry;
           value = view value.entry;
           extent = record { start = start; end = end };
         } }

@@ -6,6 +6,7 @@ ghost use Rattle.toml_span_lex.specs.Bytes.{quotation_mark, apostrophe};
 ghost use Rattle.toml_span_lex.specs.Strings.{BorrowsWhereSame};
 ghost use Rattle.toml_span_lex.specs.Tokens.{lexeme};
 ghost use Rattle.toml_span_read.specs.Faults as faults;
+ghost use Rattle.toml_span_read.specs.Keys as spec;
 ghost use Rattle.toml_span_read.specs.code.Faults as faults_code;
 ghost use Rattle.toml_span_read.specs.code.Wanted.{StringReads, FoundGives, WantedGives, NoValueGives, Bounded};
 
@@ -61,7 +62,7 @@ fn token_fault(error: Error) -> Fault
 pub(crate) fn short_string<'de>(text: &'de str, at: usize) -> Option<StringToken<'de>>
     requires within { at < length text.now }
     requires quote { (slice_index text.now at ≡ quotation_mark) ⊎ (slice_index text.now at ≡ apostrophe) }
-    ensures gives { IfSome result (λ token. StringReads text.now at (Ok token)) }
+    ensures string { IfSome result (λ token. StringReads text.now at (Ok token)) }
     ensures borrows { IfSome result (λ token. BorrowsWhereSame text.now token.span token.content) }
 {
     let quote = text.as_bytes()[at];
@@ -86,7 +87,7 @@ fn pieced_string<'de>(
 ) -> Result<StringToken<'de>, Stop<Fault>>
     requires within { at < length text.now }
     requires quote { (slice_index text.now at ≡ quotation_mark) ⊎ (slice_index text.now at ≡ apostrophe) }
-    ensures gives { StringReads text.now at result }
+    ensures string { StringReads text.now at result }
     ensures borrows { IfOk result (λ token. BorrowsWhereSame text.now token.span token.content) }
     ensures placed { faults_code.IsPlacedEnd text.now result }
 {
@@ -119,7 +120,7 @@ pub(crate) fn string<'de>(
 ) -> Result<StringToken<'de>, Stop<Fault>>
     requires within { at < length text.now }
     requires quote { (slice_index text.now at ≡ quotation_mark) ⊎ (slice_index text.now at ≡ apostrophe) }
-    ensures gives { StringReads text.now at result }
+    ensures string { StringReads text.now at result }
     ensures borrows { IfOk result (λ token. BorrowsWhereSame text.now token.span token.content) }
     ensures placed { faults_code.IsPlacedEnd text.now result }
 {
@@ -173,7 +174,7 @@ pub(crate) fn opens_string(byte: u8) -> bool
 /// The token that begins at a place, or the end of the text, and where it ends.
 fn found_at(alloc: Global, text: &str, at: usize) -> Result<(Found, usize), Stop<Fault>>
     requires { IsCharBoundary text.now at }
-    ensures gives { FoundGives text.now at result }
+    ensures found { FoundGives text.now at result }
     ensures placed { faults_code.IsPlacedEnd text.now result }
 {
     if at == text.len() {
@@ -194,7 +195,7 @@ fn found_at(alloc: Global, text: &str, at: usize) -> Result<(Found, usize), Stop
 /// The fault of a place where another token stands than the one that is due.
 pub(crate) fn wanted(alloc: Global, text: &str, at: usize, expected: Due) -> Stop<Fault>
     requires { IsCharBoundary text.now at }
-    ensures gives { WantedGives text.now at expected result }
+    ensures fault { WantedGives text.now at expected result }
     ensures placed { faults_code.IsPlacedStop text.now result }
 {
     match found_at(alloc, text, at) {
@@ -215,8 +216,9 @@ pub(crate) fn wanted(alloc: Global, text: &str, at: usize, expected: Due) -> Sto
 /// The fault of a place where a value is due and none begins: the text ends, or another token stands
 /// there.
 pub(crate) fn no_value(alloc: Global, text: &str, at: usize) -> Stop<Fault>
-    requires { IsCharBoundary text.now at }
-    ensures gives { NoValueGives text.now at result }
+    requires boundary { IsCharBoundary text.now at }
+    requires none { spec.opens_string (slice_index text.now at) ≡ false }
+    ensures fault { NoValueGives text.now at result }
     ensures placed { faults_code.IsPlacedStop text.now result }
 {
     if at == text.len() {

@@ -1,15 +1,12 @@
 -- What the function of dates gives.
-use Rattle.std.specs.Prelude.{◌≡◌, ℕ, List, slice_range, Result, Ok, Err}
+use Rattle.std.specs.Prelude.{ℕ, List, Result, Ok, Err}
 use Rattle.toml_span_tree.specs.declared.date.DateText.{DateText}
-use Rattle.toml_span_tree.specs.Date.{IsDateText}
+use Rattle.toml_span_tree.specs.Node.{datetime}
 use Rattle.toml_span_tree.specs.Value.{date_bytes}
 use Rattle.toml_span_read.specs.declared.fault.Fault.{Fault}
 use Rattle.toml_span_read.specs.code.Gaps.{Further}
-use Rattle.toml_span_read.specs.Dates.{IsCandidate}
-use Rattle.toml_span_read.specs.Faults.{IsNoDate}
+use Rattle.toml_span_read.specs.Read as read
 
 abbrev pub DateGives : List ℕ → ℕ → Result (DateText × ℕ) Fault → Type 0
-DateGives text i (Ok (date, j)) =
-    IsCandidate text i j × IsDateText (slice_range text i j) × (date_bytes date ≡ slice_range text i j)
-    × Further text i j
-DateGives text i (Err fault) = IsNoDate text i fault
+DateGives text i (Ok (date, j)) = read.date text i (Ok (datetime (date_bytes date), j)) × Further text i j
+DateGives text i (Err fault) = read.date text i (Err fault)

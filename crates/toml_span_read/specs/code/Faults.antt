@@ -4,7 +4,14 @@ use Rattle.toml_span_lex.specs.declared.stop.Stop.{Stop}
 use Rattle.toml_span_lex.specs.declared.stop.Stop.TheVariants as stops
 use Rattle.toml_span_read.specs.declared.fault.Fault.{Fault}
 use Rattle.toml_span_read.specs.Places.{StartsInside}
+use Rattle.toml_span_read.specs.Read.{Reading}
 use Rattle.toml_span_read.specs.code.Gaps.{Further}
+
+-- the code gives what is read, seen so, or the fault, unless memory runs out
+abbrev pub Gives : {A B : Type 0} → (A → B) → Reading B → Result A (Stop Fault) → Type 0
+Gives view m (Ok a) = m (Ok (view a))
+Gives view m (Err (stops.Memory e)) = Unit {0}
+Gives view m (Err (stops.Fault e)) = m (Err e)
 
 abbrev pub IsPlacedStop : List ℕ → Stop Fault → Type 0
 IsPlacedStop text (stops.Memory e) = Unit {0}

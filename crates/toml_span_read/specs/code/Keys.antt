@@ -8,15 +8,9 @@ use Rattle.toml_span_read.specs.declared.fault.Fault.{Fault}
 use Rattle.toml_span_read.specs.declared.value.DottedKey.{DottedKey}
 use Rattle.toml_span_read.specs.Keys.{SimpleKey, simple_key, parts}
 use Rattle.toml_span_read.specs.Read as read
-use Rattle.toml_span_read.specs.Read.{Reading, Parts}
+use Rattle.toml_span_read.specs.Read.{Parts}
 use Rattle.toml_span_read.specs.Places.{StartsInside}
 use Rattle.toml_span_read.specs.code.Gaps.{Further, DotGives}
-
--- the code gives what is read, seen so, or the fault, unless memory runs out
-abbrev pub Gives : {A B : Type 0} → (A → B) → Reading B → Result A (Stop Fault) → Type 0
-Gives view m (Ok a) = m (Ok (view a))
-Gives view m (Err (stops.Memory e)) = Unit {0}
-Gives view m (Err (stops.Fault e)) = m (Err e)
 
 abbrev pub key_found : Key × ℕ → SimpleKey × ℕ
 key_found (key, j) = (simple_key key, j)

@@ -3,16 +3,10 @@ use Rattle.std.specs.Char.{digit_value}
 use Rattle.std.specs.Prelude.{◌≡◌, ℕ, ◌^◌, ◌<◌, ◌≤◌, true, false, List, length, slice_index, slice_range, Result, Ok}
 use Rattle.std.specs.Prelude.{Err, Option, Some, None}
 use Rattle.toml_span_lex.specs.Bytes.{is_keylike}
-use Rattle.toml_span_lex.specs.declared.stop.Stop.{Stop}
-use Rattle.toml_span_lex.specs.declared.stop.Stop.TheVariants as stops
-use Rattle.toml_span_tree.specs.Node.{Scalar}
 use Rattle.toml_span_read.specs.Numbers.{is_digit_in, IsNumber}
 use Rattle.toml_span_read.specs.Numerals.{scalar_of}
 use Rattle.toml_span_read.specs.declared.fault.Fault.{Fault}
 use Rattle.toml_span_read.specs.declared.numbers.Numeral.{Numeral}
-use Rattle.toml_span_read.specs.declared.value.ValKind.{ValKind}
-use Rattle.toml_span_read.specs.Data.{kind_view, scalar}
-use Rattle.toml_span_read.specs.Faults.{NoNumber}
 use Rattle.toml_span_read.specs.Places.{StartsInside}
 
 abbrev pub DigitGives : ℕ → ℕ → Option ℕ → Type 0
@@ -27,18 +21,6 @@ WithinGives n (Some m) = m ≡ n
 -- the text from i to j is the literal of what was read
 abbrev pub NumeralStands : List ℕ → ℕ → ℕ → Numeral → Type 0
 NumeralStands text i j n = IsNumber (scalar_of n (slice_range text i j)) text i j
-
--- a number is read, or one is wanting
-abbrev pub NumberGives : List ℕ → ℕ → Result (ValKind × ℕ) (Stop Fault) → Type 0
-NumberGives text i (Ok found) = (s : Scalar) × (kind_view found.0 ≡ scalar s) × IsNumber s text i found.1
-NumberGives text i (Err (stops.Memory e)) = Unit {0}
-NumberGives text i (Err (stops.Fault fault)) = NoNumber text i fault
-
--- this number with this end, unless memory runs out
-abbrev pub IsReadAs : Scalar → ℕ → Result (ValKind × ℕ) (Stop Fault) → Type 0
-IsReadAs s j (Ok found) = (kind_view found.0 ≡ scalar s) × (found.1 ≡ j)
-IsReadAs s j (Err (stops.Memory e)) = Unit {0}
-IsReadAs s j (Err (stops.Fault fault)) = ⊥
 
 -- ---- runs, and where a fault is
 

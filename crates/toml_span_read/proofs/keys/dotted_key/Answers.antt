@@ -5,14 +5,14 @@ use Rattle.toml_span_read.proofs.BorrowLemmas.{keys_more}
 use Rattle.toml_span_read.proofs.KeyLemmas.{handed_on, one_more, more_behind, last_behind, stops_behind}
 use Rattle.toml_span_read.proofs.keys.dotted_key.Goals as goal
 
-pub returns-in-None-clause-gives : goal.returns-in-None-clause-gives
-returns-in-None-clause-gives c =
-    let (h, few, on, none) = c.in_ok-key.ensures.gives in
+pub returns-in-None-clause-key : goal.returns-in-None-clause-key
+returns-in-None-clause-key c =
+    let (h, few, on, none) = c.in_ok-key.ensures.key in
     last_behind false c.args.text.now c.args.limit c.args.at c.parts.next c.in_ok-key.end c.parts.inner.items c.in_ok-key.key (omega (arith, few, c.len.ensures)) h (rw c.in-None.is at none) c.parts.invariant.behind
 
 pub parts-preserved : goal.parts-preserved
 parts-preserved c =
-    let (h, few, on, found) = c.in_ok-key.ensures.gives in
+    let (h, few, on, found) = c.in_ok-key.ensures.key in
     let dot = rw c.in-Some.is at found in
     let pushed = c.in_default.ensures in
     let n = one_more c.parts.inner.items c.add.new.items.items c.in_ok-key.key pushed in
@@ -24,7 +24,7 @@ parts-preserved c =
       behind = more_behind false c.args.text.now c.args.limit c.args.at c.parts.next c.in_ok-key.end c.in-Some.on c.parts.inner.items c.add.new.items.items c.in_ok-key.key pushed h dot.0 c.parts.invariant.behind;
     }
 
-pub returns-in_err-key-clause-gives : goal.returns-in_err-key-clause-gives
-returns-in_err-key-clause-gives c =
+pub returns-in_err-key-clause-key : goal.returns-in_err-key-clause-key
+returns-in_err-key-clause-key c =
     rw (handed_on c.from_residual.result c.in_err-key.field-0.0 c.from_residual.ensures.1)
-    (stops_behind parts_found c.in_err-key.field-0.0 false c.args.text.now c.args.limit c.args.at c.parts.next _ c.parts.inner.items (omega (arith, c.len.ensures)) c.parts.invariant.few c.parts.invariant.behind c.in_err-key.ensures.gives)
+    (stops_behind parts_found c.in_err-key.field-0.0 false c.args.text.now c.args.limit c.args.at c.parts.next _ c.parts.inner.items (omega (arith, c.len.ensures)) c.parts.invariant.few c.parts.invariant.behind c.in_err-key.ensures.key)

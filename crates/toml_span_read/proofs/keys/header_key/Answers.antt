@@ -7,15 +7,15 @@ use Rattle.toml_span_read.proofs.BorrowLemmas.{keys_more}
 use Rattle.toml_span_read.proofs.KeyLemmas.{handed_on, one_more, more_behind, last_behind, stops_behind}
 use Rattle.toml_span_read.proofs.keys.header_key.Goals as goal
 
-pub returns-in-None-clause-gives : goal.returns-in-None-clause-gives
-returns-in-None-clause-gives c =
-    let (h, few, on, none) = c.in_ok-key.ensures.gives in
+pub returns-in-None-clause-key : goal.returns-in-None-clause-key
+returns-in-None-clause-key c =
+    let (h, few, on, none) = c.in_ok-key.ensures.key in
     rw (c.in_default.ensures.ok, map-append simple_key c.parts.parts.items (c.in_ok-key.key ∷ []))
     (last_behind true c.args.text.now c.args.limit c.args.at c.parts.next c.in_ok-key.end c.parts.parts.items c.in_ok-key.key (omega (arith, few, c.len.ensures.value)) h (rw c.in-None.is at none) c.parts.invariant.behind)
 
 pub parts-preserved : goal.parts-preserved
 parts-preserved c =
-    let (h, few, on, found) = c.in_ok-key.ensures.gives in
+    let (h, few, on, found) = c.in_ok-key.ensures.key in
     let dot = rw c.in-Some.is at found in
     let pushed = c.in_default.ensures.ok in
     let n = one_more c.parts.parts.items c.push.new.self.items c.in_ok-key.key pushed in
@@ -27,7 +27,7 @@ parts-preserved c =
       behind = more_behind true c.args.text.now c.args.limit c.args.at c.parts.next c.in_ok-key.end c.in-Some.on c.parts.parts.items c.push.new.self.items c.in_ok-key.key pushed h dot.0 c.parts.invariant.behind;
     }
 
-pub returns-in_err-key-clause-gives : goal.returns-in_err-key-clause-gives
-returns-in_err-key-clause-gives c =
+pub returns-in_err-key-clause-key : goal.returns-in_err-key-clause-key
+returns-in_err-key-clause-key c =
     rw (handed_on c.from_residual.result c.in_err-key.field-0.0 c.from_residual.ensures.1)
-    (stops_behind header_found c.in_err-key.field-0.0 true c.args.text.now c.args.limit c.args.at c.parts.next _ c.parts.parts.items c.len.ensures.value c.parts.invariant.few c.parts.invariant.behind c.in_err-key.ensures.gives)
+    (stops_behind header_found c.in_err-key.field-0.0 true c.args.text.now c.args.limit c.args.at c.parts.next _ c.parts.parts.items c.len.ensures.value c.parts.invariant.few c.parts.invariant.behind c.in_err-key.ensures.key)

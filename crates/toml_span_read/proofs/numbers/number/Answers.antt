@@ -8,8 +8,8 @@ returns-in-Err-clause-advances c =
     let h : numeral c.args.text.now c.args.at ≡ Err c.in-Err.fault = search rules in
     (numeral_reads c.args.text.now c.args.at c.requires.begins).told c.in-Err.fault h
 
-pub returns-in-Err-clause-gives : goal.returns-in-Err-clause-gives
-returns-in-Err-clause-gives c =
+pub returns-in-Err-clause-number : goal.returns-in-Err-clause-number
+returns-in-Err-clause-number c =
     let h : numeral c.args.text.now c.args.at ≡ Err c.in-Err.fault = search rules in
     number_told c.args.text.now c.args.at c.in-Err.fault h
 
@@ -28,7 +28,7 @@ returns-in-Ok-number_kind-clause-advances c =
     let h : numeral c.args.text.now c.args.at ≡ Ok (c.in-Ok.numeral, c.in-Ok.end) = search rules in
     number_advances c.in-Ok.numeral c.args.text.now c.args.at c.in-Ok.end c.utf8.text c.requires.begins h
 
-pub returns-in-Ok-number_kind-clause-gives : goal.returns-in-Ok-number_kind-clause-gives
-returns-in-Ok-number_kind-clause-gives c =
+pub returns-in-Ok-number_kind-clause-number : goal.returns-in-Ok-number_kind-clause-number
+returns-in-Ok-number_kind-clause-number c =
     let h : numeral c.args.text.now c.args.at ≡ Ok (c.in-Ok.numeral, c.in-Ok.end) = search rules in
-    number_given c.in-Ok.numeral c.args.text.now c.args.at c.in-Ok.end c.in-Ok-number_kind.kind c.requires.begins h c.in-Ok-number_kind.ensures
+    number_given c.in-Ok.numeral c.args.text.now c.args.at c.in-Ok.end c.in-Ok-number_kind.kind h c.in-Ok-number_kind.ensures

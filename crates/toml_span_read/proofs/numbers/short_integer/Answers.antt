@@ -8,8 +8,8 @@ use Rattle.toml_span_read.proofs.ShortIntegers.{short_made, short_further}
 use Rattle.toml_span_read.proofs.numbers.short_integer.Goals as goal
 use Rattle.toml_span_read.proofs.numbers.short_integer.Goals.{then-byte_at-eq48, else-byte_at-eq48}
 
-pub returns-in-Some-clause-gives : goal.returns-in-Some-clause-gives
-returns-in-Some-clause-gives c =
+pub returns-in-Some-clause-scalar : goal.returns-in-Some-clause-scalar
+returns-in-Some-clause-scalar c =
     let text = c.args.text.now in
     let i = c.args.at in
     let j = c.few_digits-value.result.1 in

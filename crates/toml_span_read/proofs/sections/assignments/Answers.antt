@@ -1,70 +1,75 @@
-use Rattle.std.proofs.Common.{arith, rules, [], ◌<◌, ℕ, length, Vec, Global}
+use Rattle.std.proofs.Common.{arith, rules, [], ◌≡◌, ◌<◌, ℕ, false, length, get_or, map, Vec, Global}
+use Rattle.std.specs.Prelude.{◌==◌}
 use Rattle.toml_span_read.specs.declared.value.Assignment.{Assignment}
 use Rattle.toml_span_read.specs.Borrowed.{IsWrittenRight, assignment_written}
+use Rattle.toml_span_read.specs.Data.{key_value}
+use Rattle.toml_span_read.specs.Read.{ends_lines}
 use Rattle.toml_span_read.proofs.BorrowLemmas.{joined_more}
-use Rattle.toml_span_read.proofs.LimitLemmas.{crossing_placed, key_values_more}
-use Rattle.toml_span_read.proofs.LineLemmas.{lines_begin, lines_more, stuck_more, lines_end, in_line_fault, newline_fault, crossing_fault}
+use Rattle.toml_span_read.proofs.CrossingPlaces.{assignment_spanned, crossing_placed}
+use Rattle.toml_span_read.proofs.LineRead.{goes_further, lines_begin, lines_more, lines_last, lines_stop, line_stops, rest_stops, crossing_stops}
 use Rattle.toml_span_read.proofs.MemoryLemmas.{forms_keep}
+use Rattle.toml_span_read.proofs.ValueRead.{map_end}
 use Rattle.toml_span_read.proofs.sections.assignments.Goals as goal
 
 pub lines-init : goal.lines-init
 lines-init c =
     let e = c.new-found.ensures.items in
     let g = c.gap_end-at.ensures in
-    let b = lines_begin c.new-found.result.items c.args.text.now c.args.limit c.args.from c.gap_end-at.result e g.run in
     record {
       forward = omega (arith, g.run.forward);
       begun = (c.gap_end-at.result, g.run, omega arith);
       boundary = g.boundary;
       borrows = rw e tt;
-      within = rw e tt;
       knows = rw e c.new-earlier.ensures;
-      whole = b.0;
-      stuck = b.1;
+      whole = lines_begin c.new-found.result.items c.args.text.now c.args.limit c.args.from c.gap_end-at.result e g.run;
     }
 
-pub returns-in-Err-clause-gives : goal.returns-in-Err-clause-gives
-returns-in-Err-clause-gives c =
+pub returns-in-Err-clause-lines : goal.returns-in-Err-clause-lines
+returns-in-Err-clause-lines c =
     let l : c.lines.at < length c.args.text.now = omega arith in
-    in_line_fault c.in-Err.stop c.lines.found.items c.args.text.now c.args.limit c.args.from c.lines.at c.lines.invariant.stuck l (search rules) c.in-Err.ensures.gives
+    let go = goes_further c.args.text.now c.lines.at l (search rules) in
+    line_stops c.in-Err.stop (map key_value c.lines.found.items) c.args.text.now c.args.limit c.args.from c.lines.at c.lines.invariant.whole go c.in-Err.ensures.pair
 
-pub returns-in-Err-next_line-clause-gives : goal.returns-in-Err-next_line-clause-gives
-returns-in-Err-next_line-clause-gives c =
-    newline_fault c.in-Err-next_line.stop c.lines.found.items c.in-Ok.read.0 c.args.text.now c.args.limit c.args.from c.lines.at _ c.lines.invariant.stuck c.in-Ok.ensures.gives c.in-Err-next_line.ensures.gives
+pub returns-in-Err-next_line-clause-lines : goal.returns-in-Err-next_line-clause-lines
+returns-in-Err-next_line-clause-lines c =
+    let l : c.lines.at < length c.args.text.now = omega arith in
+    let go = goes_further c.args.text.now c.lines.at l (search rules) in
+    rest_stops c.in-Err-next_line.stop (map key_value c.lines.found.items) (key_value c.in-Ok.read.0) c.args.text.now c.args.limit c.args.from c.lines.at _ c.lines.invariant.whole go c.in-Ok.ensures.pair c.in-Err-next_line.ensures.rest
 
-pub returns-in-Err-add_clear-clause-gives : goal.returns-in-Err-add_clear-clause-gives
-returns-in-Err-add_clear-clause-gives c =
-    crossing_fault c.in-Err-add_clear.stop c.lines.found.items [] c.in-Ok.read.0 c.args.text.now c.args.limit c.args.from c.lines.at _ _ c.lines.invariant.stuck c.in-Ok.ensures.gives c.in-Ok-next_line.ensures.gives c.in-Err-add_clear.ensures.adds
+pub returns-in-Err-add_clear-clause-lines : goal.returns-in-Err-add_clear-clause-lines
+returns-in-Err-add_clear-clause-lines c =
+    let l : c.lines.at < length c.args.text.now = omega arith in
+    let go = goes_further c.args.text.now c.lines.at l (search rules) in
+    crossing_stops c.in-Err-add_clear.stop c.lines.found.items c.add_clear.new.values.items c.in-Ok.read.0 c.args.text.now c.args.limit c.args.from c.lines.at _ _ c.lines.invariant.whole go c.in-Ok.ensures.pair c.in-Ok-next_line.ensures.rest c.in-Err-add_clear.ensures.adds
 
 pub returns-in-Err-add_clear-clause-read : goal.returns-in-Err-add_clear-clause-read
 returns-in-Err-add_clear-clause-read c =
-    let v = c.in-Ok.ensures.reads in
-    crossing_placed c.in-Err-add_clear.stop c.args.text.now c.lines.found.items [] c.in-Ok.read.0 c.in-Ok.read.1 v.1.boundary.0 (v.2, v.3, v.4) c.in-Err-add_clear.ensures.adds
+    crossing_placed c.in-Err-add_clear.stop c.args.text.now c.lines.found.items c.add_clear.new.values.items c.in-Ok.read.0 c.in-Ok.read.1 c.in-Ok.ensures.advances.boundary.0
+    (assignment_spanned (key_value c.in-Ok.read.0) c.args.text.now c.args.limit c.lines.at c.in-Ok.read.1 c.in-Ok.ensures.pair) c.in-Err-add_clear.ensures.adds
 
 pub lines-preserved : goal.lines-preserved
 lines-preserved c =
-    let v = c.in-Ok.ensures.reads in
-    let s = c.in-Ok.ensures.gives in
-    let t = c.in-Ok-next_line.ensures.gives in
+    let l : c.lines.at < length c.args.text.now = omega arith in
+    let go = goes_further c.args.text.now c.lines.at l (search rules) in
+    let v = c.in-Ok.ensures in
+    let t = c.in-Ok-next_line.ensures in
     let a = c.in_default.ensures.adds in
     let g = c.gap_end-at-in-lines.ensures in
     let i = c.lines.invariant in
     record {
-      forward = omega (arith, i.forward, v.1.on, c.in-Ok-next_line.ensures.reads.0, g.run.forward);
-      begun = (i.begun.0, i.begun.1, omega (arith, i.begun.2, v.1.on, c.in-Ok-next_line.ensures.reads.0, g.run.forward));
+      forward = omega (arith, i.forward, v.advances.on, t.reads.0, g.run.forward);
+      begun = (i.begun.0, i.begun.1, omega (arith, i.begun.2, v.advances.on, t.reads.0, g.run.forward));
       boundary = g.boundary;
-      borrows = joined_more (IsWrittenRight c.args.text.now) assignment_written c.lines.found.items c.add_clear.new.values.items c.in-Ok.read.0 a.0 i.borrows c.in-Ok.ensures.borrows;
-      within = key_values_more c.args.limit c.lines.found.items c.add_clear.new.values.items c.in-Ok.read.0 a.0 i.within v.0;
+      borrows = joined_more (IsWrittenRight c.args.text.now) assignment_written c.lines.found.items c.add_clear.new.values.items c.in-Ok.read.0 a.0 i.borrows v.borrows;
       knows = c.in_default.ensures.knows;
-      whole = lines_more c.lines.found.items c.add_clear.new.values.items c.in-Ok.read.0 c.args.text.now c.args.limit c.args.from c.lines.at _ _ _ a.0 i.whole s t a.1 g.run;
-      stuck = stuck_more c.lines.found.items c.add_clear.new.values.items c.in-Ok.read.0 c.args.text.now c.args.limit c.args.from c.lines.at _ _ _ a.0 i.stuck s t a.1 g.run;
+      whole = rw (map_end key_value c.lines.found.items c.add_clear.new.values.items c.in-Ok.read.0 a.0) (lines_more (map key_value c.lines.found.items) (key_value c.in-Ok.read.0) c.args.text.now c.args.limit c.args.from c.lines.at _ _ _ i.whole go v.pair t.rest a.1 g.run);
     }
 
-pub returns-clause-gives : goal.returns-clause-gives
-returns-clause-gives c = lines_end c.lines.found.items c.args.text.now c.args.limit c.args.from c.lines.at c.lines.invariant.whole
+pub returns-clause-lines : goal.returns-clause-lines
+returns-clause-lines c = lines_last c.lines.found.items c.args.text.now c.args.limit c.args.from c.lines.at c.lines.invariant.whole (lines_stop c.args.text.now c.lines.at (search rules))
 
 pub returns-in-Err-clause-read : goal.returns-in-Err-clause-read
-returns-in-Err-clause-read c = c.in-Err.ensures.reads
+returns-in-Err-clause-read c = c.in-Err.ensures.advances
 
 pub returns-in-Err-clause-memory : goal.returns-in-Err-clause-memory
 returns-in-Err-clause-memory c =
@@ -85,4 +90,4 @@ returns-in-Err-add_clear-clause-memory c =
     forms_keep (Vec Assignment Global × ℕ) c.in-Err-add_clear.stop c.args.text.now c.args.from (begun.0, begun.1, omega (arith, begun.2))
 
 pub returns-clause-read : goal.returns-clause-read
-returns-clause-read c = (c.lines.invariant.within, c.lines.invariant.forward, c.lines.invariant.boundary)
+returns-clause-read c = (c.lines.invariant.forward, c.lines.invariant.boundary)

@@ -1,39 +1,31 @@
 use Rattle.std.proofs.Common.{arith}
 use Rattle.toml_span_read.proofs.BorrowLemmas.{section_right}
-use Rattle.toml_span_read.proofs.InsideLemmas.{section_block}
 use Rattle.toml_span_read.proofs.KeyLemmas.{handed_on}
-use Rattle.toml_span_read.proofs.LineLemmas.{section_made}
-use Rattle.toml_span_read.proofs.StepLemmas.{header_stuck, lines_stuck}
+use Rattle.toml_span_read.proofs.LineRead.{header_stops, section_stops, section_read}
 use Rattle.toml_span_read.proofs.sections.read_section.Goals as goal
 
-pub returns-in_err-header-clause-gives : goal.returns-in_err-header-clause-gives
-returns-in_err-header-clause-gives c =
+pub returns-in_err-header-clause-section : goal.returns-in_err-header-clause-section
+returns-in_err-header-clause-section c =
     rw (handed_on c.from_residual.result c.in_err-header.field-0.0 c.from_residual.ensures.1)
-    (header_stuck c.in_err-header.field-0.0 c.args.text.now c.args.limit c.args.at c.in_err-header.ensures.gives)
+    (header_stops c.in_err-header.field-0.0 c.args.text.now c.args.limit c.args.at c.in_err-header.ensures.header)
 
-pub returns-in_err-behind-clause-gives : goal.returns-in_err-behind-clause-gives
-returns-in_err-behind-clause-gives c =
+pub returns-in_err-behind-clause-section : goal.returns-in_err-behind-clause-section
+returns-in_err-behind-clause-section c =
     rw (handed_on c.from_residual-in_err-behind.result c.in_err-behind.field-0.0 c.from_residual-in_err-behind.ensures.1)
-    (lines_stuck c.in_err-behind.field-0.0 c.in_ok-header.header c.args.text.now c.args.limit c.args.at c.in_ok-header.ensures.gives c.in_err-behind.ensures.gives)
+    (section_stops c.in_err-behind.field-0.0 c.in_ok-header.header c.args.text.now c.args.limit c.args.at c.in_ok-header.ensures.header c.in_err-behind.ensures.lines)
 
 pub returns-clause-reads : goal.returns-clause-reads
 returns-clause-reads c =
     let h = c.in_ok-header.ensures in
-    let r = c.in_ok-behind.ensures in
-    let text = c.args.text.now in
-    let spelled = section_made _ c.in_ok-header.header _ text c.args.limit c.args.at _ c.section_of.ensures.gives h.gives r.gives in (
-      record {
-        within = c.section_of.ensures.within c.args.limit h.reads.0 r.read.0;
-        inside = section_block _ text c.args.limit c.args.at _ spelled;
-        borrows = section_right text c.section_of.result c.in_ok-header.header.parts.items c.in_ok-behind.behind.items c.section_of.ensures.written h.borrows r.borrows;
-      },
-      record { on = omega (arith, h.reads.1.on, r.read.1); boundary = r.read.2 },
-      (r.read.2, r.header),
+    let r = c.in_ok-behind.ensures in (
+      section_right c.args.text.now c.section_of.result c.in_ok-header.header.parts.items c.in_ok-behind.behind.items c.section_of.ensures.written h.borrows r.borrows,
+      record { on = omega (arith, h.reads.1.on, r.read.0); boundary = r.read.1 },
+      (r.read.1, r.header),
     )
 
-pub returns-clause-gives : goal.returns-clause-gives
-returns-clause-gives c =
-    section_made _ c.in_ok-header.header _ c.args.text.now c.args.limit c.args.at _ c.section_of.ensures.gives c.in_ok-header.ensures.gives c.in_ok-behind.ensures.gives
+pub returns-clause-section : goal.returns-clause-section
+returns-clause-section c =
+    section_read c.section_of.result c.in_ok-header.header _ c.args.text.now c.args.limit c.args.at c.in_ok-header.header.extent.start c.in_ok-behind.end c.section_of.ensures.block c.in_ok-header.ensures.reads.0 c.in_ok-header.ensures.header c.in_ok-behind.ensures.lines
 
 pub returns-in_err-header-clause-reads : goal.returns-in_err-header-clause-reads
 returns-in_err-header-clause-reads c = rw (handed_on c.from_residual.result c.in_err-header.field-0.0 c.from_residual.ensures.1) c.in_err-header.ensures.reads

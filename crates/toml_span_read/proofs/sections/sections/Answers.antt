@@ -1,13 +1,14 @@
-use Rattle.std.proofs.Common.{arith, ◌≡◌, ℕ, length, Option, Vec}
+use Rattle.std.proofs.Common.{arith, ◌≡◌, ◌<◌, ℕ, length, map, Option, Vec}
 use Rattle.std.specs.Global.{Global}
+use Rattle.toml_span_read.specs.Data.{block}
+use Rattle.toml_span_read.specs.code.Sections.{first_blocks, sections_found}
 use Rattle.toml_span_read.specs.declared.fault.Fault.{Fault}
 use Rattle.toml_span_read.specs.declared.section.Section.{Section}
 use Rattle.toml_span_read.proofs.BorrowLemmas as borrow
 use Rattle.toml_span_read.proofs.KeyLemmas.{handed_on}
-use Rattle.toml_span_read.proofs.LimitLemmas.{sections_more}
-use Rattle.toml_span_read.proofs.LineLemmas as lines
+use Rattle.toml_span_read.proofs.LineRead.{blocks_end, section_on, document_read, document_stops, document_refused}
 use Rattle.toml_span_read.proofs.MemoryLemmas.{begun_on, keeps, keeps_same}
-use Rattle.toml_span_read.proofs.StepLemmas.{Begins, begins_none, begins_some, first_keeps, first_refused, section_refused}
+use Rattle.toml_span_read.proofs.StepLemmas.{Begins, begins_none, begins_some, first_begun, first_keeps}
 use Rattle.toml_span_read.proofs.sections.sections.Goals as goal
 use Rattle.toml_span_read.proofs.sections.sections.Goals.{in-Some+in_default, in-None}
 
@@ -16,17 +17,15 @@ sections-init c =
     let first = c.in_ok-first.ensures in
     let e = c.new-found.ensures.items in
     let b : Begins c.args.text.now c.args.limit c.in_ok-first.at c.match-first.found.items = elim c.match-first.branch [
-      | in-Some+in_default w ↦ rw w.found-is (begins_some c.args.text.now c.args.limit c.in_ok-first.at c.in_ok-first.first _ c.new-found.result.items w.add.new.items.items w.in-Some.is e w.in_default.ensures first.reads.0 first.gives)
-      | in-None w ↦ rw w.found-is (begins_none c.args.text.now c.args.limit c.in_ok-first.at c.in_ok-first.first c.new-found.result.items w.in-None.is e first.reads.0 first.gives)
+      | in-Some+in_default w ↦ rw w.found-is (begins_some c.args.text.now c.args.limit c.in_ok-first.at c.in_ok-first.first _ c.new-found.result.items w.add.new.items.items w.in-Some.is e w.in_default.ensures first.reads.0 first.first)
+      | in-None w ↦ rw w.found-is (begins_none c.args.text.now c.args.limit c.in_ok-first.at c.in_ok-first.first c.new-found.result.items w.in-None.is e first.reads.0 first.first)
     ] in
     record {
       boundary = first.reads.1.0;
-      begun = b.begun;
+      begun = first_begun c.args.text.now c.args.limit c.in_ok-first.at c.in_ok-first.first first.first;
       header = first.reads.1.1;
       borrows = b.borrows;
-      within = b.within;
       whole = b.whole;
-      stuck = b.stuck;
     }
 
 pub sections-preserved : goal.sections-preserved
@@ -34,29 +33,28 @@ sections-preserved c =
     let read = c.in_ok-section.ensures in
     let m = c.in_default-add.ensures in
     let i = c.sections.invariant in
+    let under : c.sections.at < length c.args.text.now = omega arith in
     record {
       boundary = read.reads.2.0;
       begun = begun_on c.args.text.now c.sections.at _ i.begun (omega (arith, read.reads.1.on));
       header = read.reads.2.1;
-      borrows = borrow.sections_more c.args.text.now c.sections.found.items c.add-in-sections.new.items.items _ m i.borrows read.reads.0.borrows;
-      within = sections_more c.args.limit c.sections.found.items c.add-in-sections.new.items.items _ m i.within read.reads.0.within;
-      whole = lines.sections_more c.sections.found.items c.add-in-sections.new.items.items _ c.args.text.now c.args.limit c.sections.at _ m i.whole read.gives;
-      stuck = λ e x. i.stuck e (lines.on_section c.args.text.now c.args.limit c.sections.at _ _ e read.gives x);
+      borrows = borrow.sections_more c.args.text.now c.sections.found.items c.add-in-sections.new.items.items _ m i.borrows read.reads.0;
+      whole = rw (blocks_end c.sections.found.items c.add-in-sections.new.items.items _ m) (section_on c.args.text.now c.args.limit c.sections.at _ (map block c.sections.found.items) _ i.whole under read.section);
     }
 
-pub returns-clause-gives : goal.returns-clause-gives
-returns-clause-gives c =
+pub returns-clause-document : goal.returns-clause-document
+returns-clause-document c =
     let e : c.sections.at ≡ length c.args.text.now = omega (arith, c.sections.invariant.boundary.0) in
-    lines.sections_end c.sections.found.items c.args.text.now c.args.limit c.sections.at c.sections.invariant.whole e
+    document_read c.args.text.now c.args.limit c.sections.at (map block c.sections.found.items) c.sections.invariant.whole e
 
 pub returns-in-Err-clause-memory : goal.returns-in-Err-clause-memory
-returns-in-Err-clause-memory c = first_keeps c.args.text.now c.args.limit c.in_ok-first.at c.in_ok-first.first _ c.in-Some.is c.in_ok-first.ensures.gives
+returns-in-Err-clause-memory c = first_keeps c.args.text.now c.args.limit c.in_ok-first.at c.in_ok-first.first _ c.in-Some.is c.in_ok-first.ensures.first
 
-pub returns-in_err-first-clause-reads : goal.returns-in_err-first-clause-reads
-returns-in_err-first-clause-reads c = rw (handed_on c.from_residual.result c.in_err-first.field-0.0 c.from_residual.ensures.1) c.in_err-first.ensures.reads
+pub returns-in_err-first-clause-placed : goal.returns-in_err-first-clause-placed
+returns-in_err-first-clause-placed c = rw (handed_on c.from_residual.result c.in_err-first.field-0.0 c.from_residual.ensures.1) c.in_err-first.ensures.reads
 
-pub returns-in_err-first-clause-gives : goal.returns-in_err-first-clause-gives
-returns-in_err-first-clause-gives c = rw (handed_on c.from_residual.result c.in_err-first.field-0.0 c.from_residual.ensures.1) (first_refused c.in_err-first.field-0.0 c.args.text.now c.args.limit c.in_err-first.ensures.gives)
+pub returns-in_err-first-clause-document : goal.returns-in_err-first-clause-document
+returns-in_err-first-clause-document c = rw (handed_on c.from_residual.result c.in_err-first.field-0.0 c.from_residual.ensures.1) (document_refused sections_found c.in_err-first.field-0.0 c.args.text.now c.args.limit c.in_err-first.ensures.first)
 
 pub returns-in_err-first-clause-borrows : goal.returns-in_err-first-clause-borrows
 returns-in_err-first-clause-borrows c = rw (handed_on c.from_residual.result c.in_err-first.field-0.0 c.from_residual.ensures.1) tt
@@ -64,11 +62,14 @@ returns-in_err-first-clause-borrows c = rw (handed_on c.from_residual.result c.i
 pub returns-in_err-first-clause-memory : goal.returns-in_err-first-clause-memory
 returns-in_err-first-clause-memory c = rw (handed_on c.from_residual.result c.in_err-first.field-0.0 c.from_residual.ensures.1) (keeps_same (Option Section × ℕ) (Vec Section Global) c.in_err-first.field-0.0 c.args.text.now c.in_err-first.ensures.memory)
 
-pub returns-in_err-section-clause-reads : goal.returns-in_err-section-clause-reads
-returns-in_err-section-clause-reads c = rw (handed_on c.from_residual-in_err-section.result c.in_err-section.field-0.0 c.from_residual-in_err-section.ensures.1) c.in_err-section.ensures.reads
+pub returns-in_err-section-clause-placed : goal.returns-in_err-section-clause-placed
+returns-in_err-section-clause-placed c = rw (handed_on c.from_residual-in_err-section.result c.in_err-section.field-0.0 c.from_residual-in_err-section.ensures.1) c.in_err-section.ensures.reads
 
-pub returns-in_err-section-clause-gives : goal.returns-in_err-section-clause-gives
-returns-in_err-section-clause-gives c = rw (handed_on c.from_residual-in_err-section.result c.in_err-section.field-0.0 c.from_residual-in_err-section.ensures.1) (section_refused c.in_err-section.field-0.0 c.args.text.now c.args.limit c.sections.at c.sections.invariant.stuck c.in_err-section.ensures.gives)
+pub returns-in_err-section-clause-document : goal.returns-in_err-section-clause-document
+returns-in_err-section-clause-document c =
+    let under : c.sections.at < length c.args.text.now = omega arith in
+    rw (handed_on c.from_residual-in_err-section.result c.in_err-section.field-0.0 c.from_residual-in_err-section.ensures.1)
+    (document_stops sections_found c.in_err-section.field-0.0 c.args.text.now c.args.limit c.sections.at (map block c.sections.found.items) c.sections.invariant.whole under c.in_err-section.ensures.section)
 
 pub returns-in_err-section-clause-borrows : goal.returns-in_err-section-clause-borrows
 returns-in_err-section-clause-borrows c = rw (handed_on c.from_residual-in_err-section.result c.in_err-section.field-0.0 c.from_residual-in_err-section.ensures.1) tt

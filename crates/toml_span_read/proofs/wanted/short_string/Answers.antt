@@ -9,8 +9,8 @@ plain_end-end-requires-clause-boundary c = behind_quote c.args.text.now c.args.a
 pub range-requires-clause-start_boundary : goal.range-requires-clause-start_boundary
 range-requires-clause-start_boundary c = λ some. behind_quote c.args.text.now c.args.at c.utf8.text c.requires.quote
 
-pub returns-clause-gives : goal.returns-clause-gives
-returns-clause-gives c =
+pub returns-clause-string : goal.returns-clause-string
+returns-clause-string c =
     let text = c.args.text.now in
     let i = c.args.at in
     let j = c.plain_end-end.result in
