@@ -10,7 +10,7 @@ use Rattle.toml_span_read.specs.Gaps.{MaximalGap, Dot}
 use Rattle.toml_span_read.specs.Grammar.{Spells}
 use Rattle.toml_span_read.specs.Keys.{SimpleKey, SpellsSimpleKey, Onward, SpellsKey}
 use Rattle.toml_span_read.specs.Read as read
-use Rattle.toml_span_read.specs.Read.{Reading, Found}
+use Rattle.toml_span_read.specs.Read.{Reading, ValueEnd}
 use Rattle.toml_span_read.specs.code.Earlier.{StartBefore, AddsClear}
 use Rattle.toml_span_read.specs.code.Faults.{IsPlacedStop}
 use Rattle.toml_span_read.proofs.KeyLemmas.{string_before}
@@ -54,8 +54,8 @@ value_ends : (v : ParsedValue) (text : List ℕ) (limit d i j : ℕ) → Spells 
 value_ends (parsed k span) text limit d i j h = let l = value_lies (parsed k span) text limit d i j h in (omega (arith, l.0.0, l.0.1), l.0.2)
 
 -- an assignment or a pair that is read, where what is skipped goes on
-pub key_value_spanned : (e : KeyValue) (text : List ℕ) (limit d : ℕ) (skipped : ℕ → ℕ → Type 0) (value : ℕ → ℕ → Reading Found) (i j : ℕ) → ((a b : ℕ) → skipped a b → a ≤ b) → PartsSound text limit d value
-    → read.key_value text limit skipped value i (Ok (e, j)) → IsSpanned e j
+pub key_value_spanned : (e : KeyValue) (text : List ℕ) (limit d : ℕ) (skipped : ℕ → ℕ → Type 0) (value : ℕ → ℕ → Reading ValueEnd) (i j : ℕ) → ((a b : ℕ) → skipped a b → a ≤ b) → PartsSound text limit d value
+    → read.keyval text limit skipped value i (Ok (e, j)) → IsSpanned e j
 key_value_spanned e text limit d skipped value i j on sound h =
     let r = key_value_sound e text limit skipped value i j h in
     let v = value_ends e.value text limit (d + length e.parts) r.from j (sound (length e.parts) e.value r.from j r.given) in
@@ -65,14 +65,14 @@ gap_on : (text : List ℕ) (a b : ℕ) → MaximalGap text a b → a ≤ b
 gap_on text a b g = g.forward
 
 -- a pair below an inline table at depth d
-pub pair_spanned : (e : KeyValue) (text : List ℕ) (limit d i j : ℕ) → d ≤ limit → read.key_value text limit (MaximalGap text) (read.value text limit ((limit + 1) - (d + 1))) i (Ok (e, j)) → IsSpanned e j
+pub pair_spanned : (e : KeyValue) (text : List ℕ) (limit d i j : ℕ) → d ≤ limit → read.keyval text limit (MaximalGap text) (read.value text limit ((limit + 1) - (d + 1))) i (Ok (e, j)) → IsSpanned e j
 pair_spanned e text limit d i j l h =
     key_value_spanned e text limit (d + 1) (MaximalGap text) (read.value text limit ((limit + 1) - (d + 1))) i j (gap_on text) (λ n v a b g. value_sound ((limit + 1) - (d + 1)) text limit (d + 1) n (omega (arith, l)) v a b g) h
 
 blank_on : (text : List ℕ) (a b : ℕ) → MaximalRun is_blank text a b → a ≤ b
 blank_on text a b r = r.forward
 
-pub assignment_spanned : (e : KeyValue) (text : List ℕ) (limit i j : ℕ) → read.key_value text limit (MaximalRun is_blank text) (read.value text limit (limit + 1)) i (Ok (e, j)) → IsSpanned e j
+pub assignment_spanned : (e : KeyValue) (text : List ℕ) (limit i j : ℕ) → read.keyval text limit (MaximalRun is_blank text) (read.value text limit (limit + 1)) i (Ok (e, j)) → IsSpanned e j
 assignment_spanned e text limit i j h =
     key_value_spanned e text limit 0 (MaximalRun is_blank text) (read.value text limit (limit + 1)) i j (blank_on text) (λ n v a b g. value_sound (limit + 1) text limit 0 n (omega arith) v a b g) h
 

@@ -58,7 +58,7 @@ key_placed text i j p kind (inr (src, h)) = let s = string_span text p.name src 
 
 -- ---- simple keys as they are read
 
-pub string_stops : (stop : Stop Fault) (text : List ℕ) (i : ℕ) → StringReads text i (Err stop) → Gives key_found (read.simple_key text i) (Err stop)
+pub string_stops : (stop : Stop Fault) (text : List ℕ) (i : ℕ) → StringReads text i (Err stop) → Gives key_found (read.simple_key_at text i) (Err stop)
 string_stops (stops.Memory e) text i h = tt
 string_stops (stops.Fault e) text i (j, x, h, is) = (no_token x, (j, h), ap (λ y. Err y) is)
 
@@ -73,22 +73,22 @@ other_key text i (token s (string source name multi) j) h k o = absurd (false≢
 other_key text i standing h k o = refl
 
 pub wanted_stops : (stop : Stop Fault) (text : List ℕ) (i : ℕ) → WantedGives text i dues.TableKey stop → is_keylike (get_or text i 0) ≡ false → opens_string (get_or text i 0) ≡ false
-    → Gives key_found (read.simple_key text i) (Err stop)
+    → Gives key_found (read.simple_key_at text i) (Err stop)
 wanted_stops (stops.Memory e) text i h k o = tt
 wanted_stops (stops.Fault e) text i (standing, stands, is) k o = (standing, stands, ap (λ y. Err y) is ∙ sym (other_key text i standing stands k o))
 
 -- ---- keys as they are read
 
-key_stops : (header : Bool) (text : List ℕ) (left i : ℕ) (e : Fault) → read.simple_key text i (Err e) → (ps : List SimpleKey) → read.key header text left ps i (Err e)
+key_stops : (header : Bool) (text : List ℕ) (left i : ℕ) (e : Fault) → read.simple_key_at text i (Err e) → (ps : List SimpleKey) → read.key header text left ps i (Err e)
 unfolding read.key
 key_stops header text zero i e h ps = inr (e, h, refl)
 key_stops header text (suc left) i e h ps = inr (e, h, refl)
 
-pub key_past : (header : Bool) (text : List ℕ) (left i j : ℕ) (s : SimpleKey) → left ≡ 0 → read.simple_key text i (Ok (s, j)) → (ps : List SimpleKey) → read.key header text left ps i (Err (past header i s))
+pub key_past : (header : Bool) (text : List ℕ) (left i j : ℕ) (s : SimpleKey) → left ≡ 0 → read.simple_key_at text i (Ok (s, j)) → (ps : List SimpleKey) → read.key header text left ps i (Err (past header i s))
 unfolding read.key
 key_past header text left i j s z h ps = rw z (inl ((s, j), h, refl))
 
-pub part_stops : (stop : Stop Fault) (header : Bool) (text : List ℕ) (limit n i : ℕ) → Gives key_found (read.simple_key text i) (Err stop) → IsPlacedStop text stop → PartGives header text limit n i (Err stop)
+pub part_stops : (stop : Stop Fault) (header : Bool) (text : List ℕ) (limit n i : ℕ) → Gives key_found (read.simple_key_at text i) (Err stop) → IsPlacedStop text stop → PartGives header text limit n i (Err stop)
 part_stops (stops.Memory e) header text limit n i h placed = tt
 part_stops (stops.Fault e) header text limit n i h placed = (key_stops header text (limit - n) i e h, placed)
 
@@ -107,14 +107,14 @@ none_behind header text limit i ps e n r few h =
     let same : limit ≡ n = omega arith in
     rw same (rw e at h)
 
-pub more_behind : (header : Bool) (text : List ℕ) (limit i m k p : ℕ) (ps qs : List Key) (s : Key) → qs ≡ ps ++ (s ∷ []) → read.simple_key text m (Ok (simple_key s, k)) → Dot text k p → Behind header text limit i ps m
+pub more_behind : (header : Bool) (text : List ℕ) (limit i m k p : ℕ) (ps qs : List Key) (s : Key) → qs ≡ ps ++ (s ∷ []) → read.simple_key_at text m (Ok (simple_key s, k)) → Dot text k p → Behind header text limit i ps m
     → Behind header text limit i qs p
 unfolding read.key
 more_behind header text limit i m k p ps qs s e h d behind n r few o =
     let l = one_more ps qs s e in
     behind (suc n) r (omega arith) (inl ((simple_key s, k), h, inr (p, d, (rw (e, map-append simple_key ps (s ∷ [])) at o))))
 
-pub last_behind : (header : Bool) (text : List ℕ) (limit i m k : ℕ) (ps : List Key) (s : Key) → length ps < limit → read.simple_key text m (Ok (simple_key s, k)) → NoDot text k → Behind header text limit i ps m
+pub last_behind : (header : Bool) (text : List ℕ) (limit i m k : ℕ) (ps : List Key) (s : Key) → length ps < limit → read.simple_key_at text m (Ok (simple_key s, k)) → NoDot text k → Behind header text limit i ps m
     → read.key header text limit [] i (Ok (map simple_key ps ++ (simple_key s ∷ []), k))
 unfolding read.key
 last_behind header text limit i m k ps s few h none behind =
@@ -134,7 +134,7 @@ parts_length (k ∷ ks) last = let h = parts_length ks last in omega arith
 given : {A : Type 0} (x y : A) (P : A → Type 0) → ◌≡◌ {A = Result A Fault} (Ok x) (Ok y) → P y → P x
 given x y P u h = let e : y ≡ x = cc in subst P e h
 
-pub simple_sound : (s : SimpleKey) (text : List ℕ) (i m : ℕ) → read.simple_key text i (Ok (s, m)) → SpellsSimpleKey s text i m
+pub simple_sound : (s : SimpleKey) (text : List ℕ) (i m : ℕ) → read.simple_key_at text i (Ok (s, m)) → SpellsSimpleKey s text i m
 simple_sound s text i m (token span (keylike name) j, h, u) = given (s, m) (record { name = name; span = span }, j) (λ f. SpellsSimpleKey f.0 text i f.1) u (inl h)
 simple_sound s text i m (token span (string source name false) j, h, u) = given (s, m) (record { name = name; span = span }, j) (λ f. SpellsSimpleKey f.0 text i f.1) u (inr (source, h))
 simple_sound s text i m (standing, h, u) = absurd cc

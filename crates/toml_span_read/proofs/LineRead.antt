@@ -23,7 +23,7 @@ use Rattle.toml_span_read.specs.Gaps.{MaximalGap, Equals, NoTail}
 use Rattle.toml_span_read.specs.Grammar.{OpensHeader, last_end, first_block}
 use Rattle.toml_span_read.specs.Keys.{SimpleKey}
 use Rattle.toml_span_read.specs.Read as read
-use Rattle.toml_span_read.specs.Read.{Reading, Turn, on, done, Loop, ends, stops as stops_there, goes_on, Found, Pairs, Blocks, Head}
+use Rattle.toml_span_read.specs.Read.{Reading, Turn, on, done, Loop, ends, stops as stops_there, goes_on, ValueEnd, Pairs, Blocks, Head}
 use Rattle.toml_span_read.proofs.NumberLemmas.{is_false, same_byte, byte_is}
 use Rattle.toml_span_read.proofs.ValueRead.{map_end, or_left, or_right}
 use Rattle.toml_span_read.proofs.ValueRead as value
@@ -40,14 +40,14 @@ end_is (v ∷ w ∷ ws) (suc k) n a l e = end_is (w ∷ ws) k (key_value v).exte
 
 -- how an assignment is read
 abbrev pub assignment : List ℕ → ℕ → ℕ → Reading (KeyValue × ℕ)
-assignment text limit = read.key_value text limit (MaximalRun is_blank text) (read.value text limit (limit + 1))
+assignment text limit = read.keyval text limit (MaximalRun is_blank text) (read.value text limit (limit + 1))
 
 pub equals_missing : (stop : Stop Fault) (text : List ℕ) (limit i a n : ℕ) (ps : List SimpleKey) → read.key false text limit [] i (Ok (ps, a)) → MaximalRun is_blank text a n → (get_or text n 0 == 61) ≡ false → WantedGives text n dues.Equals stop
     → Gives key_value_found (assignment text limit i) (Err stop)
 equals_missing stop text limit i a n ps key run none h = value.equals_stops stop text limit (MaximalRun is_blank text) (read.value text limit (limit + 1)) i a n ps key run none h
 
 -- the value stands under the parts of its key
-under_key : (r : Result Found Fault) (text : List ℕ) (limit n u b : ℕ) → u ≡ n → read.value text limit ((limit + 1) - u) zero b r → read.value text limit (limit + 1) n b r
+under_key : (r : Result ValueEnd Fault) (text : List ℕ) (limit n u b : ℕ) → u ≡ n → read.value text limit ((limit + 1) - u) zero b r → read.value text limit (limit + 1) n b r
 under_key r text limit n u b e h = value.levels text limit (limit + 1) n b r (rw e at h)
 
 under_stops : (stop : Stop Fault) (text : List ℕ) (limit n u b : ℕ) → u ≡ n → Gives value_found (read.value text limit ((limit + 1) - u) zero b) (Err stop) → Gives value_found (read.value text limit (limit + 1) n b) (Err stop)
@@ -72,7 +72,7 @@ tail_missing (stops.Fault e) text i k none (standing, stands, is) = inr (k, none
 
 -- whatever is read behind these assignments is read from the first line on
 abbrev pub LinesFrom : List ℕ → ℕ → ℕ → List KeyValue → ℕ → Type 0
-LinesFrom text limit from es at = (r : Result Pairs Fault) → Loop (read.line text limit) (es, at) r → read.lines text limit from r
+LinesFrom text limit from es at = (r : Result Pairs Fault) → Loop (read.next_assignment text limit) (es, at) r → read.lines text limit from r
 
 pub lines_begin : (vs : List Assignment) (text : List ℕ) (limit from at : ℕ) → vs ≡ [] → MaximalGap text from at → LinesFrom text limit from (map key_value vs) at
 lines_begin vs text limit from at e gap r h = (at, gap, rw e at h)

@@ -22,7 +22,7 @@ use Rattle.toml_span_read.specs.Keys.{SimpleKey, SpellsKey}
 use Rattle.toml_span_read.specs.Numbers.{IsNumber}
 use Rattle.toml_span_read.specs.Numerals.{Read, ◌>>=◌, scalar_of, special, numeral, number, run_end}
 use Rattle.toml_span_read.specs.Read as read
-use Rattle.toml_span_read.specs.Read.{Reading, Turn, on, done, Loop, ends, stops, goes_on, Found, Items, Pairs, Blocks, Head, token, text_end, no_token}
+use Rattle.toml_span_read.specs.Read.{Reading, Turn, on, done, Loop, ends, stops, goes_on, ValueEnd, Items, Pairs, Blocks, Head, token, text_end, no_token}
 use Rattle.toml_span_read.proofs.KeyLemmas.{key_sound}
 use Rattle.toml_span_read.proofs.NumberLemmas.{bool_cases, byte_is, run_found}
 use Rattle.toml_span_read.proofs.NumberReads.{Starts, Spelled, numeral_reads}
@@ -134,17 +134,17 @@ pub onto_more : (vs : List ParsedValue) (v : ParsedValue) (rest : ParsedItems) �
 onto_more [] v rest = refl
 onto_more (w ∷ ws) v rest = ap (λ z. item w z) (onto_more ws v rest)
 
-abbrev pub ValueSound : List ℕ → ℕ → ℕ → (ℕ → Reading Found) → Type 0
+abbrev pub ValueSound : List ℕ → ℕ → ℕ → (ℕ → Reading ValueEnd) → Type 0
 ValueSound text limit d value = (v : ParsedValue) (i j : ℕ) → value i (Ok (v, j)) → Spells v text limit d i j
 
-element_on : (text : List ℕ) (limit d k : ℕ) (value : ℕ → Reading Found) → ValueSound text limit d value → (s t : Items) → ItemsFrom text limit d k s → read.element text value s (Ok (on t)) → ItemsFrom text limit d k t
+element_on : (text : List ℕ) (limit d k : ℕ) (value : ℕ → Reading ValueEnd) → ValueSound text limit d value → (s t : Items) → ItemsFrom text limit d k s → read.next_element text value s (Ok (on t)) → ItemsFrom text limit d k t
 element_on text limit d k value sound (vs, i) t from (inl (shut, e)) = absurd cc
 element_on text limit d k value sound (vs, i) t from (inr (other, inl ((v, m), h, sep))) =
     let (p, comma, is) = separator_on 93 dues.RightBracket text m (λ x. (vs ++ (v ∷ []), x)) (read.array_end (vs ++ (v ∷ []))) t sep in
     rw is (λ rest j g. rw (onto_more vs v rest) (from (item v rest) j (m, sound v i m h, inr (p, comma, g))))
 element_on text limit d k value sound (vs, i) t from (inr (other, inr (x, h, e))) = absurd cc
 
-element_done : (text : List ℕ) (limit d k : ℕ) (value : ℕ → Reading Found) → ValueSound text limit d value → (s : Items) (a : ParsedInner × ℕ) → ItemsFrom text limit d k s → read.element text value s (Ok (done a)) → Elements text limit d k a
+element_done : (text : List ℕ) (limit d k : ℕ) (value : ℕ → Reading ValueEnd) → ValueSound text limit d value → (s : Items) (a : ParsedInner × ℕ) → ItemsFrom text limit d k s → read.next_element text value s (Ok (done a)) → Elements text limit d k a
 element_done text limit d k value sound (vs, i) a from (inl (shut, e)) =
     let is : a ≡ read.array_end vs (i + 1) = cc in rw is (onto vs no_items, refl, from no_items (i + 1) (byte_is _ _ shut, refl))
 element_done text limit d k value sound (vs, i) a from (inr (other, inl ((v, m), h, sep))) =
@@ -152,14 +152,14 @@ element_done text limit d k value sound (vs, i) a from (inr (other, inl ((v, m),
     rw is (onto (vs ++ (v ∷ [])) no_items, refl, rw (onto_more vs v no_items) (from (item v no_items) j (m, sound v i m h, inl (refl, closes))))
 element_done text limit d k value sound (vs, i) a from (inr (other, inr (x, h, e))) = absurd cc
 
-elements_sound : (text : List ℕ) (limit d k : ℕ) (value : ℕ → Reading Found) → ValueSound text limit d value → (a : ParsedInner × ℕ) → Loop (read.element text value) ([], k) (Ok a) → Elements text limit d k a
+elements_sound : (text : List ℕ) (limit d k : ℕ) (value : ℕ → Reading ValueEnd) → ValueSound text limit d value → (a : ParsedInner × ℕ) → Loop (read.next_element text value) ([], k) (Ok a) → Elements text limit d k a
 elements_sound text limit d k value sound a h =
-    loop_sound (read.element text value) (ItemsFrom text limit d k) (Elements text limit d k) (element_on text limit d k value sound) (element_done text limit d k value sound) ([], k) (Ok a) a (λ rest j g. g) h refl
+    loop_sound (read.next_element text value) (ItemsFrom text limit d k) (Elements text limit d k) (element_on text limit d k value sound) (element_done text limit d k value sound) ([], k) (Ok a) a (λ rest j g. g) h refl
 
 -- ---- keys and their values
 
 -- what is read as an assignment or a pair
-pub record KeyValueRead (e : KeyValue) (text : List ℕ) (limit : ℕ) (skipped : ℕ → ℕ → Type 0) (value : ℕ → ℕ → Reading Found) (i j : ℕ) : Type 0 where
+pub record KeyValueRead (e : KeyValue) (text : List ℕ) (limit : ℕ) (skipped : ℕ → ℕ → Type 0) (value : ℕ → ℕ → Reading ValueEnd) (i j : ℕ) : Type 0 where
   pub key_end : ℕ
   pub at : ℕ
   pub from : ℕ
@@ -171,7 +171,7 @@ pub record KeyValueRead (e : KeyValue) (text : List ℕ) (limit : ℕ) (skipped 
   pub given : value (length e.parts) from (Ok (e.value, j))
   pub extent : e.extent ≡ from_to i j
 
-pub key_value_sound : (e : KeyValue) (text : List ℕ) (limit : ℕ) (skipped : ℕ → ℕ → Type 0) (value : ℕ → ℕ → Reading Found) (i j : ℕ) → read.key_value text limit skipped value i (Ok (e, j)) → KeyValueRead e text limit skipped value i j
+pub key_value_sound : (e : KeyValue) (text : List ℕ) (limit : ℕ) (skipped : ℕ → ℕ → Type 0) (value : ℕ → ℕ → Reading ValueEnd) (i j : ℕ) → read.keyval text limit skipped value i (Ok (e, j)) → KeyValueRead e text limit skipped value i j
 key_value_sound e text limit skipped value i j (inl ((ps, a), k, (n, before, inl (sign, (b, behind, inl ((v, m), h, is)))))) =
     let u = same_found e (record { parts = ps; value = v; extent = from_to i m }) j m is in
     let s = key_sound false text limit i a ps k in
@@ -193,15 +193,15 @@ pairs_onto_more [] p rest = refl
 pairs_onto_more (e ∷ es) p rest = ap (λ z. pair_node e.parts e.value e.extent z) (pairs_onto_more es p rest)
 
 -- under so many parts of a key
-abbrev pub PartsSound : List ℕ → ℕ → ℕ → (ℕ → ℕ → Reading Found) → Type 0
+abbrev pub PartsSound : List ℕ → ℕ → ℕ → (ℕ → ℕ → Reading ValueEnd) → Type 0
 PartsSound text limit d value = (n : ℕ) → ValueSound text limit (d + n) (value n)
 
-pair_spelled : (e : KeyValue) (text : List ℕ) (limit d : ℕ) (value : ℕ → ℕ → Reading Found) (i j : ℕ) → PartsSound text limit d value → read.key_value text limit (MaximalGap text) value i (Ok (e, j)) → SpellsPair e text limit d i j
+pair_spelled : (e : KeyValue) (text : List ℕ) (limit d : ℕ) (value : ℕ → ℕ → Reading ValueEnd) (i j : ℕ) → PartsSound text limit d value → read.keyval text limit (MaximalGap text) value i (Ok (e, j)) → SpellsPair e text limit d i j
 pair_spelled e text limit d value i j sound h =
     let r = key_value_sound e text limit (MaximalGap text) value i j h in
     (r.key_end, r.from, r.key, r.few, record { at = r.at; before = r.before; here = r.here; behind = r.behind }, sound (length e.parts) e.value r.from j r.given, r.extent)
 
-pair_on : (text : List ℕ) (limit d k : ℕ) (value : ℕ → ℕ → Reading Found) → PartsSound text limit d value → (s t : Pairs) → PairsFrom text limit d k s → read.pair text limit value s (Ok (on t)) → PairsFrom text limit d k t
+pair_on : (text : List ℕ) (limit d k : ℕ) (value : ℕ → ℕ → Reading ValueEnd) → PartsSound text limit d value → (s t : Pairs) → PairsFrom text limit d k s → read.next_pair text limit value s (Ok (on t)) → PairsFrom text limit d k t
 pair_on text limit d k value sound (es, i) t from (inl (shut, e)) = absurd cc
 pair_on text limit d k value sound (es, i) t from (inr (other, inl ((p, m), h, inl (fs, inl (clear, more), sep)))) =
     let (n, comma, is) = separator_on 125 dues.Comma text m (λ x. (fs, x)) (read.table_end fs) t sep in
@@ -212,7 +212,7 @@ pair_on text limit d k value sound (es, i) t from (inr (other, inl ((p, m), h, i
 pair_on text limit d k value sound (es, i) t from (inr (other, inl ((p, m), h, inr (x, judged, e)))) = absurd cc
 pair_on text limit d k value sound (es, i) t from (inr (other, inr (x, h, e))) = absurd cc
 
-pair_done : (text : List ℕ) (limit d k : ℕ) (value : ℕ → ℕ → Reading Found) → PartsSound text limit d value → (s : Pairs) (a : ParsedInner × ℕ) → PairsFrom text limit d k s → read.pair text limit value s (Ok (done a)) → Members text limit d k a
+pair_done : (text : List ℕ) (limit d k : ℕ) (value : ℕ → ℕ → Reading ValueEnd) → PartsSound text limit d value → (s : Pairs) (a : ParsedInner × ℕ) → PairsFrom text limit d k s → read.next_pair text limit value s (Ok (done a)) → Members text limit d k a
 pair_done text limit d k value sound (es, i) a from (inl (shut, e)) =
     let is : a ≡ read.table_end es (i + 1) = cc in rw is (pairs_onto es no_pairs, refl, from no_pairs (i + 1) (byte_is _ _ shut, refl))
 pair_done text limit d k value sound (es, i) a from (inr (other, inl ((p, m), h, inl (fs, inl (clear, more), sep)))) =
@@ -224,19 +224,19 @@ pair_done text limit d k value sound (es, i) a from (inr (other, inl ((p, m), h,
 pair_done text limit d k value sound (es, i) a from (inr (other, inl ((p, m), h, inr (x, judged, e)))) = absurd cc
 pair_done text limit d k value sound (es, i) a from (inr (other, inr (x, h, e))) = absurd cc
 
-members_sound : (text : List ℕ) (limit d k : ℕ) (value : ℕ → ℕ → Reading Found) → PartsSound text limit d value → (a : ParsedInner × ℕ) → Loop (read.pair text limit value) ([], k) (Ok a) → Members text limit d k a
+members_sound : (text : List ℕ) (limit d k : ℕ) (value : ℕ → ℕ → Reading ValueEnd) → PartsSound text limit d value → (a : ParsedInner × ℕ) → Loop (read.next_pair text limit value) ([], k) (Ok a) → Members text limit d k a
 members_sound text limit d k value sound a h =
-    loop_sound (read.pair text limit value) (PairsFrom text limit d k) (Members text limit d k) (pair_on text limit d k value sound) (pair_done text limit d k value sound) ([], k) (Ok a) a (λ rest j g. g) h refl
+    loop_sound (read.next_pair text limit value) (PairsFrom text limit d k) (Members text limit d k) (pair_on text limit d k value sound) (pair_done text limit d k value sound) ([], k) (Ok a) a (λ rest j g. g) h refl
 
 -- ---- values
 
 array_sound : (v : ParsedValue) (inner : ParsedInner) (text : List ℕ) (limit d i k j m : ℕ) → d ≤ limit → (get_or text i 0 == 91) ≡ true → MaximalGap text (i + 1) k → Elements text limit (d + 1) k (inner, m)
-    → ◌≡◌ {A = Result Found Fault} (Ok (v, j)) (Ok (parsed inner (from_to i m), m)) → Spells v text limit d i j
+    → ◌≡◌ {A = Result ValueEnd Fault} (Ok (v, j)) (Ok (parsed inner (from_to i m), m)) → Spells v text limit d i j
 array_sound v inner text limit d i k j m l here gap (vs, is, items) e =
     let u = same_found v (parsed inner (from_to i m)) j m e in rw (u.0, u.1, is) (l, (byte_is _ _ here, refl, k, gap, items))
 
 table_sound : (v : ParsedValue) (inner : ParsedInner) (text : List ℕ) (limit d i k j m : ℕ) → d ≤ limit → (get_or text i 0 == 123) ≡ true → MaximalGap text (i + 1) k → Members text limit (d + 1) k (inner, m)
-    → ◌≡◌ {A = Result Found Fault} (Ok (v, j)) (Ok (parsed inner (from_to i m), m)) → Spells v text limit d i j
+    → ◌≡◌ {A = Result ValueEnd Fault} (Ok (v, j)) (Ok (parsed inner (from_to i m), m)) → Spells v text limit d i j
 table_sound v inner text limit d i k j m l here gap (ps, is, pairs) e =
     let u = same_found v (parsed inner (from_to i m)) j m e in rw (u.0, u.1, is) (l, (byte_is _ _ here, refl, k, gap, pairs))
 
@@ -271,7 +271,7 @@ value_sound (suc left) text limit d zero e v i j (inr (none, inr (unbraced, inr 
 
 -- ---- lines
 
-key_value_spelled : (e : KeyValue) (text : List ℕ) (limit i j : ℕ) → read.key_value text limit (MaximalRun is_blank text) (read.value text limit (limit + 1)) i (Ok (e, j)) → SpellsKeyValue e text limit i j
+key_value_spelled : (e : KeyValue) (text : List ℕ) (limit i j : ℕ) → read.keyval text limit (MaximalRun is_blank text) (read.value text limit (limit + 1)) i (Ok (e, j)) → SpellsKeyValue e text limit i j
 key_value_spelled e text limit i j h =
     let r = key_value_sound e text limit (MaximalRun is_blank text) (read.value text limit (limit + 1)) i j h in
     let depth : 0 + length e.parts ≡ length e.parts = omega arith in
@@ -293,7 +293,7 @@ tail_sound text i j (inr (k, none, (standing, h, e))) = absurd cc
 abbrev LinesFrom : List ℕ → ℕ → ℕ → Pairs → Type 0
 LinesFrom text limit k (es, i) = (rest : List KeyValue) (j : ℕ) → SpellsKeyValues rest es text limit i j → SpellsKeyValues (es ++ rest) [] text limit k j
 
-line_on : (text : List ℕ) (limit k : ℕ) (s t : Pairs) → LinesFrom text limit k s → read.line text limit s (Ok (on t)) → LinesFrom text limit k t
+line_on : (text : List ℕ) (limit k : ℕ) (s t : Pairs) → LinesFrom text limit k s → read.next_assignment text limit s (Ok (on t)) → LinesFrom text limit k t
 line_on text limit k (es, i) t from (inl (end, e)) = absurd cc
 line_on text limit k (es, i) t from (inr (go, inl ((p, m), h, inl (n, rest_of, inl (fs, inl (clear, more), (q, gap, is)))))) =
     let same : fs ≡ es ++ (p ∷ []) = cc in
@@ -305,7 +305,7 @@ line_on text limit k (es, i) t from (inr (go, inl ((p, m), h, inl (n, rest_of, i
 line_on text limit k (es, i) t from (inr (go, inl ((p, m), h, inr (x, rest_of, e)))) = absurd cc
 line_on text limit k (es, i) t from (inr (go, inr (x, h, e))) = absurd cc
 
-line_done : (text : List ℕ) (limit k : ℕ) (s a : Pairs) → LinesFrom text limit k s → read.line text limit s (Ok (done a)) → SpellsKeyValues a.0 [] text limit k a.1
+line_done : (text : List ℕ) (limit k : ℕ) (s a : Pairs) → LinesFrom text limit k s → read.next_assignment text limit s (Ok (done a)) → SpellsKeyValues a.0 [] text limit k a.1
 line_done text limit k (es, i) a from (inl (end, e)) =
     let is : a ≡ (es, i) = cc in rw is (rw (append-nil es) at (from [] i refl))
 line_done text limit k (es, i) a from (inr (go, inl ((p, m), h, inl (n, rest_of, inl (fs, judged, (q, gap, is)))))) = absurd cc
@@ -315,7 +315,7 @@ line_done text limit k (es, i) a from (inr (go, inr (x, h, e))) = absurd cc
 
 pub lines_sound : (es : List KeyValue) (text : List ℕ) (limit i j : ℕ) → read.lines text limit i (Ok (es, j)) → SpellsLines es text limit i j
 lines_sound es text limit i j (k, gap, h) =
-    (k, gap, loop_sound (read.line text limit) (LinesFrom text limit k) (λ a. SpellsKeyValues a.0 [] text limit k a.1) (line_on text limit k) (line_done text limit k) ([], k) (Ok (es, j)) (es, j) (λ rest n g. g) h refl)
+    (k, gap, loop_sound (read.next_assignment text limit) (LinesFrom text limit k) (λ a. SpellsKeyValues a.0 [] text limit k a.1) (line_on text limit k) (line_done text limit k) ([], k) (Ok (es, j)) (es, j) (λ rest n g. g) h refl)
 
 -- ---- headers
 
@@ -364,7 +364,7 @@ section_sound b text limit i j here (inr (x, g, is)) = absurd cc
 
 -- ---- the document
 
-line_ends : (text : List ℕ) (limit : ℕ) (s a : Pairs) → read.line text limit s (Ok (done a)) → read.ends_lines text a.1 ≡ true
+line_ends : (text : List ℕ) (limit : ℕ) (s a : Pairs) → read.next_assignment text limit s (Ok (done a)) → read.ends_lines text a.1 ≡ true
 line_ends text limit (es, i) a (inl (end, e)) = let is : a ≡ (es, i) = cc in rw is end
 line_ends text limit (es, i) a (inr (go, inl ((p, m), h, inl (n, rest_of, inl (fs, judged, (q, gap, is)))))) = absurd cc
 line_ends text limit (es, i) a (inr (go, inl ((p, m), h, inl (n, rest_of, inr (x, judged, e))))) = absurd cc
@@ -373,7 +373,7 @@ line_ends text limit (es, i) a (inr (go, inr (x, h, e))) = absurd cc
 
 pub lines_end : (es : List KeyValue) (text : List ℕ) (limit i j : ℕ) → read.lines text limit i (Ok (es, j)) → read.ends_lines text j ≡ true
 lines_end es text limit i j (k, gap, h) =
-    loop_sound (read.line text limit) (λ s. Unit {0}) (λ a. read.ends_lines text a.1 ≡ true) (λ s t p h. tt) (λ s a p h. line_ends text limit s a h) ([], k) (Ok (es, j)) (es, j) tt h refl
+    loop_sound (read.next_assignment text limit) (λ s. Unit {0}) (λ a. read.ends_lines text a.1 ≡ true) (λ s t p h. tt) (λ s a p h. line_ends text limit s a h) ([], k) (Ok (es, j)) (es, j) tt h refl
 
 begins_header : (end here : Bool) → (end || here) ≡ true → end ≡ false → here ≡ true
 begins_header false here h e = h

@@ -29,7 +29,7 @@ use Rattle.toml_span_read.specs.Grammar.{from_to, truth_text}
 use Rattle.toml_span_read.specs.Keys.{SimpleKey, opens_string}
 use Rattle.toml_span_read.specs.Numerals.{special, number, run_end}
 use Rattle.toml_span_read.specs.Read as read
-use Rattle.toml_span_read.specs.Read.{Reading, Turn, on, done, Loop, ends, stops as stops_there, goes_on, Found, Items, Pairs, StandsAt, token, no_token}
+use Rattle.toml_span_read.specs.Read.{Reading, Turn, on, done, Loop, ends, stops as stops_there, goes_on, ValueEnd, Items, Pairs, StandsAt, token, no_token}
 use Rattle.toml_span_read.specs.code.Earlier.{AddsClear}
 use Rattle.toml_span_read.specs.code.Faults.{Gives}
 use Rattle.toml_span_read.specs.code.Keys.{parts_found}
@@ -92,16 +92,16 @@ other_read text bytes i j same d n run other =
 -- ---- levels
 
 -- the parts of a key take levels
-pub levels : (text : List ℕ) (limit left n i : ℕ) (r : Result Found Fault) → read.value text limit (left - n) zero i r → read.value text limit left n i r
+pub levels : (text : List ℕ) (limit left n i : ℕ) (r : Result ValueEnd Fault) → read.value text limit (left - n) zero i r → read.value text limit left n i r
 unfolding read.value
 levels text limit zero n i r h = let z : zero - n ≡ zero = omega arith in rw z at h
 levels text limit (suc left) zero i r h = let z : suc left - zero ≡ suc left = omega arith in rw z at h
 levels text limit (suc left) (suc n) i r h = let z : suc left - suc n ≡ left - n = omega arith in levels text limit left n i r (rw z at h)
 
-within_limit : (text : List ℕ) (limit d i : ℕ) (r : Result Found Fault) → d ≤ limit → read.value text limit (suc ((limit + 1) - (d + 1))) zero i r → read.value text limit ((limit + 1) - d) zero i r
+within_limit : (text : List ℕ) (limit d i : ℕ) (r : Result ValueEnd Fault) → d ≤ limit → read.value text limit (suc ((limit + 1) - (d + 1))) zero i r → read.value text limit ((limit + 1) - d) zero i r
 within_limit text limit d i r l h = let same : suc ((limit + 1) - (d + 1)) ≡ (limit + 1) - d = omega (arith, l) in rw same at h
 
-past_limit : (text : List ℕ) (limit d i : ℕ) (r : Result Found Fault) → limit < d → read.too_deep text i r → read.value text limit ((limit + 1) - d) zero i r
+past_limit : (text : List ℕ) (limit d i : ℕ) (r : Result ValueEnd Fault) → limit < d → read.too_deep text i r → read.value text limit ((limit + 1) - d) zero i r
 unfolding read.value
 past_limit text limit d i r l h = let none : (limit + 1) - d ≡ zero = omega (arith, l) in rw none h
 
@@ -123,11 +123,11 @@ quote_plain c (inl e) = (rw e refl, rw e refl)
 quote_plain c (inr e) = (rw e refl, rw e refl)
 
 -- a value that begins neither with a bracket or a brace nor as a bare one
-plain_value : (text : List ℕ) (limit d i : ℕ) (r : Result Found Fault) → d ≤ limit → opens_nested (get_or text i 0) ≡ false → begins_bare (get_or text i 0) ≡ false → read.string_value text i r → read.value text limit ((limit + 1) - d) zero i r
+plain_value : (text : List ℕ) (limit d i : ℕ) (r : Result ValueEnd Fault) → d ≤ limit → opens_nested (get_or text i 0) ≡ false → begins_bare (get_or text i 0) ≡ false → read.string_value text i r → read.value text limit ((limit + 1) - d) zero i r
 unfolding read.value
 plain_value text limit d i r l n b h = let o = no_bracket (get_or text i 0) n in within_limit text limit d i r l (inr (o.0, inr (o.1, inr (b, h))))
 
-deep_plain : (text : List ℕ) (limit d i : ℕ) (r : Result Found Fault) (f : Result Found Fault) → limit < d → opens_nested (get_or text i 0) ≡ false → begins_bare (get_or text i 0) ≡ false
+deep_plain : (text : List ℕ) (limit d i : ℕ) (r : Result ValueEnd Fault) (f : Result ValueEnd Fault) → limit < d → opens_nested (get_or text i 0) ≡ false → begins_bare (get_or text i 0) ≡ false
     → read.after (read.string_value text i) (λ found r. r ≡ Err (fault_at kinds.ExceededDepthLimit i)) r → read.value text limit ((limit + 1) - d) zero i r
 deep_plain text limit d i r f l n b h = past_limit text limit d i r l (inr (rw (n, b) refl, h))
 
@@ -185,7 +185,7 @@ begun_deep (stops.Fault e) text limit d i l b is = past_limit text limit d i (Er
 bare_other : (c : ℕ) → begins_bare c ≡ true → ((c == 91) ≡ false) × ((c == 123) ≡ false)
 bare_other c b = (is_false (c == 91) (λ t. clash begins_bare c 91 b (byte_is c 91 t) refl), is_false (c == 123) (λ t. clash begins_bare c 123 b (byte_is c 123 t) refl))
 
-bare_value : (text : List ℕ) (limit d i : ℕ) (r : Result Found Fault) → d ≤ limit → begins_bare (get_or text i 0) ≡ true → read.after (read.bare text i) (λ (s, j) r. r ≡ Ok (parsed (scalar s) (from_to i j), j)) r
+bare_value : (text : List ℕ) (limit d i : ℕ) (r : Result ValueEnd Fault) → d ≤ limit → begins_bare (get_or text i 0) ≡ true → read.after (read.bare text i) (λ (s, j) r. r ≡ Ok (parsed (scalar s) (from_to i j), j)) r
     → read.value text limit ((limit + 1) - d) zero i r
 unfolding read.value
 bare_value text limit d i r l b h = let o = bare_other (get_or text i 0) b in within_limit text limit d i r l (inr (o.0, inr (o.1, inl (b, h))))
@@ -215,7 +215,7 @@ neither_here close due e text m p next end s (standing, stands, is) = (p, s.befo
 -- ---- arrays
 
 -- what is read between the brackets is the value
-abbrev pub nested_of : ℕ → Result (ParsedInner × ℕ) Fault → Result Found Fault
+abbrev pub nested_of : ℕ → Result (ParsedInner × ℕ) Fault → Result ValueEnd Fault
 nested_of i (Ok (v, j)) = Ok (parsed v (from_to i j), j)
 nested_of i (Err e) = Err e
 
@@ -224,17 +224,17 @@ nested_read text i k inner (Ok (v, j)) gap h = (k, gap, inl ((v, j), h, refl))
 nested_read text i k inner (Err e) gap h = (k, gap, inr (e, h, refl))
 
 -- how an element of an array at this depth is read
-abbrev pub below : List ℕ → ℕ → ℕ → ℕ → ℕ → Reading Found
+abbrev pub below : List ℕ → ℕ → ℕ → ℕ → ℕ → Reading ValueEnd
 below text limit d = read.value text limit ((limit + 1) - (d + 1))
 
 -- whatever is read behind these elements is read as the array at i
 abbrev pub ArrayFrom : List ℕ → ℕ → ℕ → ℕ → List ParsedValue → ℕ → Type 0
 ArrayFrom text limit d i vs n =
-    (r : Result (ParsedInner × ℕ) Fault) → Loop (read.element text (below text limit d zero)) (vs, n) r → read.value text limit ((limit + 1) - d) zero i (nested_of i r)
+    (r : Result (ParsedInner × ℕ) Fault) → Loop (read.next_element text (below text limit d zero)) (vs, n) r → read.value text limit ((limit + 1) - d) zero i (nested_of i r)
 
 pub array_begins : (text : List ℕ) (limit d i k : ℕ) → d ≤ limit → get_or text i 0 ≡ 91 → MaximalGap text (i + 1) k → ArrayFrom text limit d i [] k
 unfolding read.value
-array_begins text limit d i k l here gap r h = within_limit text limit d i (nested_of i r) l (inl (same_byte _ _ here, nested_read text i k (λ n. Loop (read.element text (below text limit d zero)) ([], n)) r gap h))
+array_begins text limit d i k l here gap r h = within_limit text limit d i (nested_of i r) l (inl (same_byte _ _ here, nested_read text i k (λ n. Loop (read.next_element text (below text limit d zero)) ([], n)) r gap h))
 
 pub element_on : (text : List ℕ) (limit d i n m p : ℕ) (vs : List ParsedValue) (v : ParsedValue) → ArrayFrom text limit d i vs n → (get_or text n 0 == 93) ≡ false → below text limit d zero n (Ok (v, m)) → Separator 44 text m p → ArrayFrom text limit d i (vs ++ (v ∷ [])) p
 element_on text limit d i n m p vs v from other h s r rest = from r (goes_on (vs, n) (vs ++ (v ∷ []), p) r (inr (other, inl ((v, m), h, comma_on 93 dues.RightBracket text m p (λ x. (vs ++ (v ∷ []), x)) (read.array_end (vs ++ (v ∷ []))) s))) rest)
@@ -259,28 +259,28 @@ no_bracket_stops (stops.Fault e) text limit d i n m p vs v from other h s w = fr
 
 -- ---- keys and their values
 
-pub key_stops : (stop : Stop Fault) (text : List ℕ) (limit : ℕ) (skipped : ℕ → ℕ → Type 0) (value : ℕ → ℕ → Reading Found) (i : ℕ) → Gives parts_found (read.key false text limit [] i) (Err stop)
-    → Gives key_value_found (read.key_value text limit skipped value i) (Err stop)
+pub key_stops : (stop : Stop Fault) (text : List ℕ) (limit : ℕ) (skipped : ℕ → ℕ → Type 0) (value : ℕ → ℕ → Reading ValueEnd) (i : ℕ) → Gives parts_found (read.key false text limit [] i) (Err stop)
+    → Gives key_value_found (read.keyval text limit skipped value i) (Err stop)
 key_stops (stops.Memory e) text limit skipped value i h = tt
 key_stops (stops.Fault e) text limit skipped value i h = inr (e, h, refl)
 
-pub equals_stops : (stop : Stop Fault) (text : List ℕ) (limit : ℕ) (skipped : ℕ → ℕ → Type 0) (value : ℕ → ℕ → Reading Found) (i a n : ℕ) (ps : List SimpleKey) → read.key false text limit [] i (Ok (ps, a)) → skipped a n → (get_or text n 0 == 61) ≡ false
-    → WantedGives text n dues.Equals stop → Gives key_value_found (read.key_value text limit skipped value i) (Err stop)
+pub equals_stops : (stop : Stop Fault) (text : List ℕ) (limit : ℕ) (skipped : ℕ → ℕ → Type 0) (value : ℕ → ℕ → Reading ValueEnd) (i a n : ℕ) (ps : List SimpleKey) → read.key false text limit [] i (Ok (ps, a)) → skipped a n → (get_or text n 0 == 61) ≡ false
+    → WantedGives text n dues.Equals stop → Gives key_value_found (read.keyval text limit skipped value i) (Err stop)
 equals_stops (stops.Memory e) text limit skipped value i a n ps key run none h = tt
 equals_stops (stops.Fault e) text limit skipped value i a n ps key run none (standing, stands, is) = inl ((ps, a), key, (n, run, inr (none, (standing, stands, ap (λ y. Err y) is))))
 
-pub assigned_stops : (stop : Stop Fault) (text : List ℕ) (limit : ℕ) (skipped : ℕ → ℕ → Type 0) (value : ℕ → ℕ → Reading Found) (i a n b : ℕ) (ps : List SimpleKey) → read.key false text limit [] i (Ok (ps, a)) → skipped a n → get_or text n 0 ≡ 61
-    → skipped (n + 1) b → Gives value_found (value (length ps) b) (Err stop) → Gives key_value_found (read.key_value text limit skipped value i) (Err stop)
+pub assigned_stops : (stop : Stop Fault) (text : List ℕ) (limit : ℕ) (skipped : ℕ → ℕ → Type 0) (value : ℕ → ℕ → Reading ValueEnd) (i a n b : ℕ) (ps : List SimpleKey) → read.key false text limit [] i (Ok (ps, a)) → skipped a n → get_or text n 0 ≡ 61
+    → skipped (n + 1) b → Gives value_found (value (length ps) b) (Err stop) → Gives key_value_found (read.keyval text limit skipped value i) (Err stop)
 assigned_stops (stops.Memory e) text limit skipped value i a n b ps key run here behind h = tt
 assigned_stops (stops.Fault e) text limit skipped value i a n b ps key run here behind h = inl ((ps, a), key, (n, run, inl (same_byte _ _ here, (b, behind, inr (e, h, refl)))))
 
-pub key_value_read : (x : Assignment) (text : List ℕ) (limit : ℕ) (skipped : ℕ → ℕ → Type 0) (value : ℕ → ℕ → Reading Found) (i a n b j : ℕ) (ps : List SimpleKey) (v : ParsedValue)
+pub key_value_read : (x : Assignment) (text : List ℕ) (limit : ℕ) (skipped : ℕ → ℕ → Type 0) (value : ℕ → ℕ → Reading ValueEnd) (i a n b j : ℕ) (ps : List SimpleKey) (v : ParsedValue)
     → key_value x ≡ record { parts = ps; value = v; extent = record { start = i; end = j } } → read.key false text limit [] i (Ok (ps, a)) → skipped a n → get_or text n 0 ≡ 61 → skipped (n + 1) b → value (length ps) b (Ok (v, j))
-    → Gives key_value_found (read.key_value text limit skipped value i) (Ok (x, j))
+    → Gives key_value_found (read.keyval text limit skipped value i) (Ok (x, j))
 key_value_read x text limit skipped value i a n b j ps v e key run here behind h = inl ((ps, a), key, (n, run, inl (same_byte _ _ here, (b, behind, inl ((v, j), h, rw e refl)))))
 
 -- the value at so many more levels
-pub deeper : (r : Result Found Fault) (text : List ℕ) (limit d n u b : ℕ) → u ≡ d + n → read.value text limit ((limit + 1) - u) zero b r → read.value text limit ((limit + 1) - d) n b r
+pub deeper : (r : Result ValueEnd Fault) (text : List ℕ) (limit d n u b : ℕ) → u ≡ d + n → read.value text limit ((limit + 1) - u) zero b r → read.value text limit ((limit + 1) - d) n b r
 deeper r text limit d n u b e h = let same : (limit + 1) - u ≡ ((limit + 1) - d) - n = omega (arith, e) in levels text limit ((limit + 1) - d) n b r (rw same at h)
 
 pub deeper_stops : (stop : Stop Fault) (text : List ℕ) (limit d n u b : ℕ) → u ≡ d + n → Gives value_found (read.value text limit ((limit + 1) - u) zero b) (Err stop) → Gives value_found (read.value text limit ((limit + 1) - d) n b) (Err stop)
@@ -291,14 +291,14 @@ deeper_stops (stops.Fault e) text limit d n u b is h = deeper (Err e) text limit
 
 abbrev pub TableFrom : List ℕ → ℕ → ℕ → ℕ → List KeyValue → ℕ → Type 0
 TableFrom text limit d i es n =
-    (r : Result (ParsedInner × ℕ) Fault) → Loop (read.pair text limit (below text limit d)) (es, n) r → read.value text limit ((limit + 1) - d) zero i (nested_of i r)
+    (r : Result (ParsedInner × ℕ) Fault) → Loop (read.next_pair text limit (below text limit d)) (es, n) r → read.value text limit ((limit + 1) - d) zero i (nested_of i r)
 
 abbrev pub pair_below : List ℕ → ℕ → ℕ → ℕ → Reading (KeyValue × ℕ)
-pair_below text limit d = read.key_value text limit (MaximalGap text) (below text limit d)
+pair_below text limit d = read.keyval text limit (MaximalGap text) (below text limit d)
 
 pub table_begins : (text : List ℕ) (limit d i k : ℕ) → d ≤ limit → get_or text i 0 ≡ 123 → MaximalGap text (i + 1) k → TableFrom text limit d i [] k
 unfolding read.value
-table_begins text limit d i k l here gap r h = within_limit text limit d i (nested_of i r) l (inr (rw here refl, inl (same_byte _ _ here, nested_read text i k (λ n. Loop (read.pair text limit (below text limit d)) ([], n)) r gap h)))
+table_begins text limit d i k l here gap r h = within_limit text limit d i (nested_of i r) l (inr (rw here refl, inl (same_byte _ _ here, nested_read text i k (λ n. Loop (read.next_pair text limit (below text limit d)) ([], n)) r gap h)))
 
 pub pair_on : (text : List ℕ) (limit d i n m p : ℕ) (es : List KeyValue) (e : KeyValue) → TableFrom text limit d i es n → (get_or text n 0 == 125) ≡ false → pair_below text limit d n (Ok (e, m)) → Clear es e → Separator 44 text m p
     → TableFrom text limit d i (es ++ (e ∷ [])) p
@@ -330,16 +330,16 @@ no_comma_stops (stops.Fault x) text limit d i n m p es e from other h clear s w 
     from (Err x) (stops_there (es, n) x (inr (other, inl ((e, m), h, inl (es ++ (e ∷ []), inl (clear, refl), neither_here 125 dues.Comma x text m p (λ x. (es ++ (e ∷ []), x)) (read.table_end (es ++ (e ∷ []))) s w)))))
 
 pub sign_missing : (stop : Stop Fault) (text : List ℕ) (limit d i a n : ℕ) (ps : List SimpleKey) → read.key false text limit [] i (Ok (ps, a)) → MaximalGap text a n → (get_or text n 0 == 61) ≡ false → WantedGives text n dues.Equals stop
-    → Gives key_value_found (read.key_value text limit (MaximalGap text) (read.value text limit ((limit + 1) - d)) i) (Err stop)
+    → Gives key_value_found (read.keyval text limit (MaximalGap text) (read.value text limit ((limit + 1) - d)) i) (Err stop)
 sign_missing stop text limit d i a n ps key gap none h = equals_stops stop text limit (MaximalGap text) (read.value text limit ((limit + 1) - d)) i a n ps key gap none h
 
 pub sign_read : (x : Assignment) (v : Val) (text : List ℕ) (limit d u i a b j : ℕ) (ps : List SimpleKey) → key_value x ≡ record { parts = ps; value = view v; extent = record { start = i; end = j } } → read.key false text limit [] i (Ok (ps, a)) → Separator 61 text a b
-    → u ≡ d + length ps → Gives value_found (read.value text limit ((limit + 1) - u) zero b) (Ok (v, j)) → Gives key_value_found (read.key_value text limit (MaximalGap text) (read.value text limit ((limit + 1) - d)) i) (Ok (x, j))
+    → u ≡ d + length ps → Gives value_found (read.value text limit ((limit + 1) - u) zero b) (Ok (v, j)) → Gives key_value_found (read.keyval text limit (MaximalGap text) (read.value text limit ((limit + 1) - d)) i) (Ok (x, j))
 sign_read x v text limit d u i a b j ps is key s e h =
     key_value_read x text limit (MaximalGap text) (read.value text limit ((limit + 1) - d)) i a s.at b j ps (view v) is key s.before s.here s.behind (deeper (Ok (view v, j)) text limit d (length ps) u b e h)
 
 pub sign_stops : (stop : Stop Fault) (text : List ℕ) (limit d u i a b : ℕ) (ps : List SimpleKey) → read.key false text limit [] i (Ok (ps, a)) → Separator 61 text a b → u ≡ d + length ps → Gives value_found (read.value text limit ((limit + 1) - u) zero b) (Err stop)
-    → Gives key_value_found (read.key_value text limit (MaximalGap text) (read.value text limit ((limit + 1) - d)) i) (Err stop)
+    → Gives key_value_found (read.keyval text limit (MaximalGap text) (read.value text limit ((limit + 1) - d)) i) (Err stop)
 sign_stops stop text limit d u i a b ps key s e h =
     assigned_stops stop text limit (MaximalGap text) (read.value text limit ((limit + 1) - d)) i a s.at b ps key s.before s.here s.behind (deeper_stops stop text limit d (length ps) u b e h)
 

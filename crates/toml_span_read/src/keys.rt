@@ -40,7 +40,7 @@ fn quoted_key<'de>(
 ) -> Result<(Key<'de>, usize), Stop<Fault>>
     requires within { at < length text.now }
     requires quote { (slice_index text.now at ≡ quotation_mark) ⊎ (slice_index text.now at ≡ apostrophe) }
-    ensures key { Gives key_found (spec.simple_key text.now at) result }
+    ensures key { Gives key_found (spec.simple_key_at text.now at) result }
     ensures borrows { IfOk result (λ found. BorrowsWhereSame text.now found.0.span found.0.name) }
     ensures advances { Advances text.now at result }
 {
@@ -73,7 +73,7 @@ pub(crate) fn simple_key<'de>(
     at: usize,
 ) -> Result<(Key<'de>, usize), Stop<Fault>>
     requires { IsCharBoundary text.now at }
-    ensures key { Gives key_found (spec.simple_key text.now at) result }
+    ensures key { Gives key_found (spec.simple_key_at text.now at) result }
     ensures borrows { IfOk result (λ found. BorrowsWhereSame text.now found.0.span found.0.name) }
     ensures advances { Advances text.now at result }
 {

@@ -47,7 +47,7 @@ fn assignment<'de>(
     requires boundary { IsCharBoundary text.now at }
     requires small { limit ≤ depth_limit }
     ensures advances { Advances text.now at result }
-    ensures pair { Gives key_value_found (spec.key_value text.now limit (MaximalRun is_blank text.now)
+    ensures pair { Gives key_value_found (spec.keyval text.now limit (MaximalRun is_blank text.now)
         (spec.value text.now limit (limit + 1)) at) result }
     ensures borrows { IfOk result (λ found. AreWrittenRight text.now (assignment_written found.0)) }
 {

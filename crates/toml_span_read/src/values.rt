@@ -292,7 +292,7 @@ fn pair<'de>(
     requires depth { depth ≤ limit + 1 }
     ensures advances { Advances text.now at result }
     ensures pair { Gives key_value_found
-        (spec.key_value text.now limit (MaximalGap text.now) (spec.value text.now limit ((limit + 1) - depth)) at) result }
+        (spec.keyval text.now limit (MaximalGap text.now) (spec.value text.now limit ((limit + 1) - depth)) at) result }
     ensures borrows { IfOk result (λ found. AreWrittenRight text.now (assignment_written found.0)) }
 {
     let (parts, key_end) = dotted_key(alloc, text, at, limit)?;

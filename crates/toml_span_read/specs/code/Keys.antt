@@ -24,7 +24,7 @@ header_found (keys, j) = (map simple_key keys.items, j)
 -- behind n parts one more stands, and a dot or none, or reading is stopped there
 abbrev pub PartGives : Bool → List ℕ → ℕ → ℕ → ℕ → Result (Key × ℕ × Option ℕ) (Stop Fault) → Type 0
 PartGives header text limit n i (Ok (key, j, next)) =
-    read.simple_key text i (Ok (simple_key key, j)) × (n < limit) × Further text i j × DotGives text j next
+    read.simple_key_at text i (Ok (simple_key key, j)) × (n < limit) × Further text i j × DotGives text j next
 PartGives header text limit n i (Err (stops.Memory e)) = Unit {0}
 PartGives header text limit n i (Err (stops.Fault e)) =
     ((ps : List SimpleKey) → read.key header text (limit - n) ps i (Err e)) × StartsInside text e

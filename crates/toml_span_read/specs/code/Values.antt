@@ -12,9 +12,9 @@ use Rattle.toml_span_read.specs.declared.value.Val.{Val}
 use Rattle.toml_span_read.specs.declared.values.Run.{Run}
 use Rattle.toml_span_read.specs.declared.values.Run.TheVariants as runs
 use Rattle.toml_span_read.specs.Faults.{fault_at}
-use Rattle.toml_span_read.specs.Read.{Reading, Found}
+use Rattle.toml_span_read.specs.Read.{Reading, ValueEnd}
 
-abbrev pub value_found : Val × ℕ → Found
+abbrev pub value_found : Val × ℕ → ValueEnd
 value_found (v, j) = (view v, j)
 
 abbrev pub key_value_found : Assignment × ℕ → KeyValue × ℕ
