@@ -13,13 +13,13 @@ use Rattle.toml_span_read.specs.Gaps.{GapPiece, begins_gap, GapBy, MaximalGap, D
 use Rattle.toml_span_read.specs.Keys.{SimpleKey, SpellsSimpleKey, opens_string, Onward, SpellsKey}
 use Rattle.toml_span_read.specs.Read as read
 use Rattle.toml_span_read.specs.Read.{Reading, token, key_of, Parts, onward}
-use Rattle.toml_span_laws.proofs.Readings.{One, one_after, one_stands}
+use Rattle.toml_span_laws.proofs.Readings.{One, one_is, one_where, one_given, one_either, one_after, one_standing}
 
 -- a byte b that is k passes where k does not
 pub clash : (p : ℕ → Bool) (b k : ℕ) → p b ≡ true → b ≡ k → p k ≡ false → ⊥
 clash p b k h e n = false≢true (sym n ∙ (rw e at h))
 
-same : (b c : ℕ) → b ≡ c → (b == c) ≡ true
+pub same : (b c : ℕ) → b ≡ c → (b == c) ≡ true
 same b c e = grind (arith, nat_tests)
 
 -- a byte that is c, where it is none
@@ -38,16 +38,10 @@ blank_or_line text i j b l = elim (line_first text i j l) [ inl e ↦ clash is_b
 comment_or_line : (text : List ℕ) (i j : ℕ) → get_or text i 0 ≡ 35 → LineEnd text i j → ⊥
 comment_or_line text i j c l = elim (line_first text i j l) [ inl e ↦ omega (arith, c, e) | inr e ↦ omega (arith, c, e) ]
 
-piece_unique : (text : List ℕ) (i j k : ℕ) → GapPiece text i j → GapPiece text i k → j ≡ k
-piece_unique text i j k (inl a) (inl b) = a.1 ∙ sym b.1
-piece_unique text i j k (inl a) (inr (inl b)) = absurd (blank_or_line text i k a.0 b)
-piece_unique text i j k (inl a) (inr (inr b)) = absurd (clash is_blank (get_or text i 0) 35 a.0 b.0 refl)
-piece_unique text i j k (inr (inl a)) (inl b) = absurd (blank_or_line text i j b.0 a)
-piece_unique text i j k (inr (inl a)) (inr (inl b)) = line_unique text i j k a b
-piece_unique text i j k (inr (inl a)) (inr (inr b)) = absurd (comment_or_line text i j b.0 a)
-piece_unique text i j k (inr (inr a)) (inl b) = absurd (clash is_blank (get_or text i 0) 35 b.0 a.0 refl)
-piece_unique text i j k (inr (inr a)) (inr (inl b)) = absurd (comment_or_line text i k a.0 b)
-piece_unique text i j k (inr (inr a)) (inr (inr b)) = run_unique is_printed text i j k a.1 b.1
+piece_unique : (text : List ℕ) (i : ℕ) → One (GapPiece text i)
+piece_unique text i =
+    one_either (one_where one_is) (one_either (line_unique text i) (one_where (run_unique is_printed text i)) (λ j k line hash. comment_or_line text i j hash.0 line))
+    (λ j k blank other. elim other [ inl line ↦ blank_or_line text i k blank.0 line | inr hash ↦ clash is_blank (get_or text i 0) 35 blank.0 hash.0 refl ])
 
 piece_begins : (text : List ℕ) (i j : ℕ) → GapPiece text i j → begins_gap text i ≡ true
 piece_begins text i j (inl a) = rw a.0 refl
@@ -101,7 +95,7 @@ dot_or_none text i j a b =
 -- ---- keys
 
 pub simple_one : (text : List ℕ) (i : ℕ) → One (read.simple_key text i)
-simple_one text i r s (a, h, u) (b, g, v) = u ∙ (ap (key_of i) (one_stands text i a b h g) ∙ sym v)
+simple_one text i = one_standing text i
 
 pub simple_complete : (s : SimpleKey) (text : List ℕ) (i m : ℕ) → SpellsSimpleKey s text i m → read.simple_key text i (Ok (s, m))
 simple_complete s text i m (inl h) = (token s.span (keylike s.name) m, h, refl)
@@ -116,16 +110,12 @@ key_unique p q text i j k a b =
 -- ---- dotted keys
 
 onward_one : (text : List ℕ) (ps : List SimpleKey) (m : ℕ) (next : ℕ → Reading Parts) → ((p : ℕ) → One (next p)) → One (onward text ps m next)
-onward_one text ps m next one r s (inl (none, u)) (inl (other, v)) = u ∙ sym v
-onward_one text ps m next one r s (inl (none, u)) (inr (p, d, k)) = absurd (dot_or_none text m p d none)
-onward_one text ps m next one r s (inr (p, d, k)) (inl (none, u)) = absurd (dot_or_none text m p d none)
-onward_one text ps m next one r s (inr (p, d, h)) (inr (q, c, k)) = let e : q ≡ p = dot_unique text m q p c d in one p r s h (rw e at k)
+onward_one text ps m next one = one_either (one_where one_is) (one_given (dot_unique text m) one) (λ r s none dot. dot_or_none text m dot.0 dot.1 none.0)
 
 pub key_one : (header : Bool) (text : List ℕ) (left : ℕ) (ps : List SimpleKey) (i : ℕ) → One (read.key header text left ps i)
 unfolding read.key
-key_one header text zero ps i = one_after (read.simple_key text i) _ (simple_one text i) (λ f r s u v. u ∙ sym v)
-key_one header text (suc n) ps i =
-    one_after (read.simple_key text i) _ (simple_one text i) (λ f. onward_one text (ps ++ (f.0 ∷ [])) f.1 (read.key header text n (ps ++ (f.0 ∷ []))) (key_one header text n (ps ++ (f.0 ∷ []))))
+key_one header text zero ps i = one_after (simple_one text i) (λ f. one_is)
+key_one header text (suc n) ps i = one_after (simple_one text i) (λ (s, m). onward_one text (ps ++ (s ∷ [])) m _ (key_one header text n (ps ++ (s ∷ []))))
 
 behind_complete : (ss : List SimpleKey) (header : Bool) (text : List ℕ) (left : ℕ) (ps : List SimpleKey) (m j : ℕ) → Onward ss text m j → length ss ≤ left → onward text ps m (read.key header text left ps) (Ok (ps ++ ss, j))
 unfolding read.key

@@ -5,10 +5,9 @@ pub mod ScalarLaws
 pub mod ValueLaws
 pub mod TokenFaults
 pub mod Readings
-pub mod ValueFaults
+pub mod OneReading
 pub mod WiderLimit
 pub mod LineLaws
-pub mod LineFaults
 pub mod BlankLaws
 pub mod DepthLaws
 pub mod UndatedLaws
@@ -23,9 +22,7 @@ pub mod AgainNumbers
 pub mod AgainValues
 pub mod AgainLines
 pub mod AgainLaws
-pub mod TotalKeys
-pub mod TotalValues
-pub mod TotalLines
+pub mod SomeReading
 pub mod DueLaws
 pub mod WordLaws
 pub mod FirstClash

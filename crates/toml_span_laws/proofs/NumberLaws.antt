@@ -1,8 +1,8 @@
 -- Where a number is spelled, it is read: so at most one number stands at a place, or one fault.
-use Rattle.std.proofs.Common.{◌≡◌, ℕ, ◌+◌, ◌<◌, ◌≤◌, ◌⊎◌, Bool, true, false, Some, None, Result, Ok, Err, List, get_or, arith, inl, inr, refl, sym, ap, ◌∙◌}
+use Rattle.std.proofs.Common.{◌≡◌, ℕ, ◌+◌, ◌<◌, ◌≤◌, ◌⊎◌, Bool, true, false, Some, None, Result, Ok, Err, List, get_or, arith, inl, inr, refl, sym, ap, subst, ◌∙◌}
 use Rattle.std.specs.Prelude.{ℤ, ◌^◌, ◌==◌, ◌&&◌, nat_lt, slice_range, codes}
 use Rattle.std.specs.List.{list_all}
-use Rattle.std.specs.Str.{bytes_eq, IsUtf8}
+use Rattle.std.specs.Str.{bytes_eq}
 use Rattle.std.proofs.lemmas.Bool.{cases_lt, or_cases, or_parts, le-ltb, lt-ltb, le-leb, ne_eqb, false≢true}
 use Rattle.std.proofs.lemmas.Slice.Eq.{bytes_eq-Decides}
 use Rattle.toml_span_lex.specs.Bytes.{is_keylike}
@@ -20,8 +20,7 @@ use Rattle.toml_span_read.specs.Numerals.{Read, run_end, scalar_of, integer_part
 use Rattle.toml_span_read.specs.Faults.{NoNumber}
 use Rattle.toml_span_read.specs.code.Numbers.{NumberGives, IsReadAs, Passes}
 use Rattle.toml_span_read.proofs.NumberLemmas.{is_false, bool_cases, byte_is, same_byte, clash, digit_keylike, figure_keylike, digits_complete, digits_on, run_is, run_passes, passes_on, sign_on, no_sign, behind_plus_sign}
-use Rattle.toml_span_read.proofs.NumberReads.{First, Starts, Spelled, digits_to, first_plain, first_behind, numeral_reads, number_further, number_told, zero_first, NoLetter, no_prefix, keylike_letter, prefix_some, word_keylike, word_first}
-use Rattle.toml_span_laws.specs.code.Judged.{NumberStands, EndsFurther}
+use Rattle.toml_span_read.proofs.NumberReads.{First, Starts, digits_to, first_plain, first_behind, numeral_reads, zero_first, NoLetter, no_prefix, keylike_letter, prefix_some, word_keylike, word_first}
 
 -- ---- runs
 
@@ -290,6 +289,18 @@ scalar_read s text i j n e same = rw (e, same) refl
 pub number_complete : (s : Scalar) (text : List ℕ) (i j : ℕ) → IsNumber s text i j → number text i ≡ Ok (s, j)
 number_complete s text i j h = let (n, e, same) = numeral_complete s text i j h in scalar_read s text i j n e same
 
+numeral_sound : (s : Scalar) (text : List ℕ) (i j : ℕ) (r : Read (Numeral × ℕ)) → numeral text i ≡ r → Starts text i → number text i ≡ Ok (s, j) → IsNumber s text i j
+unfolding number
+numeral_sound s text i j (Ok (n, k)) e b h =
+    let f : ◌≡◌ {A = Read (Scalar × ℕ)} (Ok (scalar_of n (slice_range text i k), k)) (Ok (s, j)) = rw e at h in
+    let p : ◌≡◌ {A = Scalar × ℕ} (scalar_of n (slice_range text i k), k) (s, j) = cc in
+    subst (λ (q : Scalar × ℕ). IsNumber q.0 text i q.1) p ((numeral_reads text i b).given (n, k) e)
+numeral_sound s text i j (Err x) e b h = let f : ◌≡◌ {A = Read (Scalar × ℕ)} (Err x) (Ok (s, j)) = rw e at h in absurd (cc)
+
+-- what is read is spelled
+pub number_sound : (s : Scalar) (text : List ℕ) (i j : ℕ) → Starts text i → number text i ≡ Ok (s, j) → IsNumber s text i j
+number_sound s text i j b h = numeral_sound s text i j (numeral text i) refl b h
+
 -- ---- one number, or one fault
 
 one_value : {A : Type 0} (r : Read A) (a b : A) → r ≡ Ok a → r ≡ Ok b → a ≡ b
@@ -315,13 +326,3 @@ pub number_read : (text : List ℕ) (i j : ℕ) (s : Scalar) (r : Result (ValKin
 number_read text i j s (Ok found) (t, k, n) h = let u = number_unique text i found.1 j t s n h in (k ∙ ap (λ z. scalar z) u.0, u.1)
 number_read text i j s (Err (stops.Memory e)) g h = tt
 number_read text i j s (Err (stops.Fault fault)) g h = number_excluded text i j s fault h g
-
--- a number is spelled, or a fault is told
-stands : (text : List ℕ) (i : ℕ) (r : Read (Numeral × ℕ)) → IsUtf8 text → Starts text i → numeral text i ≡ r → (found : Result ℕ Fault) × NumberStands text i found × EndsFurther text i found
-stands text i (Ok p) u b h =
-    let n : Spelled text i p = (numeral_reads text i b).given p h in
-    (Ok p.1, (scalar_of p.0 (slice_range text i p.1), n), number_further (scalar_of p.0 (slice_range text i p.1)) text i p.1 u n)
-stands text i (Err e) u b h = (Err e, number_told text i e h, tt)
-
-pub number_stands : (text : List ℕ) (i : ℕ) → IsUtf8 text → Starts text i → (found : Result ℕ Fault) × NumberStands text i found × EndsFurther text i found
-number_stands text i u b = stands text i (numeral text i) u b refl

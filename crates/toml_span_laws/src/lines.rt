@@ -14,7 +14,7 @@ ghost use Rattle.toml_span_read.specs.Data.{Block, block};
 ghost use Rattle.toml_span_read.specs.Grammar.{SpellsDocument, SpellsHeader};
 ghost use Rattle.toml_span_read.specs.Due.{IsDue};
 ghost use Rattle.toml_span_read.specs.Reading.{ReadsDocument, AreRead};
-ghost use Rattle.toml_span_read.specs.code.Stuck.{StuckHeader, StuckKeyValue, StuckTail};
+ghost use Rattle.toml_span_read.specs.code.Stuck.{StuckHeader};
 
 /// A text spells at most one document.
 pub fn one_document()
@@ -65,21 +65,4 @@ pub fn document_ascends()
 pub fn sections_inside_the_text()
     ensures { (text : List ℕ) (limit : ℕ) (sections : List Section) → SpellsDocument (map block sections) text limit
         → SectionsInside (length text) sections }
-{}
-
-/// Where a line or a header is due and none stands, one fault does: of an assignment, of the rest of its line,
-/// and of a header.
-pub fn one_line_fault()
-    ensures assignment { (text : List ℕ) (limit i : ℕ) (fault other : Fault) → StuckKeyValue text limit i fault
-        → StuckKeyValue text limit i other → fault ≡ other }
-    ensures rest { (text : List ℕ) (i : ℕ) (fault other : Fault) → StuckTail text i fault → StuckTail text i other
-        → fault ≡ other }
-    ensures header { (text : List ℕ) (limit i : ℕ) (fault other : Fault) → StuckHeader text limit i fault
-        → StuckHeader text limit i other → fault ≡ other }
-{}
-
-/// One fault is told of a text, wherever something is due in it.
-pub fn one_fault()
-    ensures { (text : List ℕ) (limit : ℕ) (fault other : Fault) → IsDue text limit fault
-        → IsDue text limit other → fault ≡ other }
 {}

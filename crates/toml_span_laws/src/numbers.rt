@@ -1,16 +1,27 @@
 //! Laws of numbers.
-ghost use Rattle.std.specs.Prelude.{◌≡◌, ℕ, List, Result};
+ghost use Rattle.std.specs.Prelude.{◌≡◌, ◌||◌, ◌==◌, ℕ, true, List, Result, Ok, slice_index};
+ghost use Rattle.toml_span_lex.specs.Bytes.{is_keylike, plus};
 ghost use Rattle.toml_span_lex.specs.declared.stop.Stop.{Stop};
 ghost use Rattle.toml_span_tree.specs.Node.{Scalar};
 ghost use Rattle.toml_span_read.specs.declared.value.ValKind.{ValKind};
 ghost use Rattle.toml_span_read.specs.declared.fault.Fault.{Fault};
 ghost use Rattle.toml_span_read.specs.Numbers.{IsNumber};
-ghost use Rattle.toml_span_read.specs.Faults.{NoNumber};
+ghost use Rattle.toml_span_read.specs.Numerals.{number};
+ghost use Rattle.toml_span_read.specs.code.Gaps.{Further};
 ghost use Rattle.toml_span_read.specs.code.Numbers.{NumberGives, IsReadAs};
 
-/// Where the literal of a number stands, no fault of a number does.
-pub fn number_or_fault()
-    ensures { (text : List ℕ) (i j : ℕ) (s : Scalar) (fault : Fault) → IsNumber s text i j → NoNumber text i fault → ⊥ }
+/// A number that is spelled is read, as it is. What is read where a letter, a digit, a dash, an underscore or a plus
+/// stands is spelled.
+pub fn numbers_are_read()
+    ensures read { (text : List ℕ) (i j : ℕ) (s : Scalar) → IsNumber s text i j → number text i ≡ Ok (s, j) }
+    ensures spelled { (text : List ℕ) (i j : ℕ) (s : Scalar)
+        → (is_keylike (slice_index text i) || slice_index text i == plus) ≡ true → number text i ≡ Ok (s, j)
+        → IsNumber s text i j }
+{}
+
+/// It ends behind where it begins, between two characters.
+pub fn number_ends(text: &str)
+    ensures { (i j : ℕ) (s : Scalar) → IsNumber s text.now i j → Further text.now i j }
 {}
 
 /// At most one number stands at a place.
@@ -23,10 +34,4 @@ pub fn one_number()
 pub fn number_is_read()
     ensures { (text : List ℕ) (i j : ℕ) (s : Scalar) (read : Result (ValKind × ℕ) (Stop Fault))
         → NumberGives text i read → IsNumber s text i j → IsReadAs s j read }
-{}
-
-/// Where a number is due and none is read, one fault stands.
-pub fn one_number_fault()
-    ensures { (text : List ℕ) (i : ℕ) (fault other : Fault) → NoNumber text i fault → NoNumber text i other
-        → fault ≡ other }
 {}

@@ -48,9 +48,3 @@ pub fn depth_within()
     ensures { (text : List ℕ) (limit depth i j : ℕ) (v : ParsedValue) → Spells v text limit depth i j
         → Within limit depth v }
 {}
-
-/// Where a value is due and none is spelled, one fault stands there or within it.
-pub fn one_value_fault()
-    ensures { (text : List ℕ) (limit depth i : ℕ) (fault other : Fault) → StuckValue text limit depth i fault
-        → StuckValue text limit depth i other → fault ≡ other }
-{}
