@@ -12,7 +12,7 @@ use Rattle.toml_span_read.specs.Faults.{begins_bare}
 use Rattle.toml_span_laws.specs.Again.{moved, assigned_again, key_value_again}
 use Rattle.toml_span_read.proofs.NumberLemmas.{is_false, byte_is, clash}
 use Rattle.toml_span_read.proofs.SpanLaws.{value_lies}
-use Rattle.toml_span_laws.proofs.ScalarLaws.{scalar_byte}
+use Rattle.toml_span_laws.proofs.Complete.{scalar_byte}
 use Rattle.toml_span_laws.proofs.AgainRuns.{Copied, or_cases}
 use Rattle.toml_span_laws.proofs.AgainValues.{value_copied}
 

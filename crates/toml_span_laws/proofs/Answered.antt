@@ -15,24 +15,16 @@ use Rattle.toml_span_read.specs.Places.{IsLineInfo}
 use Rattle.toml_span_read.specs.Faults.{Tells}
 use Rattle.toml_span_read.specs.Data.{Block}
 use Rattle.toml_span_read.specs.Grammar.{SpellsDocument}
-use Rattle.toml_span_read.specs.Due.{IsDue}
-use Rattle.toml_span_laws.proofs.DueLaws.{due_one, due_excluded}
-use Rattle.toml_span_laws.proofs.LineLaws.{document_unique}
-use Rattle.toml_span_laws.proofs.ValueLaws.{value_unique}
+use Rattle.toml_span_read.specs.Read.{document}
+use Rattle.toml_span_read.proofs.ReadSound.{document_sound}
+use Rattle.toml_span_laws.proofs.OneReading.{document_one}
+use Rattle.toml_span_laws.proofs.OneSpelled.{document_unique, document_excluded}
 use Rattle.toml_span.specs.Claims.{claims}
 use Rattle.toml_span.specs.Clashes.{NamedClash, first_clash}
 use Rattle.toml_span.specs.Parsing.{Outcome, resolved, clashed, refused_at, HasOutcome, TellsClash, IsAnswerOf, Answers, IsTree, IsRefusal}
 use Rattle.toml_span_laws.specs.Outcomes.{IsAlike}
 use Rattle.toml_span_laws.proofs.FirstClash.{cases_option}
 use Rattle.toml_span_laws.proofs.OneTree.{node-one}
-
--- ---- texts
-
-pub one-document : (text : List ℕ) (limit : ℕ) (bs cs : List Block) → SpellsDocument bs text limit → SpellsDocument cs text limit → bs ≡ cs
-one-document text limit bs cs h g = document_unique value_unique bs cs text limit h g
-
-pub never-due : (text : List ℕ) (limit : ℕ) (bs : List Block) (fault : Fault) → SpellsDocument bs text limit → IsDue text limit fault → ⊥
-never-due text limit bs fault h g = due_excluded text limit bs fault h g
 
 -- ---- one clash
 
@@ -68,24 +60,27 @@ tells-one text fault a b (l, c, at, is) (m, d, here, same) =
 -- ---- one outcome
 
 resolved-or-clashed : (text : List ℕ) (limit : ℕ) (bs cs : List Block) (t : NamedClash) → HasOutcome text limit (resolved bs) → HasOutcome text limit (clashed cs t) → ⊥
-resolved-or-clashed text limit bs cs t a b = none-some t (sym a.1 ∙ sym (ap (λ l. first_clash (claims l)) (one-document text limit cs bs b.0 a.0)) ∙ b.1)
+resolved-or-clashed text limit bs cs t a b = none-some t (sym a.1 ∙ sym (ap (λ l. first_clash (claims l)) (document_unique text limit cs bs b.0 a.0)) ∙ b.1)
 
 same-clashed : (text : List ℕ) (limit : ℕ) (bs cs : List Block) (t u : NamedClash) → HasOutcome text limit (clashed bs t) → HasOutcome text limit (clashed cs u) → clashed bs t ≡ clashed cs u
 same-clashed text limit bs cs t u a b =
-    let same : cs ≡ bs = one-document text limit cs bs b.0 a.0 in
+    let same : cs ≡ bs = document_unique text limit cs bs b.0 a.0 in
     let first : t ≡ u = same_Some t u (sym a.1 ∙ sym (ap (λ l. first_clash (claims l)) same) ∙ b.1) in
     ap (λ l. clashed l t) (sym same) ∙ ap (λ x. clashed cs x) first
 
+refused-one : (text : List ℕ) (limit : ℕ) (e f : Fault) → document text limit (Err e) → document text limit (Err f) → e ≡ f
+refused-one text limit e f a b = let x = document_one text limit (Err e) (Err f) a b in cc
+
 pub one-outcome : (text : List ℕ) (limit : ℕ) (x y : Outcome) → HasOutcome text limit x → HasOutcome text limit y → x ≡ y
-one-outcome text limit (resolved bs) (resolved cs) a b = ap (λ l. resolved l) (one-document text limit bs cs a.0 b.0)
+one-outcome text limit (resolved bs) (resolved cs) a b = ap (λ l. resolved l) (document_unique text limit bs cs a.0 b.0)
 one-outcome text limit (resolved bs) (clashed cs t) a b = absurd (resolved-or-clashed text limit bs cs t a b)
-one-outcome text limit (resolved bs) (refused_at f) a b = absurd (never-due text limit bs f a.0 b)
+one-outcome text limit (resolved bs) (refused_at f) a b = absurd (document_excluded text limit bs f a.0 b)
 one-outcome text limit (clashed bs t) (resolved cs) a b = absurd (resolved-or-clashed text limit cs bs t b a)
 one-outcome text limit (clashed bs t) (clashed cs u) a b = same-clashed text limit bs cs t u a b
-one-outcome text limit (clashed bs t) (refused_at f) a b = absurd (never-due text limit bs f a.0 b)
-one-outcome text limit (refused_at e) (resolved cs) a b = absurd (never-due text limit cs e b.0 a)
-one-outcome text limit (refused_at e) (clashed cs t) a b = absurd (never-due text limit cs e b.0 a)
-one-outcome text limit (refused_at e) (refused_at f) a b = ap (λ x. refused_at x) (due_one text limit e f a b)
+one-outcome text limit (clashed bs t) (refused_at f) a b = absurd (document_excluded text limit bs f a.0 b)
+one-outcome text limit (refused_at e) (resolved cs) a b = absurd (document_excluded text limit cs e b.0 a)
+one-outcome text limit (refused_at e) (clashed cs t) a b = absurd (document_excluded text limit cs e b.0 a)
+one-outcome text limit (refused_at e) (refused_at f) a b = ap (λ x. refused_at x) (refused-one text limit e f a b)
 
 any-memory : (text : List ℕ) (x : Outcome) (e : AllocError) → IsAnswerOf text x (Err (stops.Memory e))
 any-memory text (resolved bs) e = tt
@@ -131,7 +126,6 @@ read-outcome : (text : List ℕ) (limit : ℕ) (bs : List Block) → SpellsDocum
 read-outcome text limit bs spelled (inl resolves) = (resolved bs, (spelled, resolves))
 read-outcome text limit bs spelled (inr (clash, first)) = (clashed bs clash, (spelled, first))
 
-pub some-outcome : (text : List ℕ) (limit : ℕ) → ((bs : List Block) × SpellsDocument bs text limit) ⊎ ((fault : Fault) × IsDue text limit fault)
-    → (x : Outcome) × HasOutcome text limit x
-some-outcome text limit (inl (bs, spelled)) = read-outcome text limit bs spelled (cases_option (first_clash (claims bs)))
-some-outcome text limit (inr (fault, due)) = (refused_at fault, due)
+pub some-outcome : (text : List ℕ) (limit : ℕ) → (r : Result (List Block) Fault) × document text limit r → (x : Outcome) × HasOutcome text limit x
+some-outcome text limit (Ok bs, h) = read-outcome text limit bs (document_sound bs text limit h) (cases_option (first_clash (claims bs)))
+some-outcome text limit (Err fault, h) = (refused_at fault, h)

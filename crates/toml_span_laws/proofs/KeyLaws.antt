@@ -1,30 +1,22 @@
 -- What is read of a key is one thing, and what is spelled.
-use Rattle.std.proofs.Common.{◌≡◌, ℕ, zero, suc, ◌+◌, ◌≤◌, ◌⊎◌, Bool, true, false, List, [], ◌∷◌, ◌++◌, length, get_or, append-nil, append_assoc, arith, inl, inr, sym, ◌∙◌, refl, ap, Ok, Err}
+use Rattle.std.proofs.Common.{◌≡◌, ℕ, zero, suc, ◌+◌, ◌≤◌, ◌⊎◌, Bool, true, false, List, [], ◌∷◌, ◌++◌, length, get_or, append-nil, append_assoc, arith, inl, inr, sym, ◌∙◌, refl, Ok}
 use Rattle.std.specs.Prelude.{◌==◌, ◌||◌}
 use Rattle.std.proofs.lemmas.Bool.{false≢true}
-use Rattle.std.proofs.lemmas.Bool.Decides.{nat_tests}
 use Rattle.toml_span_lex.specs.Bytes.{is_blank, is_keylike, is_printed}
 use Rattle.toml_span_lex.specs.Text.{LineEnd}
 use Rattle.toml_span_lex.specs.Tokens.{keylike, string}
 use Rattle.toml_span_lex.proofs.Runs.{crlf_first}
 use Rattle.toml_span_lex.proofs.Unique.{run_unique, line_unique, or_true}
-use Rattle.toml_span_read.specs.declared.fault.Fault.{Fault}
-use Rattle.toml_span_read.specs.Gaps.{GapPiece, begins_gap, GapBy, MaximalGap, Dot, NoDot, Separator, Closes, Neither}
+use Rattle.toml_span_read.specs.Gaps.{GapPiece, begins_gap, GapBy, MaximalGap, Dot, NoDot}
 use Rattle.toml_span_read.specs.Keys.{SimpleKey, SpellsSimpleKey, opens_string, Onward, SpellsKey}
 use Rattle.toml_span_read.specs.Read as read
 use Rattle.toml_span_read.specs.Read.{Reading, token, key_of, Parts, onward}
+use Rattle.toml_span_read.proofs.NumberLemmas.{clash, same_byte}
 use Rattle.toml_span_laws.proofs.Readings.{One, one_is, one_where, one_given, one_either, one_after, one_standing}
-
--- a byte b that is k passes where k does not
-pub clash : (p : ℕ → Bool) (b k : ℕ) → p b ≡ true → b ≡ k → p k ≡ false → ⊥
-clash p b k h e n = false≢true (sym n ∙ (rw e at h))
-
-pub same : (b c : ℕ) → b ≡ c → (b == c) ≡ true
-same b c e = grind (arith, nat_tests)
 
 -- a byte that is c, where it is none
 pub not_here : (b c : ℕ) → b ≡ c → (b == c) ≡ false → ⊥
-not_here b c e n = false≢true (sym n ∙ same b c e)
+not_here b c e n = false≢true (sym n ∙ same_byte b c e)
 
 -- ---- gaps
 
@@ -59,53 +51,24 @@ gap_by_unique text i j k (x ∷ ks) (l ∷ ls) a b f g =
 pub gap_unique : (text : List ℕ) (i j k : ℕ) → MaximalGap text i j → MaximalGap text i k → j ≡ k
 gap_unique text i j k a b = gap_by_unique text i j k a.ends b.ends a.pieces b.pieces a.stops b.stops
 
--- ---- signs
+-- ---- dots
 
-pub sign_unique : (c : ℕ) (text : List ℕ) (i j k : ℕ) → Separator c text i j → Separator c text i k → j ≡ k
-sign_unique c text i j k a b =
-    let e : a.at ≡ b.at = gap_unique text i a.at b.at a.before b.before in gap_unique text (a.at + 1) j k a.behind (rw (sym e) at b.behind)
-
-pub closes_unique : (c : ℕ) (text : List ℕ) (i j k : ℕ) → Closes c text i j → Closes c text i k → j ≡ k
-closes_unique c text i j k a b =
-    let e : a.at ≡ b.at = gap_unique text i a.at b.at a.before b.before in omega (arith, a.ends, b.ends)
-
-pub close_or_comma : (c : ℕ) (text : List ℕ) (i j k : ℕ) → (c ≡ 44 → ⊥) → Closes c text i j → Separator 44 text i k → ⊥
-close_or_comma c text i j k n a b =
-    let e : a.at ≡ b.at = gap_unique text i a.at b.at a.before b.before in n (sym a.here ∙ (rw e b.here))
-
-pub sign_or_none : (c : ℕ) (text : List ℕ) (i j k : ℕ) → Separator c text i j → MaximalGap text i k → (get_or text k 0 == c) ≡ false → ⊥
-sign_or_none c text i j k a g n =
-    let e : a.at ≡ k = gap_unique text i a.at k a.before g in not_here (get_or text a.at 0) c a.here (rw e n)
-
-pub close_or_neither : (c : ℕ) (text : List ℕ) (i j k : ℕ) → Closes c text i j → Neither c text i k → ⊥
-close_or_neither c text i j k a b =
-    let e : a.at ≡ k = gap_unique text i a.at k a.before b.before in not_here (get_or text a.at 0) c a.here (rw e b.no_bracket)
-
-pub comma_or_neither : (c : ℕ) (text : List ℕ) (i j k : ℕ) → Separator 44 text i j → Neither c text i k → ⊥
-comma_or_neither c text i j k a b = sign_or_none 44 text i j k a b.before b.no_comma
-
-pub dot_unique : (text : List ℕ) (i j k : ℕ) → Dot text i j → Dot text i k → j ≡ k
+dot_unique : (text : List ℕ) (i j k : ℕ) → Dot text i j → Dot text i k → j ≡ k
 dot_unique text i j k a b =
     let e : a.at ≡ b.at = run_unique is_blank text i a.at b.at a.before b.before in run_unique is_blank text (a.at + 1) j k a.behind (rw (sym e) at b.behind)
 
-pub dot_or_none : (text : List ℕ) (i j : ℕ) → Dot text i j → NoDot text i → ⊥
+dot_or_none : (text : List ℕ) (i j : ℕ) → Dot text i j → NoDot text i → ⊥
 dot_or_none text i j a b =
     let e : a.at ≡ b.at = run_unique is_blank text i a.at b.at a.before b.before in not_here (get_or text a.at 0) 46 a.here (rw e b.here)
 
 -- ---- keys
 
-pub simple_one : (text : List ℕ) (i : ℕ) → One (read.simple_key text i)
+pub simple_one : (text : List ℕ) (i : ℕ) → One (read.simple_key_at text i)
 simple_one text i = one_standing text i
 
-pub simple_complete : (s : SimpleKey) (text : List ℕ) (i m : ℕ) → SpellsSimpleKey s text i m → read.simple_key text i (Ok (s, m))
+pub simple_complete : (s : SimpleKey) (text : List ℕ) (i m : ℕ) → SpellsSimpleKey s text i m → read.simple_key_at text i (Ok (s, m))
 simple_complete s text i m (inl h) = (token s.span (keylike s.name) m, h, refl)
 simple_complete s text i m (inr (source, h)) = (token s.span (string source s.name false) m, h, refl)
-
-pub key_unique : (p q : SimpleKey) (text : List ℕ) (i j k : ℕ) → SpellsSimpleKey p text i j → SpellsSimpleKey q text i k → (p ≡ q) × (j ≡ k)
-key_unique p q text i j k a b =
-    let x = simple_one text i (Ok (p, j)) (Ok (q, k)) (simple_complete p text i j a) (simple_complete q text i k b) in
-    let e : ◌≡◌ {A = SimpleKey × ℕ} (p, j) (q, k) = cc in
-    (ap (λ f. f.0) e, ap (λ f. f.1) e)
 
 -- ---- dotted keys
 
@@ -129,19 +92,6 @@ unfolding read.key
 key_complete [] header text limit i j h few = absurd h
 key_complete (s ∷ ss) header text zero i j h few = absurd (omega arith)
 key_complete (s ∷ ss) header text (suc n) i j (m, k, rest) few = inl ((s, m), simple_complete s text i m k, behind_complete ss header text n (s ∷ []) m j rest (omega arith))
-
-pub dotted_unique : (ss ts : List SimpleKey) (text : List ℕ) (i j k : ℕ) → SpellsKey ss text i j → SpellsKey ts text i k → (ss ≡ ts) × (j ≡ k)
-dotted_unique ss ts text i j k a b =
-    let n : ℕ = length ss + length ts in
-    let x = key_one false text n [] i (Ok (ss, j)) (Ok (ts, k)) (key_complete ss false text n i j a (omega arith)) (key_complete ts false text n i k b (omega arith)) in
-    let e : ◌≡◌ {A = Parts} (ss, j) (ts, k) = cc in
-    (ap (λ f. f.0) e, ap (λ f. f.1) e)
-
-pub dotted_excluded : (header : Bool) (text : List ℕ) (limit i : ℕ) (e : Fault) → read.key header text limit [] i (Err e) → (ss : List SimpleKey) (j : ℕ) → SpellsKey ss text i j → length ss ≤ limit → ⊥
-dotted_excluded header text limit i e h ss j a few = let x = key_one header text limit [] i (Err e) (Ok (ss, j)) h (key_complete ss header text limit i j a few) in absurd cc
-
-pub dotted_one : (header : Bool) (text : List ℕ) (limit i : ℕ) (e f : Fault) → read.key header text limit [] i (Err e) → read.key header text limit [] i (Err f) → e ≡ f
-dotted_one header text limit i e f h g = let x = key_one header text limit [] i (Err e) (Err f) h g in cc
 
 pub dotted_byte : (ss : List SimpleKey) (text : List ℕ) (i j : ℕ) → SpellsKey ss text i j → (is_keylike (get_or text i 0) || opens_string (get_or text i 0)) ≡ true
 dotted_byte [] text i j h = absurd h

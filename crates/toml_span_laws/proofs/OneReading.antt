@@ -13,10 +13,11 @@ use Rattle.toml_span_read.specs.Data.{KeyValue}
 use Rattle.toml_span_read.specs.Dates.{is_date_byte, continues_date, IsCandidate}
 use Rattle.toml_span_read.specs.Gaps.{Skipped, Tail, NoTail}
 use Rattle.toml_span_read.specs.Read as read
-use Rattle.toml_span_read.specs.Read.{Reading, Found, Items, Pairs, Blocks}
+use Rattle.toml_span_read.specs.Read.{Reading, ValueEnd, Items, Pairs, Blocks}
+use Rattle.toml_span_read.proofs.NumberLemmas.{same_byte}
 use Rattle.toml_span_read.proofs.Places.{read_within}
 use Rattle.toml_span_laws.proofs.EarlierLaws.{clear_crossing, crossing_one}
-use Rattle.toml_span_laws.proofs.KeyLaws.{same, not_here, gap_unique, key_one}
+use Rattle.toml_span_laws.proofs.KeyLaws.{not_here, gap_unique, key_one}
 use Rattle.toml_span_laws.proofs.Readings.{One, one_is, one_where, one_given, one_either, one_after, one_choice, one_standing, one_loop}
 
 -- ---- places
@@ -54,7 +55,7 @@ first_one text = one_either (λ i j a b. (char_unique text 0 65279 65279 i j a b
 one_part : (text : List ℕ) (i j : ℕ) → MaximalRun is_date_byte text i j → ((j == i + 10) && continues_date text j) ≡ false → MaximalRun is_date_byte text i (i + 10) → continues_date text (i + 10) ≡ true → ⊥
 one_part text i j a n b c =
     let e : j ≡ i + 10 = run_unique is_date_byte text i j (i + 10) a b in
-    false≢true (sym (rw e at n) ∙ (rw (same (i + 10) (i + 10) refl) c))
+    false≢true (sym (rw e at n) ∙ (rw (same_byte (i + 10) (i + 10) refl) c))
 
 candidate_one : (text : List ℕ) (i : ℕ) → One (IsCandidate text i)
 candidate_one text i =
@@ -77,18 +78,18 @@ separator_one : {S A : Type 0} (close : ℕ) (due : Due) (text : List ℕ) (m : 
 separator_one close due text m next end =
     one_given (gap_unique text m) (λ k. one_choice (one_given (gap_unique text (k + 1)) (λ p. one_is)) (one_choice one_is (one_standing text k)))
 
-element_one : (text : List ℕ) (value : ℕ → Reading Found) → ((i : ℕ) → One (value i)) → (s : Items) → One (read.element text value s)
+element_one : (text : List ℕ) (value : ℕ → Reading ValueEnd) → ((i : ℕ) → One (value i)) → (s : Items) → One (read.next_element text value s)
 element_one text value one (vs, i) = one_choice one_is (one_after (one i) (λ (v, m). separator_one _ _ text m _ (read.array_end (vs ++ (v ∷ [])))))
 
-pub key_value_one : (text : List ℕ) (limit : ℕ) (skipped : ℕ → ℕ → Type 0) (value : ℕ → ℕ → Reading Found) (i : ℕ) → ((i j k : ℕ) → skipped i j → skipped i k → j ≡ k) → ((n b : ℕ) → One (value n b)) → One (read.key_value text limit skipped value i)
+pub key_value_one : (text : List ℕ) (limit : ℕ) (skipped : ℕ → ℕ → Type 0) (value : ℕ → ℕ → Reading ValueEnd) (i : ℕ) → ((i j k : ℕ) → skipped i j → skipped i k → j ≡ k) → ((n b : ℕ) → One (value n b)) → One (read.keyval text limit skipped value i)
 key_value_one text limit skipped value i unique one =
     one_after (key_one false text limit [] i) (λ (ps, a). one_given (unique a)
     (λ n. one_choice (one_given (unique (n + 1)) (λ b. one_after (one (length ps) b) (λ f. one_is))) (one_standing text n)))
 
-joined_one : (es : List KeyValue) (e : KeyValue) → One (read.joined es e)
+joined_one : (es : List KeyValue) (e : KeyValue) → One (read.added es e)
 joined_one es e = one_either (one_where one_is) (one_given (crossing_one es e) (λ f. one_is)) (λ r s clear f. clear_crossing es e f.0 clear.0 f.1)
 
-pair_one : (text : List ℕ) (limit : ℕ) (value : ℕ → ℕ → Reading Found) → ((n b : ℕ) → One (value n b)) → (s : Pairs) → One (read.pair text limit value s)
+pair_one : (text : List ℕ) (limit : ℕ) (value : ℕ → ℕ → Reading ValueEnd) → ((n b : ℕ) → One (value n b)) → (s : Pairs) → One (read.next_pair text limit value s)
 pair_one text limit value one (es, i) =
     one_choice one_is
     (one_after (key_value_one text limit _ value i (gap_unique text) one) (λ (e, m). one_after (joined_one es e) (λ fs. separator_one _ _ text m _ (read.table_end fs))))
@@ -107,15 +108,15 @@ value_one text limit (suc left) zero i =
 pub tail_one : (text : List ℕ) (i : ℕ) → One (read.tail text i)
 tail_one text i = one_either (one_given (rest_one text i) (λ j. one_is)) (one_given (λ j k a b. skipped_one text i j k a.0 b.0) (λ k. one_standing text k)) (λ r s a b. rest_or_none text i a.0 b.0 a.1 b.1)
 
-pub assignment_one : (text : List ℕ) (limit i : ℕ) → One (read.key_value text limit (MaximalRun is_blank text) (read.value text limit (limit + 1)) i)
+pub assignment_one : (text : List ℕ) (limit i : ℕ) → One (read.keyval text limit (MaximalRun is_blank text) (read.value text limit (limit + 1)) i)
 assignment_one text limit i = key_value_one text limit _ (read.value text limit (limit + 1)) i (run_unique is_blank text) (value_one text limit (limit + 1))
 
-line_one : (text : List ℕ) (limit : ℕ) (s : Pairs) → One (read.line text limit s)
+line_one : (text : List ℕ) (limit : ℕ) (s : Pairs) → One (read.next_assignment text limit s)
 line_one text limit (es, i) =
     one_choice one_is (one_after (assignment_one text limit i) (λ (e, m). one_after (tail_one text m) (λ n. one_after (joined_one es e) (λ fs. one_given (gap_unique text n) (λ k. one_is)))))
 
 lines_one : (text : List ℕ) (limit i : ℕ) → One (read.lines text limit i)
-lines_one text limit i = one_given (gap_unique text i) (λ k. one_loop (read.line text limit) (line_one text limit) ([], k))
+lines_one text limit i = one_given (gap_unique text i) (λ k. one_loop (read.next_assignment text limit) (line_one text limit) ([], k))
 
 -- ---- headers, sections and the document
 

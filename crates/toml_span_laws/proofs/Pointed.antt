@@ -18,7 +18,7 @@ use Rattle.toml_span.specs.Ordered.{IsOrdered, HoldsOrdered, AreOrdered, Members
 use Rattle.toml_span.specs.Parsing.{IsTree}
 use Rattle.toml_span.proofs.ShownWhole.{shown-filled}
 use Rattle.toml_span_laws.specs.Document.{StandsAt, without_key, subtree, IsValueOf, PointsAt}
-use Rattle.toml_span_laws.proofs.Answered.{one-document}
+use Rattle.toml_span_laws.proofs.OneSpelled.{document_unique}
 use Rattle.toml_span_laws.proofs.OneTree.{At, one-value}
 
 -- ---- below a path
@@ -123,7 +123,7 @@ value-named pointer n m length bs h (names, path, cut, named, value) =
 pub tree-value : (text : List ℕ) (limit : ℕ) (root : Value) (bs : List Block) → IsTree text limit root → SpellsDocument bs text limit → IsValueOf (flat (length text) (claims bs)) (view root)
 tree-value text limit root bs h spelled =
     let (cs, has, tree) = h in
-    (tree.ordered, subst (λ l. Shows (view root) (flat (length text) (claims l))) (one-document text limit cs bs has.0 spelled) tree.shows)
+    (tree.ordered, subst (λ l. Shows (view root) (flat (length text) (claims l))) (document_unique text limit cs bs has.0 spelled) tree.shows)
 
 pub pointer-value : (text : List ℕ) (limit : ℕ) (root : Value) (bs : List Block) (pointer : List ℕ) (m : Node) → IsTree text limit root → SpellsDocument bs text limit
     → (pointed pointer (view root) ≡ Some m) ↔ PointsAt pointer (flat (length text) (claims bs)) m

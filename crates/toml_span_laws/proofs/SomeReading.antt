@@ -24,7 +24,7 @@ use Rattle.toml_span_read.specs.Keys.{SimpleKey}
 use Rattle.toml_span_read.specs.Numerals.{number, numeral, run_end, special}
 use Rattle.toml_span_read.specs.code.Gaps.{DotGives, TailGives}
 use Rattle.toml_span_read.specs.Read as read
-use Rattle.toml_span_read.specs.Read.{Reading, run_at, number_or_word, next_section, Standing, token, text_end, no_token, StandsAt, key_of, string_of, Parts, onward, behind, choice, missing, Turn, on, done, Loop, Found, Items, Pairs, Blocks, Head}
+use Rattle.toml_span_read.specs.Read.{Reading, run_at, number_or_word, next_section, Standing, token, text_end, no_token, StandsAt, key_of, string_of, Parts, onward, behind, choice, missing, Turn, on, done, Loop, ValueEnd, Items, Pairs, Blocks, Head}
 use Rattle.toml_span_read.proofs.NumberLemmas.{bool_cases, byte_is, run_is}
 use Rattle.toml_span_read.proofs.NumberReads.{Starts, number_advances}
 use Rattle.toml_span_read.proofs.Places.{run_some, behind_byte}
@@ -84,7 +84,7 @@ key_ends text i (token span (keylike name) j) all b h = run_onto text i j all b 
 key_ends text i (token span (string source name false) j) all b h = string_onto text i j span source name false all h
 key_ends text i t all b h = tt
 
-simple_sure : (text : List ℕ) (i : ℕ) → AllJudged text → IsCharBoundary text i → Sure (Ends text (i + 1)) (read.simple_key text i)
+simple_sure : (text : List ℕ) (i : ℕ) → AllJudged text → IsCharBoundary text i → Sure (Ends text (i + 1)) (read.simple_key_at text i)
 simple_sure text i all b = sure_standing text i (all.1 i b).stands (λ t h. key_ends text i t all b h)
 
 onward_sure : (text : List ℕ) (ps : List SimpleKey) (h m : ℕ) (next : ℕ → Reading Parts) → Onto text h m → (found : Option ℕ) × DotGives text m found → ((p : ℕ) → Onto text h p → Sure (Ends text h) (next p)) → Sure (Ends text h) (onward text ps m next)
@@ -143,25 +143,25 @@ separator_sure close due text h i m x y all s l o =
     (λ g. sure_behind text (i + 1 + 1) (k + 1) (gaps text all) g (λ p q. sure_is _ ((omega (arith, l, q.0), q.1), omega (arith, q.0))))
     (sure_sign close text (i + 1) k all s f (λ g. sure_is _ (omega (arith, l, g.0), g.1)) (sure_missing due text k all f.1)))
 
-element_sure : (text : List ℕ) (h : ℕ) (value : ℕ → Reading Found) → AllJudged text → ((i : ℕ) → IsCharBoundary text i → Sure (Ends text (i + 1)) (value i)) → (s : Items) → Onto text h s.1
-    → Sure (Turned (Onto text h) (Ends text h) s.1) (read.element text value s)
+element_sure : (text : List ℕ) (h : ℕ) (value : ℕ → Reading ValueEnd) → AllJudged text → ((i : ℕ) → IsCharBoundary text i → Sure (Ends text (i + 1)) (value i)) → (s : Items) → Onto text h s.1
+    → Sure (Turned (Onto text h) (Ends text h) s.1) (read.next_element text value s)
 element_sure text h value all sure (vs, i) o =
     sure_sign 93 text h i all (omega arith, omega arith) o (λ e. sure_is _ (omega (arith, e.0), e.1))
     (sure_after (sure i o.1) (λ (v, m) e. separator_sure 93 dues.RightBracket text h i m _ _ all (omega arith, omega arith) o.0 e))
 
-key_value_sure : (text : List ℕ) (limit : ℕ) (skipped : ℕ → ℕ → Type 0) (value : ℕ → ℕ → Reading Found) (i : ℕ) → AllJudged text → Skips text skipped
-    → ((n b : ℕ) → IsCharBoundary text b → Sure (Ends text (b + 1)) (value n b)) → IsCharBoundary text i → Sure (Ends text (i + 1)) (read.key_value text limit skipped value i)
+key_value_sure : (text : List ℕ) (limit : ℕ) (skipped : ℕ → ℕ → Type 0) (value : ℕ → ℕ → Reading ValueEnd) (i : ℕ) → AllJudged text → Skips text skipped
+    → ((n b : ℕ) → IsCharBoundary text b → Sure (Ends text (b + 1)) (value n b)) → IsCharBoundary text i → Sure (Ends text (i + 1)) (read.keyval text limit skipped value i)
 key_value_sure text limit skipped value i all skips sure b =
     sure_after (key_sure false text limit [] i i all (omega arith, b)) (λ (ps, a) e. sure_behind text (i + 1) a skips e
     (λ n f. sure_sign 61 text (i + 1) n all (omega arith, omega arith) f
     (λ g. sure_behind text (i + 1 + 1) (n + 1) skips g (λ b q. sure_after (sure (length ps) b q.1) (λ (v, j) r. sure_is _ (omega (arith, q.0, r.0), r.1))))
     (sure_missing dues.Equals text n all f.1)))
 
-joined_sure : (es : List KeyValue) (e : KeyValue) → Sure (λ fs. Unit {0}) (read.joined es e)
+joined_sure : (es : List KeyValue) (e : KeyValue) → Sure (λ fs. Unit {0}) (read.added es e)
 joined_sure es e = elim (every_key es e) [ inl clear ↦ (Ok (es ++ (e ∷ [])), inl (clear, refl), tt) | inr c ↦ (Err c.0, inr (c.0, c.1, refl), tt) ]
 
-pair_sure : (text : List ℕ) (limit h : ℕ) (value : ℕ → ℕ → Reading Found) → AllJudged text → ((n b : ℕ) → IsCharBoundary text b → Sure (Ends text (b + 1)) (value n b)) → (s : Pairs) → Onto text h s.1
-    → Sure (Turned (Onto text h) (Ends text h) s.1) (read.pair text limit value s)
+pair_sure : (text : List ℕ) (limit h : ℕ) (value : ℕ → ℕ → Reading ValueEnd) → AllJudged text → ((n b : ℕ) → IsCharBoundary text b → Sure (Ends text (b + 1)) (value n b)) → (s : Pairs) → Onto text h s.1
+    → Sure (Turned (Onto text h) (Ends text h) s.1) (read.next_pair text limit value s)
 pair_sure text limit h value all sure (es, i) o =
     sure_sign 125 text h i all (omega arith, omega arith) o (λ e. sure_is _ (omega (arith, e.0), e.1))
     (sure_after (key_value_sure text limit _ value i all (gaps text all) sure o.1)
@@ -194,7 +194,7 @@ tail_sure text h i all o (Err k, (n, b)) = let (r, g, p) = sure_missing {P = Ont
 abbrev pub Stopped : {A : Type 0} → List ℕ → ℕ → A × ℕ → Type 0
 Stopped text i f = Onto text i f.1 × (read.ends_lines text f.1 ≡ true)
 
-line_sure : (text : List ℕ) (limit h : ℕ) → AllJudged text → (s : Pairs) → Onto text h s.1 → Sure (Turned (Onto text h) (Stopped text h) s.1) (read.line text limit s)
+line_sure : (text : List ℕ) (limit h : ℕ) → AllJudged text → (s : Pairs) → Onto text h s.1 → Sure (Turned (Onto text h) (Stopped text h) s.1) (read.next_assignment text limit s)
 line_sure text limit h all (es, i) o =
     sure_choice (read.ends_lines text i) (λ t. sure_is _ (o, t))
     (λ t. sure_after (key_value_sure text limit _ (read.value text limit (limit + 1)) i all (blanks text all) (λ n b. value_sure text limit (limit + 1) n b all) o.1)
@@ -204,7 +204,7 @@ line_sure text limit h all (es, i) o =
 pub lines_sure : (text : List ℕ) (limit i : ℕ) → AllJudged text → IsCharBoundary text i → Sure (Stopped text i) (read.lines text limit i)
 lines_sure text limit i all b =
     sure_behind text i i (gaps text all) (omega arith, b)
-    (λ k o. sure_loop (Onto text i) (Stopped text i) (length text) (read.line text limit) (λ j h. h.1.0) (line_sure text limit i all) ([], k) o)
+    (λ k o. sure_loop (Onto text i) (Stopped text i) (length text) (read.next_assignment text limit) (λ j h. h.1.0) (line_sure text limit i all) ([], k) o)
 
 -- ---- headers, sections and the document
 

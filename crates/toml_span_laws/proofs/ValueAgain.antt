@@ -24,7 +24,7 @@ use Rattle.toml_span_laws.specs.Laws.{ValueReadsAgain}
 use Rattle.toml_span_laws.specs.Document.{subtree, without_key}
 use Rattle.toml_span_laws.proofs.FirstClash.{AreFree, none-behind}
 use Rattle.toml_span_laws.proofs.Alone.{Alone, at-none, document-alone}
-use Rattle.toml_span_laws.proofs.Answered.{one-document}
+use Rattle.toml_span_laws.proofs.OneSpelled.{document_unique}
 use Rattle.toml_span_laws.proofs.SpelledClaims.{followed-none}
 use Rattle.toml_span_laws.proofs.EntryDecides.{at-append, path-self}
 use Rattle.toml_span_laws.proofs.MovedClaims.{AllMoved, AreMoved, all-moved, at-moved, decides-moved, resolves-moved, source, value-moved, no_more}
@@ -185,7 +185,7 @@ shows-flat text limit root bs p tree h = (tree-value text limit root bs tree h).
 
 tree-resolves : (text : List ℕ) (limit : ℕ) (root : Value) (bs : List Block) → IsTree text limit root → SpellsDocument bs text limit → Resolves (claims bs)
 tree-resolves text limit root bs tree h =
-    let (cs, has, shows) = tree in subst (λ l. Resolves (claims l)) (one-document text limit cs bs has.0 h) has.1
+    let (cs, has, shows) = tree in subst (λ l. Resolves (claims l)) (document_unique text limit cs bs has.0 h) has.1
 
 pub tree-again : (text : List ℕ) (limit : ℕ) (root other : Value) (bs : List Block) (c : Claim) → SpellsDocument bs text limit → IsTree text limit root → AssignsBrackets bs c
     → IsTree (text_again text c.place.span) limit other → StandsMoved c.place.span.start 4 (λ p. place_at p (view root)) c.path (λ p. place_at p (view other)) at_x

@@ -7,15 +7,15 @@ ghost use Rattle.toml_span_read.specs.Read as read;
 /// A key is read, as it is, exactly where one of at most so many parts stands.
 pub fn keys_are_read()
     ensures single { (text : List ℕ) (i j : ℕ) (p : SimpleKey)
-        → read.simple_key text i (Ok (p, j)) ↔ SpellsSimpleKey p text i j }
+        → read.simple_key_at text i (Ok (p, j)) ↔ SpellsSimpleKey p text i j }
     ensures dotted { (header : Bool) (text : List ℕ) (limit i j : ℕ) (ps : List SimpleKey)
         → read.key header text limit [] i (Ok (ps, j)) ↔ (SpellsKey ps text i j × (length ps ≤ limit)) }
 {}
 
 /// Reading a key gives one thing, a key or a fault.
 pub fn one_key()
-    ensures single { (text : List ℕ) (i : ℕ) (r s : Result (SimpleKey × ℕ) Fault) → read.simple_key text i r
-        → read.simple_key text i s → r ≡ s }
+    ensures single { (text : List ℕ) (i : ℕ) (r s : Result (SimpleKey × ℕ) Fault) → read.simple_key_at text i r
+        → read.simple_key_at text i s → r ≡ s }
     ensures dotted { (header : Bool) (text : List ℕ) (limit i : ℕ) (r s : Result read.Parts Fault)
         → read.key header text limit [] i r → read.key header text limit [] i s → r ≡ s }
 {}

@@ -2,7 +2,6 @@
 #![tactic(auto)]
 
 pub mod again;
-pub mod due;
 pub mod earlier;
 pub mod judged;
 pub mod keys;

@@ -1,5 +1,5 @@
 //! Laws of lines, headers, sections and the document.
-ghost use Rattle.std.specs.Prelude.{◌≡◌, ℕ, Bool, false, List, length, map, Result, Vec};
+ghost use Rattle.std.specs.Prelude.{◌≡◌, ◌↔◌, ℕ, Bool, false, List, length, map, Result, Ok, Err, Vec};
 ghost use Rattle.std.specs.Global.{Global};
 ghost use Rattle.toml_span_lex.specs.declared.stop.Stop.{Stop};
 ghost use Rattle.toml_span_tree.specs.declared.error.Error.{Error};
@@ -12,9 +12,14 @@ ghost use Rattle.toml_span_read.specs.Places.{SectionsInside};
 ghost use Rattle.toml_span_laws.specs.Places.{BlocksAscend};
 ghost use Rattle.toml_span_read.specs.Data.{Block, block};
 ghost use Rattle.toml_span_read.specs.Grammar.{SpellsDocument, SpellsHeader};
-ghost use Rattle.toml_span_read.specs.Due.{IsDue};
+ghost use Rattle.toml_span_read.specs.Read as read;
 ghost use Rattle.toml_span_read.specs.Reading.{ReadsDocument, AreRead};
-ghost use Rattle.toml_span_read.specs.code.Stuck.{StuckHeader};
+
+/// A document is read, as it is, exactly where the text spells it.
+pub fn documents_are_read()
+    ensures { (text : List ℕ) (limit : ℕ) (blocks : List Block)
+        → read.document text limit (Ok blocks) ↔ SpellsDocument blocks text limit }
+{}
 
 /// A text spells at most one document.
 pub fn one_document()
@@ -25,7 +30,7 @@ pub fn one_document()
 /// Where a text spells a document, no fault is told in it.
 pub fn document_or_fault()
     ensures { (text : List ℕ) (limit : ℕ) (blocks : List Block) (fault : Fault) → SpellsDocument blocks text limit
-        → IsDue text limit fault → ⊥ }
+        → read.document text limit (Err fault) → ⊥ }
 {}
 
 /// What spells a document is read as it, unless memory runs out.
@@ -41,10 +46,10 @@ pub fn one_header()
         → (ps ≡ qs) × (array ≡ other) × (j ≡ k) }
 {}
 
-/// Where a header stands, none gets stuck.
+/// Where a header stands, no fault is told.
 pub fn header_or_fault()
     ensures { (text : List ℕ) (limit i j : ℕ) (ps : List SimpleKey) (array : Bool) (fault : Fault)
-        → SpellsHeader ps array text limit i j → StuckHeader text limit i fault → ⊥ }
+        → SpellsHeader ps array text limit i j → read.header text limit i (Err fault) → ⊥ }
 {}
 
 /// What stands before a form is blank lines, and the spaces and tabs before it.

@@ -1,14 +1,10 @@
 //! Laws of numbers.
-ghost use Rattle.std.specs.Prelude.{◌≡◌, ◌||◌, ◌==◌, ℕ, true, List, Result, Ok, slice_index};
+ghost use Rattle.std.specs.Prelude.{◌≡◌, ◌||◌, ◌==◌, ℕ, true, List, Ok, slice_index};
 ghost use Rattle.toml_span_lex.specs.Bytes.{is_keylike, plus};
-ghost use Rattle.toml_span_lex.specs.declared.stop.Stop.{Stop};
 ghost use Rattle.toml_span_tree.specs.Node.{Scalar};
-ghost use Rattle.toml_span_read.specs.declared.value.ValKind.{ValKind};
-ghost use Rattle.toml_span_read.specs.declared.fault.Fault.{Fault};
 ghost use Rattle.toml_span_read.specs.Numbers.{IsNumber};
 ghost use Rattle.toml_span_read.specs.Numerals.{number};
 ghost use Rattle.toml_span_read.specs.code.Gaps.{Further};
-ghost use Rattle.toml_span_read.specs.code.Numbers.{NumberGives, IsReadAs};
 
 /// A number that is spelled is read, as it is. What is read where a letter, a digit, a dash, an underscore or a plus
 /// stands is spelled.
@@ -28,10 +24,4 @@ pub fn number_ends(text: &str)
 pub fn one_number()
     ensures { (text : List ℕ) (i j k : ℕ) (s t : Scalar) → IsNumber s text i j → IsNumber t text i k
         → (s ≡ t) × (j ≡ k) }
-{}
-
-/// A literal is read, and as the number that it spells: what gives a number or the fault of none gives this one.
-pub fn number_is_read()
-    ensures { (text : List ℕ) (i j : ℕ) (s : Scalar) (read : Result (ValKind × ℕ) (Stop Fault))
-        → NumberGives text i read → IsNumber s text i j → IsReadAs s j read }
 {}

@@ -36,7 +36,7 @@ ghost use Rattle.toml_span.specs.Parsing.{Answers, HasOutcome, IsAnswerOf, IsTre
 
 pub mod clashes;
 
-use crate::judged::document_or_due;
+use crate::reading::reading_gives;
 use toml_span_typed::Deserialize;
 
 /// All answers to a text are alike, want of memory aside: a text that has a tree is not refused, all its trees are
@@ -47,13 +47,13 @@ pub fn one_answer()
 {}
 
 /// Each text has one outcome within a limit: sections of which no two claims clash, sections and their first
-/// clash, or the fault that is told where something is due.
+/// clash, or the fault that is told.
 pub fn one_outcome(text: &str)
-    ensures some { (limit : ℕ) → 1 ≤ limit → (outcome : Outcome) × HasOutcome text.now limit outcome }
+    ensures some { (limit : ℕ) → (outcome : Outcome) × HasOutcome text.now limit outcome }
     ensures one { (limit : ℕ) (outcome other : Outcome) → HasOutcome text.now limit outcome
         → HasOutcome text.now limit other → outcome ≡ other }
 {
-    document_or_due(text);
+    reading_gives(text);
 }
 
 /// The outcome of a text decides its answer, want of memory aside: the tree of the sections, or an error that

@@ -2,7 +2,9 @@
 ghost use Rattle.std.specs.Prelude.{◌≡◌, ◌+◌, ℕ, Bool, List, [], Result};
 ghost use Rattle.std.specs.Str.{IsCharBoundary};
 ghost use Rattle.toml_span_lex.specs.Bytes.{is_blank, MaximalRun};
+ghost use Rattle.toml_span_lex.specs.Tokens.{Lexeme, words};
 ghost use Rattle.toml_span_read.specs.declared.fault.Fault.{Fault};
+ghost use Rattle.toml_span_read.specs.Faults.{found_of, found_words};
 ghost use Rattle.toml_span_read.specs.Data.{KeyValue, Block};
 ghost use Rattle.toml_span_read.specs.Read as read;
 
@@ -11,11 +13,11 @@ use toml_span_lex::tokenizer::first_place;
 
 /// Reading gives one thing: of a value, of an assignment, of the rest of its line, of a header and of a document.
 pub fn one_reading()
-    ensures value { (text : List ℕ) (limit left n i : ℕ) (r s : Result read.Found Fault)
+    ensures value { (text : List ℕ) (limit left n i : ℕ) (r s : Result read.ValueEnd Fault)
         → read.value text limit left n i r → read.value text limit left n i s → r ≡ s }
     ensures assignment { (text : List ℕ) (limit i : ℕ) (r s : Result (KeyValue × ℕ) Fault)
-        → read.key_value text limit (MaximalRun is_blank text) (read.value text limit (limit + 1)) i r
-        → read.key_value text limit (MaximalRun is_blank text) (read.value text limit (limit + 1)) i s → r ≡ s }
+        → read.keyval text limit (MaximalRun is_blank text) (read.value text limit (limit + 1)) i r
+        → read.keyval text limit (MaximalRun is_blank text) (read.value text limit (limit + 1)) i s → r ≡ s }
     ensures rest { (text : List ℕ) (i : ℕ) (r s : Result ℕ Fault) → read.tail text i r → read.tail text i s → r ≡ s }
     ensures header { (text : List ℕ) (limit i : ℕ) (r s : Result read.Head Fault) → read.header text limit i r
         → read.header text limit i s → r ≡ s }
@@ -28,9 +30,14 @@ pub fn reading_gives(text: &str)
     ensures key { (header : Bool) (limit i : ℕ) → IsCharBoundary text.now i
         → (found : Result read.Parts Fault) × read.key header text.now limit [] i found }
     ensures value { (limit left n i : ℕ) → IsCharBoundary text.now i
-        → (found : Result read.Found Fault) × read.value text.now limit left n i found }
+        → (found : Result read.ValueEnd Fault) × read.value text.now limit left n i found }
     ensures document { (limit : ℕ) → (found : Result (List Block) Fault) × read.document text.now limit found }
 {
     places_are_judged(text);
     let _ = first_place(text);
 }
+
+/// A token that stands where another one is due is called as the lexer calls it.
+pub fn one_wording()
+    ensures { (token : Lexeme) → found_words (found_of token) ≡ words token }
+{}

@@ -11,7 +11,8 @@ use Rattle.toml_span_tree.specs.declared.error.Error.{Error}
 use Rattle.toml_span.specs.Claims.{claims}
 use Rattle.toml_span.specs.Flat.{flat}
 use Rattle.toml_span.specs.Parsing.{IsRefusal, resolved}
-use Rattle.toml_span_laws.proofs.Answered.{decides, one-document, one-refusal}
+use Rattle.toml_span_laws.proofs.Answered.{decides, one-refusal}
+use Rattle.toml_span_laws.proofs.OneSpelled.{document_unique}
 use Rattle.toml_span_lines.specs.Lines.{error_line}
 use Rattle.toml_span_lines.specs.Run.{bound, IsShown, IsAnswer, Runs}
 use Rattle.toml_span_lines.specs.Shown.{ShowsDocument, ShowsRefusal, ShowsPlaces}
@@ -19,7 +20,7 @@ use Rattle.toml_span_lines.proofs.OneText.{one-text}
 
 pub one-shown : (bytes : List ℕ) (limit : ℕ) (text other : List ℕ) → ShowsDocument bytes limit text → ShowsDocument bytes limit other → text ≡ other
 one-shown bytes limit text other d e =
-    let same = one-document bytes limit e.blocks d.blocks e.spelled d.spelled in
+    let same = document_unique bytes limit e.blocks d.blocks e.spelled d.spelled in
     one-text (flat (length bytes) (claims d.blocks)) text other d.shown (subst (λ l. ShowsPlaces (flat (length bytes) (claims l)) other) same e.shown)
 
 pub not-refused : (bytes : List ℕ) (limit : ℕ) (text other : List ℕ) → ShowsDocument bytes limit text → ShowsRefusal bytes limit other → ⊥

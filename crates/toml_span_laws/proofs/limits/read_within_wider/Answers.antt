@@ -1,6 +1,6 @@
 use Rattle.std.proofs.Common.{map}
 use Rattle.toml_span_read.specs.Data.{block}
-use Rattle.toml_span_laws.proofs.DueLaws.{document_read}
+use Rattle.toml_span_laws.proofs.OneSpelled.{document_read}
 use Rattle.toml_span_laws.proofs.WiderDocument.{document_wider}
 use Rattle.toml_span_laws.proofs.limits.read_within_wider.Goals as goal
 

@@ -1,5 +1,5 @@
-use Rattle.toml_span_laws.proofs.DueLaws.{due_excluded}
+use Rattle.toml_span_laws.proofs.OneSpelled.{document_excluded}
 use Rattle.toml_span_laws.proofs.lines.document_or_fault.Goals as goal
 
 pub returns : goal.returns
-returns c = due_excluded
+returns c = document_excluded

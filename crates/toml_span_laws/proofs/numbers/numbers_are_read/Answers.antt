@@ -1,4 +1,5 @@
-use Rattle.toml_span_laws.proofs.NumberLaws.{number_sound, number_complete}
+use Rattle.toml_span_read.proofs.NumberComplete.{number_complete}
+use Rattle.toml_span_read.proofs.ReadSound.{number_sound}
 use Rattle.toml_span_laws.proofs.numbers.numbers_are_read.Goals as goal
 
 pub returns-clause-read : goal.returns-clause-read

@@ -1,4 +1,4 @@
-use Rattle.toml_span_laws.proofs.NumberLaws.{number_unique}
+use Rattle.toml_span_laws.proofs.OneSpelled.{number_unique}
 use Rattle.toml_span_laws.proofs.numbers.one_number.Goals as goal
 
 pub returns : goal.returns

@@ -1,5 +1,5 @@
 use Rattle.toml_span_laws.proofs.WordLaws.{called}
-use Rattle.toml_span_laws.proofs.due.one_wording.Goals as goal
+use Rattle.toml_span_laws.proofs.reading.one_wording.Goals as goal
 
 pub returns : goal.returns
 returns c = λ l. called l
