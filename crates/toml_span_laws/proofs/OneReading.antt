@@ -81,7 +81,7 @@ separator_one close due text m next end =
 element_one : (text : List ℕ) (value : ℕ → Reading ValueEnd) → ((i : ℕ) → One (value i)) → (s : Items) → One (read.next_element text value s)
 element_one text value one (vs, i) = one_choice one_is (one_after (one i) (λ (v, m). separator_one _ _ text m _ (read.array_end (vs ++ (v ∷ [])))))
 
-pub key_value_one : (text : List ℕ) (limit : ℕ) (skipped : ℕ → ℕ → Type 0) (value : ℕ → ℕ → Reading ValueEnd) (i : ℕ) → ((i j k : ℕ) → skipped i j → skipped i k → j ≡ k) → ((n b : ℕ) → One (value n b)) → One (read.keyval text limit skipped value i)
+key_value_one : (text : List ℕ) (limit : ℕ) (skipped : ℕ → ℕ → Type 0) (value : ℕ → ℕ → Reading ValueEnd) (i : ℕ) → ((i j k : ℕ) → skipped i j → skipped i k → j ≡ k) → ((n b : ℕ) → One (value n b)) → One (read.keyval text limit skipped value i)
 key_value_one text limit skipped value i unique one =
     one_after (key_one false text limit [] i) (λ (ps, a). one_given (unique a)
     (λ n. one_choice (one_given (unique (n + 1)) (λ b. one_after (one (length ps) b) (λ f. one_is))) (one_standing text n)))

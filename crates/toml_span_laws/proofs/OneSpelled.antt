@@ -1,6 +1,6 @@
 -- At most one form is spelled at a place, and where one is, no fault is told: what is spelled is read, and reading gives
 -- one thing.
-use Rattle.std.proofs.Common.{◌≡◌, ℕ, zero, ◌+◌, ◌-◌, Bool, List, [], length, arith, refl, sym, ap, map, Result, Ok, Err, Vec, Global}
+use Rattle.std.proofs.Common.{◌≡◌, ℕ, zero, ◌+◌, ◌-◌, Bool, false, List, [], length, arith, refl, sym, ap, map, Result, Ok, Err, Vec, Global}
 use Rattle.toml_span_lex.specs.declared.stop.Stop.{Stop}
 use Rattle.toml_span_lex.specs.declared.stop.Stop.TheVariants as stops
 use Rattle.toml_span_tree.specs.Node.{Scalar}

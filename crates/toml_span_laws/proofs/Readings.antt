@@ -102,10 +102,6 @@ pub sure_choice : {A : Type 0} {P : A → Type 0} (test : Bool) {this that : Rea
 sure_choice true this that = let (r, h, p) = this refl in (r, inl (refl, h), p)
 sure_choice false this that = let (r, h, p) = that refl in (r, inr (refl, h), p)
 
-pub sure_more : {A : Type 0} {P Q : A → Type 0} {m : Reading A} → ((a : A) → P a → Q a) → Sure P m → Sure Q m
-sure_more more (Ok a, h, p) = (Ok a, h, more a p)
-sure_more more (Err e, h, p) = (Err e, h, tt)
-
 something : (text : List ℕ) (i : ℕ) → SomethingStands text i → (t : Standing) × StandsAt text i t
 something text i (inl e) = (text_end, e)
 something text i (inr (inl (j, s, l, h))) = (token s l j, h)

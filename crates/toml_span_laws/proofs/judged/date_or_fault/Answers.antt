@@ -13,4 +13,4 @@ date_read text i (Ok (date, j)) (h, f) = (Ok (datetime (date_bytes date), j), h,
 date_read text i (Err e) h = (Err e, h, tt)
 
 pub returns-then-begins_date : goal.returns-then-begins_date
-returns-then-begins_date c = λ b. date_read c.args.text.now c.args.at c.date.result c.date.ensures.gives
+returns-then-begins_date c = λ b. date_read c.args.text.now c.args.at c.date.result c.date.ensures.date
