@@ -1,5 +1,5 @@
 -- What sections make, one after another.
-use Rattle.std.proofs.Common.{◌≡◌, ℕ, List, [], ◌∷◌, ◌++◌, map, length, false, Option, Some, None, Ok, Err, refl, sym, ap, subst, append_assoc, append-nil}
+use Rattle.std.proofs.Common.{◌≡◌, ℕ, List, [], ◌∷◌, ◌++◌, map, length, false, Option, Some, None, Ok, Err, refl, sym, ap, subst, append_assoc, append-nil, ◌<◌, get_or, inr}
 use Rattle.std.specs.Prelude.{IfSome, IfNone, is_some}
 use Rattle.std.specs.BTreeMap.{BTreeMap}
 use Rattle.std.proofs.lemmas.Bool.{false≢true}
@@ -15,14 +15,16 @@ use Rattle.toml_span_read.specs.Borrowed.{IsWrittenRight as IsRightRead, AreWrit
 use Rattle.toml_span_read.specs.Data.{Block, block}
 use Rattle.toml_span_read.specs.Keys.{SimpleKey}
 use Rattle.toml_span_read.specs.Grammar.{first_block}
-use Rattle.toml_span_read.specs.code.Sections.{first_blocks, FirstGives, IsReadFirst, IsReadSection, SectionGives}
+use Rattle.toml_span_read.specs.Read as read
+use Rattle.toml_span_read.specs.code.Faults.{Gives}
+use Rattle.toml_span_read.specs.code.Sections.{first_blocks, first_found, section_found, sections_found}
 use Rattle.toml_span_read.specs.Reading.{HoldsForm}
 use Rattle.toml_span_read.specs.declared.fault.Fault.{Fault}
 use Rattle.toml_span_read.specs.declared.section.Section.{Section}
 use Rattle.toml_span_read.proofs.BorrowLemmas.{all_append, all_behind, all_front, sections_more as sections_right}
-use Rattle.toml_span_read.proofs.MemoryLemmas.{Begun, begun_by_lines}
 use Rattle.toml_span_read.proofs.StepLemmas.{first_keeps}
-use Rattle.toml_span_read.proofs.LineLemmas.{StuckFrom, WholeSections, sections_begin, sections_end, sections_more}
+use Rattle.toml_span_read.proofs.LineRead.{DocumentFrom, blocks_end, document_begins, document_read, document_stops, section_on}
+use Rattle.toml_span_read.proofs.ReadSound.{document_sound, first_sound, section_sound}
 use Rattle.toml_span.specs.code.Borrowed.{AreFrom, IsFrom, standing}
 use Rattle.toml_span.specs.Borrowed.{AreBorrowedRight}
 use Rattle.toml_span.specs.declared.claims.Clash.{Clash}
@@ -75,35 +77,31 @@ finish-clash bs length root c grows = subst (λ all. first_clash (claims all) �
 -- sections that are read up to a place, and what they make
 pub record Growing (text : List ℕ) (limit at : ℕ) (g : Grown) : Type 0 where
   pub sections : List Section
-  pub whole : WholeSections sections text limit at
+  pub whole : DocumentFrom text limit (map block sections) at
   pub grows : Grows (map block sections) g
   pub bare : sections ≡ [] → IsBare g
   pub read : AreRightRead text (sections_written sections)
   pub borrows : (ps : List SimpleKey) → AreFrom text ps (sections_written sections) → GrownRight text ps g
 
-pub growing-first : (text : List ℕ) (limit at : ℕ) (o : Option Section) (g : Grown) → IsReadFirst text limit o → FirstGives text limit (Ok (o, at))
+first-are : (text : List ℕ) (limit at : ℕ) (o : Option Section) → read.before_headers text limit (Ok (first_blocks o, at)) → AreSections (first_blocks o)
+first-are text limit at o h =
+    let (start, es, begins, lines, same, end) = first_sound (first_blocks o) text limit at h in
+    subst AreSections (sym same) (subst AreSections (append-nil (first_block es)) (first-headed es [] tt))
+
+pub growing-first : (text : List ℕ) (limit at : ℕ) (o : Option Section) (g : Grown) → IfSome o (λ s. AreRightRead text (section_written s)) → read.before_headers text limit (Ok (first_blocks o, at))
     → (AreSections (first_blocks o) → Grows (first_blocks o) g)
     → ((t : List ℕ) (ps : List SimpleKey) → IfSome o (λ s. AreFrom t ps (section_written s)) → GrownRight t ps g) → (o ≡ None → IsBare g)
-    → Growing text limit at g × StuckFrom text limit at
-growing-first text limit at None g read (start, evs, begins, lines, same) grows borrows bare =
-    let b = sections_begin [] evs text limit start at same begins lines in
-    (record { sections = []; whole = b.0; grows = grows tt; bare = λ none. bare refl; read = tt; borrows = λ ps h. borrows text ps tt }, b.1)
-growing-first text limit at (Some s) g read (start, evs, begins, lines, same) grows borrows bare =
-    let b = sections_begin (s ∷ []) evs text limit start at same begins lines in (
-      record {
-        sections = s ∷ [];
-        whole = b.0;
-        grows = grows (subst AreSections (sym same) (subst AreSections (append-nil (first_block evs)) (first-headed evs [] tt)));
-        bare = λ none. cc;
-        read = all_append (IsRightRead text) (section_written s) [] read.borrows tt;
-        borrows = λ ps h. borrows text ps (all_front (IsFrom text ps) (section_written s) [] h);
-      },
-      b.1,
-    )
-
-blocks-end : (ss : List Section) (s : Section) → map block (ss ++ (s ∷ [])) ≡ map block ss ++ (block s ∷ [])
-blocks-end [] s = refl
-blocks-end (x ∷ xs) s = ap (λ bs. block x ∷ bs) (blocks-end xs s)
+    → Growing text limit at g
+growing-first text limit at None g right h grows borrows bare =
+    record { sections = []; whole = document_begins text limit at [] h; grows = grows tt; bare = λ none. bare refl; read = tt; borrows = λ ps h. borrows text ps tt }
+growing-first text limit at (Some s) g right h grows borrows bare = record {
+  sections = s ∷ [];
+  whole = document_begins text limit at (block s ∷ []) h;
+  grows = grows (first-are text limit at (Some s) h);
+  bare = λ none. cc;
+  read = all_append (IsRightRead text) (section_written s) [] right tt;
+  borrows = λ ps h. borrows text ps (all_front (IsFrom text ps) (section_written s) [] h);
+}
 
 from-end : (text : List ℕ) (ps : List SimpleKey) (ss : List Section) (s : Section) → AreFrom text ps (sections_written (ss ++ (s ∷ [])))
     → AreFrom text ps (sections_written ss) × AreFrom text ps (section_written s)
@@ -118,31 +116,36 @@ never-empty : (ss : List Section) (s : Section) → ss ++ (s ∷ []) ≡ [] → 
 never-empty [] s none = cc
 never-empty (x ∷ xs) s none = cc
 
-pub growing-more : (text : List ℕ) (limit at next : ℕ) (s : Section) (g new : Grown) → IsReadSection text limit s → SectionGives text limit at (Ok (s, next)) → Growing text limit at g
+-- a section behind a header has parts, as the grammar reads it
+headed : (text : List ℕ) (limit at next : ℕ) (s : Section) → get_or text at 0 ≡ 91 → read.section text limit at (Ok (block s, next)) → AreSections (block s ∷ [])
+headed text limit at next s here h =
+    let spelled = section_sound (block s) text limit at next here h in (some_part (block s).array text _ _ (block s).header spelled.header.front.key, tt)
+
+pub growing-more : (text : List ℕ) (limit at next : ℕ) (s : Section) (g new : Grown) → at < length text → get_or text at 0 ≡ 91 → AreRightRead text (section_written s) → read.section text limit at (Ok (block s, next)) → Growing text limit at g
     → ((bs : List Block) → AreSections (block s ∷ []) → Grows bs g → Grows (bs ++ (block s ∷ [])) new)
     → ((t : List ℕ) (ps : List SimpleKey) → AreFrom t ps (section_written s) → GrownRight t ps g → GrownRight t ps new)
     → Growing text limit next new
-growing-more text limit at next s g new read spelled old grows borrows = record {
+growing-more text limit at next s g new under here right h old grows borrows = record {
   sections = old.sections ++ (s ∷ []);
-  whole = sections_more old.sections (old.sections ++ (s ∷ [])) s text limit at next refl old.whole spelled;
-  grows = subst (λ bs. Grows bs new) (sym (blocks-end old.sections s)) (grows (map block old.sections) (some_part (block s).array text _ _ (block s).header spelled.header.front.key, tt) old.grows);
+  whole = rw (blocks_end old.sections (old.sections ++ (s ∷ [])) s refl) (section_on text limit at next (map block old.sections) (block s) old.whole under h);
+  grows = subst (λ bs. Grows bs new) (sym (blocks_end old.sections (old.sections ++ (s ∷ [])) s refl)) (grows (map block old.sections) (headed text limit at next s here h) old.grows);
   bare = λ none. absurd (never-empty old.sections s none);
-  read = sections_right text old.sections (old.sections ++ (s ∷ [])) s refl old.read read.borrows;
-  borrows = λ ps h. let from = from-end text ps old.sections s h in borrows text ps from.1 (old.borrows ps from.0);
+  read = sections_right text old.sections (old.sections ++ (s ∷ [])) s refl old.read right;
+  borrows = λ ps f. let from = from-end text ps old.sections s f in borrows text ps from.1 (old.borrows ps from.0);
 }
 
-pub first-refused : (stop : Stop Fault) (text : List ℕ) (limit : ℕ) → FirstGives text limit (Err stop) → GrownGives text limit (Err stop)
+pub first-refused : (stop : Stop Fault) (text : List ℕ) (limit : ℕ) → Gives first_found (read.before_headers text limit) (Err stop) → GrownGives text limit (Err stop)
 first-refused (stops.Memory e) text limit h = tt
-first-refused (stops.Fault e) text limit h = h
+first-refused (stops.Fault e) text limit h = inr (e, h, refl)
 
-pub section-refused : (stop : Stop Fault) (text : List ℕ) (limit at : ℕ) → StuckFrom text limit at → SectionGives text limit at (Err stop) → GrownGives text limit (Err stop)
-section-refused (stops.Memory e) text limit at stuck h = tt
-section-refused (stops.Fault e) text limit at stuck h = stuck e h
+pub section-refused : (stop : Stop Fault) (text : List ℕ) (limit at : ℕ) (g : Grown) → at < length text → Growing text limit at g → Gives section_found (read.section text limit at) (Err stop) → GrownGives text limit (Err stop)
+section-refused (stops.Memory e) text limit at g under old h = tt
+section-refused (stops.Fault e) text limit at g under old h = document_stops sections_found (stops.Fault e) text limit at (map block old.sections) old.whole under h
 
 pub grown-whole : (text : List ℕ) (limit at : ℕ) (g : Grown) → Growing text limit at g → at ≡ length text → IsGrown text limit g
 grown-whole text limit at g h end = record {
   sections = h.sections;
-  spelled = sections_end h.sections text limit at h.whole end;
+  spelled = document_sound (map block h.sections) text limit (document_read text limit at (map block h.sections) h.whole end);
   grows = h.grows;
   bare = h.bare;
   read = h.read;
@@ -151,10 +154,7 @@ grown-whole text limit at g h end = record {
 
 -- ---- want of memory
 
-pub first-begun : (text : List ℕ) (limit at : ℕ) (o : Option Section) → FirstGives text limit (Ok (o, at)) → Begun text at
-first-begun text limit at o (start, evs, begins, lines, same) = begun_by_lines evs text limit start at begins lines
-
 -- a section that is placed is something to keep
-pub begin-keeps : (text : List ℕ) (limit at : ℕ) (o : Option Section) → FirstGives text limit (Ok (o, at)) → (o ≡ None → ⊥) → (i : ℕ) × FirstPlace text i × HoldsForm text i
+pub begin-keeps : (text : List ℕ) (limit at : ℕ) (o : Option Section) → read.before_headers text limit (Ok (first_blocks o, at)) → (o ≡ None → ⊥) → (i : ℕ) × FirstPlace text i × HoldsForm text i
 begin-keeps text limit at None given some = absurd (some refl)
 begin-keeps text limit at (Some s) given some = first_keeps text limit at (Some s) s refl given

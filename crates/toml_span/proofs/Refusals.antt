@@ -13,7 +13,6 @@ use Rattle.toml_span_read.specs.code.Faults.{IsPlacedStop}
 use Rattle.toml_span_read.specs.Faults.{Tells}
 use Rattle.toml_span_read.specs.Keys.{SimpleKey, SpellsKey}
 use Rattle.toml_span_read.specs.Grammar.{SpellsDocument, SpellsSections, first_block}
-use Rattle.toml_span_read.proofs.DueLemmas.{document_due}
 use Rattle.toml_span.specs.declared.claims.Clash.{Clash}
 use Rattle.toml_span.specs.declared.claims.Halt.{Halt}
 use Rattle.toml_span.specs.declared.claims.Halt.TheVariants as halts
@@ -29,7 +28,7 @@ use Rattle.toml_span.specs.code.Placing.{AreSections, Assembles}
 -- a fault of reading is told as an error
 pub answers-fault : (text : List ℕ) (limit : ℕ) (stop : Stop Fault) (fault : Fault) (error : Error) → stop ≡ stops.Fault fault → GrownGives text limit (Err stop) → IsPlacedStop text stop
     → Tells text fault (content_of error) → Answers text limit (Err (stops.Fault error))
-answers-fault text limit stop fault error is stuck placed tells = inl (fault, document_due text limit fault (rw is at stuck), (rw is at placed, tells))
+answers-fault text limit stop fault error is told placed tells = inl (fault, rw is at told, (rw is at placed, tells))
 
 -- ---- the sections that a text spells
 

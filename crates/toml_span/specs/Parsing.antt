@@ -14,7 +14,7 @@ use Rattle.toml_span_read.specs.Borrowed.{sections_written}
 use Rattle.toml_span_read.specs.declared.fault.Fault.{Fault}
 use Rattle.toml_span_read.specs.Places.{StartsInside, IsLineInfo}
 use Rattle.toml_span_read.specs.Faults.{Tells}
-use Rattle.toml_span_read.specs.Due.{IsDue}
+use Rattle.toml_span_read.specs.Read.{document}
 use Rattle.toml_span.specs.Claims.{claims}
 use Rattle.toml_span.specs.Clashes.{Resolves, NamedClash, first_clash, content_of_clash}
 use Rattle.toml_span.specs.Flat.{flat, Shows}
@@ -23,19 +23,19 @@ use Rattle.toml_span.specs.Borrowed.{AreBorrowedRight, keys_of, value_standing}
 
 -- ---- what becomes of a text
 
--- the sections that it spells; those and their first clash; or the fault that is told where something is due
+-- the sections that it spells; those and their first clash; or the fault that is told where it can't be read on
 pub data Outcome : Type 0 where
   resolved : List Block → Outcome
   clashed : List Block → NamedClash → Outcome
   refused_at : Fault → Outcome
 
 -- The text spells these sections within the limit, and no two of their claims clash; or it spells them, and this clash
--- is their first; or something is due at a place of the text, and this is the fault that the table has there.
+-- is their first; or reading the document tells this fault.
 abbrev pub HasOutcome : List ℕ → ℕ → Outcome → Type 0
 HasOutcome text limit (resolved blocks) = SpellsDocument blocks text limit × Resolves (claims blocks)
 HasOutcome text limit (clashed blocks clash) =
     SpellsDocument blocks text limit × (first_clash (claims blocks) ≡ Some clash)
-HasOutcome text limit (refused_at fault) = IsDue text limit fault
+HasOutcome text limit (refused_at fault) = document text limit (Err fault)
 
 -- ---- what is answered
 

@@ -19,7 +19,7 @@ use Rattle.toml_span_read.specs.Dates.{is_date_byte}
 use Rattle.toml_span_read.specs.Grammar.{from_to, SpellsScalar}
 use Rattle.toml_span_read.specs.Numbers.{is_digit_in, sum_of_digits, magnitude, behind_sign, is_negative, UnsignedDecimal, IsSigned}
 use Rattle.toml_span_read.proofs.NumberLemmas.{digit_figure, no_keylike_figure, digit_no_underscore, stands_alone}
-use Rattle.toml_span_read.proofs.ShortIntegers.{decimal_digit as digit_ten, short_made}
+use Rattle.toml_span_read.proofs.ShortIntegers.{decimal_digit as digit_ten, short_spelled}
 use Rattle.toml_span_places.proofs.Parts.{Part, tail, here, byte_at, next, range, within, each}
 
 -- ---- what a byte is not
@@ -106,9 +106,7 @@ positive : {text rest : List ℕ} {i j : ℕ} (n : ℕ) → n < 2 ^ 63 → is_da
 positive {text} {rest} {i} {j} n h off p =
     let d = decimal_in n (omega arith) p in
     let b = off_bytes (get_or text j 0) (rw (next p) off) in
-    let (s, e, is) = short_made (Integer (pos n)) (pos n) text i j n (kind_view-Integer (pos n)) d.some (within p) d.digits (sym d.value) d.leading b.0 b.2 b.1 (refl, h) in
-    let same : s ≡ integer (pos n) = cc (kind_view-Integer (pos n)) in
-    subst (λ (x : Scalar). SpellsScalar x (from_to i j) text i j) same is
+    let s = short_spelled (pos n) text i j n d.some (within p) d.digits (sym d.value) d.leading b.0 b.2 b.1 (refl, h) in (s.0, inl s.1, refl)
 
 negative : {text rest : List ℕ} {i j : ℕ} (n : ℕ) → n < 2 ^ 63 → is_date_byte (get_or rest 0 0) ≡ false → Part text (45 ∷ decimal (suc n)) rest i j → IntegerAt text (negsuc n) i j
 negative {text} {rest} {i} {j} n h off p =

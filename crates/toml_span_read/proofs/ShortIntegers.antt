@@ -111,20 +111,27 @@ few_more text from at v w f h e s = record {
 decimal_begins : (c : ℕ) → is_ascii_digit c ≡ true → begins_number c ≡ true
 decimal_begins c h = rw h refl
 
-pub short_made : (kind : ValKind) (n : ℤ) (text : List ℕ) (i j m : ℕ) → kind_view kind ≡ scalar (integer n) → i < j → j ≤ length text → Decimals text i j → m ≡ magnitude 10 text i j
-    → (get_or text i 0 ≡ 48 → j ≡ i + 1) → is_keylike (get_or text j 0) ≡ false → (get_or text j 0 == 46) ≡ false → (get_or text j 0 == 58) ≡ false → IsSigned false m n → ScalarGives (read.bare text i) (Ok (kind, j))
-short_made kind n text i j m e l w h v lead k dot colon value =
+pub short_spelled : (n : ℤ) (text : List ℕ) (i j m : ℕ) → i < j → j ≤ length text → Decimals text i j → m ≡ magnitude 10 text i j → (get_or text i 0 ≡ 48 → j ≡ i + 1) → is_keylike (get_or text j 0) ≡ false → (get_or text j 0 == 46) ≡ false
+    → (get_or text j 0 == 58) ≡ false → IsSigned false m n → (begins_date text i ≡ false) × DecimalInteger n text i j
+short_spelled n text i j m l w h v lead k dot colon value =
     let first = h i (omega arith) l in
     let plus : (get_or text i 0 == 43) ≡ false = is_false _ (λ x. not_decimal (get_or text i 0) 43 first (byte_is (get_or text i 0) 43 x) refl) in
     let dash : (get_or text i 0 == 45) ≡ false = is_false _ (λ x. not_decimal (get_or text i 0) 45 first (byte_is (get_or text i 0) 45 x) refl) in
-    let b : behind_sign text i ≡ i = no_sign text i plus dash in
-    let d : DecimalInteger n text i j = record {
-      digits = rw b (record { digits = digits_alone text i j l w h k; leading = lead });
-      ends = stands_alone text j k dot;
-      value = rw (b, dash, ← v) value;
-    } in
-    let read : number text i ≡ Ok (integer n, j) = number_complete (integer n) text i j (inl d) in
-    (integer n, e, inr (is_false _ (date_no text i j l h k colon), sym read ∙ sym (number_first text i (digit_number text i (decimal_begins (get_or text i 0) first)))))
+    let b : behind_sign text i ≡ i = no_sign text i plus dash in (
+      is_false _ (date_no text i j l h k colon),
+      record {
+        digits = rw b (record { digits = digits_alone text i j l w h k; leading = lead });
+        ends = stands_alone text j k dot;
+        value = rw (b, dash, ← v) value;
+      },
+    )
+
+pub short_made : (kind : ValKind) (n : ℤ) (text : List ℕ) (i j m : ℕ) → kind_view kind ≡ scalar (integer n) → i < j → j ≤ length text → Decimals text i j → m ≡ magnitude 10 text i j
+    → (get_or text i 0 ≡ 48 → j ≡ i + 1) → is_keylike (get_or text j 0) ≡ false → (get_or text j 0 == 46) ≡ false → (get_or text j 0 == 58) ≡ false → IsSigned false m n → ScalarGives (read.bare text i) (Ok (kind, j))
+short_made kind n text i j m e l w h v lead k dot colon value =
+    let s = short_spelled n text i j m l w h v lead k dot colon value in
+    let read : number text i ≡ Ok (integer n, j) = number_complete (integer n) text i j (inl s.1) in
+    (integer n, e, inr (s.0, sym read ∙ sym (number_first text i (digit_number text i (decimal_begins (get_or text i 0) (h i (omega arith) l))))))
 
 pub short_further : (text : List ℕ) (i j : ℕ) → IsUtf8 text → IsCharBoundary text i → i < j → j ≤ length text → Decimals text i j → Further text i j
 short_further text i j u b l w h = record { on = l; boundary = boundary_after is_ascii_digit text i j decimal_ascii u b (omega arith) w h }

@@ -9,7 +9,7 @@ use Rattle.toml_span_read.specs.Keys.{SimpleKey}
 use Rattle.toml_span_read.specs.Borrowed.{AreWrittenRight as AreRightRead, sections_written}
 use Rattle.toml_span_read.specs.Grammar.{SpellsDocument}
 use Rattle.toml_span_read.specs.declared.section.Section.{Section}
-use Rattle.toml_span_read.specs.code.Stuck.{StuckDocument}
+use Rattle.toml_span_read.specs.Read.{document}
 use Rattle.toml_span_read.specs.declared.fault.Fault.{Fault}
 use Rattle.toml_span.specs.declared.claims.Halt.{Halt}
 use Rattle.toml_span.specs.declared.branch.Branch.{Branch}
@@ -74,4 +74,4 @@ pub record IsGrown (text : List ℕ) (limit : ℕ) (g : Grown) : Type 0 where
 abbrev pub GrownGives : List ℕ → ℕ → Result Grown (Stop Fault) → Type 0
 GrownGives text limit (Ok g) = IsGrown text limit g
 GrownGives text limit (Err (stops.Memory e)) = Unit {0}
-GrownGives text limit (Err (stops.Fault e)) = StuckDocument text limit e
+GrownGives text limit (Err (stops.Fault e)) = document text limit (Err e)

@@ -1,42 +1,48 @@
-use Rattle.std.proofs.Common.{arith, length, ◌≡◌, ◌<◌}
+use Rattle.std.proofs.Common.{arith, rules, length, get_or, ◌≡◌, ◌<◌}
 use Rattle.toml_span_read.proofs.KeyLemmas.{handed_on}
-use Rattle.toml_span_read.proofs.LineLemmas.{on_section}
 use Rattle.toml_span_read.proofs.MemoryLemmas.{begun_on, keeps}
+use Rattle.toml_span_read.proofs.StepLemmas.{first_begun}
 use Rattle.toml_span_read.specs.declared.fault.Fault.{Fault}
 use Rattle.toml_span_lex.specs.declared.stop.Stop.TheVariants as stops
 use Rattle.toml_span.specs.declared.sections.Grown.{Grown}
-use Rattle.toml_span.proofs.Growth.{begin-keeps, first-begun, first-refused, growing-first, growing-more, grown-whole, section-refused}
+use Rattle.toml_span.proofs.Growth.{begin-keeps, first-refused, growing-first, growing-more, grown-whole, section-refused}
 use Rattle.toml_span.proofs.de.grown_of.Goals as goal
 
 pub sections-init : goal.sections-init
 sections-init c =
     let first = c.in_ok-first.ensures in
     let begun = c.in-Ok.ensures in
-    let h = growing-first c.args.text.now c.args.limit _ c.in_ok-first.first c.in-Ok.grown first.reads.0 first.gives begun.grows begun.borrows begun.bare in
-    record { boundary = first.reads.1.0; begun = first-begun c.args.text.now c.args.limit _ c.in_ok-first.first first.gives; header = first.reads.1.1; growing = h.0; stuck = h.1 }
+    record {
+      boundary = first.reads.1.0;
+      begun = first_begun c.args.text.now c.args.limit _ c.in_ok-first.first first.first;
+      header = first.reads.1.1;
+      growing = growing-first c.args.text.now c.args.limit _ c.in_ok-first.first c.in-Ok.grown first.reads.0 first.first begun.grows begun.borrows begun.bare;
+    }
 
 pub sections-preserved : goal.sections-preserved
 sections-preserved c =
     let read = c.in_ok-section.ensures in
     let more = c.in_default.ensures in
     let i = c.sections.invariant in
+    let under : c.sections.at < length c.args.text.now = omega arith in
+    let here : get_or c.args.text.now c.sections.at 0 ≡ 91 = search rules in
     record {
       boundary = read.reads.2.0;
       begun = begun_on c.args.text.now c.sections.at _ i.begun (omega (arith, read.reads.1.on));
       header = read.reads.2.1;
-      growing = growing-more c.args.text.now c.args.limit c.sections.at _ c.in_ok-section.section c.sections.grown c.grow.new.grown read.reads.0 read.gives i.growing more.grows more.borrows;
-      stuck = λ e x. i.stuck e (on_section c.args.text.now c.args.limit c.sections.at _ _ e read.gives x);
+      growing = growing-more c.args.text.now c.args.limit c.sections.at _ c.in_ok-section.section c.sections.grown c.grow.new.grown under here read.reads.0 read.section i.growing more.grows more.borrows;
     }
 
 pub returns-in_err-first-clause-gives : goal.returns-in_err-first-clause-gives
 returns-in_err-first-clause-gives c =
     rw (handed_on c.from_residual.result c.in_err-first.field-0.0 c.from_residual.ensures.1)
-    (first-refused c.in_err-first.field-0.0 c.args.text.now c.args.limit c.in_err-first.ensures.gives)
+    (first-refused c.in_err-first.field-0.0 c.args.text.now c.args.limit c.in_err-first.ensures.first)
 
 pub returns-in_err-section-clause-gives : goal.returns-in_err-section-clause-gives
 returns-in_err-section-clause-gives c =
+    let under : c.sections.at < length c.args.text.now = omega arith in
     rw (handed_on c.from_residual-in_err-section.result c.in_err-section.field-0.0 c.from_residual-in_err-section.ensures.1)
-    (section-refused c.in_err-section.field-0.0 c.args.text.now c.args.limit c.sections.at c.sections.invariant.stuck c.in_err-section.ensures.gives)
+    (section-refused c.in_err-section.field-0.0 c.args.text.now c.args.limit c.sections.at c.sections.grown under c.sections.invariant.growing c.in_err-section.ensures.section)
 
 pub returns-clause-gives : goal.returns-clause-gives
 returns-clause-gives c =
@@ -44,7 +50,7 @@ returns-clause-gives c =
     grown-whole c.args.text.now c.args.limit c.sections.at c.sections.grown c.sections.invariant.growing end
 
 pub returns-in-Err-clause-memory : goal.returns-in-Err-clause-memory
-returns-in-Err-clause-memory c = begin-keeps c.args.text.now c.args.limit _ c.in_ok-first.first c.in_ok-first.ensures.gives c.in-Err.ensures.bare
+returns-in-Err-clause-memory c = begin-keeps c.args.text.now c.args.limit _ c.in_ok-first.first c.in_ok-first.ensures.first c.in-Err.ensures.bare
 
 pub returns-in_err-section-clause-memory : goal.returns-in_err-section-clause-memory
 returns-in_err-section-clause-memory c =

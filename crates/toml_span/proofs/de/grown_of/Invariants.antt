@@ -1,18 +1,16 @@
 use Rattle.std.proofs.Common.{◌≡◌, ◌-◌, ◌⊎◌, length, get_or}
 use Rattle.std.specs.Str.{IsCharBoundary}
-use Rattle.toml_span_read.proofs.LineLemmas.{StuckFrom}
 use Rattle.toml_span_read.proofs.MemoryLemmas.{Begun}
 use Rattle.toml_span.proofs.Growth.{Growing}
 use Rattle.toml_span.proofs.de.grown_of.Given as goal
 
--- whatever sections follow, or get stuck, do so behind those that are read
+-- what the sections so far make; whatever is read behind them is the document
 abbrev pub invariant-sections : goal.invariant-sections
 invariant-sections l = record {
   boundary : IsCharBoundary l.text l.at;
   begun : Begun l.text l.at;
   header : (l.at ≡ length l.text) ⊎ (get_or l.text l.at 0 ≡ 91);
   growing : Growing l.text l.limit l.at l.grown;
-  stuck : StuckFrom l.text l.limit l.at;
 }
 
 abbrev pub decreases-sections : goal.decreases-sections
