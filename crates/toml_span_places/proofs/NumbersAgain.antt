@@ -99,9 +99,6 @@ unsigned text n i j d w off =
 abbrev IntegerAt : List ℕ → ℤ → ℕ → ℕ → Type 0
 IntegerAt text z i j = SpellsScalar (integer z) (from_to i j) text i j
 
-kind_view-Integer : (z : ℤ) → kind_view (Integer z) ≡ scalar (integer z)
-kind_view-Integer z = search (rules, the_lemmas)
-
 positive : {text rest : List ℕ} {i j : ℕ} (n : ℕ) → n < 2 ^ 63 → is_date_byte (get_or rest 0 0) ≡ false → Part text (decimal n) rest i j → IntegerAt text (pos n) i j
 positive {text} {rest} {i} {j} n h off p =
     let d = decimal_in n (omega arith) p in

@@ -1,11 +1,10 @@
 -- What is told where another token stands than the one that is due, and where.
-use Rattle.std.proofs.Common.{◌≡◌, ℕ, ◌+◌, ◌≤◌, Bool, true, false, List, length, get_or, arith, inl, inr, refl, ap, sym, ◌∙◌, Result, Ok, Err}
+use Rattle.std.proofs.Common.{◌≡◌, ℕ, ◌≤◌, false, List, length, get_or, arith, inl, inr, refl, ap, sym, ◌∙◌, Err}
 use Rattle.std.proofs.lemmas.Bool.{false≢true}
 use Rattle.toml_span_lex.specs.declared.stop.Stop.{Stop}
 use Rattle.toml_span_lex.specs.declared.stop.Stop.TheVariants as stops
 use Rattle.toml_span_lex.specs.declared.span.Span.{Span}
 use Rattle.toml_span_lex.specs.Tokens.{Lexeme, Stands, string}
-use Rattle.toml_span_lex.proofs.OneFault.{ends}
 use Rattle.toml_span_lex.proofs.Within.{token_within}
 use Rattle.toml_span_read.specs.declared.fault.Found.{Found}
 use Rattle.toml_span_read.specs.declared.fault.Due.{Due}

@@ -33,10 +33,6 @@ handed_on (Err y) x h = ap (λ z. Err z) h
 pub one_more : {A : Type 0} (xs ys : List A) (x : A) → ys ≡ xs ++ (x ∷ []) → length ys ≡ length xs + 1
 one_more xs ys x e = rw e (length-append xs (x ∷ []))
 
-pub map_more : {A B : Type 0} (f : A → B) (xs : List A) (x : A) (rest : List B) → map f (xs ++ (x ∷ [])) ++ rest ≡ map f xs ++ (f x ∷ rest)
-map_more f [] x rest = refl
-map_more f (y ∷ ys) x rest = ap (λ z. f y ∷ z) (map_more f ys x rest)
-
 -- ---- spans
 
 abbrev IsForward : List ℕ → Span → Type 0
@@ -165,21 +161,7 @@ pub past_placed : (header : Bool) (text : List ℕ) (i j : ℕ) (s : SimpleKey) 
 past_placed true text i j s within h = key_placed text i j s _ h
 past_placed false text i j s within h = record { within = within; forward = omega arith }
 
--- ---- strings end within themselves
-
-abbrev IsInside : ℕ → ℕ → Span → Type 0
-IsInside i j s = (i ≤ s.end) × (s.end ≤ j)
-
-span_inside : (b : Bool) (i from to j : ℕ) → i < from → from ≤ to → to < j → IsInside i j (if b then record { start = i; end = i + 1 } else record { start = from; end = to })
-span_inside true i from to j a f l = (omega arith, omega arith)
-span_inside false i from to j a f l = (omega arith, omega arith)
-
--- the span of a string ends within it
-pub string_inside : (text v src : List ℕ) (i j : ℕ) (s : Span) (m : Bool) → IsString text i j s src v m → (i ≤ s.end) × (s.end ≤ j)
-string_inside text v src i j s m h =
-    let f = content_fits (get_or text i 0) m text v h.from h.to j h.content_is in
-    let a = content_from_after m text i h.from h.begins in
-    rw h.span_is (span_inside (not m && h.from == h.to) i h.from h.to j a (omega (arith, f.0)) f.1)
+-- ---- a string starts before it ends
 
 abbrev IsBefore : ℕ → ℕ → Span → Type 0
 IsBefore i j s = (i ≤ j) × (s.start ≤ j)

@@ -1,6 +1,6 @@
 -- How lines, headers and sections are read, step by step.
-use Rattle.std.proofs.Common.{◌≡◌, ℕ, ◌+◌, ◌-◌, ◌<◌, ◌≤◌, ◌⊎◌, zero, suc, Bool, true, false, List, [], ◌∷◌, ◌++◌, length, map, get_or, arith, inl, inr, refl, sym, ◌∙◌, ap, Ok, Err, Result, Option, Some, None}
-use Rattle.std.specs.Prelude.{◌==◌, ◌||◌}
+use Rattle.std.proofs.Common.{◌≡◌, ℕ, ◌+◌, ◌-◌, ◌<◌, ◌⊎◌, zero, suc, Bool, true, false, List, [], ◌∷◌, ◌++◌, length, map, get_or, arith, inl, inr, refl, ap, Ok, Err, Result, Option}
+use Rattle.std.specs.Prelude.{◌==◌}
 use Rattle.toml_span_lex.specs.declared.stop.Stop.{Stop}
 use Rattle.toml_span_lex.specs.declared.stop.Stop.TheVariants as stops
 use Rattle.toml_span_lex.specs.Bytes.{is_blank, MaximalRun}
@@ -16,7 +16,7 @@ use Rattle.toml_span_read.specs.Earlier.{Clear}
 use Rattle.toml_span_read.specs.code.Earlier.{AddsClear}
 use Rattle.toml_span_read.specs.code.Faults.{Gives}
 use Rattle.toml_span_read.specs.code.Keys.{header_found}
-use Rattle.toml_span_read.specs.code.Sections.{lines_found, head_found, first_blocks, first_found, section_found, sections_found}
+use Rattle.toml_span_read.specs.code.Sections.{lines_found, head_found, first_blocks, first_found, section_found}
 use Rattle.toml_span_read.specs.code.Values.{value_found, key_value_found}
 use Rattle.toml_span_read.specs.code.Wanted.{WantedGives}
 use Rattle.toml_span_read.specs.Gaps.{MaximalGap, Equals, NoTail}
@@ -36,7 +36,6 @@ end_is (v ∷ []) zero n a l e = ap (λ z. (key_value z).extent.end) e
 end_is (v ∷ []) (suc k) n a l e = absurd (omega (arith, l))
 end_is (v ∷ w ∷ ws) zero n a l e = absurd (omega (arith, l))
 end_is (v ∷ w ∷ ws) (suc k) n a l e = end_is (w ∷ ws) k (key_value v).extent.end a (omega (arith, l)) e
-
 
 -- how an assignment is read
 abbrev pub assignment : List ℕ → ℕ → ℕ → Reading (KeyValue × ℕ)

@@ -1,5 +1,5 @@
 -- What is read is spelled.
-use Rattle.std.proofs.Common.{◌≡◌, ℕ, zero, suc, ◌+◌, ◌<◌, ◌≤◌, ◌⊎◌, Bool, true, false, List, [], ◌∷◌, ◌++◌, length, get_or, arith, inl, inr, sym, ◌∙◌, refl, ap, append-nil, append_assoc, Result, Ok, Err}
+use Rattle.std.proofs.Common.{◌≡◌, ℕ, zero, suc, ◌+◌, ◌<◌, ◌≤◌, Bool, true, false, List, [], ◌∷◌, ◌++◌, length, get_or, arith, inl, inr, sym, ◌∙◌, refl, ap, append-nil, append_assoc, Result, Ok, Err}
 use Rattle.std.specs.Prelude.{◌==◌, slice_range, codes, if◌then◌else◌, ◌||◌, is_some}
 use Rattle.std.specs.Str.{bytes_eq}
 use Rattle.std.proofs.lemmas.Bool.Decides.{nat_tests}
@@ -14,17 +14,16 @@ use Rattle.toml_span_read.specs.declared.fault.Fault.{Fault}
 use Rattle.toml_span_read.specs.declared.numbers.Numeral.{Numeral}
 use Rattle.toml_span_read.specs.Data.{ParsedValue, parsed, ParsedInner, scalar, array as array_node, inline as inline_node, ParsedItems, no_items, item, ParsedPairs, no_pairs, pair as pair_node, KeyValue, onto, pairs_onto, Block}
 use Rattle.toml_span_read.specs.Dates.{begins_date}
-use Rattle.toml_span_read.specs.Earlier.{Clear}
 use Rattle.toml_span_read.specs.Faults.{begins_bare, begins_number}
 use Rattle.toml_span_read.specs.Gaps.{MaximalGap, Separator, Closes, Tail}
 use Rattle.toml_span_read.specs.Grammar.{from_to, truth_text, SpellsScalar, Spells, SpellsItems, SpellsPairs, SpellsPair, SpellsKeyValue, SpellsKeyValues, SpellsLines, OpensHeader, ClosesHeader, SpellsHeader, first_block, SpellsSection, SpellsSections, SpellsDocument}
-use Rattle.toml_span_read.specs.Keys.{SimpleKey, SpellsKey}
+use Rattle.toml_span_read.specs.Keys.{SpellsKey}
 use Rattle.toml_span_read.specs.Numbers.{IsNumber}
 use Rattle.toml_span_read.specs.Numerals.{Read, ◌>>=◌, scalar_of, special, numeral, number, run_end}
 use Rattle.toml_span_read.specs.Read as read
 use Rattle.toml_span_read.specs.Read.{Reading, Turn, on, done, Loop, ends, stops, goes_on, ValueEnd, Items, Pairs, Blocks, Head, token, text_end, no_token}
 use Rattle.toml_span_read.proofs.KeyLemmas.{key_sound}
-use Rattle.toml_span_read.proofs.NumberLemmas.{bool_cases, byte_is, run_found}
+use Rattle.toml_span_read.proofs.NumberLemmas.{byte_is, run_found}
 use Rattle.toml_span_read.proofs.NumberReads.{Starts, Spelled, numeral_reads}
 use Rattle.toml_span_read.proofs.Places.{run_some, read_within}
 

@@ -1,11 +1,11 @@
 -- What is read section by section.
-use Rattle.std.proofs.Common.{◌≡◌, refl, sym, ap, ◌∙◌, ℕ, List, [], ◌∷◌, ◌++◌, map, length, subst, Ok, Err, Option, Some, None, true}
+use Rattle.std.proofs.Common.{◌≡◌, refl, sym, ap, ◌∙◌, ℕ, List, [], ◌∷◌, ◌++◌, map, subst, Ok, Option, Some, None}
 use Rattle.std.specs.Prelude.{IfSome}
 use Rattle.toml_span_lex.specs.Tokenizer.{FirstPlace}
 use Rattle.toml_span_read.specs.declared.section.Section.{Section}
 use Rattle.toml_span_read.specs.declared.value.Assignment.{Assignment}
 use Rattle.toml_span_read.specs.Borrowed.{AreWrittenRight, IsWrittenRight, assignments_written, section_written, sections_written}
-use Rattle.toml_span_read.specs.Data.{Block, block}
+use Rattle.toml_span_read.specs.Data.{block}
 use Rattle.toml_span_read.specs.Read as read
 use Rattle.toml_span_read.specs.Reading.{HoldsForm}
 use Rattle.toml_span_read.specs.code.Sections.{first_blocks}

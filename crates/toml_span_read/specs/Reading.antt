@@ -14,7 +14,7 @@ use Rattle.toml_span_read.specs.Places.{StartsInside}
 use Rattle.toml_span_read.specs.declared.fault.Fault.{Fault}
 use Rattle.toml_span_read.specs.declared.section.Section.{Section}
 
--- the text spells the sections, or the error tells the fault that the table has where something is due
+-- the text spells the sections, or the error tells the fault that reading it gives
 abbrev pub ReadsDocument : List ℕ → ℕ → Result (Vec Section Global) (Stop Error) → Type 0
 ReadsDocument text limit (Ok found) = SpellsDocument (map block found.items) text limit
 ReadsDocument text limit (Err (stops.Memory e)) = Unit {0}

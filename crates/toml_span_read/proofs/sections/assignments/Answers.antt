@@ -1,9 +1,7 @@
-use Rattle.std.proofs.Common.{arith, rules, [], ◌≡◌, ◌<◌, ℕ, false, length, get_or, map, Vec, Global}
-use Rattle.std.specs.Prelude.{◌==◌}
+use Rattle.std.proofs.Common.{arith, rules, ◌<◌, ℕ, length, map, Vec, Global}
 use Rattle.toml_span_read.specs.declared.value.Assignment.{Assignment}
 use Rattle.toml_span_read.specs.Borrowed.{IsWrittenRight, assignment_written}
 use Rattle.toml_span_read.specs.Data.{key_value}
-use Rattle.toml_span_read.specs.Read.{ends_lines}
 use Rattle.toml_span_read.proofs.BorrowLemmas.{joined_more}
 use Rattle.toml_span_read.proofs.CrossingPlaces.{assignment_spanned, crossing_placed}
 use Rattle.toml_span_read.proofs.LineRead.{goes_further, lines_begin, lines_more, lines_last, lines_stop, line_stops, rest_stops, crossing_stops}

@@ -1,7 +1,7 @@
 use Rattle.std.proofs.Common.{arith, ◌≡◌, ◌<◌, ℕ, length, map, Option, Vec}
 use Rattle.std.specs.Global.{Global}
 use Rattle.toml_span_read.specs.Data.{block}
-use Rattle.toml_span_read.specs.code.Sections.{first_blocks, sections_found}
+use Rattle.toml_span_read.specs.code.Sections.{sections_found}
 use Rattle.toml_span_read.specs.declared.fault.Fault.{Fault}
 use Rattle.toml_span_read.specs.declared.section.Section.{Section}
 use Rattle.toml_span_read.proofs.BorrowLemmas as borrow

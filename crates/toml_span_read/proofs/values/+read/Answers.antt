@@ -1,9 +1,9 @@
-use Rattle.std.proofs.Common.{arith, rules, refl, ap, ◌≡◌, ◌<◌, ◌+◌, ◌-◌, length, map, get_or, true, false}
-use Rattle.std.specs.Prelude.{◌==◌, ◌||◌}
+use Rattle.std.proofs.Common.{arith, rules, refl, ap, ◌≡◌, ◌+◌, ◌-◌, length, map, get_or, true, false}
+use Rattle.std.specs.Prelude.{◌==◌}
 use Rattle.toml_span_read.specs.Gaps.{MaximalGap}
 use Rattle.toml_span_read.specs.Keys.{parts}
 use Rattle.toml_span_read.specs.Read.{value}
-use Rattle.toml_span_read.specs.Faults.{opens_nested, begins_bare}
+use Rattle.toml_span_read.specs.Faults.{opens_nested}
 use Rattle.toml_span_read.specs.Borrowed.{IsWrittenRight, written, assignment_written}
 use Rattle.toml_span_read.specs.Data.{view, key_value, no_items, no_pairs, onto, pairs_onto, array as array_node, inline as inline_node}
 use Rattle.toml_span_read.proofs.BorrowLemmas.{joined_more, assignment_right}
