@@ -14,7 +14,7 @@ use Rattle.toml_span.proofs.Grafts.{same_step-self}
 use Rattle.toml_span.proofs.EachClaim.{same_path-eq}
 use Rattle.toml_span.proofs.Refusals.{spelled-headed}
 use Rattle.toml_span_laws.specs.Clashing.{IsIn}
-use Rattle.toml_span_laws.proofs.FirstPair.{in-cases}
+use Rattle.toml_span_laws.proofs.Apart.{in-cases}
 use Rattle.toml_span_laws.proofs.Scoped.{Fits, Scoped, document-scoped}
 
 -- ---- what decides in a list behind another

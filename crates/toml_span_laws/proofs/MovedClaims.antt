@@ -183,11 +183,11 @@ decides-moved from to p r xs ys h =
 -- ---- clashes
 
 clash-moved : (from to : ℕ) (p r : Path) (c x d y : Claim) → Moves from to p r c d → Moves from to p r x y → DoClash d y → DoClash c x
-clash-moved from to p r c x d y m n (told, clashes) =
-    let (same, (b, blames)) = clash-blames d y told clashes in
+clash-moved from to p r c x d y m n clashes =
+    let (same, (b, blames)) = clash-blames d y clashes in
     let (t, c_is, d_is) = m.beside in
     let (u, x_is, y_is) = n.beside in
-    let tails = append_cancel_left r t u (sym d_is ∙ same_path-eq d.path y.path same ∙ y_is) in
+    let tails = append_cancel_left r t u (sym d_is ∙ same ∙ y_is) in
     do-clash c x b (c_is ∙ ap (λ l. p ++ l) tails ∙ sym x_is) (ap (λ s. blame s x.mark.sort) (sym m.sort) ∙ ap (blame d.mark.sort) (sym n.sort) ∙ blames)
 
 pub resolves-moved : (from to : ℕ) (p r : Path) (xs ys : Claims) (e f : List Claim) → AreMoved from to p r xs ys → AllMoved from to p r e f → AreFree e xs → AreFree f ys
