@@ -8,8 +8,7 @@ use Rattle.toml_span_read.specs.Data.{ParsedValue, parsed, ParsedInner, scalar, 
 use Rattle.toml_span_read.specs.Grammar.{from_to, Spells, SpellsInner, SpellsItems, SpellsPairs, SpellsKeyValues, first_block, last_end, SpellsSections, SpellsDocument}
 use Rattle.toml_span_read.specs.Keys.{SimpleKey}
 use Rattle.toml_span_read.specs.Places.{Ascend}
-use Rattle.toml_span_laws.specs.Places.{BlocksAscend}
-use Rattle.toml_span_laws.proofs.AscendLaws.{document_ascends}
+use Rattle.toml_span_laws.proofs.AscendLaws.{ascend_wide, header_ascend}
 use Rattle.toml_span_read.proofs.InsideLemmas.{tail_inside}
 use Rattle.toml_span_read.proofs.KeyOrder.{dotted_ascend}
 use Rattle.toml_span_read.proofs.SpanLaws.{value_lies}
@@ -166,25 +165,25 @@ mutual
 
   items-rise : (vs : ParsedItems) (n : ℕ) (q : Path) (text : List ℕ) (limit d i j : ℕ) → SpellsItems vs text limit d i j → Rise (item_claims vs n q) i j
   items-rise no_items n q text limit d i j h = rise-none i j (omega (arith, h.1))
-  items-rise (item v vs) n q text limit d i j (m, h, inl (e, close)) =
-      element-rises v (with_position q n) (item_claims vs (suc n) q) text limit d i m j h (rw e (rise-none (m + 1) j (omega (arith, close.before.forward, close.ends))))
-  items-rise (item v vs) n q text limit d i j (m, h, inr (p, sign, rest)) =
-      element-rises v (with_position q n) (item_claims vs (suc n) q) text limit d i m j h
-      (rise-wide (item_claims vs (suc n) q) (m + 1) p j j (omega (arith, sign.before.forward, sign.behind.forward)) (omega arith) (items-rise vs (suc n) q text limit d p j rest))
+  items-rise (item v vs) n q text limit d i j (m, h, then) =
+      element-rises v (with_position q n) (item_claims vs (suc n) q) text limit d i m j h (elim then [
+        | inl (e, close) ↦ rw e (rise-none (m + 1) j (omega (arith, close.before.forward, close.ends)))
+        | inr (p, sign, rest) ↦
+            rise-wide (item_claims vs (suc n) q) (m + 1) p j j (omega (arith, sign.before.forward, sign.behind.forward)) (omega arith) (items-rise vs (suc n) q text limit d p j rest)
+      ])
 
   pairs-rise : (ps : ParsedPairs) (es : List KeyValue) (q : Path) (text : List ℕ) (limit d i j : ℕ) → SpellsPairs ps es text limit d i j → Rise (pair_claims ps q) i j
   pairs-rise no_pairs es q text limit d i j h = rise-none i j (omega (arith, h.1))
-  pairs-rise (pair ss v x ps) es q text limit d i j (m, (a, b, key, few, sign, h, extent), clear, inl (e, close)) =
+  pairs-rise (pair ss v x ps) es q text limit d i j (m, (a, b, key, few, sign, h, extent), clear, then) =
       rise-followed (key_claims q ss v (value_claims v)) (pair_claims ps q) i m j
       (key-rises q ss v (value_claims v) i a m (dotted_ascend ss text i a key).0
       (λ r. rise-wide (value_claims v r) a b m m (omega (arith, sign.before.forward, sign.behind.forward)) (omega arith) (value-rises v r text limit (d + length ss) b m h)))
-      (rw e (rise-none m j (omega (arith, close.before.forward, close.ends))))
-  pairs-rise (pair ss v x ps) es q text limit d i j (m, (a, b, key, few, sign, h, extent), clear, inr (p, comma, rest)) =
-      rise-followed (key_claims q ss v (value_claims v)) (pair_claims ps q) i m j
-      (key-rises q ss v (value_claims v) i a m (dotted_ascend ss text i a key).0
-      (λ r. rise-wide (value_claims v r) a b m m (omega (arith, sign.before.forward, sign.behind.forward)) (omega arith) (value-rises v r text limit (d + length ss) b m h)))
-      (rise-wide (pair_claims ps q) m p j j (omega (arith, comma.before.forward, comma.behind.forward)) (omega arith)
-      (pairs-rise ps (es ++ (record { parts = ss; value = v; extent = x } ∷ [])) q text limit d p j rest))
+      (elim then [
+        | inl (e, close) ↦ rw e (rise-none m j (omega (arith, close.before.forward, close.ends)))
+        | inr (p, comma, rest) ↦
+            rise-wide (pair_claims ps q) m p j j (omega (arith, comma.before.forward, comma.behind.forward)) (omega arith)
+            (pairs-rise ps (es ++ (record { parts = ss; value = v; extent = x } ∷ [])) q text limit d p j rest)
+      ])
 
 key_values-rise : (es before : List KeyValue) (q : Path) (text : List ℕ) (limit i j : ℕ) → SpellsKeyValues es before text limit i j → Rise (key_value_claims es q) i j
 unfolding key_value_claims
@@ -227,27 +226,25 @@ section-rises e b before text limit h i k j a l s =
     rise-followed (header_claims e (head_of b) [] b.header) (key_value_claims b.key_values q) h i j
     (header-rises e (head_of b) [] b.header h i a) (rise-wide (key_value_claims b.key_values q) i k j j l (omega arith) (key_values-rise b.key_values before q text limit k j s))
 
-sections-rise : (earlier bs : List Block) (text : List ℕ) (limit n i : ℕ) → SpellsSections bs text limit i → BlocksAscend bs n (length text) → Rise (claims_behind earlier bs) i (length text)
+sections-rise : (earlier bs : List Block) (text : List ℕ) (limit i : ℕ) → SpellsSections bs text limit i → Rise (claims_behind earlier bs) i (length text)
 unfolding claims_behind
-sections-rise earlier [] text limit n i h a = rise-none i (length text) (omega (arith, h))
-sections-rise earlier (b ∷ bs) text limit n i (j, s, rest) a =
+sections-rise earlier [] text limit i h = rise-none i (length text) (omega (arith, h))
+sections-rise earlier (b ∷ bs) text limit i (j, s, rest) =
     let e = elements_added (opened_by earlier) in
-    let header = subst (λ (t : Span). Ascend b.header t.start t.end) s.header_span a.1 in
+    let header = ascend_wide b.header i (i + 1) s.end s.end (omega arith) (omega arith) (header_ascend b.header b.array text limit i s.end s.header) in
     rise-followed (section_claims e b) (claims_behind (b ∷ earlier) bs) i j (length text)
-    (section-rises e b [] text limit i s.end s.lines.0 j header s.lines.1.forward s.lines.2) (sections-rise (b ∷ earlier) bs text limit b.extent.end j rest a.3)
+    (section-rises e b [] text limit i s.end s.lines.0 j header s.lines.1.forward s.lines.2) (sections-rise (b ∷ earlier) bs text limit j rest)
 
-first-rises : (es : List KeyValue) (bs : List Block) (text : List ℕ) (limit i j : ℕ) → SpellsKeyValues es [] text limit i j → SpellsSections bs text limit j
-    → BlocksAscend (first_block es ++ bs) 0 (length text) → Rise (claims (first_block es ++ bs)) 0 (length text)
+first-rises : (es : List KeyValue) (bs : List Block) (text : List ℕ) (limit i j : ℕ) → SpellsKeyValues es [] text limit i j → SpellsSections bs text limit j → Rise (claims (first_block es ++ bs)) 0 (length text)
 unfolding claims_behind opened_by
-first-rises [] bs text limit i j h rest a = rise-wide (claims bs) 0 j (length text) (length text) (omega arith) (omega arith) (sections-rise [] bs text limit 0 j rest a)
-first-rises (e ∷ es) bs text limit i j h rest a =
-    let b : Block = record { header = []; array = false; header_span = record { start = 0; end = 0 }; extent = record { start = e.extent.start; end = last_end e.extent.end es }; key_values = e ∷ es } in
+first-rises [] bs text limit i j h rest = rise-wide (claims bs) 0 j (length text) (length text) (omega arith) (omega arith) (sections-rise [] bs text limit j rest)
+first-rises (e ∷ es) bs text limit i j h rest =
+    let b : Block = record { header = []; array = false; header_span = from_to 0 0; extent = from_to e.extent.start (last_end e.extent.end es); key_values = e ∷ es } in
     rise-followed (section_claims (elements_added []) b) (claims_behind (b ∷ []) bs) 0 j (length text)
-    (section-rises (elements_added []) b [] text limit 0 0 i j (omega arith) (omega arith) h) (sections-rise (b ∷ []) bs text limit (last_end e.extent.end es) j rest a.3)
+    (section-rises (elements_added []) b [] text limit 0 0 i j (omega arith) (omega arith) h) (sections-rise (b ∷ []) bs text limit j rest)
 
 pub document-rises : (bs : List Block) (text : List ℕ) (limit : ℕ) → SpellsDocument bs text limit → Rise (claims bs) 0 (length text)
-document-rises bs text limit x =
-    rw x.all (first-rises x.first x.rest text limit x.lines.0 x.end x.lines.2 x.sections (subst (λ l. BlocksAscend l 0 (length text)) x.all (document_ascends bs text limit x)))
+document-rises bs text limit x = rw x.all (first-rises x.first x.rest text limit x.lines.0 x.end x.lines.2 x.sections)
 
 pub document-ascends : (bs : List Block) (text : List ℕ) (limit : ℕ) → SpellsDocument bs text limit → Ascends (all_claims (claims bs))
 document-ascends bs text limit x = rising-ascends (all_claims (claims bs)) 0 (length text) (document-rises bs text limit x)

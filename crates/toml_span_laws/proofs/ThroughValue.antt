@@ -13,14 +13,14 @@ use Rattle.toml_span.specs.Claims.{Claim, Claims, no_claims, claimed, scope, fol
 use Rattle.toml_span.specs.Clashes.{blame}
 use Rattle.toml_span.specs.Flat.{all_claims, by_header}
 use Rattle.toml_span.specs.Paths.{same_path, with_key, with_position, enter, target, elements_added, opened_by, section_path}
-use Rattle.toml_span.proofs.EachClaim.{same_path-eq}
 use Rattle.toml_span_laws.specs.Clashing.{IsIn, IsPair, IsFirstPair, own}
 use Rattle.toml_span_laws.specs.Order.{claim_start}
-use Rattle.toml_span_laws.proofs.Apart.{in-right}
+use Rattle.toml_span_laws.proofs.Apart.{IsLater, Pairs, in-cases, in-right, pairs-split, rising-later}
 use Rattle.toml_span_laws.proofs.EntryDecides.{path-self}
-use Rattle.toml_span_laws.proofs.FirstPair.{free-of, in-cases, clash-blames, later-plain, pair-in, pair-clash, Rises, rises-left, rises-right, rises-without, rising-rises, behind-claim, strictly}
+use Rattle.toml_span_laws.proofs.FirstPair.{clash-blames, free-of, pair-late}
+use Rattle.toml_span_laws.proofs.Headed.{Headed, header-headed}
 use Rattle.toml_span_laws.proofs.KeyWays.{Bases, Guarded, Known, Traced, Way, key_values-walk, guarded-followed, way-last, way-on, way-under}
-use Rattle.toml_span_laws.proofs.OneScope.{Peaceful, do-clash, peaceful-across, peaceful-push, peaceful-two}
+use Rattle.toml_span_laws.proofs.OneScope.{Peaceful, do-clash, peaceful-across, peaceful-push, peaceful-two, two-of}
 use Rattle.toml_span_laws.proofs.Order.{document-rises}
 use Rattle.toml_span_laws.proofs.Scoped.{Has, front-same, has-on, key-position, last-same, own-followed}
 
@@ -31,10 +31,6 @@ abbrev Opened : (Path → ℕ) → List Claim → Path → Type 0
 Opened e l p =
     (p ≡ []) ⊎ ((q : Path) × (k : List ℕ) × (p ≡ q ++ (key k ∷ [])) × Has l StandardTable p) ⊎ ((q : Path) × (n : ℕ) × (p ≡ with_position q n) × (n < e q))
 
-nil-snoc : (p : Path) (s : Step) → [] ≡ p ++ (s ∷ []) → ⊥
-nil-snoc [] s h = cc
-nil-snoc (x ∷ p) s h = cc
-
 nil-under : (a : Path) (s : Step) (rest : Path) → [] ≡ a ++ (s ∷ rest) → ⊥
 nil-under [] s rest h = cc
 nil-under (x ∷ a) s rest h = cc
@@ -42,7 +38,7 @@ nil-under (x ∷ a) s rest h = cc
 -- a table that is opened and made by a dotted key
 twice-made : (l : List Claim) (p : Path) → Peaceful l → Has l StandardTable p → Has l Dotted p → ⊥
 twice-made l p peace (c, here, is, on) (d, there, made, at) =
-    peaceful-two l c d peace here there (λ same. let no : StandardTable ≡ Dotted = sym is ∙ same ∙ made in cc)
+    peaceful-two l c d peace (two-of l c d here there (λ same. let no : StandardTable ≡ Dotted = sym is ∙ same ∙ made in cc))
     (do-clash c d DuplicateKey (on ∙ sym at) (ap (λ s. blame s d.mark.sort) is ∙ ap (blame StandardTable) made))
     (do-clash d c DuplicateKey (at ∙ sym on) (ap (λ s. blame s c.mark.sort) made ∙ ap (blame Dotted) is))
 
@@ -64,42 +60,19 @@ opened-bases e = record {
 
 -- ---- headers
 
--- only headers' claims, and no scopes
-abbrev Headed : Claims → Type 0
-Headed no_claims = ⊤
-Headed (claimed c cs) = (by_header c.mark.sort ≡ true) × Headed cs
-Headed (scope inner cs) = ⊥
+abbrev OfHeader : Claim → Type 0
+OfHeader c = by_header c.mark.sort ≡ true
 
-headed-guarded : (l : List Claim) (cs : Claims) → Headed cs → Guarded l cs
+headed-guarded : (l : List Claim) (cs : Claims) → Headed OfHeader cs → Guarded l cs
 headed-guarded l no_claims h = tt
-headed-guarded l (claimed c cs) h = (
-  (λ is. absurd (let no : false ≡ true = sym (ap by_header is) ∙ h.0 in cc)),
-  headed-guarded (l ++ (c ∷ [])) cs h.1,
-)
+headed-guarded l (claimed c cs) h = (λ is. absurd (let no : false ≡ true = sym (ap by_header is) ∙ h.0 in cc), headed-guarded (l ++ (c ∷ [])) cs h.1)
 headed-guarded l (scope inner cs) h = absurd h
 
-headed-plain : (cs : Claims) (c : Claim) → Headed cs → IsIn c (own cs) → c.mark.sort ≡ Assigned → ⊥
+headed-plain : (cs : Claims) (c : Claim) → Headed OfHeader cs → IsIn c (own cs) → c.mark.sort ≡ Assigned → ⊥
 headed-plain no_claims c h here is = here
 headed-plain (claimed x cs) c h (inl same) is = let no : false ≡ true = sym (ap by_header (ap (λ y. y.mark.sort) (sym same) ∙ is)) ∙ h.0 in cc
 headed-plain (claimed x cs) c h (inr more) is = headed-plain cs c h.1 more is
 headed-plain (scope inner cs) c h here is = h
-
-entry-headed : (h : Head) (p : Path) (k : SimpleKey) (n : ℕ) → Headed (array_claims h p k n (claimed (header_claim h TableElement (with_position p n) k) no_claims))
-entry-headed h p k zero = (refl, (refl, tt))
-entry-headed h p k (suc n) = (refl, tt)
-
-end-headed : (h : Head) (p : Path) (k : SimpleKey) (n : ℕ) → Headed (end_claims h p k n)
-unfolding end_claims
-end-headed h p k n = elim (cases_Bool h.array) [
-  | inl double ↦ rw double (entry-headed h p k n)
-  | inr single ↦ rw single (refl, tt)
-]
-
-header-headed : (e : Path → ℕ) (h : Head) (p : Path) (parts : List SimpleKey) → Headed (header_claims e h p parts)
-unfolding header_claims
-header-headed e h p [] = tt
-header-headed e h p (k ∷ []) = end-headed h (with_key p k) k (e (with_key p k))
-header-headed e h p (k ∷ l ∷ more) = (refl, header-headed e h (enter (e (with_key p k)) (with_key p k)) (l ∷ more))
 
 -- what a header in single brackets opens
 section-there : (e : Path → ℕ) (h : Head) (p : Path) (k : SimpleKey) (parts : List SimpleKey) → h.array ≡ false → Has (own (header_claims e h p (k ∷ parts))) StandardTable (target e p (k ∷ parts))
@@ -131,7 +104,7 @@ counted-here : (before : List Path) (t : Path) → elements_added before t < ele
 counted-here before t = rw (path-self t) (omega arith)
 
 new-entry : (before : List Path) (l all : List Claim) (t p : Path) → Opened (elements_added before) l p → p ≡ with_position t (elements_added before t) → Peaceful all → ⊥
-new-entry before l all t p (inl none) same peace = nil-snoc t (position (elements_added before t)) (sym none ∙ same)
+new-entry before l all t p (inl none) same peace = nil-under t (position (elements_added before t)) [] (sym none ∙ same)
 new-entry before l all t p (inr (inl (q, k, is, found))) same peace = key-position q t k (elements_added before t) (sym is ∙ same)
 new-entry before l all t p (inr (inr (q, n, is, few))) same peace =
     let n_is : position n ≡ position (elements_added before t) = last-same q t (position n) (position (elements_added before t)) (sym is ∙ same) in
@@ -140,7 +113,7 @@ new-entry before l all t p (inr (inr (q, n, is, few))) same peace =
     omega (arith, few, m_is, t_is)
 
 new-table : (before : List Path) (l more : List Claim) (t : Path) (q : Path) (k : List ℕ) (p : Path) → t ≡ q ++ (key k ∷ []) → Has more StandardTable t → Opened (elements_added before) l p → p ≡ t → Peaceful (l ++ more) → ⊥
-new-table before l more t q k p is found (inl none) same peace = nil-snoc q (key k) (sym none ∙ same ∙ is)
+new-table before l more t q k p is found (inl none) same peace = nil-under q (key k) [] (sym none ∙ same ∙ is)
 new-table before l more t q k p is (d, there, later, at) (inr (inl (r, n, on, (c, here, earlier, first)))) same peace =
     peaceful-across l more c d peace here there (do-clash c d DuplicateTable (first ∙ same ∙ sym at) (ap (λ s. blame s d.mark.sort) earlier ∙ ap (blame StandardTable) later))
 new-table before l more t q k p is found (inr (inr (r, n, on, few))) same peace = key-position q r k n (sym is ∙ sym same ∙ on)
@@ -190,6 +163,7 @@ section-walk earlier b l text limit i j k parts is lines traced =
     let e = elements_added (opened_by earlier) in
     let f = elements_added (opened_by (b ∷ earlier)) in
     let head = header_claims e (head_of b) [] b.header in
+    let headed : Headed OfHeader head = header-headed OfHeader (head_of b) (λ s q k header. header) e [] b.header in
     let all = l ++ own head in
     let base = section_path e b in
     let start : Begins (opened_by earlier) (opened_by (b ∷ earlier)) l all base = rw is (begins b.array (opened_by earlier) e l (head_of b) k parts refl refl) in
@@ -199,13 +173,13 @@ section-walk earlier b l text limit i j k parts is lines traced =
             record { base = t.base; root = opened-more e f l (own head) t.base start.grows t.root; way = way-on l (own head) t.base c.path t.way },
             λ same peace. absurd (start.new t.base t.root same peace),
           )
-      | inr new ↦ absurd (headed-plain head c (header-headed e (head_of b) [] b.header) new sort)
+      | inr new ↦ absurd (headed-plain head c headed new sort)
     ]) in
     let behind = key_value_claims b.key_values base in
     let placed = assigned-walk f base b.key_values all text limit i j lines start.root known in
     let whole : all ++ own behind ≡ l ++ own (followed head behind) = append_assoc l (own head) (own behind) ∙ ap (λ x. l ++ x) (sym (own-followed head behind)) in
     record {
-      guarded = guarded-followed l head behind (headed-guarded l head (header-headed e (head_of b) [] b.header)) placed.guarded;
+      guarded = guarded-followed l head behind (headed-guarded l head headed) placed.guarded;
       traced = subst (λ xs. AllTraced f xs) whole placed.traced;
     }
 
@@ -239,25 +213,24 @@ document-guarded bs text limit h = subst (λ l. Guarded [] (claims l)) (sym h.al
 
 -- ---- the first pair
 
-pair-guarded : (earlier : List Claim) (cs : Claims) (c d : Claim) → Guarded earlier cs → Peaceful earlier → Rises (earlier ++ all_claims cs) → IsPair earlier cs c d
+pair-guarded : (earlier : List Claim) (cs : Claims) (c d : Claim) → Guarded earlier cs → Peaceful earlier → Pairs IsLater (all_claims cs) → IsPair earlier cs c d
     → ((e f : Claim) → IsPair earlier cs e f → (f ≡ d) ⊎ (claim_start d < claim_start f)) → c.mark.sort ≡ Assigned → d.mark.sort ≡ Dotted → ⊥
 unfolding all_claims
 pair-guarded earlier no_claims c d g peace r h first value through = h
-pair-guarded earlier (claimed x cs) c d g peace r (inl (same, here, (t, clashes))) first value through =
-    let dotted : x.mark.sort ≡ Dotted = ap (λ y. y.mark.sort) (sym same) ∙ through in
-    g.0 dotted peace c here value (same_path-eq c.path d.path (clash-blames c d t clashes).0 ∙ ap (λ y. y.path) same)
+pair-guarded earlier (claimed x cs) c d g peace r (inl (same, here, clashes)) first value through =
+    g.0 (ap (λ y. y.mark.sort) (sym same) ∙ through) peace c here value ((clash-blames c d clashes).0 ∙ ap (λ y. y.path) same)
 pair-guarded earlier (claimed x cs) c d g peace r (inr more) first value through =
-    let late = strictly x d (behind-claim earlier x cs r d (pair-in (earlier ++ (x ∷ [])) cs c d more)) (later-plain c d (pair-clash (earlier ++ (x ∷ [])) cs c d more)) in
+    let late = pair-late (earlier ++ (x ∷ [])) cs x c d r.0 more in
     let free = free-of earlier x (λ e here clashes. elim (first e x (inl (refl, here, clashes))) [
       | inl same ↦ let at = ap claim_start same in omega (arith, late, at)
       | inr early ↦ omega (arith, late, early)
     ]) in
-    pair-guarded (earlier ++ (x ∷ [])) cs c d g.1 (peaceful-push earlier x peace free) (rw (append_assoc earlier (x ∷ []) (all_claims cs)) r) more (λ e f h. first e f (inr h)) value through
+    pair-guarded (earlier ++ (x ∷ [])) cs c d g.1 (peaceful-push earlier x peace free) r.1 more (λ e f h. first e f (inr h)) value through
 pair-guarded earlier (scope inner cs) c d g peace r (inl inside) first value through =
-    pair-guarded [] inner c d g.0 tt (rises-left (all_claims inner) (all_claims cs) (rises-right earlier (all_claims inner ++ all_claims cs) r)) inside (λ e f h. first e f (inl h)) value through
+    pair-guarded [] inner c d g.0 tt (pairs-split IsLater (all_claims inner) (all_claims cs) r).0 inside (λ e f h. first e f (inl h)) value through
 pair-guarded earlier (scope inner cs) c d g peace r (inr more) first value through =
-    pair-guarded earlier cs c d g.1 peace (rises-without earlier (all_claims inner) (all_claims cs) r) more (λ e f h. first e f (inr h)) value through
+    pair-guarded earlier cs c d g.1 peace (pairs-split IsLater (all_claims inner) (all_claims cs) r).1 more (λ e f h. first e f (inr h)) value through
 
 pub never-through : (text : List ℕ) (limit : ℕ) (bs : List Block) (c d : Claim) → SpellsDocument bs text limit → IsFirstPair [] (claims bs) c d → c.mark.sort ≡ Assigned → d.mark.sort ≡ Dotted → ⊥
 never-through text limit bs c d h is value through =
-    pair-guarded [] (claims bs) c d (document-guarded bs text limit h) tt (rising-rises (all_claims (claims bs)) 0 (length text) (document-rises bs text limit h)) is.pair is.first value through
+    pair-guarded [] (claims bs) c d (document-guarded bs text limit h) tt (rising-later (all_claims (claims bs)) 0 (length text) (document-rises bs text limit h)) is.pair is.first value through
