@@ -1,29 +1,25 @@
 -- Where no two claims clash, a claim that assigns in brackets stands alone on its path, and below it stand its value's claims alone.
-use Rattle.std.proofs.Common.{◌≡◌, ℕ, ◌⊎◌, List, [], ◌∷◌, ◌++◌, Option, Some, None, refl, sym, ap, ◌∙◌, subst, append_assoc, append-nil, inl, inr}
+use Rattle.std.proofs.Common.{◌≡◌, ℕ, List, [], ◌∷◌, ◌++◌, Option, Some, None, refl, sym, ap, ◌∙◌, subst, append-nil, inl, inr}
 use Rattle.std.proofs.lemmas.Bool.{cases_Bool}
-use Rattle.std.proofs.lemmas.Option.{none-some, same_Some}
 use Rattle.toml_span_tree.specs.Node.{Scalar}
 use Rattle.toml_span_tree.specs.Path.{Path, shape_scalar}
 use Rattle.toml_span_read.specs.Data.{ParsedValue, parsed, scalar, array, inline, parsed_span, Block}
 use Rattle.toml_span_read.specs.Grammar.{SpellsDocument}
-use Rattle.toml_span.specs.declared.claims.Blame.TheVariants.{DuplicateKey}
-use Rattle.toml_span.specs.declared.claims.Sort.{Sort}
-use Rattle.toml_span.specs.declared.claims.Sort.TheVariants.{Passed, StandardTable, ArrayOfTables, TableElement, Dotted, Assigned}
+use Rattle.toml_span.specs.declared.claims.Sort.TheVariants.{Assigned}
 use Rattle.toml_span.specs.Claims.{Claim, Claims, no_claims, claimed, scope, followed, value_claims, inner_claims, item_claims, pair_claims, value_shape, parsed_inner, claims}
-use Rattle.toml_span.specs.Clashes.{blame, Resolves}
+use Rattle.toml_span.specs.Clashes.{Resolves}
 use Rattle.toml_span.specs.Flat.{all_claims, claims_at}
 use Rattle.toml_span.specs.Paths.{same_path}
 use Rattle.toml_span.proofs.EachClaim.{same_path-eq}
-use Rattle.toml_span.proofs.Refusals.{spelled-headed}
-use Rattle.toml_span_laws.specs.Clashing.{IsIn, own}
+use Rattle.toml_span_laws.specs.Clashing.{IsIn}
 use Rattle.toml_span_laws.specs.Laws.{AssignsAgain, ValueReadsAgain}
-use Rattle.toml_span_laws.proofs.FirstClash.{AreFree, are-free}
+use Rattle.toml_span_laws.proofs.FirstClash.{AreFree}
 use Rattle.toml_span_laws.proofs.Apart.{in-cases}
 use Rattle.toml_span_laws.proofs.ClaimedValues.{document-again}
 use Rattle.toml_span_laws.proofs.EntryDecides.{at-append}
 use Rattle.toml_span_laws.proofs.OneScope.{Scene, claim-before, document-scene, outside, scene-after, scene-claimed, scene-inside, scope-before, scoped-under, under-from}
 use Rattle.toml_span_laws.proofs.Order.{all_claims-followed}
-use Rattle.toml_span_laws.proofs.Scoped.{IsFrom, IsUnder, document-scoped}
+use Rattle.toml_span_laws.proofs.Scoped.{IsUnder}
 
 -- ---- claims at a path
 

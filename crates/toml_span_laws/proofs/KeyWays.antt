@@ -1,5 +1,5 @@
 -- The way of each key from the table of its section, and that a clear one goes through no value of its section.
-use Rattle.std.proofs.Common.{◌≡◌, ℕ, suc, ◌+◌, ◌⊎◌, List, [], ◌∷◌, ◌++◌, length, length-append, map, arith, refl, sym, ap, ◌∙◌, subst, append_assoc, append-nil, inl, inr}
+use Rattle.std.proofs.Common.{◌≡◌, ℕ, suc, ◌+◌, List, [], ◌∷◌, ◌++◌, length, length-append, map, arith, refl, sym, ap, ◌∙◌, subst, append_assoc, append-nil, inl, inr}
 use Rattle.std.specs.Prelude.{⊤}
 use Rattle.std.proofs.lemmas.List.{append_cancel_left, map-append}
 use Rattle.toml_span_lex.specs.declared.span.Span.{Span}
@@ -14,7 +14,7 @@ use Rattle.toml_span.specs.Paths.{with_key, with_position}
 use Rattle.toml_span_laws.specs.Clashing.{DoClash, IsIn, own}
 use Rattle.toml_span_laws.proofs.Apart.{in-cases, in-right, pairs-split}
 use Rattle.toml_span_laws.proofs.OneScope.{Peaceful}
-use Rattle.toml_span_laws.proofs.Scoped.{Has, IsUnder, front-same, has-on, own-followed}
+use Rattle.toml_span_laws.proofs.Scoped.{Has, IsUnder, Walk, front-same, has-on, walk-claimed, walk-followed}
 
 -- ---- ways
 
@@ -136,9 +136,8 @@ guarded-followed earlier (claimed c xs) ys h g =
 guarded-followed earlier (scope inner xs) ys h g = (h.0, guarded-followed earlier xs ys h.1 g)
 
 -- claims behind these earlier ones, with the values of these assignments
-pub record Walked (R : List Claim → Path → Type 0) (base : Path) (es : List KeyValue) (l : List Claim) (cs : Claims) : Type 0 where
-  pub guarded : Guarded l cs
-  pub known : Known R base es (l ++ own cs)
+abbrev pub Walked : (List Claim → Path → Type 0) → Path → List KeyValue → List Claim → Claims → Type 0
+Walked R base es l cs = Walk Guarded (Known R base es) l cs
 
 -- the path of a part behind outer ones
 part-at : (base p : Path) (outer : List SimpleKey) (k : SimpleKey) → p ≡ base ++ keys outer → with_key p k ≡ base ++ keys (outer ++ (k ∷ []))
@@ -151,8 +150,8 @@ key-walk : (R : List Claim → Path → Type 0) (laws : Bases R) (base : Path) (
     → ((q : Path) → own (inside q) ≡ []) → ((q : Path) (m : List Claim) → Guarded m (inside q)) → Walked R base (es ++ (next ∷ [])) l (key_claims p parts v inside)
 unfolding key_claims
 key-walk R laws base es next outer [] v inside l p clear root is on way known none inner = record {
-  guarded = tt;
-  known = known-on R laws base es (es ++ (next ∷ [])) l [] known (λ names. none-before names es next) (λ c here sort. absurd here);
+  tree = tt;
+  all = known-on R laws base es (es ++ (next ∷ [])) l [] known (λ names. none-before names es next) (λ c here sort. absurd here);
 }
 key-walk R laws base es next outer (k ∷ []) v inside l p clear root is on way known none inner =
     let q = with_key p k in
@@ -161,8 +160,8 @@ key-walk R laws base es next outer (k ∷ []) v inside l p clear root is on way 
     let mine : Traced R (l ++ (a ∷ [])) q = record { base = base; root = laws.more l (a ∷ []) base root; way = way-on l (a ∷ []) base q (way k) } in
     let found : Bars base (es ++ (next ∷ [])) q = λ names none there. none-last names es next none (key-names (part_names next.parts) names (append_cancel_left base (keys next.parts) (map key names) (sym at ∙ there))) in
     record {
-      guarded = ((λ dotted. absurd (let no : Assigned ≡ Dotted = dotted in cc)), inner q (l ++ (a ∷ [])));
-      known = subst (λ xs. Known R base (es ++ (next ∷ [])) (l ++ (a ∷ xs))) (sym (none q))
+      tree = ((λ dotted. absurd (let no : Assigned ≡ Dotted = dotted in cc)), inner q (l ++ (a ∷ [])));
+      all = subst (λ xs. Known R base (es ++ (next ∷ [])) (l ++ (a ∷ xs))) (sym (none q))
           (known-on R laws base es (es ++ (next ∷ [])) l (a ∷ []) known (λ names. none-before names es next) (λ c here sort. elim here [
             | inl same ↦ subst (λ x. Traced R (l ++ (a ∷ [])) x.path × Bars base (es ++ (next ∷ [])) x.path) (sym same) (mine, found)
             | inr none ↦ absurd none
@@ -177,18 +176,13 @@ key-walk R laws base es next outer (k ∷ m ∷ more) v inside l p clear root is
       | inl same ↦ absurd (let no : Dotted ≡ Assigned = ap (λ x. x.mark.sort) (sym same) ∙ sort in cc)
       | inr none ↦ absurd none
     ]) in
-    let rest = key-walk R laws base es next (outer ++ (k ∷ [])) (m ∷ more) v inside (l ++ (d ∷ [])) q clear (laws.more l (d ∷ []) base root) (is ∙ sym (append_assoc outer (k ∷ []) (m ∷ more))) at
-    (λ n. next_key (with_key q n) q n.name refl there (way-on l (d ∷ []) base q (way k))) plain none inner in
-    record {
-      guarded = (
-        (λ dotted peace e here sort same.
-            let (t, from) = known e here sort in
-            let one = one-base R laws l t.base base e.path q same t.root root peace t.way (way k) in
-            not-clear base es next outer k m more e.path clear is (from one peace) (same ∙ at)),
-        rest.guarded,
-      );
-      known = subst (λ xs. Known R base (es ++ (next ∷ [])) xs) (append_assoc l (d ∷ []) (own (key_claims q (m ∷ more) v inside))) rest.known;
-    }
+    walk-claimed Guarded (Known R base (es ++ (next ∷ []))) l d (key_claims q (m ∷ more) v inside)
+    (λ rest. ((λ dotted peace e here sort same.
+        let (t, from) = known e here sort in
+        let one = one-base R laws l t.base base e.path q same t.root root peace t.way (way k) in
+        not-clear base es next outer k m more e.path clear is (from one peace) (same ∙ at)), rest))
+    (key-walk R laws base es next (outer ++ (k ∷ [])) (m ∷ more) v inside (l ++ (d ∷ [])) q clear (laws.more l (d ∷ []) base root) (is ∙ sym (append_assoc outer (k ∷ []) (m ∷ more))) at
+    (λ n. next_key (with_key q n) q n.name refl there (way-on l (d ∷ []) base q (way k))) plain none inner)
 
 -- ---- values
 
@@ -250,9 +244,9 @@ mutual
       let front = key_claims p ss v (value_claims v) in
       let e : KeyValue = record { parts = ss; value = v; extent = x } in
       let walked = begun (IsAt p) (at-bases p) p es e l clear refl known (λ q y. value-guarded v q y text limit (d + length ss) b m h) in
-      guarded-followed l front (pair_claims ps p) walked.guarded (elim then [
+      guarded-followed l front (pair_claims ps p) walked.tree (elim then [
         | inl (none, close) ↦ rw none tt
-        | inr (k, comma, rest) ↦ pairs-guarded ps (es ++ (e ∷ [])) p (l ++ own front) text limit d k j walked.known rest
+        | inr (k, comma, rest) ↦ pairs-guarded ps (es ++ (e ∷ [])) p (l ++ own front) text limit d k j walked.all rest
       ])
 
 -- ---- the assignments of a section
@@ -260,17 +254,10 @@ mutual
 pub key_values-walk : (R : List Claim → Path → Type 0) (laws : Bases R) (base : Path) (evs before : List KeyValue) (l : List Claim) (text : List ℕ) (limit i j : ℕ) → SpellsKeyValues evs before text limit i j
     → R l base → Known R base before l → (es : List KeyValue) × Walked R base es l (key_value_claims evs base)
 unfolding key_value_claims
-key_values-walk R laws base [] before l text limit i j h root known = (
-  before,
-  record {
-    guarded = tt;
-    known = known-on R laws base before before l [] known (λ names h. h) (λ c here sort. absurd here);
-  },
-)
+key_values-walk R laws base [] before l text limit i j h root known =
+    (before, record { tree = tt; all = known-on R laws base before before l [] known (λ names h. h) (λ c here sort. absurd here) })
 key_values-walk R laws base (e ∷ evs) before l text limit i j (m, n, k, h, tail, clear, gap, rest) root known =
     let front = key_claims base e.parts e.value (value_claims e.value) in
-    let behind = key_value_claims evs base in
     let walked = begun R laws base before e l clear root known (λ q x. value-guarded e.value q x text limit (length e.parts) h.from m h.spelled) in
-    let (es, more) = key_values-walk R laws base evs (before ++ (e ∷ [])) (l ++ own front) text limit k j rest (laws.more l (own front) base root) walked.known in
-    let all : (l ++ own front) ++ own behind ≡ l ++ own (followed front behind) = append_assoc l (own front) (own behind) ∙ ap (λ x. l ++ x) (sym (own-followed front behind)) in
-    (es, record { guarded = guarded-followed l front behind walked.guarded more.guarded; known = subst (λ xs. Known R base es xs) all more.known })
+    let (es, more) = key_values-walk R laws base evs (before ++ (e ∷ [])) (l ++ own front) text limit k j rest (laws.more l (own front) base root) walked.all in
+    (es, walk-followed Guarded (Known R base (before ++ (e ∷ []))) (Known R base es) guarded-followed l front (key_value_claims evs base) walked (λ all. more))

@@ -1,8 +1,8 @@
 -- What a moved value claims is what the value claims, moved.
 use Rattle.std.proofs.Common.{◌≡◌, ℕ, suc, List, [], ◌∷◌, ◌++◌, Option, Some, None, option_map, refl, sym, ap, ◌∙◌, subst, append_assoc, inl, inr}
-use Rattle.std.specs.Prelude.{⊤}
 use Rattle.std.proofs.lemmas.Bool.{cases_Bool}
 use Rattle.std.proofs.lemmas.List.{append_cancel_left}
+use Rattle.std.proofs.lemmas.Option.{none-some}
 use Rattle.toml_span_tree.specs.Path.{Path, Step, key, position}
 use Rattle.toml_span_read.specs.Data.{ParsedValue, parsed, ParsedInner, scalar, array, inline, ParsedItems, no_items, item, ParsedPairs, no_pairs, pair}
 use Rattle.toml_span_read.specs.Keys.{SimpleKey}
@@ -12,7 +12,6 @@ use Rattle.toml_span.specs.Clashes.{blame, or_else}
 use Rattle.toml_span.specs.Flat.{all_claims, claims_at, deciding_claim, first_claim, first_claim_by_header, by_header}
 use Rattle.toml_span.specs.Paths.{same_path, with_key, with_position}
 use Rattle.toml_span.proofs.Grafts.{same_step-self}
-use Rattle.toml_span.proofs.EachClaim.{same_path-eq}
 use Rattle.toml_span_laws.specs.Moved.{moved_place}
 use Rattle.toml_span_laws.specs.Clashing.{IsIn, DoClash}
 use Rattle.toml_span_laws.proofs.FirstClash.{AreFree}
@@ -142,43 +141,34 @@ at-moved from to p r _ _ q (one_more x y xs ys m h) =
 
 -- ---- what decides
 
-abbrev MayMove : ℕ → ℕ → Path → Path → Option Claim → Option Claim → Type 0
-MayMove from to p r None None = ⊤
-MayMove from to p r None (Some y) = ⊥
-MayMove from to p r (Some x) None = ⊥
-MayMove from to p r (Some x) (Some y) = Moves from to p r x y
+-- the place of one claim is that of the other, moved
+abbrev IsMoved : ℕ → ℕ → Option Claim → Option Claim → Type 0
+IsMoved from to o p = option_map (λ c. c.place) p ≡ option_map (moved_place from to) (option_map (λ c. c.place) o)
 
-first-moved : (from to : ℕ) (p r : Path) (xs ys : List Claim) → AllMoved from to p r xs ys → MayMove from to p r (first_claim xs) (first_claim ys)
-first-moved from to p r _ _ no_more = tt
-first-moved from to p r _ _ (one_more x y xs ys m h) = m
+first-moved : (from to : ℕ) (p r : Path) (xs ys : List Claim) → AllMoved from to p r xs ys → IsMoved from to (first_claim xs) (first_claim ys)
+first-moved from to p r _ _ no_more = refl
+first-moved from to p r _ _ (one_more x y xs ys m h) = ap Some m.place
 
-header-moved : (from to : ℕ) (p r : Path) (xs ys : List Claim) → AllMoved from to p r xs ys → MayMove from to p r (first_claim_by_header xs) (first_claim_by_header ys)
+header-moved : (from to : ℕ) (p r : Path) (xs ys : List Claim) → AllMoved from to p r xs ys → IsMoved from to (first_claim_by_header xs) (first_claim_by_header ys)
 unfolding first_claim_by_header
-header-moved from to p r _ _ no_more = tt
+header-moved from to p r _ _ no_more = refl
 header-moved from to p r _ _ (one_more x y xs ys m h) =
     let same = ap by_header m.sort in
     elim (cases_Bool (by_header x.mark.sort)) [
-      | inl header ↦ rw (same, header) m
+      | inl header ↦ rw (same, header) (ap Some m.place)
       | inr plain ↦ rw (same, plain) (header-moved from to p r xs ys h)
     ]
 
-or-moved : (from to : ℕ) (p r : Path) (a b c d : Option Claim) → MayMove from to p r a b → MayMove from to p r c d → MayMove from to p r (or_else a c) (or_else b d)
-or-moved from to p r None None c d h g = g
-or-moved from to p r None (Some y) c d h g = absurd h
-or-moved from to p r (Some x) None c d h g = absurd h
-or-moved from to p r (Some x) (Some y) c d h g = h
-
-place-moved : (from to : ℕ) (p r : Path) (a b : Option Claim) → MayMove from to p r a b → option_map (λ c. c.place) b ≡ option_map (moved_place from to) (option_map (λ c. c.place) a)
-place-moved from to p r None None h = refl
-place-moved from to p r None (Some y) h = absurd h
-place-moved from to p r (Some x) None h = absurd h
-place-moved from to p r (Some x) (Some y) h = ap Some h.place
+or-moved : (from to : ℕ) (a b c d : Option Claim) → IsMoved from to a b → IsMoved from to c d → IsMoved from to (or_else a c) (or_else b d)
+or-moved from to None None c d h g = g
+or-moved from to None (Some y) c d h g = absurd (none-some y.place (sym h))
+or-moved from to (Some x) None c d h g = absurd (none-some (moved_place from to x.place) h)
+or-moved from to (Some x) (Some y) c d h g = h
 
 pub decides-moved : (from to : ℕ) (p r : Path) (xs ys : List Claim) → AllMoved from to p r xs ys
     → option_map (λ c. c.place) (deciding_claim ys) ≡ option_map (moved_place from to) (option_map (λ c. c.place) (deciding_claim xs))
 decides-moved from to p r xs ys h =
-    place-moved from to p r (deciding_claim xs) (deciding_claim ys)
-    (or-moved from to p r (first_claim_by_header xs) (first_claim_by_header ys) (first_claim xs) (first_claim ys) (header-moved from to p r xs ys h) (first-moved from to p r xs ys h))
+    or-moved from to (first_claim_by_header xs) (first_claim_by_header ys) (first_claim xs) (first_claim ys) (header-moved from to p r xs ys h) (first-moved from to p r xs ys h)
 
 -- ---- clashes
 

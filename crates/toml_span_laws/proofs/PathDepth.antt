@@ -55,15 +55,16 @@ room-steps : (ks : List SimpleKey) → room 1 ks ≡ 2 * length ks
 room-steps [] = refl
 room-steps (k ∷ ks) = let more = room-steps ks in omega (arith, more)
 
+size-append : (w : ℕ) (p q : Path) → size w (p ++ q) ≡ size w p + size w q
+size-append w [] q = omega arith
+size-append w (key name ∷ p) q = let more = size-append w p q in omega (arith, more)
+size-append w (position i ∷ p) q = let more = size-append w p q in omega (arith, more)
+
 size-below : (w : ℕ) (p : Path) (k : SimpleKey) → size w (with_key p k) ≡ size w p + 1
-size-below w [] k = refl
-size-below w (key name ∷ p) k = let more = size-below w p k in omega (arith, more)
-size-below w (position i ∷ p) k = let more = size-below w p k in omega (arith, more)
+size-below w p k = size-append w p (key k.name ∷ [])
 
 size-at : (w : ℕ) (p : Path) (i : ℕ) → size w (with_position p i) ≡ size w p + w
-size-at w [] i = omega arith
-size-at w (key name ∷ p) i = let more = size-at w p i in omega (arith, more)
-size-at w (position j ∷ p) i = let more = size-at w p i in omega (arith, more)
+size-at w p i = let more = size-append w p (position i ∷ []) in omega (arith, more)
 
 size-enter : (w n : ℕ) (p : Path) → size w (enter n p) ≤ size w p + w
 unfolding enter
@@ -80,18 +81,13 @@ size-target w e p k (l ∷ more) =
     let rest = size-target w e (enter (e q) q) l more in
     omega (arith, here, on, rest)
 
-section-at : (w : ℕ) (e : Path → ℕ) (b : Block) (k : SimpleKey) (parts : List SimpleKey) → b.header ≡ k ∷ parts → size w (section_path e b) ≤ room w (k ∷ parts)
-section-at w e b k parts is =
-    let few : size w (target e [] b.header) + w ≤ room w (k ∷ parts) = rw is (let h = size-target w e [] k parts in omega (arith, h)) in
-    elim (cases_Bool b.array) [
-      | inl arr ↦ rw arr (let here = size-at w (target e [] b.header) (e (target e [] b.header)) in omega (arith, here, few))
-      | inr tab ↦ rw tab (omega (arith, few))
-    ]
-
 size-section : (w : ℕ) (e : Path → ℕ) (b : Block) (parts : List SimpleKey) → b.header ≡ parts → (b.header ≡ [] → b.array ≡ false) → size w (section_path e b) ≤ room w parts
 unfolding target
 size-section w e b [] is header = rw (header is, is) (omega arith)
-size-section w e b (k ∷ parts) is header = section-at w e b k parts is
+size-section w e b (k ∷ parts) is header =
+    let few = size-target w e [] k parts in
+    let here = size-at w (target e [] (k ∷ parts)) (e (target e [] (k ∷ parts))) in
+    elim (cases_Bool b.array) [ inl arr ↦ rw (arr, is) (omega (arith, here, few)) | inr tab ↦ rw (tab, is) (omega (arith, few)) ]
 
 -- ---- claims
 
@@ -203,8 +199,8 @@ behind-depth w limit n one few earlier (b ∷ bs) headers h =
 key_values-within : (es earlier : List KeyValue) (text : List ℕ) (limit i j : ℕ) → SpellsKeyValues es earlier text limit i j → WithinKeyValues limit es
 key_values-within [] earlier text limit i j h = tt
 key_values-within (e ∷ es) earlier text limit i j (m, n, k, here, tail, clear, gap, rest) =
-    let depth : length e.parts ≡ 0 + length e.parts = omega arith in
-    ((here.few, subst (λ d. Within limit d e.value) depth (value_within e.value text limit (length e.parts) here.from m here.spelled)), key_values-within es (earlier ++ (e ∷ [])) text limit k j rest)
+    let zero : 0 + length e.parts ≡ length e.parts = omega arith in
+    ((here.few, rw zero (value_within e.value text limit (length e.parts) here.from m here.spelled)), key_values-within es (earlier ++ (e ∷ [])) text limit k j rest)
 
 sections-within : (bs : List Block) (text : List ℕ) (limit i : ℕ) → SpellsSections bs text limit i → WithinBlocks limit bs
 sections-within [] text limit i h = tt

@@ -1,11 +1,11 @@
 -- The starts of headers, keys, arrays and inline tables rise.
-use Rattle.std.proofs.Common.{◌≡◌, ℕ, zero, suc, ◌+◌, ◌<◌, ◌≤◌, Bool, true, false, List, [], ◌∷◌, ◌++◌, length, get_or, arith, inl, inr, refl}
+use Rattle.std.proofs.Common.{◌≡◌, ℕ, zero, suc, ◌+◌, ◌<◌, ◌≤◌, Bool, List, [], ◌∷◌, ◌++◌, length, get_or, arith, inl, inr, refl}
 use Rattle.std.specs.List.Sorted.{IsStrictlyIncreasing}
 use Rattle.toml_span_lex.specs.declared.span.Span.{Span}
 use Rattle.toml_span_read.specs.Data.{ParsedValue, parsed, ParsedInner, scalar, array, inline, ParsedItems, no_items, item, ParsedPairs, no_pairs, pair, KeyValue, Block}
-use Rattle.toml_span_read.specs.Grammar.{Spells, SpellsInner, SpellsItems, SpellsPairs, OpensHeader, SpellsKeyValues, SpellsHeader, first_block, SpellsSections, SpellsDocument}
+use Rattle.toml_span_read.specs.Grammar.{Spells, SpellsInner, SpellsItems, SpellsPairs, SpellsKeyValues, SpellsHeader, first_block, SpellsSections, SpellsDocument}
 use Rattle.toml_span_read.specs.Keys.{SimpleKey}
-use Rattle.toml_span_read.specs.Places.{Ascend, Inside, InsideInner, InsideItems, InsidePairs}
+use Rattle.toml_span_read.specs.Places.{Ascend}
 use Rattle.toml_span_laws.specs.Places.{part_starts, key_starts, inner_key_starts, item_key_starts, pair_key_starts, key_value_key_starts, block_key_starts, starts, inner_starts, item_starts, pair_starts, key_value_starts, header_starts, block_starts}
 use Rattle.toml_span_laws.proofs.AscendLaws.{header_ascend}
 use Rattle.toml_span_read.proofs.InsideLemmas.{tail_inside}

@@ -1,15 +1,15 @@
 -- A dotted key that goes through a value is never what is told first.
-use Rattle.std.proofs.Common.{◌≡◌, ℕ, zero, suc, ◌<◌, ◌≤◌, ◌⊎◌, Bool, true, false, List, [], ◌∷◌, ◌++◌, length, arith, refl, sym, ap, ◌∙◌, subst, append_assoc, inl, inr}
-use Rattle.std.specs.Prelude.{⊤, if◌then◌else◌}
+use Rattle.std.proofs.Common.{◌≡◌, ℕ, ◌<◌, ◌≤◌, ◌⊎◌, Bool, true, false, List, [], ◌∷◌, ◌++◌, length, arith, refl, sym, ap, ◌∙◌, subst, inl, inr}
+use Rattle.std.specs.Prelude.{if◌then◌else◌}
 use Rattle.std.proofs.lemmas.Bool.{cases_Bool}
-use Rattle.toml_span_tree.specs.Path.{Path, Step, key, position}
+use Rattle.toml_span_tree.specs.Path.{Path, key, position}
 use Rattle.toml_span_read.specs.Data.{KeyValue, Block}
 use Rattle.toml_span_read.specs.Keys.{SimpleKey, SpellsKey as IsDotted}
 use Rattle.toml_span_read.specs.Grammar.{SpellsDocument, SpellsLines, SpellsSections, first_block}
 use Rattle.toml_span.specs.declared.claims.Blame.TheVariants.{DuplicateTable, DuplicateKey}
-use Rattle.toml_span.specs.declared.claims.Sort.TheVariants.{StandardTable, TableElement, Dotted, Assigned}
+use Rattle.toml_span.specs.declared.claims.Sort.TheVariants.{StandardTable, Dotted, Assigned}
 use Rattle.toml_span.specs.declared.claims.Head.{Head}
-use Rattle.toml_span.specs.Claims.{Claim, Claims, no_claims, claimed, scope, followed, key_value_claims, header_claim, array_claims, end_claims, header_claims, section_claims, claims_behind, claims, head_of}
+use Rattle.toml_span.specs.Claims.{Claim, Claims, no_claims, claimed, scope, followed, key_value_claims, header_claim, end_claims, header_claims, section_claims, claims_behind, claims, head_of}
 use Rattle.toml_span.specs.Clashes.{blame}
 use Rattle.toml_span.specs.Flat.{all_claims, by_header}
 use Rattle.toml_span.specs.Paths.{same_path, with_key, with_position, enter, target, elements_added, opened_by, section_path}
@@ -22,7 +22,7 @@ use Rattle.toml_span_laws.proofs.Headed.{Headed, header-headed}
 use Rattle.toml_span_laws.proofs.KeyWays.{Bases, Guarded, Known, Traced, Way, key_values-walk, guarded-followed, way-last, way-on, way-under}
 use Rattle.toml_span_laws.proofs.OneScope.{Peaceful, do-clash, peaceful-across, peaceful-push, peaceful-two, two-of}
 use Rattle.toml_span_laws.proofs.Order.{document-rises}
-use Rattle.toml_span_laws.proofs.Scoped.{Has, front-same, has-on, key-position, last-same, own-followed}
+use Rattle.toml_span_laws.proofs.Scoped.{Has, Walk, front-same, has-on, key-position, last-same, nil-under, walk-followed}
 
 -- ---- tables at which sections begin
 
@@ -30,10 +30,6 @@ use Rattle.toml_span_laws.proofs.Scoped.{Has, front-same, has-on, key-position, 
 abbrev Opened : (Path → ℕ) → List Claim → Path → Type 0
 Opened e l p =
     (p ≡ []) ⊎ ((q : Path) × (k : List ℕ) × (p ≡ q ++ (key k ∷ [])) × Has l StandardTable p) ⊎ ((q : Path) × (n : ℕ) × (p ≡ with_position q n) × (n < e q))
-
-nil-under : (a : Path) (s : Step) (rest : Path) → [] ≡ a ++ (s ∷ rest) → ⊥
-nil-under [] s rest h = cc
-nil-under (x ∷ a) s rest h = cc
 
 -- a table that is opened and made by a dotted key
 twice-made : (l : List Claim) (p : Path) → Peaceful l → Has l StandardTable p → Has l Dotted p → ⊥
@@ -146,15 +142,14 @@ abbrev AllTraced : (Path → ℕ) → List Claim → Type 0
 AllTraced e l = (c : Claim) → IsIn c l → c.mark.sort ≡ Assigned → Traced (Opened e) l c.path
 
 -- claims of sections are guarded, and their values have such ways
-record Placed (before : List Claim) (e : Path → ℕ) (cs : Claims) : Type 0 where
-  guarded : Guarded before cs
-  traced : AllTraced e (before ++ own cs)
+abbrev Placed : List Claim → (Path → ℕ) → Claims → Type 0
+Placed l e cs = Walk Guarded (AllTraced e) l cs
 
 assigned-walk : (e : Path → ℕ) (base : Path) (evs : List KeyValue) (l : List Claim) (text : List ℕ) (limit i j : ℕ) → SpellsLines evs text limit i j → Opened e l base
     → Known (Opened e) base [] l → Placed l e (key_value_claims evs base)
 assigned-walk e base evs l text limit i j (k, gap, h) root known =
     let (es, w) = key_values-walk (Opened e) (opened-bases e) base evs [] l text limit k j h root known in
-    record { guarded = w.guarded; traced = λ c here sort. (w.known c here sort).0 }
+    record { tree = w.tree; all = λ c here sort. (w.all c here sort).0 }
 
 section-walk : (earlier : List Block) (b : Block) (l : List Claim) (text : List ℕ) (limit i j : ℕ) (k : SimpleKey) (parts : List SimpleKey) → b.header ≡ k ∷ parts → SpellsLines b.key_values text limit i j
     → AllTraced (elements_added (opened_by earlier)) l → Placed l (elements_added (opened_by (b ∷ earlier))) (section_claims (elements_added (opened_by earlier)) b)
@@ -175,13 +170,8 @@ section-walk earlier b l text limit i j k parts is lines traced =
           )
       | inr new ↦ absurd (headed-plain head c headed new sort)
     ]) in
-    let behind = key_value_claims b.key_values base in
-    let placed = assigned-walk f base b.key_values all text limit i j lines start.root known in
-    let whole : all ++ own behind ≡ l ++ own (followed head behind) = append_assoc l (own head) (own behind) ∙ ap (λ x. l ++ x) (sym (own-followed head behind)) in
-    record {
-      guarded = guarded-followed l head behind (headed-guarded l head headed) placed.guarded;
-      traced = subst (λ xs. AllTraced f xs) whole placed.traced;
-    }
+    walk-followed Guarded (Known (Opened f) base []) (AllTraced f) guarded-followed l head (key_value_claims b.key_values base) (record { tree = headed-guarded l head headed; all = known })
+    (assigned-walk f base b.key_values all text limit i j lines start.root)
 
 headed-section : (earlier : List Block) (b : Block) (l : List Claim) (text : List ℕ) (limit i j m n : ℕ) (parts : List SimpleKey) → b.header ≡ parts → IsDotted parts text m n → SpellsLines b.key_values text limit i j
     → AllTraced (elements_added (opened_by earlier)) l → Placed l (elements_added (opened_by (b ∷ earlier))) (section_claims (elements_added (opened_by earlier)) b)
@@ -194,7 +184,7 @@ sections-walk earlier [] l text limit i h traced = tt
 sections-walk earlier (b ∷ bs) l text limit i (j, s, rest) traced =
     let front = section_claims (elements_added (opened_by earlier)) b in
     let placed = headed-section earlier b l text limit s.end j s.header.front.start s.header.front.end b.header refl s.header.front.key s.lines traced in
-    guarded-followed l front (claims_behind (b ∷ earlier) bs) placed.guarded (sections-walk (b ∷ earlier) bs (l ++ own front) text limit j rest placed.traced)
+    guarded-followed l front (claims_behind (b ∷ earlier) bs) placed.tree (sections-walk (b ∷ earlier) bs (l ++ own front) text limit j rest placed.all)
 
 none-traced : (e : Path → ℕ) → AllTraced e []
 none-traced e c here sort = absurd here
@@ -206,7 +196,7 @@ document-walk (ev ∷ evs) rest text limit i j lines sections =
     let placed = assigned-walk (elements_added []) [] (ev ∷ evs) [] text limit i j lines (inl refl) (λ c here sort. absurd here) in
     let front = key_value_claims (ev ∷ evs) [] in
     let block = first_block (ev ∷ evs) in
-    guarded-followed [] front (claims_behind block rest) placed.guarded (sections-walk block rest (own front) text limit j sections placed.traced)
+    guarded-followed [] front (claims_behind block rest) placed.tree (sections-walk block rest (own front) text limit j sections placed.all)
 
 document-guarded : (bs : List Block) (text : List ℕ) (limit : ℕ) → SpellsDocument bs text limit → Guarded [] (claims bs)
 document-guarded bs text limit h = subst (λ l. Guarded [] (claims l)) (sym h.all) (document-walk h.first h.rest text limit h.start h.end h.lines h.sections)
