@@ -15,7 +15,7 @@ use Rattle.toml_span.proofs.EachClaim.{same_path-eq}
 use Rattle.toml_span.proofs.Refusals.{spelled-headed}
 use Rattle.toml_span_laws.proofs.Apart.{in-cases}
 use Rattle.toml_span_laws.proofs.FirstClash.{cases_option}
-use Rattle.toml_span_laws.proofs.Scoped.{Has, Scoped, document-scoped}
+use Rattle.toml_span_laws.proofs.Scoped.{Has, Scoped, document-scoped, passed-entered}
 
 pub path-self : (p : Path) → same_path p p ≡ true
 unfolding same_path
@@ -55,7 +55,7 @@ scoped-entered : (p : Path) (n : ℕ) (S : Type 0) (base : Path) (earlier : List
 unfolding all_claims
 scoped-entered p n S base earlier last no_claims scoped f = tt
 scoped-entered p n S base earlier last (claimed c cs) scoped f = (
-  λ is on. f (subst (Has earlier TableElement) on (scoped.0.passed is p n on)),
+  λ is on. f (subst (Has earlier TableElement) on (passed-entered base earlier c p n scoped.0 is on)),
   scoped-entered p n (S ⊎ ((c.mark.sort ≡ TableElement) × (c.path ≡ p ++ (position n ∷ [])))) base (earlier ++ (c ∷ [])) (Some c) cs scoped.1 (λ (e, here, is, on). elim (in-cases e earlier (c ∷ []) here) [
     | inl before ↦ inl (f (e, before, is, on))
     | inr (inl same) ↦ inr (ap (λ x. x.mark.sort) (sym same) ∙ is, ap (λ x. x.path) (sym same) ∙ on)

@@ -1,6 +1,6 @@
 -- Where no two claims clash, those on one path are of one scope.
 use Rattle.std.proofs.Common.{◌≡◌, ℕ, zero, suc, ◌<◌, ◌⊎◌, List, [], ◌∷◌, ◌++◌, Option, Some, None, length, length-append, arith, refl, sym, ap, ◌∙◌, subst, append_assoc, append-nil, inl, inr}
-use Rattle.toml_span_tree.specs.Path.{Path, Step, key, position}
+use Rattle.toml_span_tree.specs.Path.{Path, Step}
 use Rattle.toml_span_read.specs.Data.{Block}
 use Rattle.toml_span_read.specs.Grammar.{SpellsDocument}
 use Rattle.toml_span.specs.declared.claims.Blame.{Blame}
@@ -16,7 +16,7 @@ use Rattle.toml_span_laws.proofs.Apart.{Pairs, in-cases, in-left, in-right, pair
 use Rattle.toml_span_laws.proofs.EntryDecides.{path-self}
 use Rattle.toml_span_laws.proofs.FirstClash.{IsFree, AreFree, are-free}
 use Rattle.toml_span_laws.proofs.FirstPair.{free-clash}
-use Rattle.toml_span_laws.proofs.Scoped.{Fits, IsFrom, IsUnder, Scoped, document-scoped, fits-on, key-position}
+use Rattle.toml_span_laws.proofs.Scoped.{Fits, IsFrom, IsUnder, Scoped, document-scoped, entry-value, fits-on, nil-under}
 
 -- ---- claims that clash
 
@@ -76,20 +76,6 @@ peaceful-two l c d h (xs, ys, is, inr (a, b)) first last = peaceful-across xs ys
 abbrev pub Calm : Path → List Claim → Type 0
 Calm base l = ((c : Claim) → IsIn c l → Fits base l c) × Peaceful l
 
--- an entry and a value are never on one path
-entry-value : (base : Path) (l : List Claim) (a e : Claim) → Fits base l a → Fits base l e → a.mark.sort ≡ Assigned → e.mark.sort ≡ TableElement → a.path ≡ e.path → ⊥
-entry-value base l a e fits other value is same =
-    let (none, (p, k, n, on)) = other.entry is in
-    elim (fits.assigned value) [
-      | inl (q, m, there) ↦ key-position q (p ++ (key k ∷ [])) m n (sym there ∙ same ∙ on)
-      | inr child ↦
-          let short = ap (λ q. length q) child.1 ∙ length-append base (child.0 ∷ []) in
-          let root = ap (λ q. length q) none in
-          let long = ap (λ q. length q) (same ∙ on) ∙ length-append (p ++ (key k ∷ [])) (position n ∷ []) in
-          let more = length-append p (key k ∷ []) in
-          absurd (omega (arith, short, root, long, more))
-    ]
-
 -- a value and another claim are not on one path
 value-apart : (base : Path) (l : List Claim) (a e : Claim) → Calm base l → Two l a e → a.mark.sort ≡ Assigned → a.path ≡ e.path → ⊥
 value-apart base l a e (fit, peace) two value same =
@@ -114,8 +100,7 @@ under-from a p q (s, r, is) (t, on) = (s, r ++ t, on ∙ ap (λ l. l ++ t) is �
 -- the parent of what stands further inside than a path is there or further inside
 parent-from : (a p : Path) (s x : Step) (q : Path) → a ++ (s ∷ q) ≡ p ++ (x ∷ []) → IsFrom a p
 parent-from [] p s x q h = (p, refl)
-parent-from (y ∷ []) [] s x q h = cc
-parent-from (y ∷ z ∷ a) [] s x q h = cc
+parent-from (y ∷ a) [] s x q h = absurd (nil-under a s q cc)
 parent-from (y ∷ a) (z ∷ p) s x q h =
     let first : y ≡ z = cc in
     let rest : a ++ (s ∷ q) ≡ p ++ (x ∷ []) = cc in
@@ -125,18 +110,20 @@ parent-from (y ∷ a) (z ∷ p) s x q h =
 -- what stands further inside than a value has a parent there, or at the value
 under-parent : (base : Path) (l : List Claim) (a c : Claim) → Calm base l → IsIn a l → IsIn c l → IsUnder a.path c.path
     → (e : Claim) × IsIn e l × (e.mark.sort ≡ Assigned → ⊥) × IsFrom a.path e.path × (length e.path < length c.path)
-under-parent base l a c (fit, peace) here there (s, q, is) = elim (fit c there).parent [
-  | inl (x, child) ↦
-      let (y, rest, under) = (fit a here).under in
-      let one = ap (λ q. length q) child ∙ length-append base (x ∷ []) in
-      let two = ap (λ q. length q) is ∙ length-append a.path (s ∷ q) in
-      let three = ap (λ q. length q) under ∙ length-append base (y ∷ rest) in
-      absurd (omega (arith, one, two, three))
-  | inr (p, (e, among, makes, on), (x, child)) ↦
-      let short = ap (λ q. length q) on in
-      let long = ap (λ q. length q) child ∙ length-append p (x ∷ []) in
-      (e, among, makes, rw on (parent-from a.path p s x q (sym is ∙ child)), omega (arith, short, long))
-]
+under-parent base l a c (fit, peace) here there (s, q, is) =
+    let (p, made, (x, child)) = (fit c there).parent in
+    let from = parent-from a.path p s x q (sym is ∙ child) in
+    elim made [
+      | inl same ↦
+          let (y, rest, under) = (fit a here).under in
+          let long = ap (λ q. length q) under ∙ length-append base (y ∷ rest) in
+          let short = ap (λ q. length q) (sym same ∙ from.1) ∙ length-append a.path from.0 in
+          absurd (omega (arith, long, short))
+      | inr (e, among, makes, on) ↦
+          let short = ap (λ q. length q) on in
+          let long = ap (λ q. length q) child ∙ length-append p (x ∷ []) in
+          (e, among, makes, rw on from, omega (arith, short, long))
+    ]
 
 table-none : (n : ℕ) (base : Path) (l : List Claim) (a e : Claim) → length e.path < n → Calm base l → IsIn a l → IsIn e l → a.mark.sort ≡ Assigned → (e.mark.sort ≡ Assigned → ⊥) → IsFrom a.path e.path → ⊥
 table-none zero base l a e few calm here there value table from = absurd (omega (arith, few))

@@ -1,14 +1,14 @@
 -- The claims of a document ascend in the text.
-use Rattle.std.proofs.Common.{◌≡◌, ℕ, zero, suc, ◌+◌, ◌<◌, ◌≤◌, false, List, [], ◌∷◌, ◌++◌, Some, length, arith, refl, sym, ap, ◌∙◌, append_assoc, inl, inr}
+use Rattle.std.proofs.Common.{◌≡◌, ℕ, zero, suc, ◌+◌, ◌<◌, ◌≤◌, List, [], ◌∷◌, ◌++◌, Some, length, arith, refl, sym, ap, ◌∙◌, append_assoc, inl, inr}
 use Rattle.std.proofs.lemmas.Bool.{cases_Bool}
 use Rattle.std.proofs.lemmas.Option.{none-some, same_Some}
 use Rattle.toml_span_lex.specs.declared.span.Span.{Span}
 use Rattle.toml_span_tree.specs.Path.{Path}
 use Rattle.toml_span_read.specs.Data.{ParsedValue, parsed, ParsedInner, scalar, array, inline, ParsedItems, no_items, item, ParsedPairs, no_pairs, pair, KeyValue, parsed_span, Block}
-use Rattle.toml_span_read.specs.Grammar.{from_to, Spells, SpellsInner, SpellsItems, SpellsPairs, SpellsKeyValues, first_block, last_end, SpellsSections, SpellsDocument}
+use Rattle.toml_span_read.specs.Grammar.{from_to, Spells, SpellsInner, SpellsItems, SpellsPairs, SpellsKeyValues, SpellsDocument}
 use Rattle.toml_span_read.specs.Keys.{SimpleKey}
 use Rattle.toml_span_read.specs.Places.{Ascend}
-use Rattle.toml_span_laws.proofs.AscendLaws.{ascend_wide, header_ascend}
+use Rattle.toml_span_laws.proofs.AscendLaws.{AreBlocks, document_blocks, header_from}
 use Rattle.toml_span_read.proofs.InsideLemmas.{tail_inside}
 use Rattle.toml_span_read.proofs.KeyOrder.{dotted_ascend}
 use Rattle.toml_span_read.proofs.SpanLaws.{value_lies}
@@ -218,33 +218,19 @@ header-rises e h q (k ∷ l ∷ more) i j a =
     let next = enter (e (with_key q k)) (with_key q k) in
     rise-claimed (header_claim h Passed next k) (header_claims e h next (l ∷ more)) i k.span.end j (table-keyed next k (header_mark h Passed k.span)) a.0 a.1 (header-rises e h next (l ∷ more) k.span.end j a.2)
 
-section-rises : (e : Path → ℕ) (b : Block) (before : List KeyValue) (text : List ℕ) (limit h i k j : ℕ) → Ascend b.header h i → i ≤ k → SpellsKeyValues b.key_values before text limit k j
-    → Rise (section_claims e b) h j
-unfolding section_claims
-section-rises e b before text limit h i k j a l s =
-    let q = section_path e b in
-    rise-followed (header_claims e (head_of b) [] b.header) (key_value_claims b.key_values q) h i j
-    (header-rises e (head_of b) [] b.header h i a) (rise-wide (key_value_claims b.key_values q) i k j j l (omega arith) (key_values-rise b.key_values before q text limit k j s))
-
-sections-rise : (earlier bs : List Block) (text : List ℕ) (limit i : ℕ) → SpellsSections bs text limit i → Rise (claims_behind earlier bs) i (length text)
-unfolding claims_behind
-sections-rise earlier [] text limit i h = rise-none i (length text) (omega (arith, h))
-sections-rise earlier (b ∷ bs) text limit i (j, s, rest) =
+blocks-rise : (earlier bs : List Block) (text : List ℕ) (limit i : ℕ) → AreBlocks bs text limit i → Rise (claims_behind earlier bs) i (length text)
+unfolding claims_behind section_claims
+blocks-rise earlier [] text limit i h = rise-none i (length text) h
+blocks-rise earlier (b ∷ bs) text limit i (s, k, j, header, few, plain, on, lines, rest) =
     let e = elements_added (opened_by earlier) in
-    let header = ascend_wide b.header i (i + 1) s.end s.end (omega arith) (omega arith) (header_ascend b.header b.array text limit i s.end s.header) in
+    let q = section_path e b in
     rise-followed (section_claims e b) (claims_behind (b ∷ earlier) bs) i j (length text)
-    (section-rises e b [] text limit i s.end s.lines.0 j header s.lines.1.forward s.lines.2) (sections-rise (b ∷ earlier) bs text limit j rest)
-
-first-rises : (es : List KeyValue) (bs : List Block) (text : List ℕ) (limit i j : ℕ) → SpellsKeyValues es [] text limit i j → SpellsSections bs text limit j → Rise (claims (first_block es ++ bs)) 0 (length text)
-unfolding claims_behind opened_by
-first-rises [] bs text limit i j h rest = rise-wide (claims bs) 0 j (length text) (length text) (omega arith) (omega arith) (sections-rise [] bs text limit j rest)
-first-rises (e ∷ es) bs text limit i j h rest =
-    let b : Block = record { header = []; array = false; header_span = from_to 0 0; extent = from_to e.extent.start (last_end e.extent.end es); key_values = e ∷ es } in
-    rise-followed (section_claims (elements_added []) b) (claims_behind (b ∷ []) bs) 0 j (length text)
-    (section-rises (elements_added []) b [] text limit 0 0 i j (omega arith) (omega arith) h) (sections-rise (b ∷ []) bs text limit j rest)
+    (rise-followed (header_claims e (head_of b) [] b.header) (key_value_claims b.key_values q) i s j (header-rises e (head_of b) [] b.header i s (header_from b i s header))
+    (rise-wide (key_value_claims b.key_values q) s k j j on (omega arith) (key_values-rise b.key_values [] q text limit k j lines)))
+    (blocks-rise (b ∷ earlier) bs text limit j rest)
 
 pub document-rises : (bs : List Block) (text : List ℕ) (limit : ℕ) → SpellsDocument bs text limit → Rise (claims bs) 0 (length text)
-document-rises bs text limit x = rw x.all (first-rises x.first x.rest text limit x.lines.0 x.end x.lines.2 x.sections)
+document-rises bs text limit x = blocks-rise [] bs text limit 0 (document_blocks bs text limit x)
 
 pub document-ascends : (bs : List Block) (text : List ℕ) (limit : ℕ) → SpellsDocument bs text limit → Ascends (all_claims (claims bs))
 document-ascends bs text limit x = rising-ascends (all_claims (claims bs)) 0 (length text) (document-rises bs text limit x)

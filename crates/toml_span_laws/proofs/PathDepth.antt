@@ -1,6 +1,5 @@
 -- How many keys, and how many steps, the paths of a document have.
 use Rattle.std.proofs.Common.{◌≡◌, ℕ, zero, suc, ◌+◌, ◌*◌, ◌≤◌, false, List, [], ◌∷◌, ◌++◌, length, Option, Some, None, option_map, refl, sym, ap, ◌∙◌, subst, inl, inr, arith}
-use Rattle.std.specs.Prelude.{⊤}
 use Rattle.std.proofs.lemmas.Bool.{cases_Bool}
 use Rattle.std.proofs.lemmas.Option.{none-some}
 use Rattle.toml_span_lex.specs.declared.span.Span.{Span}
@@ -10,8 +9,9 @@ use Rattle.toml_span_tree.specs.Value.{view}
 use Rattle.toml_span_tree.specs.declared.value.Value.{Value}
 use Rattle.toml_span_read.specs.Data.{ParsedValue as Read, parsed, ParsedInner, scalar, array, inline, ParsedItems, no_items, item, ParsedPairs, no_pairs, pair, KeyValue, Block}
 use Rattle.toml_span_read.specs.Keys.{SimpleKey}
-use Rattle.toml_span_read.specs.Limits.{Within, WithinInner, WithinItems, WithinPairs, WithinKeyValues}
-use Rattle.toml_span_read.specs.Grammar.{SpellsDocument, SpellsSections, SpellsKeyValues, first_block}
+use Rattle.toml_span_read.specs.Limits.{Within, WithinInner, WithinItems, WithinPairs}
+use Rattle.toml_span_read.specs.Grammar.{SpellsDocument, SpellsKeyValues}
+use Rattle.toml_span_laws.proofs.AscendLaws.{AreBlocks, document_blocks}
 use Rattle.toml_span_laws.proofs.DepthLaws.{value_within}
 use Rattle.toml_span.specs.declared.claims.Sort.TheVariants.{TableElement}
 use Rattle.toml_span.specs.declared.claims.Head.{Head}
@@ -20,9 +20,7 @@ use Rattle.toml_span.specs.Claims.{Claim, Claims, no_claims, claimed, key_claims
 use Rattle.toml_span.specs.Flat.{flat}
 use Rattle.toml_span_laws.specs.Laws.{keys_in}
 use Rattle.toml_span.specs.Parsing.{IsTree}
-use Rattle.toml_span.specs.code.Placing.{AreSections}
 use Rattle.toml_span.proofs.EachClaim.{Each, each-followed, flat-decides}
-use Rattle.toml_span.proofs.Refusals.{spelled-headed}
 
 -- ---- paths
 
@@ -139,14 +137,15 @@ mutual
       (λ q same. value-depth w n limit (d + length parts) one v q (omega (arith, same, few)) h.1))
       (pair-depth w n limit d one rest p few h.2)
 
-key_value-depth : (w n limit : ℕ) → w ≤ 1 → (es : List KeyValue) (p : Path) → size w p + limit ≤ n → WithinKeyValues limit es → Each (IsWithin w n) (key_value_claims es p)
+key_values-depth : (w n limit : ℕ) → w ≤ 1 → (es before : List KeyValue) (p : Path) (text : List ℕ) (i j : ℕ) → size w p + limit ≤ n → SpellsKeyValues es before text limit i j
+    → Each (IsWithin w n) (key_value_claims es p)
 unfolding key_value_claims
-key_value-depth w n limit one [] p few h = tt
-key_value-depth w n limit one (e ∷ es) p few h =
+key_values-depth w n limit one [] before p text i j few h = tt
+key_values-depth w n limit one (e ∷ es) before p text i j few (m, o, k, h, tail, clear, gap, rest) =
     each-followed (IsWithin w n) (key_claims p e.parts e.value (value_claims e.value)) (key_value_claims es p)
-    (key-depth w n p e.parts e.value (value_claims e.value) (omega (arith, few, h.0.0))
-    (λ q same. value-depth w n limit (0 + length e.parts) one e.value q (omega (arith, same, few)) h.0.1))
-    (key_value-depth w n limit one es p few h.1)
+    (key-depth w n p e.parts e.value (value_claims e.value) (omega (arith, few, h.few))
+    (λ q same. value-depth w n limit (length e.parts) one e.value q (omega (arith, same, few)) (value_within e.value text limit (length e.parts) h.from m h.spelled)))
+    (key_values-depth w n limit one es (before ++ (e ∷ [])) p text k j few rest)
 
 end-depth : (w n : ℕ) (h : Head) (p : Path) (k : SimpleKey) (entries : ℕ) → size w p + w ≤ n → Each (IsWithin w n) (end_claims h p k entries)
 unfolding end_claims
@@ -171,56 +170,29 @@ header-depth w n e h p (k ∷ l ∷ more) few =
 
 -- ---- documents
 
--- the parts of each header, and the assignments, are within the limit
-abbrev WithinBlocks : ℕ → List Block → Type 0
-WithinBlocks limit [] = ⊤
-WithinBlocks limit (b ∷ bs) = (length b.header ≤ limit) × WithinKeyValues limit b.key_values × WithinBlocks limit bs
-
 -- headers within the limit add at most so much
 abbrev HasRoom : ℕ → ℕ → ℕ → Type 0
 HasRoom w limit n = (parts : List SimpleKey) → length parts ≤ limit → room w parts ≤ n
 
-behind-depth : (w limit n : ℕ) → w ≤ 1 → HasRoom w limit n → (earlier bs : List Block) → AreSections bs → WithinBlocks limit bs → Each (IsWithin w (n + limit)) (claims_behind earlier bs)
+blocks-depth : (w limit n : ℕ) → w ≤ 1 → HasRoom w limit n → (earlier bs : List Block) (text : List ℕ) (i : ℕ) → AreBlocks bs text limit i → Each (IsWithin w (n + limit)) (claims_behind earlier bs)
 unfolding claims_behind section_claims
-behind-depth w limit n one few earlier [] headers h = tt
-behind-depth w limit n one few earlier (b ∷ bs) headers h =
+blocks-depth w limit n one room earlier [] text i h = tt
+blocks-depth w limit n one room earlier (b ∷ bs) text i (s, k, j, at, few, plain, on, lines, rest) =
     let e = elements_added (opened_by earlier) in
     let P = IsWithin w (n + limit) in
-    let header = few b.header h.0 in
-    let here = size-section w e b b.header refl headers.0 in
+    let header = room b.header few in
+    let here = size-section w e b b.header refl plain in
     each-followed P (section_claims e b) (claims_behind (b ∷ earlier) bs)
     (each-followed P (header_claims e (head_of b) [] b.header) (key_value_claims b.key_values (section_path e b))
     (header-depth w (n + limit) e (head_of b) [] b.header (omega (arith, header)))
-    (key_value-depth w (n + limit) limit one b.key_values (section_path e b) (omega (arith, here, header)) h.1))
-    (behind-depth w limit n one few (b ∷ earlier) bs headers.1 h.2)
-
--- ---- what a text spells is within the limit
-
-key_values-within : (es earlier : List KeyValue) (text : List ℕ) (limit i j : ℕ) → SpellsKeyValues es earlier text limit i j → WithinKeyValues limit es
-key_values-within [] earlier text limit i j h = tt
-key_values-within (e ∷ es) earlier text limit i j (m, n, k, here, tail, clear, gap, rest) =
-    let zero : 0 + length e.parts ≡ length e.parts = omega arith in
-    ((here.few, rw zero (value_within e.value text limit (length e.parts) here.from m here.spelled)), key_values-within es (earlier ++ (e ∷ [])) text limit k j rest)
-
-sections-within : (bs : List Block) (text : List ℕ) (limit i : ℕ) → SpellsSections bs text limit i → WithinBlocks limit bs
-sections-within [] text limit i h = tt
-sections-within (b ∷ bs) text limit i (j, here, rest) =
-    (here.header.front.few, key_values-within b.key_values [] text limit here.lines.0 j here.lines.2, sections-within bs text limit j rest)
-
-first-within : (limit : ℕ) (evs : List KeyValue) (bs : List Block) → WithinKeyValues limit evs → WithinBlocks limit bs → WithinBlocks limit (first_block evs ++ bs)
-first-within limit [] bs h g = g
-first-within limit (e ∷ evs) bs h g = (omega arith, h, g)
-
-spelled-within : (bs : List Block) (text : List ℕ) (limit : ℕ) → SpellsDocument bs text limit → WithinBlocks limit bs
-spelled-within bs text limit h =
-    subst (WithinBlocks limit) (sym h.all)
-    (first-within limit h.first h.rest (key_values-within h.first [] text limit h.lines.0 h.end h.lines.2) (sections-within h.rest text limit h.end h.sections))
+    (key_values-depth w (n + limit) limit one b.key_values [] (section_path e b) text k j (omega (arith, here, header)) lines))
+    (blocks-depth w limit n one room (b ∷ earlier) bs text j rest)
 
 flat-size : (w n : ℕ) (text : List ℕ) (limit l : ℕ) (bs : List Block) (p : Path) (x : Place) → w ≤ 1 → HasRoom w limit n → SpellsDocument bs text limit
     → flat l (claims bs) p ≡ Some x → size w p ≤ n + limit
 flat-size w n text limit l bs [] x one few spelled is = omega arith
 flat-size w n text limit l bs (s ∷ p) x one few spelled is =
-    let each = behind-depth w limit n one few [] bs (spelled-headed bs text limit spelled) (spelled-within bs text limit spelled) in
+    let each = blocks-depth w limit n one few [] bs text 0 (document_blocks bs text limit spelled) in
     let decides = flat-decides (IsWithin w (n + limit)) l (claims bs) s p x each is in
     subst (λ q. size w q ≤ n + limit) decides.on decides.holds
 

@@ -33,13 +33,25 @@ Has l sort p = (e : Claim) × IsIn e l × (e.mark.sort ≡ sort) × (e.path ≡ 
 abbrev pub Makes : List Claim → Path → Type 0
 Makes l p = (e : Claim) × IsIn e l × (e.mark.sort ≡ Assigned → ⊥) × (e.path ≡ p)
 
+-- a key's claim
+abbrev Keyed : Claim → Type 0
+Keyed c = ((p : Path) × (k : List ℕ) × (c.path ≡ p ++ (key k ∷ []))) × (c.mark.sort ≡ TableElement → ⊥)
+
+-- an element's claim, in an array at the base
+abbrev Element : Path → Claim → Type 0
+Element base c = (n : ℕ) × (c.path ≡ base ++ (position n ∷ [])) × (c.mark.sort ≡ Assigned)
+
+-- a header's claim of an entry, or its passage through one
+abbrev Entry : Path → List Claim → Claim → Type 0
+Entry base earlier c =
+    (base ≡ []) × ((p : Path) × (k : List ℕ) × (n : ℕ) × (c.path ≡ (p ++ (key k ∷ [])) ++ (position n ∷ []))) × (c.mark.sort ≡ Assigned → ⊥)
+    × (c.mark.sort ≡ Passed → Has earlier TableElement c.path)
+
 -- a claim of a scope with this base, behind these earlier ones of the scope
 pub record Fits (base : Path) (earlier : List Claim) (c : Claim) : Type 0 where
   pub under : IsUnder base c.path
-  pub parent : IsChild base c.path ⊎ ((p : Path) × Makes earlier p × IsChild p c.path)
-  pub entry : c.mark.sort ≡ TableElement → (base ≡ []) × ((p : Path) × (k : List ℕ) × (n : ℕ) × (c.path ≡ (p ++ (key k ∷ [])) ++ (position n ∷ [])))
-  pub assigned : c.mark.sort ≡ Assigned → ((p : Path) × (k : List ℕ) × (c.path ≡ p ++ (key k ∷ []))) ⊎ IsChild base c.path
-  pub passed : c.mark.sort ≡ Passed → (p : Path) (n : ℕ) → c.path ≡ p ++ (position n ∷ []) → Has earlier TableElement c.path
+  pub parent : (p : Path) × ((p ≡ base) ⊎ Makes earlier p) × IsChild p c.path
+  pub kind : Keyed c ⊎ Element base c ⊎ Entry base earlier c
 
 -- Each claim fits its scope, and each scope stands right behind a claim that assigns, at whose path it has its base.
 abbrev pub Scoped : Path → List Claim → Option Claim → Claims → Type 0
@@ -95,14 +107,33 @@ makes-on l more p (e, here, is, on) = (e, in-left e l more here, is, on)
 pub fits-on : (base : Path) (l more : List Claim) (c : Claim) → Fits base l c → Fits base (l ++ more) c
 fits-on base l more c f = record {
   under = f.under;
-  parent = elim f.parent [
-    | inl child ↦ inl child
-    | inr inside ↦ inr (inside.0, makes-on l more inside.0 inside.1, inside.2)
+  parent = (f.parent.0, elim f.parent.1 [ inl same ↦ inl same | inr made ↦ inr (makes-on l more f.parent.0 made) ], f.parent.2);
+  kind = elim f.kind [
+    | inl keyed ↦ inl keyed
+    | inr (inl element) ↦ inr (inl element)
+    | inr (inr (root, at, table, passed)) ↦ inr (inr (root, at, table, λ is. has-on l more TableElement c.path (passed is)))
   ];
-  entry = f.entry;
-  assigned = f.assigned;
-  passed = λ is p n on. has-on l more TableElement c.path (f.passed is p n on);
 }
+
+-- a header passes through at a position where an entry stands
+pub passed-entered : (base : Path) (l : List Claim) (c : Claim) (p : Path) (n : ℕ) → Fits base l c → c.mark.sort ≡ Passed → c.path ≡ p ++ (position n ∷ []) → Has l TableElement c.path
+passed-entered base l c p n f is on = elim f.kind [
+  | inl ((q, k, at), table) ↦ absurd (key-position q p k n (sym at ∙ on))
+  | inr (inl (m, at, assigns)) ↦ absurd (let no : Passed ≡ Assigned = sym is ∙ assigns in cc)
+  | inr (inr (root, at, table, passed)) ↦ passed is
+]
+
+-- an entry and a value are never on one path
+pub entry-value : (base : Path) (l : List Claim) (a e : Claim) → Fits base l a → Fits base l e → a.mark.sort ≡ Assigned → e.mark.sort ≡ TableElement → a.path ≡ e.path → ⊥
+entry-value base l a e fits there value is same = elim there.kind [
+  | inl (at, plain) ↦ plain is
+  | inr (inl (n, on, assigns)) ↦ let no : TableElement ≡ Assigned = sym is ∙ assigns in cc
+  | inr (inr (root, (p, k, n, on), table, passed)) ↦ elim fits.kind [
+    | inl ((q, m, at), plain) ↦ key-position q (p ++ (key k ∷ [])) m n (sym at ∙ same ∙ on)
+    | inr (inl (m, at, assigns)) ↦ nil-under p (key k) [] (sym root ∙ front-same base (p ++ (key k ∷ [])) (position m) (position n) (sym at ∙ same ∙ on))
+    | inr (inr (none, at, other, more)) ↦ other value
+  ]
+]
 
 scoped-loose : (base : Path) (earlier : List Claim) (last : Option Claim) (cs : Claims) → Scoped base earlier None cs → Scoped base earlier last cs
 scoped-loose base earlier None cs h = h
@@ -128,19 +159,10 @@ stands-on : (base : Path) (l more : List Claim) (p : Path) → Stands base l p �
 stands-on base l more p (from, inl same) = (from, inl same)
 stands-on base l more p (from, inr made) = (from, inr (makes-on l more p made))
 
-child-parent : (base : Path) (earlier : List Claim) (p : Path) (x : Step) → Stands base earlier p → IsChild base (p ++ (x ∷ [])) ⊎ ((q : Path) × Makes earlier q × IsChild q (p ++ (x ∷ [])))
-child-parent base earlier p x (from, inl same) = inl (x, ap (λ l. l ++ (x ∷ [])) same)
-child-parent base earlier p x (from, inr made) = inr (p, made, (x, refl))
-
 -- a claim of a table at a key
 table-fits : (base : Path) (earlier : List Claim) (p : Path) (k : List ℕ) (c : Claim) → Stands base earlier p → c.path ≡ p ++ (key k ∷ []) → (c.mark.sort ≡ TableElement → ⊥) → Fits base earlier c
-table-fits base earlier p k c stands on plain = record {
-  under = rw on (child-under base p (key k) stands.0);
-  parent = rw on (child-parent base earlier p (key k) stands);
-  entry = λ is. absurd (plain is);
-  assigned = λ is. inl (p, k, on);
-  passed = λ is q n there. absurd (key-position p q k n (sym on ∙ there));
-}
+table-fits base earlier p k c stands on plain =
+    record { under = rw on (child-under base p (key k) stands.0); parent = (p, stands.1, (key k, on)); kind = inl ((p, k, on), plain) }
 
 key-scoped : (base : Path) (earlier : List Claim) (p : Path) (parts : List SimpleKey) (v : ParsedValue) (inside : Path → Claims) → Stands base earlier p
     → ((k : SimpleKey) (q : Path) (l : List Claim) → IsUnder base (with_key q k) → Scoped base l (Some (assigned (with_key q k) k v)) (inside (with_key q k))) → Scoped base earlier None (key_claims p parts v inside)
@@ -157,13 +179,7 @@ key-scoped base earlier p (k ∷ l ∷ more) v inside stands h =
     )
 
 element-fits : (p : Path) (earlier : List Claim) (n : ℕ) (v : ParsedValue) → Fits p earlier (element (with_position p n) v)
-element-fits p earlier n v = record {
-  under = (position n, [], refl);
-  parent = inl (position n, refl);
-  entry = λ is. cc;
-  assigned = λ is. inr (position n, refl);
-  passed = λ is q m there. cc;
-}
+element-fits p earlier n v = record { under = (position n, [], refl); parent = (p, inl refl, (position n, refl)); kind = inr (inl (n, refl, refl)) }
 
 mutual
   unfolding value_claims inner_claims item_claims pair_claims
@@ -249,10 +265,8 @@ entry-fits : (earlier : List Claim) (p : Path) (k : List ℕ) (n : ℕ) (c : Cla
     → (c.mark.sort ≡ Assigned → ⊥) → (c.mark.sort ≡ Passed → Has earlier TableElement ((p ++ (key k ∷ [])) ++ (position n ∷ []))) → Fits [] earlier c
 entry-fits earlier p k n c (e, here, is, there) on plain passed = record {
   under = rw on (child-under [] (p ++ (key k ∷ [])) (position n) (root-from (p ++ (key k ∷ []))));
-  parent = inr (p ++ (key k ∷ []), (e, here, (λ no. let wrong : ArrayOfTables ≡ Assigned = sym is ∙ no in cc), there), (position n, on));
-  entry = λ e. (refl, (p, k, n, on));
-  assigned = λ is. absurd (plain is);
-  passed = λ is q m there. rw on (passed is);
+  parent = (p ++ (key k ∷ []), inr (e, here, (λ no. let wrong : ArrayOfTables ≡ Assigned = sym is ∙ no in cc), there), (position n, on));
+  kind = inr (inr (refl, (p, k, n, on), plain, λ is. rw on (passed is)));
 }
 
 passed-fits : (n : ℕ) (earlier : List Claim) (h : Head) (p : Path) (k : SimpleKey) → Stands [] earlier p → HasEntries earlier (with_key p k) n → Fits [] earlier (header_claim h Passed (enter n (with_key p k)) k)

@@ -1,11 +1,11 @@
 -- What the claims of a document assign is spelled in its text, and the claims behind each are those of its value.
-use Rattle.std.proofs.Common.{◌≡◌, ℕ, suc, ◌+◌, ◌≤◌, ◌⊎◌, true, false, List, [], ◌∷◌, ◌++◌, length, arith, refl, sym, ap, ◌∙◌, subst, inl, inr}
+use Rattle.std.proofs.Common.{◌≡◌, ℕ, suc, ◌+◌, ◌≤◌, ◌⊎◌, true, false, List, [], ◌∷◌, ◌++◌, length, arith, refl, sym, ap, ◌∙◌, inl, inr}
 use Rattle.std.specs.Prelude.{⊤}
 use Rattle.toml_span_lex.specs.declared.span.Span.{Span}
 use Rattle.toml_span_tree.specs.Node.{Scalar}
 use Rattle.toml_span_tree.specs.Path.{Path, shape_scalar}
 use Rattle.toml_span_read.specs.Data.{ParsedValue, parsed, ParsedInner, scalar, array, inline, ParsedItems, no_items, item, ParsedPairs, no_pairs, pair, KeyValue, parsed_span, Block}
-use Rattle.toml_span_read.specs.Grammar.{Spells, SpellsInner, SpellsItems, SpellsPairs, SpellsDocument, SpellsSections, SpellsKeyValues, first_block}
+use Rattle.toml_span_read.specs.Grammar.{Spells, SpellsInner, SpellsItems, SpellsPairs, SpellsDocument, SpellsKeyValues}
 use Rattle.toml_span_read.specs.Keys.{SimpleKey, SpellsKey}
 use Rattle.toml_span.specs.declared.claims.Sort.{Sort}
 use Rattle.toml_span.specs.declared.claims.Sort.TheVariants.{Passed, StandardTable, ArrayOfTables, TableElement, Dotted as DottedTable, Assigned}
@@ -14,6 +14,7 @@ use Rattle.toml_span.specs.Paths.{with_key, with_position, elements_added, opene
 use Rattle.toml_span.specs.Claims.{Claim, Claims, no_claims, claimed, scope, followed, shape_claimed, value_shape, parsed_inner, element, key_claims, value_claims, inner_claims, item_claims, pair_claims, key_value_claims, header_claims, section_claims, claims_behind, claims, head_of}
 use Rattle.toml_span.specs.Flat.{by_header}
 use Rattle.toml_span.proofs.EachClaim.{Each}
+use Rattle.toml_span_laws.proofs.AscendLaws.{AreBlocks, document_blocks}
 use Rattle.toml_span_laws.proofs.Headed.{Headed, header-headed}
 
 -- ---- one claim
@@ -153,35 +154,18 @@ header-of_text text limit e h p parts =
 
 -- ---- documents
 
--- what these sections assign is spelled
-abbrev BlocksOfText : List ℕ → ℕ → List Block → Type 0
-BlocksOfText text limit [] = ⊤
-BlocksOfText text limit (b ∷ bs) = ((p : Path) → AllSpelled text limit (key_value_claims b.key_values p)) × BlocksOfText text limit bs
-
-sections-of_text : (bs : List Block) (text : List ℕ) (limit i : ℕ) → SpellsSections bs text limit i → BlocksOfText text limit bs
-sections-of_text [] text limit i h = tt
-sections-of_text (b ∷ bs) text limit i (j, h, rest) = (λ p. key_values-of_text b.key_values [] p text limit h.lines.0 j h.lines.2, sections-of_text bs text limit j rest)
-
-with-first : (es : List KeyValue) (bs : List Block) (text : List ℕ) (limit : ℕ) → ((p : Path) → AllSpelled text limit (key_value_claims es p)) → BlocksOfText text limit bs
-    → BlocksOfText text limit (first_block es ++ bs)
-with-first [] bs text limit h more = more
-with-first (e ∷ es) bs text limit h more = (h, more)
-
-behind-of_text : (earlier bs : List Block) (text : List ℕ) (limit : ℕ) → BlocksOfText text limit bs → AllSpelled text limit (claims_behind earlier bs)
+blocks-of_text : (earlier bs : List Block) (text : List ℕ) (limit i : ℕ) → AreBlocks bs text limit i → AllSpelled text limit (claims_behind earlier bs)
 unfolding claims_behind section_claims
-behind-of_text earlier [] text limit h = tt
-behind-of_text earlier (b ∷ bs) text limit h =
+blocks-of_text earlier [] text limit i h = tt
+blocks-of_text earlier (b ∷ bs) text limit i (s, k, j, header, few, plain, on, lines, rest) =
     let e = elements_added (opened_by earlier) in
     spelled-followed text limit (section_claims e b) (claims_behind (b ∷ earlier) bs)
     (spelled-followed text limit (header_claims e (head_of b) [] b.header) (key_value_claims b.key_values (section_path e b))
-    (header-of_text text limit e (head_of b) [] b.header) (h.0 (section_path e b)))
-    (behind-of_text (b ∷ earlier) bs text limit h.1)
+    (header-of_text text limit e (head_of b) [] b.header) (key_values-of_text b.key_values [] (section_path e b) text limit k j lines))
+    (blocks-of_text (b ∷ earlier) bs text limit j rest)
 
 pub document-spelled : (bs : List Block) (text : List ℕ) (limit : ℕ) → SpellsDocument bs text limit → AllSpelled text limit (claims bs)
-document-spelled bs text limit x =
-    let first = λ (p : Path). key_values-of_text x.first [] p text limit x.lines.0 x.end x.lines.2 in
-    behind-of_text [] bs text limit
-    (subst (BlocksOfText text limit) (sym x.all) (with-first x.first x.rest text limit first (sections-of_text x.rest text limit x.end x.sections)))
+document-spelled bs text limit x = blocks-of_text [] bs text limit 0 (document_blocks bs text limit x)
 
 -- each claim by itself
 each-of_text : (text : List ℕ) (limit : ℕ) (cs : Claims) → AllSpelled text limit cs → Each (OfText text limit) cs

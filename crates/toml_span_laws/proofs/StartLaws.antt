@@ -1,13 +1,13 @@
 -- The starts of headers, keys, arrays and inline tables rise.
-use Rattle.std.proofs.Common.{◌≡◌, ℕ, zero, suc, ◌+◌, ◌<◌, ◌≤◌, Bool, List, [], ◌∷◌, ◌++◌, length, get_or, arith, inl, inr, refl}
+use Rattle.std.proofs.Common.{◌≡◌, ℕ, zero, suc, ◌+◌, ◌<◌, ◌≤◌, List, [], ◌∷◌, ◌++◌, length, get_or, arith, inl, inr, refl, sym, ◌∙◌}
 use Rattle.std.specs.List.Sorted.{IsStrictlyIncreasing}
 use Rattle.toml_span_lex.specs.declared.span.Span.{Span}
 use Rattle.toml_span_read.specs.Data.{ParsedValue, parsed, ParsedInner, scalar, array, inline, ParsedItems, no_items, item, ParsedPairs, no_pairs, pair, KeyValue, Block}
-use Rattle.toml_span_read.specs.Grammar.{Spells, SpellsInner, SpellsItems, SpellsPairs, SpellsKeyValues, SpellsHeader, first_block, SpellsSections, SpellsDocument}
+use Rattle.toml_span_read.specs.Grammar.{Spells, SpellsInner, SpellsItems, SpellsPairs, SpellsKeyValues, SpellsDocument}
 use Rattle.toml_span_read.specs.Keys.{SimpleKey}
 use Rattle.toml_span_read.specs.Places.{Ascend}
 use Rattle.toml_span_laws.specs.Places.{part_starts, key_starts, inner_key_starts, item_key_starts, pair_key_starts, key_value_key_starts, block_key_starts, starts, inner_starts, item_starts, pair_starts, key_value_starts, header_starts, block_starts}
-use Rattle.toml_span_laws.proofs.AscendLaws.{header_ascend}
+use Rattle.toml_span_laws.proofs.AscendLaws.{AreBlocks, HeaderFrom, document_blocks, header_from}
 use Rattle.toml_span_read.proofs.InsideLemmas.{tail_inside}
 use Rattle.toml_span_read.proofs.KeyOrder.{dotted_ascend}
 use Rattle.toml_span_read.proofs.SpanLaws.{value_lies}
@@ -84,31 +84,20 @@ key_values_starts_rise (e ∷ es) before text limit i j (m, n, k, h, tail, clear
     (rising_on (starts e.value) (key_value_starts es) h.from m j (starts_rise e.value text limit (length e.parts) h.from m h.spelled)
     (rising_wide (key_value_starts es) m k j j f (omega arith) (key_values_starts_rise es (before ++ (e ∷ [])) text limit k j rest)))
 
-header_starts_rise : (ps : List SimpleKey) (span : Span) (many : Bool) (text : List ℕ) (limit i j : ℕ) → span.start ≡ i → SpellsHeader ps many text limit i j → Rising (header_starts ps span) i j
-header_starts_rise [] span many text limit i j e h = absurd h.front.key
-header_starts_rise (p ∷ ps) span many text limit i j e h =
-    (omega (arith, e), rising_wide (part_starts (p ∷ ps)) (span.start + 1) (i + 1) j j (omega (arith, e)) (omega arith) (parts_rise (p ∷ ps) (i + 1) j (header_ascend (p ∷ ps) many text limit i j h)))
+header_starts_rise : (b : Block) (parts : List SimpleKey) (i j : ℕ) → b.header ≡ parts → HeaderFrom b i j → Rising (header_starts b.header b.header_span) i j
+header_starts_rise b [] i j is h = rw is (rw is at (header_from b i j h))
+header_starts_rise b (p ∷ ps) i j is (inl (none, on)) = absurd (let no : p ∷ ps ≡ [] = sym is ∙ none in cc)
+header_starts_rise b (p ∷ ps) i j is (inr (on, a)) = rw is (on, parts_rise (p ∷ ps) (b.header_span.start + 1) j (rw is at a))
 
-sections_starts_rise : (bs : List Block) (text : List ℕ) (limit i : ℕ) → SpellsSections bs text limit i → Rising (block_starts bs) i (length text)
-sections_starts_rise [] text limit i h = omega (arith, h)
-sections_starts_rise (b ∷ bs) text limit i (j, s, rest) =
-    let e : b.header_span.start ≡ i = (rw s.header_span refl) in
-    rising_on (header_starts b.header b.header_span) (key_value_starts b.key_values ++ block_starts bs) i s.end (length text)
-    (header_starts_rise b.header b.header_span b.array text limit i s.end e s.header)
-    (rising_on (key_value_starts b.key_values) (block_starts bs) s.end j (length text)
-    (rising_wide (key_value_starts b.key_values) s.end s.lines.0 j j s.lines.1.forward (omega arith) (key_values_starts_rise b.key_values [] text limit s.lines.0 j s.lines.2))
-    (sections_starts_rise bs text limit j rest))
-
-first_starts_rise : (es : List KeyValue) (bs : List Block) (text : List ℕ) (limit i j : ℕ) → SpellsKeyValues es [] text limit i j → SpellsSections bs text limit j
-    → Rising (block_starts (first_block es ++ bs)) 0 (length text)
-first_starts_rise [] bs text limit i j h rest = rising_wide (block_starts bs) 0 j (length text) (length text) (omega arith) (omega arith) (sections_starts_rise bs text limit j rest)
-first_starts_rise (e ∷ es) bs text limit i j h rest =
-    rising_on (key_value_starts (e ∷ es)) (block_starts bs) 0 j (length text)
-    (rising_wide (key_value_starts (e ∷ es)) 0 i j j (omega arith) (omega arith) (key_values_starts_rise (e ∷ es) [] text limit i j h))
-    (sections_starts_rise bs text limit j rest)
+blocks_starts_rise : (bs : List Block) (text : List ℕ) (limit i : ℕ) → AreBlocks bs text limit i → Rising (block_starts bs) i (length text)
+blocks_starts_rise [] text limit i h = h
+blocks_starts_rise (b ∷ bs) text limit i (s, k, j, header, few, plain, on, lines, rest) =
+    rising_on (header_starts b.header b.header_span) (key_value_starts b.key_values ++ block_starts bs) i s (length text) (header_starts_rise b b.header i s refl header)
+    (rising_on (key_value_starts b.key_values) (block_starts bs) s j (length text)
+    (rising_wide (key_value_starts b.key_values) s k j j on (omega arith) (key_values_starts_rise b.key_values [] text limit k j lines)) (blocks_starts_rise bs text limit j rest))
 
 document_starts_rise : (bs : List Block) (text : List ℕ) (limit : ℕ) → SpellsDocument bs text limit → Rising (block_starts bs) 0 (length text)
-document_starts_rise bs text limit d = rw d.all (first_starts_rise d.first d.rest text limit d.lines.0 d.end d.lines.2 d.sections)
+document_starts_rise bs text limit d = blocks_starts_rise bs text limit 0 (document_blocks bs text limit d)
 
 pub document_starts_increase : (bs : List Block) (text : List ℕ) (limit : ℕ) → SpellsDocument bs text limit → IsStrictlyIncreasing (block_starts bs)
 document_starts_increase bs text limit d = rising_increases (block_starts bs) 0 (length text) (document_starts_rise bs text limit d)
