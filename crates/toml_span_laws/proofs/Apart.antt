@@ -1,8 +1,8 @@
 -- No two keys of a document start at one place.
-use Rattle.std.proofs.Common.{◌≡◌, ℕ, ◌<◌, ◌⊎◌, List, [], ◌∷◌, ◌++◌, Option, Some, None, length, arith, refl, sym, ap, ◌∙◌, inl, inr}
+use Rattle.std.proofs.Common.{◌≡◌, ℕ, ◌<◌, ◌⊎◌, List, [], ◌∷◌, ◌++◌, Option, Some, length, arith, refl, sym, ap, ◌∙◌, inl, inr}
 use Rattle.std.specs.Prelude.{⊤, option_and_then}
 use Rattle.std.proofs.lemmas.List.{append_cancel_left}
-use Rattle.std.proofs.lemmas.Option.{none-some}
+use Rattle.std.proofs.lemmas.Option.{none-some, option_and_then_some}
 use Rattle.toml_span_lex.specs.declared.span.Span.{Span}
 use Rattle.toml_span_tree.specs.Path.{Path, key, position, Place, place_at}
 use Rattle.toml_span_tree.specs.Value.{view}
@@ -118,17 +118,13 @@ record ClaimAt (l : List Claim) (p : Path) (k : Span) : Type 0 where
   among : IsIn claim l
   spanned : claim.place.key_span ≡ Some k
 
-keyed-place : (o : Option Place) (k : Span) → option_and_then (λ x. x.key_span) o ≡ Some k → (x : Place) × (o ≡ Some x) × (x.key_span ≡ Some k)
-keyed-place None k h = absurd (none-some k h)
-keyed-place (Some x) k h = (x, refl, h)
-
 key-claimed : (n : ℕ) (cs : Claims) (p : Path) (k : Span) → key_at (flat n cs) p ≡ Some k → ClaimAt (all_claims cs) p k
 unfolding flat
 key-claimed n cs [] k h = absurd (none-some k h)
 key-claimed n cs (s ∷ p) k h =
-    let (x, is, spanned) = keyed-place (flat n cs (s ∷ p)) k h in
-    let d = flat-decides (λ c. IsIn c (all_claims cs)) n cs s p x (each-in cs (all_claims cs) (λ c i. i)) is in
-    record { claim = d.claim; on = d.on; among = d.holds; spanned = ap (λ y. y.key_span) d.place ∙ spanned }
+    option_and_then_some (λ x. x.key_span) (flat n cs (s ∷ p)) k h (λ x is spanned.
+        let d = flat-decides (λ c. IsIn c (all_claims cs)) n cs s p x (each-in cs (all_claims cs) (λ c i. i)) is in
+        record { claim = d.claim; on = d.on; among = d.holds; spanned = ap (λ y. y.key_span) d.place ∙ spanned })
 
 one-key : (l : List Claim) (i j : ℕ) (p q : Path) (k m : Span) → Rising l i j → ClaimAt l p k → ClaimAt l q m → k.start ≡ m.start → p ≡ q
 one-key l i j p q k m r a b e =

@@ -1,5 +1,5 @@
 -- The clash that is told is the first by the places of the keys.
-use Rattle.std.proofs.Common.{◌≡◌, ℕ, ◌<◌, ◌⊎◌, List, [], ◌∷◌, ◌++◌, Option, Some, None, option_map, length, arith, refl, sym, ap, ◌∙◌, subst, append_assoc, inl, inr}
+use Rattle.std.proofs.Common.{◌≡◌, ℕ, ◌<◌, ◌⊎◌, List, [], ◌∷◌, ◌++◌, Option, Some, None, length, arith, refl, sym, ap, ◌∙◌, subst, append_assoc, inl, inr}
 use Rattle.std.proofs.lemmas.Bool.{cases_Bool}
 use Rattle.std.proofs.lemmas.Option.{none-some}
 use Rattle.toml_span_read.specs.Data.{Block}
@@ -15,7 +15,7 @@ use Rattle.toml_span.proofs.EachClaim.{same_path-eq}
 use Rattle.toml_span_laws.specs.Clashing.{IsIn, DoClash, IsPair, IsFirstPair}
 use Rattle.toml_span_laws.specs.Order.{claim_start}
 use Rattle.toml_span_laws.proofs.Apart.{IsLater, Pairs, in-left, in-right, pairs-join, pairs-split, rising-later, strictly}
-use Rattle.toml_span_laws.proofs.FirstClash.{IsFree, AreFree, cases_option, are-free, none-free}
+use Rattle.toml_span_laws.proofs.FirstClash.{IsFree, AreFree, cases_option, are-free, mapped, none-free}
 use Rattle.toml_span_laws.proofs.Order.{document-rises}
 
 -- ---- claims that clash are no entries
@@ -28,17 +28,14 @@ blame-entry TableElement = refl
 blame-entry Dotted = refl
 blame-entry Assigned = refl
 
-mapped : {A B : Type 0} (f : A → B) (o : Option A) (y : B) → option_map f o ≡ Some y → (x : A) × (o ≡ Some x)
-mapped f None y h = absurd (none-some y h)
-mapped f (Some x) y h = (x, refl)
-
 -- two claims that clash are on one path, and their sorts clash
 pub clash-blames : (c d : Claim) → DoClash c d → (c.path ≡ d.path) × ((b : Blame) × (blame c.mark.sort d.mark.sort ≡ Some b))
 unfolding clash
 clash-blames c d (t, h) = elim (cases_Bool (same_path c.path d.path)) [
   | inl here ↦
-      let (m, met) = mapped (named d.name) (meets c.mark d.mark) t (rw here at h) in
-      (same_path-eq c.path d.path here, mapped (meeting c.mark d.mark) (blame c.mark.sort d.mark.sort) m met)
+      let (m, met, told) = mapped (named d.name) (meets c.mark d.mark) t (rw here at h) in
+      let (b, blames, meets) = mapped (meeting c.mark d.mark) (blame c.mark.sort d.mark.sort) m met in
+      (same_path-eq c.path d.path here, (b, blames))
   | inr off ↦ absurd (none-some t (rw off at h))
 ]
 

@@ -2,11 +2,10 @@
 use Rattle.std.proofs.Common.{◌≡◌, ℕ, suc, ◌+◌, List, [], ◌∷◌, ◌++◌, length, length-append, map, arith, refl, sym, ap, ◌∙◌, subst, append_assoc, append-nil, inl, inr}
 use Rattle.std.specs.Prelude.{⊤}
 use Rattle.std.proofs.lemmas.List.{append_cancel_left, map-append}
-use Rattle.toml_span_lex.specs.declared.span.Span.{Span}
 use Rattle.toml_span_tree.specs.Path.{Path, key}
-use Rattle.toml_span_read.specs.Data.{ParsedValue, parsed, ParsedInner, scalar, array, inline, ParsedItems, no_items, item, ParsedPairs, no_pairs, pair, KeyValue}
+use Rattle.toml_span_read.specs.Data.{ParsedValue, parsed, scalar, array, inline, ParsedItems, no_items, item, ParsedPairs, no_pairs, pair, KeyValue}
 use Rattle.toml_span_read.specs.Earlier.{Clear, NoneAt, part_names}
-use Rattle.toml_span_read.specs.Grammar.{Spells, SpellsInner, SpellsItems, SpellsPairs, SpellsKeyValues}
+use Rattle.toml_span_read.specs.Grammar.{Spells, SpellsItems, SpellsPairs, SpellsKeyValues}
 use Rattle.toml_span_read.specs.Keys.{SimpleKey}
 use Rattle.toml_span.specs.declared.claims.Sort.TheVariants.{Dotted, Assigned}
 use Rattle.toml_span.specs.Claims.{Claim, Claims, no_claims, claimed, scope, followed, key_claims, value_claims, inner_claims, item_claims, pair_claims, key_value_claims, element, assigned, dotted}
@@ -222,12 +221,9 @@ mutual
   unfolding value_claims inner_claims item_claims pair_claims
 
   value-guarded : (v : ParsedValue) (p : Path) (l : List Claim) (text : List ℕ) (limit d i j : ℕ) → Spells v text limit d i j → Guarded l (value_claims v p)
-  value-guarded (parsed k span) p l text limit d i j (few, h) = inner-guarded k span p l text limit d i j h
-
-  inner-guarded : (k : ParsedInner) (span : Span) (p : Path) (l : List Claim) (text : List ℕ) (limit d i j : ℕ) → SpellsInner k span text limit d i j → Guarded l (inner_claims k p)
-  inner-guarded (scalar s) span p l text limit d i j h = tt
-  inner-guarded (array vs) span p l text limit d i j (here, e, k, gap, h) = (items-guarded vs 0 p [] text limit (d + 1) k j h, tt)
-  inner-guarded (inline ps) span p l text limit d i j (here, e, k, gap, h) = (pairs-guarded ps [] p [] text limit (d + 1) k j (λ c none. absurd none) h, tt)
+  value-guarded (parsed (scalar s) span) p l text limit d i j h = tt
+  value-guarded (parsed (array vs) span) p l text limit d i j (few, (here, e, k, gap, h)) = (items-guarded vs 0 p [] text limit (d + 1) k j h, tt)
+  value-guarded (parsed (inline ps) span) p l text limit d i j (few, (here, e, k, gap, h)) = (pairs-guarded ps [] p [] text limit (d + 1) k j (λ c none. absurd none) h, tt)
 
   items-guarded : (vs : ParsedItems) (n : ℕ) (p : Path) (l : List Claim) (text : List ℕ) (limit d i j : ℕ) → SpellsItems vs text limit d i j → Guarded l (item_claims vs n p)
   items-guarded no_items n p l text limit d i j h = tt

@@ -4,9 +4,9 @@ use Rattle.std.proofs.lemmas.Bool.{cases_Bool}
 use Rattle.std.proofs.lemmas.List.{append_cancel_left}
 use Rattle.std.proofs.lemmas.Option.{none-some}
 use Rattle.toml_span_tree.specs.Path.{Path, Step, key, position}
-use Rattle.toml_span_read.specs.Data.{ParsedValue, parsed, ParsedInner, scalar, array, inline, ParsedItems, no_items, item, ParsedPairs, no_pairs, pair}
+use Rattle.toml_span_read.specs.Data.{ParsedValue, parsed, scalar, array, inline, ParsedItems, no_items, item, ParsedPairs, no_pairs, pair}
 use Rattle.toml_span_read.specs.Keys.{SimpleKey}
-use Rattle.toml_span_laws.specs.Again.{moved, moved_inner, moved_items, moved_pairs, moved_parts, moved_span}
+use Rattle.toml_span_laws.specs.Again.{moved, moved_items, moved_pairs, moved_parts, moved_span}
 use Rattle.toml_span.specs.Claims.{Claim, Claims, no_claims, claimed, scope, followed, key_claims, value_claims, inner_claims, item_claims, pair_claims, element, assigned, dotted}
 use Rattle.toml_span.specs.Clashes.{blame, or_else}
 use Rattle.toml_span.specs.Flat.{all_claims, claims_at, deciding_claim, first_claim, first_claim_by_header, by_header}
@@ -76,12 +76,9 @@ mutual
   unfolding value_claims inner_claims item_claims pair_claims
 
   pub value-moved : (v : ParsedValue) (from to : ℕ) (p r q s : Path) → Beside p r q s → AreMoved from to p r (value_claims v q) (value_claims (moved from to v) s)
-  value-moved (parsed k span) from to p r q s b = inner-moved k from to p r q s b
-
-  inner-moved : (k : ParsedInner) (from to : ℕ) (p r q s : Path) → Beside p r q s → AreMoved from to p r (inner_claims k q) (inner_claims (moved_inner from to k) s)
-  inner-moved (scalar x) from to p r q s b = none_moved
-  inner-moved (array vs) from to p r q s b = scope_moved (item_claims vs 0 q) (item_claims (moved_items from to vs) 0 s) no_claims no_claims (items-moved vs 0 from to p r q s b) none_moved
-  inner-moved (inline ps) from to p r q s b = scope_moved (pair_claims ps q) (pair_claims (moved_pairs from to ps) s) no_claims no_claims (pairs-moved ps from to p r q s b) none_moved
+  value-moved (parsed (scalar x) span) from to p r q s b = none_moved
+  value-moved (parsed (array vs) span) from to p r q s b = scope_moved (item_claims vs 0 q) (item_claims (moved_items from to vs) 0 s) no_claims no_claims (items-moved vs 0 from to p r q s b) none_moved
+  value-moved (parsed (inline ps) span) from to p r q s b = scope_moved (pair_claims ps q) (pair_claims (moved_pairs from to ps) s) no_claims no_claims (pairs-moved ps from to p r q s b) none_moved
 
   items-moved : (vs : ParsedItems) (n : ℕ) (from to : ℕ) (p r q s : Path) → Beside p r q s → AreMoved from to p r (item_claims vs n q) (item_claims (moved_items from to vs) n s)
   items-moved no_items n from to p r q s b = none_moved

@@ -284,18 +284,6 @@ across : (base : Path) (earlier : List Claim) (a : Claim) (inner cs : Claims) (c
 across base earlier a inner cs c d h inside more same =
     outside base earlier a inner cs d h more (subst (IsFrom a.path) same (from-under a.path c.path (scoped-under a.path [] None inner c h.scoped.2 inside)))
 
-share-claimed : (x : Claim) (cs : Claims) (c d : Claim) → ShareScope cs c d → ShareScope (claimed x cs) c d
-share-claimed x cs c d (inl (a, b)) = inl (inr a, inr b)
-share-claimed x cs c d (inr inside) = inr inside
-
-share-inside : (inner cs : Claims) (c d : Claim) → ShareScope inner c d → ShareScope (scope inner cs) c d
-share-inside inner cs c d (inl both) = inr (inl both)
-share-inside inner cs c d (inr inside) = inr (inr (inl inside))
-
-share-after : (inner cs : Claims) (c d : Claim) → ShareScope cs c d → ShareScope (scope inner cs) c d
-share-after inner cs c d (inl both) = inl both
-share-after inner cs c d (inr inside) = inr (inr (inr inside))
-
 on-path : (c x : Claim) → c.path ≡ x.path → IsFrom c.path x.path
 on-path c x same = ([], sym same ∙ sym (append-nil c.path))
 
@@ -306,17 +294,17 @@ together base earlier last (claimed x cs) c d h (inl is) (inl on) same = inl (in
 together base earlier last (claimed x cs) c d h (inl is) (inr more) same = inl (inl is, inr (beside base earlier last x cs d h more (on-path d x (sym same ∙ ap (λ y. y.path) is))))
 together base earlier last (claimed x cs) c d h (inr more) (inl is) same = inl (inr (beside base earlier last x cs c h more (on-path c x (same ∙ ap (λ y. y.path) is))), inl is)
 together base earlier last (claimed x cs) c d h (inr more) (inr also) same =
-    share-claimed x cs c d (together base (earlier ++ (x ∷ [])) (Some x) cs c d (scene-claimed base earlier last x cs h) more also same)
+    elim (together base (earlier ++ (x ∷ [])) (Some x) cs c d (scene-claimed base earlier last x cs h) more also same) [ inl (a, b) ↦ inl (inr a, inr b) | inr inside ↦ inr inside ]
 together base earlier None (scope inner cs) c d h a b same = absurd h.scoped
 together base earlier (Some x) (scope inner cs) c d h a b same =
     elim (in-cases c (all_claims inner) (all_claims cs) a) [
       | inl inside ↦ elim (in-cases d (all_claims inner) (all_claims cs) b) [
-        | inl also ↦ share-inside inner cs c d (together x.path [] None inner c d (scene-inside base earlier x inner cs h) inside also same)
+        | inl also ↦ inr (elim (together x.path [] None inner c d (scene-inside base earlier x inner cs h) inside also same) [ inl both ↦ inl both | inr deeper ↦ inr (inl deeper) ])
         | inr more ↦ absurd (across base earlier x inner cs c d h inside more same)
       ]
       | inr more ↦ elim (in-cases d (all_claims inner) (all_claims cs) b) [
         | inl inside ↦ absurd (across base earlier x inner cs d c h inside more (sym same))
-        | inr also ↦ share-after inner cs c d (together base earlier None cs c d (scene-after base earlier x inner cs h) more also same)
+        | inr also ↦ elim (together base earlier None cs c d (scene-after base earlier x inner cs h) more also same) [ inl both ↦ inl both | inr deeper ↦ inr (inr (inr deeper)) ]
       ]
     ]
 

@@ -1,17 +1,16 @@
 -- How many keys, and how many steps, the paths of a document have.
-use Rattle.std.proofs.Common.{◌≡◌, ℕ, zero, suc, ◌+◌, ◌*◌, ◌≤◌, false, List, [], ◌∷◌, ◌++◌, length, Option, Some, None, option_map, refl, sym, ap, ◌∙◌, subst, inl, inr, arith}
+use Rattle.std.proofs.Common.{◌≡◌, ℕ, zero, suc, ◌+◌, ◌*◌, ◌≤◌, false, List, [], ◌∷◌, ◌++◌, length, Some, None, option_map, refl, sym, ap, ◌∙◌, subst, inl, inr, arith}
 use Rattle.std.proofs.lemmas.Bool.{cases_Bool}
-use Rattle.std.proofs.lemmas.Option.{none-some}
-use Rattle.toml_span_lex.specs.declared.span.Span.{Span}
 use Rattle.toml_span_tree.specs.Node as tree
 use Rattle.toml_span_tree.specs.Path.{Path, key, position, Place, reached, place_of, node_at}
 use Rattle.toml_span_tree.specs.Value.{view}
 use Rattle.toml_span_tree.specs.declared.value.Value.{Value}
-use Rattle.toml_span_read.specs.Data.{ParsedValue as Read, parsed, ParsedInner, scalar, array, inline, ParsedItems, no_items, item, ParsedPairs, no_pairs, pair, KeyValue, Block}
+use Rattle.toml_span_read.specs.Data.{ParsedValue as Read, parsed, scalar, array, inline, ParsedItems, no_items, item, ParsedPairs, no_pairs, pair, KeyValue, Block}
 use Rattle.toml_span_read.specs.Keys.{SimpleKey}
-use Rattle.toml_span_read.specs.Limits.{Within, WithinInner, WithinItems, WithinPairs}
+use Rattle.toml_span_read.specs.Limits.{Within, WithinItems, WithinPairs}
 use Rattle.toml_span_read.specs.Grammar.{SpellsDocument, SpellsKeyValues}
 use Rattle.toml_span_laws.proofs.AscendLaws.{AreBlocks, document_blocks}
+use Rattle.toml_span_laws.proofs.FirstClash.{mapped}
 use Rattle.toml_span_laws.proofs.DepthLaws.{value_within}
 use Rattle.toml_span.specs.declared.claims.Sort.TheVariants.{TableElement}
 use Rattle.toml_span.specs.declared.claims.Head.{Head}
@@ -113,12 +112,9 @@ mutual
   unfolding value_claims inner_claims item_claims pair_claims
 
   value-depth : (w n limit d : ℕ) → w ≤ 1 → (v : Read) (p : Path) → size w p + limit ≤ n + d → Within limit d v → Each (IsWithin w n) (value_claims v p)
-  value-depth w n limit d one (parsed k span) p few h = inner-depth w n limit d one k p few h.1
-
-  inner-depth : (w n limit d : ℕ) → w ≤ 1 → (k : ParsedInner) (p : Path) → size w p + limit ≤ n + d → WithinInner limit d k → Each (IsWithin w n) (inner_claims k p)
-  inner-depth w n limit d one (scalar s) p few h = tt
-  inner-depth w n limit d one (array vs) p few h = (item-depth w n limit (d + 1) one vs 0 p (omega (arith, few)) h, tt)
-  inner-depth w n limit d one (inline ps) p few h = (pair-depth w n limit (d + 1) one ps p (omega (arith, few)) h, tt)
+  value-depth w n limit d one (parsed (scalar s) span) p few h = tt
+  value-depth w n limit d one (parsed (array vs) span) p few h = (item-depth w n limit (d + 1) one vs 0 p (omega (arith, few)) h.1, tt)
+  value-depth w n limit d one (parsed (inline ps) span) p few h = (pair-depth w n limit (d + 1) one ps p (omega (arith, few)) h.1, tt)
 
   item-depth : (w n limit d : ℕ) → w ≤ 1 → (vs : ParsedItems) (i : ℕ) (p : Path) → size w p + limit + 1 ≤ n + d → WithinItems limit d vs → Each (IsWithin w n) (item_claims vs i p)
   item-depth w n limit d one no_items i p few h = tt
@@ -212,13 +208,9 @@ flat-steps text limit l bs p x spelled is =
 
 -- ---- the tree
 
-found-place : (o : Option (Option Span × tree.Node)) (m : tree.Node) → option_map (λ r. r.1) o ≡ Some m → (x : Place) × (option_map place_of o ≡ Some x)
-found-place None m is = absurd (none-some m is)
-found-place (Some r) m is = (place_of r, refl)
-
 pub tree-depth : (text : List ℕ) (limit : ℕ) (root : Value) (p : Path) (m : tree.Node) → IsTree text limit root → node_at p (view root) ≡ Some m → (keys_in p ≤ 2 * limit) × (length p ≤ 3 * limit)
 tree-depth text limit root p m h is =
     let (bs, has, tree) = h in
-    let (x, here) = found-place (reached p (None, view root)) m is in
-    let found = sym (tree.shows p) ∙ here in
-    (flat-keys text limit (length text) bs p x has.0 found, flat-steps text limit (length text) bs p x has.0 found)
+    let (x, here, same) = mapped (λ r. r.1) (reached p (None, view root)) m is in
+    let found = sym (tree.shows p) ∙ ap (option_map place_of) here in
+    (flat-keys text limit (length text) bs p (place_of x) has.0 found, flat-steps text limit (length text) bs p (place_of x) has.0 found)

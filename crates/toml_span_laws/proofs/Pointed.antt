@@ -3,7 +3,6 @@ use Rattle.std.proofs.Common.{◌≡◌, ◌↔◌, ℕ, zero, suc, List, [], �
 use Rattle.std.specs.Prelude.{⊤, IfSome, option_and_then}
 use Rattle.std.proofs.lemmas.Bool.{cases_Bool}
 use Rattle.std.specs.Str.{bytes_eq}
-use Rattle.std.proofs.lemmas.Option.{none-some, same_Some}
 use Rattle.toml_span_lex.specs.declared.span.Span.{Span}
 use Rattle.toml_span_tree.specs.Node.{Node, node, taken, scalar, array, table, Items, no_items, item, Members, no_members, member, entry_at, element_at}
 use Rattle.toml_span_tree.specs.Path.{Path, Step, key, position, Place, reached, at_step, place_of, node_at}
@@ -20,6 +19,7 @@ use Rattle.toml_span.specs.Parsing.{IsTree}
 use Rattle.toml_span.proofs.ShownWhole.{shown-filled}
 use Rattle.toml_span_laws.specs.Document.{StandsAt, without_key, subtree, IsValueOf, PointsAt}
 use Rattle.toml_span_laws.proofs.Answered.{one-document}
+use Rattle.toml_span_laws.proofs.FirstClash.{mapped}
 use Rattle.toml_span_laws.proofs.OneTree.{At, one-value}
 
 -- ---- below a path
@@ -73,17 +73,8 @@ part-value places n path x h is = (rw is at (reached-ordered path (None, n) h.0)
 
 -- ---- what stands at a path
 
-pub place-node : (o : Option At) (place : Place) → option_map place_of o ≡ Some place → (x : At) × (o ≡ Some x) × (place_of x ≡ place)
-place-node None place h = absurd (none-some place h)
-place-node (Some x) place h = (x, refl, same_Some (place_of x) place h)
-
 pub node-reached : (o : Option At) (m : Node) → option_map (λ r. r.1) o ≡ Some m → (k : Option Span) × (o ≡ Some (k, m))
-node-reached None m h = absurd (none-some m h)
-node-reached (Some r) m h = (r.0, ap (λ (n : Node). Some (r.0, n)) (same_Some r.1 m h))
-
-keyed : (o : Option Place) (place : Place) → Some place ≡ option_map without_key o → (x : Place) × (o ≡ Some x)
-keyed None place h = absurd (none-some place (sym h))
-keyed (Some x) place h = (x, refl)
+node-reached o m h = let (x, is, same) = mapped (λ r. r.1) o m h in (x.0, is ∙ ap (λ (n : Node). Some (x.0, n)) same)
 
 stands : (pointer : List ℕ) (n m : Node) (places : Path → Option Place) → Shows n places → pointed pointer n ≡ Some m → StandsAt pointer places (λ place. ⊤)
 stands pointer n m places shows is =
@@ -104,7 +95,7 @@ found-there : (pointer : List ℕ) (names : List (List ℕ)) (path : Path) (plac
     → pointer_segments pointer ≡ Some names → NamesPath names path → flat length (claims bs) path ≡ Some place
     → (m : Node) × (k : Option Span) × (reached path (None, n) ≡ Some (k, m)) × (pointed pointer n ≡ Some m)
 found-there pointer names path place n length bs shows cut named is =
-    let (x, at, same) = place-node (reached path (None, n)) place (shows path ∙ is) in
+    let (x, at, same) = mapped place_of (reached path (None, n)) place (shows path ∙ is) in
     let there : node_at path n ≡ Some x.1 = ap (option_map (λ r. r.1)) at in
     let filled = shown-filled n length bs shows path x.1 there in
     (x.1, x.0, at, (pointed-is pointer n x.1).1 (names, path, cut, named, there, λ t. absurd (true≢false (sym t ∙ filled))))
@@ -112,7 +103,7 @@ found-there pointer names path place n length bs shows cut named is =
 value-named : (pointer : List ℕ) (n m : Node) (length : ℕ) (bs : List Block) → IsValueOf (flat length (claims bs)) n → PointsAt pointer (flat length (claims bs)) m → pointed pointer n ≡ Some m
 value-named pointer n m length bs h (names, path, cut, named, value) =
     let places = flat length (claims bs) in
-    let (place, stands) = keyed (places path) (place_of (None, m)) (value.1 []) in
+    let (place, stands, same) = mapped without_key (places path) (place_of (None, m)) (sym (value.1 [])) in
     let (w, k, at, is) = found-there pointer names path place n length bs h.1 cut named stands in
     is ∙ ap Some (one-value (subtree places path) w m (part-value places n path (k, w) h at) value)
 

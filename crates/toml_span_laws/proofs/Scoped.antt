@@ -3,7 +3,7 @@ use Rattle.std.proofs.Common.{◌≡◌, ℕ, zero, suc, ◌<◌, ◌⊎◌, Boo
 use Rattle.std.specs.Prelude.{⊤, if◌then◌else◌}
 use Rattle.std.proofs.lemmas.Bool.{cases_Bool, cases_lt}
 use Rattle.toml_span_tree.specs.Path.{Path, Step, key, position}
-use Rattle.toml_span_read.specs.Data.{ParsedValue, parsed, ParsedInner, scalar, array, inline, ParsedItems, no_items, item, ParsedPairs, no_pairs, pair, KeyValue, Block}
+use Rattle.toml_span_read.specs.Data.{ParsedValue, parsed, scalar, array, inline, ParsedItems, no_items, item, ParsedPairs, no_pairs, pair, KeyValue, Block}
 use Rattle.toml_span_read.specs.Keys.{SimpleKey}
 use Rattle.toml_span.specs.declared.claims.Sort.{Sort}
 use Rattle.toml_span.specs.declared.claims.Sort.TheVariants.{Passed, StandardTable, ArrayOfTables, TableElement, Assigned}
@@ -185,12 +185,9 @@ mutual
   unfolding value_claims inner_claims item_claims pair_claims
 
   value-scoped : (v : ParsedValue) (base : Path) (earlier : List Claim) (a : Claim) → a.mark.sort ≡ Assigned → IsUnder base a.path → Scoped base earlier (Some a) (value_claims v a.path)
-  value-scoped (parsed k span) base earlier a is under = inner-scoped k base earlier a is under
-
-  inner-scoped : (k : ParsedInner) (base : Path) (earlier : List Claim) (a : Claim) → a.mark.sort ≡ Assigned → IsUnder base a.path → Scoped base earlier (Some a) (inner_claims k a.path)
-  inner-scoped (scalar s) base earlier a is under = tt
-  inner-scoped (array vs) base earlier a is under = (is, under, items-scoped vs 0 a.path [], tt)
-  inner-scoped (inline ps) base earlier a is under = (is, under, pairs-scoped ps a.path [], tt)
+  value-scoped (parsed (scalar s) span) base earlier a is under = tt
+  value-scoped (parsed (array vs) span) base earlier a is under = (is, under, items-scoped vs 0 a.path [], tt)
+  value-scoped (parsed (inline ps) span) base earlier a is under = (is, under, pairs-scoped ps a.path [], tt)
 
   items-scoped : (vs : ParsedItems) (n : ℕ) (p : Path) (earlier : List Claim) → Scoped p earlier None (item_claims vs n p)
   items-scoped no_items n p earlier = tt

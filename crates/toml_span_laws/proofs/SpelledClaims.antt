@@ -1,11 +1,10 @@
 -- What the claims of a document assign is spelled in its text, and the claims behind each are those of its value.
 use Rattle.std.proofs.Common.{◌≡◌, ℕ, suc, ◌+◌, ◌≤◌, ◌⊎◌, true, false, List, [], ◌∷◌, ◌++◌, length, arith, refl, sym, ap, ◌∙◌, inl, inr}
 use Rattle.std.specs.Prelude.{⊤}
-use Rattle.toml_span_lex.specs.declared.span.Span.{Span}
 use Rattle.toml_span_tree.specs.Node.{Scalar}
 use Rattle.toml_span_tree.specs.Path.{Path, shape_scalar}
-use Rattle.toml_span_read.specs.Data.{ParsedValue, parsed, ParsedInner, scalar, array, inline, ParsedItems, no_items, item, ParsedPairs, no_pairs, pair, KeyValue, parsed_span, Block}
-use Rattle.toml_span_read.specs.Grammar.{Spells, SpellsInner, SpellsItems, SpellsPairs, SpellsDocument, SpellsKeyValues}
+use Rattle.toml_span_read.specs.Data.{ParsedValue, parsed, scalar, array, inline, ParsedItems, no_items, item, ParsedPairs, no_pairs, pair, KeyValue, parsed_span, Block}
+use Rattle.toml_span_read.specs.Grammar.{Spells, SpellsItems, SpellsPairs, SpellsDocument, SpellsKeyValues}
 use Rattle.toml_span_read.specs.Keys.{SimpleKey, SpellsKey}
 use Rattle.toml_span.specs.declared.claims.Sort.{Sort}
 use Rattle.toml_span.specs.declared.claims.Sort.TheVariants.{Passed, StandardTable, ArrayOfTables, TableElement, Dotted as DottedTable, Assigned}
@@ -107,12 +106,9 @@ mutual
   unfolding value_claims inner_claims item_claims pair_claims
 
   value-of_text : (v : ParsedValue) (p : Path) (text : List ℕ) (limit d i j : ℕ) → 1 ≤ d → Spells v text limit d i j → AllSpelled text limit (value_claims v p)
-  value-of_text (parsed k span) p text limit d i j deep (few, h) = inner-of_text k span p text limit d i j h
-
-  inner-of_text : (k : ParsedInner) (span : Span) (p : Path) (text : List ℕ) (limit d i j : ℕ) → SpellsInner k span text limit d i j → AllSpelled text limit (inner_claims k p)
-  inner-of_text (scalar s) span p text limit d i j h = tt
-  inner-of_text (array vs) span p text limit d i j (here, e, k, gap, h) = (items-of_text vs 0 p text limit (d + 1) k j (omega arith) h, tt)
-  inner-of_text (inline ps) span p text limit d i j (here, e, k, gap, h) = (pairs-of_text ps [] p text limit (d + 1) k j (omega arith) h, tt)
+  value-of_text (parsed (scalar s) span) p text limit d i j deep h = tt
+  value-of_text (parsed (array vs) span) p text limit d i j deep (few, (here, e, k, gap, h)) = (items-of_text vs 0 p text limit (d + 1) k j (omega arith) h, tt)
+  value-of_text (parsed (inline ps) span) p text limit d i j deep (few, (here, e, k, gap, h)) = (pairs-of_text ps [] p text limit (d + 1) k j (omega arith) h, tt)
 
   items-of_text : (vs : ParsedItems) (n : ℕ) (p : Path) (text : List ℕ) (limit d i j : ℕ) → 1 ≤ d → SpellsItems vs text limit d i j → AllSpelled text limit (item_claims vs n p)
   items-of_text no_items n p text limit d i j deep h = tt

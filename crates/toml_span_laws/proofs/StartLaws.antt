@@ -2,11 +2,11 @@
 use Rattle.std.proofs.Common.{◌≡◌, ℕ, zero, suc, ◌+◌, ◌<◌, ◌≤◌, List, [], ◌∷◌, ◌++◌, length, get_or, arith, inl, inr, refl, sym, ◌∙◌}
 use Rattle.std.specs.List.Sorted.{IsStrictlyIncreasing}
 use Rattle.toml_span_lex.specs.declared.span.Span.{Span}
-use Rattle.toml_span_read.specs.Data.{ParsedValue, parsed, ParsedInner, scalar, array, inline, ParsedItems, no_items, item, ParsedPairs, no_pairs, pair, KeyValue, Block}
-use Rattle.toml_span_read.specs.Grammar.{Spells, SpellsInner, SpellsItems, SpellsPairs, SpellsKeyValues, SpellsDocument}
+use Rattle.toml_span_read.specs.Data.{ParsedValue, parsed, scalar, array, inline, ParsedItems, no_items, item, ParsedPairs, no_pairs, pair, KeyValue, Block}
+use Rattle.toml_span_read.specs.Grammar.{Spells, SpellsItems, SpellsPairs, SpellsKeyValues, SpellsDocument}
 use Rattle.toml_span_read.specs.Keys.{SimpleKey}
 use Rattle.toml_span_read.specs.Places.{Ascend}
-use Rattle.toml_span_laws.specs.Places.{part_starts, key_starts, inner_key_starts, item_key_starts, pair_key_starts, key_value_key_starts, block_key_starts, starts, inner_starts, item_starts, pair_starts, key_value_starts, header_starts, block_starts}
+use Rattle.toml_span_laws.specs.Places.{part_starts, key_starts, item_key_starts, pair_key_starts, key_value_key_starts, block_key_starts, starts, item_starts, pair_starts, key_value_starts, header_starts, block_starts}
 use Rattle.toml_span_laws.proofs.AscendLaws.{AreBlocks, HeaderFrom, document_blocks, header_from}
 use Rattle.toml_span_read.proofs.InsideLemmas.{tail_inside}
 use Rattle.toml_span_read.proofs.KeyOrder.{dotted_ascend}
@@ -44,13 +44,10 @@ parts_rise (p ∷ ps) i j (a, b, rest) = (a, rising_wide (part_starts ps) (p.spa
 
 mutual
   starts_rise : (v : ParsedValue) (text : List ℕ) (limit d i j : ℕ) → Spells v text limit d i j → Rising (starts v) i j
-  starts_rise (parsed x s) text limit d i j (few, h) = inner_starts_rise x s text limit d i j few h
-
-  inner_starts_rise : (x : ParsedInner) (s : Span) (text : List ℕ) (limit d i j : ℕ) → d ≤ limit → SpellsInner x s text limit d i j → Rising (inner_starts x s) i j
-  inner_starts_rise (scalar y) s text limit d i j few h = (value_lies (parsed (scalar y) s) text limit d i j (few, h)).1
-  inner_starts_rise (array vs) s text limit d i j few (here, e, k, gap, h) =
+  starts_rise (parsed (scalar y) s) text limit d i j h = (value_lies (parsed (scalar y) s) text limit d i j h).1
+  starts_rise (parsed (array vs) s) text limit d i j (few, (here, e, k, gap, h)) =
       rw e (omega arith, rising_wide (item_starts vs) (i + 1) k j j gap.forward (omega arith) (item_starts_rise vs text limit (d + 1) k j h))
-  inner_starts_rise (inline ps) s text limit d i j few (here, e, k, gap, h) =
+  starts_rise (parsed (inline ps) s) text limit d i j (few, (here, e, k, gap, h)) =
       rw e (omega arith, rising_wide (pair_starts ps) (i + 1) k j j gap.forward (omega arith) (pair_starts_rise ps [] text limit (d + 1) k j h))
 
   item_starts_rise : (vs : ParsedItems) (text : List ℕ) (limit d i j : ℕ) → SpellsItems vs text limit d i j → Rising (item_starts vs) i j
@@ -120,12 +117,9 @@ behind_first n ns i j (x, r) = rising_wide ns i (n + 1) j j (omega (arith, x)) (
 
 mutual
   value_keys : (v : ParsedValue) → Fewer (key_starts v) (starts v)
-  value_keys (parsed x s) = inner_keys x s
-
-  inner_keys : (x : ParsedInner) (s : Span) → Fewer (inner_key_starts x) (inner_starts x s)
-  inner_keys (scalar y) s = λ i j r. r
-  inner_keys (array vs) s = λ i j r. item_keys vs i j (behind_first s.start (item_starts vs) i j r)
-  inner_keys (inline ps) s = λ i j r. pair_keys ps i j (behind_first s.start (pair_starts ps) i j r)
+  value_keys (parsed (scalar y) s) = λ i j r. r
+  value_keys (parsed (array vs) s) = λ i j r. item_keys vs i j (behind_first s.start (item_starts vs) i j r)
+  value_keys (parsed (inline ps) s) = λ i j r. pair_keys ps i j (behind_first s.start (pair_starts ps) i j r)
 
   item_keys : (vs : ParsedItems) → Fewer (item_key_starts vs) (item_starts vs)
   item_keys no_items = λ i j r. r

@@ -71,16 +71,12 @@ headed-plain (claimed x cs) c h (inr more) is = headed-plain cs c h.1 more is
 headed-plain (scope inner cs) c h here is = h
 
 -- what a header in single brackets opens
-section-there : (e : Path → ℕ) (h : Head) (p : Path) (k : SimpleKey) (parts : List SimpleKey) → h.array ≡ false → Has (own (header_claims e h p (k ∷ parts))) StandardTable (target e p (k ∷ parts))
+section-there : (e : Path → ℕ) (h : Head) (p : Path) (k : SimpleKey) (parts : List SimpleKey) → h.array ≡ false
+    → ((q : Path) × (n : List ℕ) × (target e p (k ∷ parts) ≡ q ++ (key n ∷ []))) × Has (own (header_claims e h p (k ∷ parts))) StandardTable (target e p (k ∷ parts))
 unfolding header_claims target end_claims
-section-there e h p k [] single = rw single (header_claim h StandardTable (with_key p k) k, inl refl, refl, refl)
+section-there e h p k [] single = ((p, k.name, refl), rw single (header_claim h StandardTable (with_key p k) k, inl refl, refl, refl))
 section-there e h p k (l ∷ more) single =
-    let (c, here, is, on) = section-there e h (enter (e (with_key p k)) (with_key p k)) l more single in (c, inr here, is, on)
-
-target-key : (e : Path → ℕ) (p : Path) (k : SimpleKey) (parts : List SimpleKey) → (q : Path) × (n : List ℕ) × (target e p (k ∷ parts) ≡ q ++ (key n ∷ []))
-unfolding target
-target-key e p k [] = (p, k.name, refl)
-target-key e p k (l ∷ more) = target-key e (enter (e (with_key p k)) (with_key p k)) l more
+    let (named, (c, here, is, on)) = section-there e h (enter (e (with_key p k)) (with_key p k)) l more single in (named, (c, inr here, is, on))
 
 -- ---- sections
 
@@ -129,8 +125,7 @@ begins true before e l h k parts double same =
 begins false before e l h k parts single same =
     let t = target e [] (k ∷ parts) in
     let more = own (header_claims e h [] (k ∷ parts)) in
-    let (q, n, is) = target-key e [] k parts in
-    let (c, here, sort, on) = section-there e h [] k parts single in
+    let ((q, n, is), (c, here, sort, on)) = section-there e h [] k parts single in
     record {
       root = inr (inl (q, n, is, (c, in-right c l more here, sort, on)));
       grows = λ r. omega arith;
@@ -173,25 +168,22 @@ section-walk earlier b l text limit i j k parts is lines traced =
     walk-followed Guarded (Known (Opened f) base []) (AllTraced f) guarded-followed l head (key_value_claims b.key_values base) (record { tree = headed-guarded l head headed; all = known })
     (assigned-walk f base b.key_values all text limit i j lines start.root)
 
-headed-section : (earlier : List Block) (b : Block) (l : List Claim) (text : List ℕ) (limit i j m n : ℕ) (parts : List SimpleKey) → b.header ≡ parts → IsDotted parts text m n → SpellsLines b.key_values text limit i j
-    → AllTraced (elements_added (opened_by earlier)) l → Placed l (elements_added (opened_by (b ∷ earlier))) (section_claims (elements_added (opened_by earlier)) b)
-headed-section earlier b l text limit i j m n [] is dotted lines traced = absurd dotted
-headed-section earlier b l text limit i j m n (k ∷ parts) is dotted lines traced = section-walk earlier b l text limit i j k parts is lines traced
+some-parts : (parts : List SimpleKey) (text : List ℕ) (i j : ℕ) → IsDotted parts text i j → (k : SimpleKey) × (more : List SimpleKey) × (parts ≡ k ∷ more)
+some-parts [] text i j h = absurd h
+some-parts (k ∷ more) text i j h = (k, more, refl)
 
 sections-walk : (earlier bs : List Block) (l : List Claim) (text : List ℕ) (limit i : ℕ) → SpellsSections bs text limit i → AllTraced (elements_added (opened_by earlier)) l → Guarded l (claims_behind earlier bs)
 unfolding claims_behind
 sections-walk earlier [] l text limit i h traced = tt
 sections-walk earlier (b ∷ bs) l text limit i (j, s, rest) traced =
     let front = section_claims (elements_added (opened_by earlier)) b in
-    let placed = headed-section earlier b l text limit s.end j s.header.front.start s.header.front.end b.header refl s.header.front.key s.lines traced in
+    let (k, parts, is) = some-parts b.header text s.header.front.start s.header.front.end s.header.front.key in
+    let placed = section-walk earlier b l text limit s.end j k parts is s.lines traced in
     guarded-followed l front (claims_behind (b ∷ earlier) bs) placed.tree (sections-walk (b ∷ earlier) bs (l ++ own front) text limit j rest placed.all)
-
-none-traced : (e : Path → ℕ) → AllTraced e []
-none-traced e c here sort = absurd here
 
 document-walk : (first : List KeyValue) (rest : List Block) (text : List ℕ) (limit i j : ℕ) → SpellsLines first text limit i j → SpellsSections rest text limit j → Guarded [] (claims (first_block first ++ rest))
 unfolding claims_behind section_claims header_claims followed target opened_by
-document-walk [] rest text limit i j lines sections = sections-walk [] rest [] text limit j sections (none-traced (elements_added []))
+document-walk [] rest text limit i j lines sections = sections-walk [] rest [] text limit j sections (λ c here sort. absurd here)
 document-walk (ev ∷ evs) rest text limit i j lines sections =
     let placed = assigned-walk (elements_added []) [] (ev ∷ evs) [] text limit i j lines (inl refl) (λ c here sort. absurd here) in
     let front = key_value_claims (ev ∷ evs) [] in
@@ -199,7 +191,7 @@ document-walk (ev ∷ evs) rest text limit i j lines sections =
     guarded-followed [] front (claims_behind block rest) placed.tree (sections-walk block rest (own front) text limit j sections placed.all)
 
 document-guarded : (bs : List Block) (text : List ℕ) (limit : ℕ) → SpellsDocument bs text limit → Guarded [] (claims bs)
-document-guarded bs text limit h = subst (λ l. Guarded [] (claims l)) (sym h.all) (document-walk h.first h.rest text limit h.start h.end h.lines h.sections)
+document-guarded bs text limit h = rw h.all (document-walk h.first h.rest text limit h.start h.end h.lines h.sections)
 
 -- ---- the first pair
 
