@@ -154,23 +154,17 @@ told-pair earlier (scope inner cs) t is r =
 
 -- ---- one first pair
 
+-- of two claims that both start first, one is the other
+one-first : (R : Claim → Type 0) (c d : Claim) → R c → R d → ((e : Claim) → R e → (e ≡ c) ⊎ (claim_start c < claim_start e)) → ((e : Claim) → R e → (e ≡ d) ⊎ (claim_start d < claim_start e)) → c ≡ d
+one-first R c d rc rd f g = elim (f d rd) [
+  | inl is ↦ sym is
+  | inr late ↦ elim (g c rc) [ inl is ↦ is | inr early ↦ absurd (omega (arith, late, early)) ]
+]
+
 one-pair : (earlier : List Claim) (cs : Claims) (c d e f : Claim) → IsFirstPair earlier cs c d → IsFirstPair earlier cs e f → (c ≡ e) × (d ≡ f)
 one-pair earlier cs c d e f a b =
-    let same : d ≡ f = elim (b.first c d a.pair) [
-      | inl is ↦ is
-      | inr late ↦ elim (a.first e f b.pair) [
-        | inl is ↦ sym is
-        | inr early ↦ absurd (omega (arith, late, early))
-      ]
-    ] in
-    let one : c ≡ e = elim (b.partner c (subst (λ x. IsPair earlier cs c x) same a.pair)) [
-      | inl is ↦ is
-      | inr late ↦ elim (a.partner e (subst (λ x. IsPair earlier cs e x) (sym same) b.pair)) [
-        | inl is ↦ sym is
-        | inr early ↦ absurd (omega (arith, late, early))
-      ]
-    ] in
-    (one, same)
+    let same = one-first (λ x. (y : Claim) × IsPair earlier cs y x) d f (c, a.pair) (e, b.pair) (λ x h. a.first h.0 x h.1) (λ x h. b.first h.0 x h.1) in
+    (one-first (λ x. IsPair earlier cs x d) c e a.pair (rw same b.pair) a.partner (λ x h. b.partner x (rw (← same) h)), same)
 
 -- ---- documents
 

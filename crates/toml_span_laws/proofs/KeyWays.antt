@@ -1,5 +1,5 @@
 -- The way of each key from the table of its section, and that a clear one goes through no value of its section.
-use Rattle.std.proofs.Common.{◌≡◌, ℕ, suc, ◌+◌, List, [], ◌∷◌, ◌++◌, length, length-append, map, arith, refl, sym, ap, ◌∙◌, subst, append_assoc, append-nil, inl, inr}
+use Rattle.std.proofs.Common.{◌≡◌, ℕ, suc, ◌+◌, List, [], ◌∷◌, ◌++◌, length, map, refl, sym, ap, ◌∙◌, subst, append_assoc, append-nil, inl, inr}
 use Rattle.std.specs.Prelude.{⊤}
 use Rattle.std.proofs.lemmas.List.{append_cancel_left, map-append}
 use Rattle.toml_span_tree.specs.Path.{Path, key}
@@ -195,14 +195,14 @@ value-own (parsed (inline ps) span) p = refl
 abbrev IsAt : Path → List Claim → Path → Type 0
 IsAt p l q = q ≡ p
 
-at-apart : (p : Path) (l : List Claim) (a b : Path) → a ≡ p → b ≡ p → IsUnder a b → ⊥
-at-apart p l a b from to (s, rest, is) =
-    let long = ap (λ x. length x) is ∙ length-append a (s ∷ rest) in
-    let same = ap (λ x. length x) (to ∙ sym from) in
-    omega (arith, long, same)
-
 at-bases : (p : Path) → Bases (IsAt p)
-at-bases p = record { more = λ l m q h. h; apart = λ l a b from to way made peace. at-apart p l a b from to (way-under l a b way) }
+at-bases p = record {
+  more = λ l m q h. h;
+  apart = λ l a b from to way made peace.
+      let (s, rest, is) = way-under l a b way in
+      let none : [] ≡ s ∷ rest = append_cancel_left a [] (s ∷ rest) (append-nil a ∙ from ∙ sym to ∙ is) in
+      cc;
+}
 
 -- a key of this base whose walk begins
 begun : (R : List Claim → Path → Type 0) (laws : Bases R) (base : Path) (es : List KeyValue) (next : KeyValue) (l : List Claim) → Clear es next → R l base → Known R base es l

@@ -105,9 +105,6 @@ rise-scope : (cs : Claims) (i j : ℕ) → Rise cs i j → Rise (scope cs no_cla
 unfolding all_claims
 rise-scope cs i j r = rising-append (all_claims cs) [] i j j r (omega arith)
 
-rise-wide : (cs : Claims) (h i j k : ℕ) → h ≤ i → j ≤ k → Rise cs i j → Rise cs h k
-rise-wide cs h i j k a b r = rising-wide (all_claims cs) h i j k a b r
-
 -- ---- keys and values
 
 table-keyed : (q : Path) (k : SimpleKey) (m : Mark) → IsKeyed (table_claim q k m)
@@ -146,9 +143,9 @@ mutual
       → Rise (inner_claims x q) m n
   inner-rises (scalar y) s q text limit d i j m n l w f h = rise-none m n l
   inner-rises (array vs) s q text limit d i j m n l w f (here, e, k, gap, h) =
-      rise-scope (item_claims vs 0 q) m n (rise-wide (item_claims vs 0 q) m k j n (omega (arith, f e, gap.forward)) w (items-rise vs 0 q text limit (d + 1) k j h))
+      rise-scope (item_claims vs 0 q) m n (rising-wide (all_claims (item_claims vs 0 q)) m k j n (omega (arith, f e, gap.forward)) w (items-rise vs 0 q text limit (d + 1) k j h))
   inner-rises (inline ps) s q text limit d i j m n l w f (here, e, k, gap, h) =
-      rise-scope (pair_claims ps q) m n (rise-wide (pair_claims ps q) m k j n (omega (arith, f e, gap.forward)) w (pairs-rise ps [] q text limit (d + 1) k j h))
+      rise-scope (pair_claims ps q) m n (rising-wide (all_claims (pair_claims ps q)) m k j n (omega (arith, f e, gap.forward)) w (pairs-rise ps [] q text limit (d + 1) k j h))
 
   value-rises : (v : ParsedValue) (q : Path) (text : List ℕ) (limit d i j : ℕ) → Spells v text limit d i j → Rise (value_claims v q) i j
   value-rises (parsed x s) q text limit d i j h =
@@ -169,7 +166,7 @@ mutual
       element-rises v (with_position q n) (item_claims vs (suc n) q) text limit d i m j h (elim then [
         | inl (e, close) ↦ rw e (rise-none (m + 1) j (omega (arith, close.before.forward, close.ends)))
         | inr (p, sign, rest) ↦
-            rise-wide (item_claims vs (suc n) q) (m + 1) p j j (omega (arith, sign.before.forward, sign.behind.forward)) (omega arith) (items-rise vs (suc n) q text limit d p j rest)
+            rising-wide (all_claims (item_claims vs (suc n) q)) (m + 1) p j j (omega (arith, sign.before.forward, sign.behind.forward)) (omega arith) (items-rise vs (suc n) q text limit d p j rest)
       ])
 
   pairs-rise : (ps : ParsedPairs) (es : List KeyValue) (q : Path) (text : List ℕ) (limit d i j : ℕ) → SpellsPairs ps es text limit d i j → Rise (pair_claims ps q) i j
@@ -177,11 +174,11 @@ mutual
   pairs-rise (pair ss v x ps) es q text limit d i j (m, (a, b, key, few, sign, h, extent), clear, then) =
       rise-followed (key_claims q ss v (value_claims v)) (pair_claims ps q) i m j
       (key-rises q ss v (value_claims v) i a m (dotted_ascend ss text i a key).0
-      (λ r. rise-wide (value_claims v r) a b m m (omega (arith, sign.before.forward, sign.behind.forward)) (omega arith) (value-rises v r text limit (d + length ss) b m h)))
+      (λ r. rising-wide (all_claims (value_claims v r)) a b m m (omega (arith, sign.before.forward, sign.behind.forward)) (omega arith) (value-rises v r text limit (d + length ss) b m h)))
       (elim then [
         | inl (e, close) ↦ rw e (rise-none m j (omega (arith, close.before.forward, close.ends)))
         | inr (p, comma, rest) ↦
-            rise-wide (pair_claims ps q) m p j j (omega (arith, comma.before.forward, comma.behind.forward)) (omega arith)
+            rising-wide (all_claims (pair_claims ps q)) m p j j (omega (arith, comma.before.forward, comma.behind.forward)) (omega arith)
             (pairs-rise ps (es ++ (record { parts = ss; value = v; extent = x } ∷ [])) q text limit d p j rest)
       ])
 
@@ -191,9 +188,9 @@ key_values-rise [] before q text limit i j h = rise-none i j (omega (arith, h))
 key_values-rise (e ∷ es) before q text limit i j (m, n, k, h, tail, clear, gap, rest) =
     rise-followed (assignment_claims e q) (key_value_claims es q) i m j
     (key-rises q e.parts e.value (value_claims e.value) i h.key_end m (dotted_ascend e.parts text i h.key_end h.key).0
-    (λ r. rise-wide (value_claims e.value r) h.key_end h.from m m (omega (arith, h.sign.before.forward, h.sign.behind.forward)) (omega arith)
+    (λ r. rising-wide (all_claims (value_claims e.value r)) h.key_end h.from m m (omega (arith, h.sign.before.forward, h.sign.behind.forward)) (omega arith)
     (value-rises e.value r text limit (length e.parts) h.from m h.spelled)))
-    (rise-wide (key_value_claims es q) m k j j (omega (arith, (tail_inside text m n tail).0, gap.forward)) (omega arith) (key_values-rise es (before ++ (e ∷ [])) q text limit k j rest))
+    (rising-wide (all_claims (key_value_claims es q)) m k j j (omega (arith, (tail_inside text m n tail).0, gap.forward)) (omega arith) (key_values-rise es (before ++ (e ∷ [])) q text limit k j rest))
 
 -- ---- sections
 
@@ -226,7 +223,7 @@ blocks-rise earlier (b ∷ bs) text limit i (s, k, j, header, few, plain, on, li
     let q = section_path e b in
     rise-followed (section_claims e b) (claims_behind (b ∷ earlier) bs) i j (length text)
     (rise-followed (header_claims e (head_of b) [] b.header) (key_value_claims b.key_values q) i s j (header-rises e (head_of b) [] b.header i s (header_from b i s header))
-    (rise-wide (key_value_claims b.key_values q) s k j j on (omega arith) (key_values-rise b.key_values [] q text limit k j lines)))
+    (rising-wide (all_claims (key_value_claims b.key_values q)) s k j j on (omega arith) (key_values-rise b.key_values [] q text limit k j lines)))
     (blocks-rise (b ∷ earlier) bs text limit j rest)
 
 pub document-rises : (bs : List Block) (text : List ℕ) (limit : ℕ) → SpellsDocument bs text limit → Rise (claims bs) 0 (length text)

@@ -101,11 +101,8 @@ key-depth w n p (k ∷ l ∷ more) v inside few h =
     let here = size-below w p k in
     (omega (arith, here, few), key-depth w n (with_key p k) (l ∷ more) v inside (omega (arith, here, few)) (λ q same. h q (omega (arith, here, same))))
 
-at-most : (w n limit d : ℕ) (v : Read) (p : Path) → size w p + limit ≤ n + d → Within limit d v → size w p ≤ n
-at-most w n limit d (parsed k span) p few h = omega (arith, few, h.0)
-
-parts-few : (w n limit d : ℕ) (parts : List SimpleKey) (v : Read) (p : Path) → size w p + limit ≤ n + d → Within limit (d + length parts) v → size w p + length parts ≤ n
-parts-few w n limit d parts (parsed k span) p few h = omega (arith, few, h.0)
+deep : (limit d : ℕ) (v : Read) → Within limit d v → d ≤ limit
+deep limit d (parsed k span) h = h.0
 
 -- each bracket round a value is a step at most, and each part of a key is one
 mutual
@@ -121,7 +118,7 @@ mutual
   item-depth w n limit d one (item v vs) i p few h =
       let here = size-at w p i in
       let below : size w (with_position p i) + limit ≤ n + d = omega (arith, one, few, here) in (
-        at-most w n limit d v (with_position p i) below h.0,
+        omega (arith, below, deep limit d v h.0),
         each-followed (IsWithin w n) (value_claims v (with_position p i)) (item_claims vs (suc i) p) (value-depth w n limit d one v (with_position p i) below h.0) (item-depth w n limit d one vs (suc i) p few h.1),
       )
 
@@ -129,7 +126,7 @@ mutual
   pair-depth w n limit d one no_pairs p few h = tt
   pair-depth w n limit d one (pair parts v extent rest) p few h =
       each-followed (IsWithin w n) (key_claims p parts v (value_claims v)) (pair_claims rest p)
-      (key-depth w n p parts v (value_claims v) (parts-few w n limit d parts v p few h.1)
+      (key-depth w n p parts v (value_claims v) (omega (arith, few, deep limit (d + length parts) v h.1))
       (λ q same. value-depth w n limit (d + length parts) one v q (omega (arith, same, few)) h.1))
       (pair-depth w n limit d one rest p few h.2)
 

@@ -12,6 +12,7 @@ use Rattle.toml_span.specs.declared.claims.Head.{Head}
 use Rattle.toml_span.specs.Paths.{with_key, with_position, elements_added, opened_by, section_path}
 use Rattle.toml_span.specs.Claims.{Claim, Claims, no_claims, claimed, scope, followed, shape_claimed, value_shape, parsed_inner, element, key_claims, value_claims, inner_claims, item_claims, pair_claims, key_value_claims, header_claims, section_claims, claims_behind, claims, head_of}
 use Rattle.toml_span.specs.Flat.{by_header}
+use Rattle.toml_span.proofs.Grafts.{followed-assoc}
 use Rattle.toml_span.proofs.EachClaim.{Each}
 use Rattle.toml_span_laws.proofs.AscendLaws.{AreBlocks, document_blocks}
 use Rattle.toml_span_laws.proofs.Headed.{Headed, header-headed}
@@ -53,12 +54,6 @@ unfolding followed
 followed-none no_claims = refl
 followed-none (claimed c xs) = ap (claimed c) (followed-none xs)
 followed-none (scope inner xs) = ap (scope inner) (followed-none xs)
-
-followed-assoc : (xs ys zs : Claims) → followed (followed xs ys) zs ≡ followed xs (followed ys zs)
-unfolding followed
-followed-assoc no_claims ys zs = refl
-followed-assoc (claimed c xs) ys zs = ap (claimed c) (followed-assoc xs ys zs)
-followed-assoc (scope inner xs) ys zs = ap (scope inner) (followed-assoc xs ys zs)
 
 spelled-followed : (text : List ℕ) (limit : ℕ) (xs ys : Claims) → AllSpelled text limit xs → AllSpelled text limit ys → AllSpelled text limit (followed xs ys)
 unfolding followed

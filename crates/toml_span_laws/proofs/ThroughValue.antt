@@ -136,18 +136,14 @@ begins false before e l h k parts single same =
 abbrev AllTraced : (Path → ℕ) → List Claim → Type 0
 AllTraced e l = (c : Claim) → IsIn c l → c.mark.sort ≡ Assigned → Traced (Opened e) l c.path
 
--- claims of sections are guarded, and their values have such ways
-abbrev Placed : List Claim → (Path → ℕ) → Claims → Type 0
-Placed l e cs = Walk Guarded (AllTraced e) l cs
-
 assigned-walk : (e : Path → ℕ) (base : Path) (evs : List KeyValue) (l : List Claim) (text : List ℕ) (limit i j : ℕ) → SpellsLines evs text limit i j → Opened e l base
-    → Known (Opened e) base [] l → Placed l e (key_value_claims evs base)
+    → Known (Opened e) base [] l → Walk Guarded (AllTraced e) l (key_value_claims evs base)
 assigned-walk e base evs l text limit i j (k, gap, h) root known =
     let (es, w) = key_values-walk (Opened e) (opened-bases e) base evs [] l text limit k j h root known in
     record { tree = w.tree; all = λ c here sort. (w.all c here sort).0 }
 
 section-walk : (earlier : List Block) (b : Block) (l : List Claim) (text : List ℕ) (limit i j : ℕ) (k : SimpleKey) (parts : List SimpleKey) → b.header ≡ k ∷ parts → SpellsLines b.key_values text limit i j
-    → AllTraced (elements_added (opened_by earlier)) l → Placed l (elements_added (opened_by (b ∷ earlier))) (section_claims (elements_added (opened_by earlier)) b)
+    → AllTraced (elements_added (opened_by earlier)) l → Walk Guarded (AllTraced (elements_added (opened_by (b ∷ earlier)))) l (section_claims (elements_added (opened_by earlier)) b)
 unfolding section_claims opened_by
 section-walk earlier b l text limit i j k parts is lines traced =
     let e = elements_added (opened_by earlier) in
