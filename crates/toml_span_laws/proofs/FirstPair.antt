@@ -1,5 +1,5 @@
 -- The clash that is told is the first by the places of the keys.
-use Rattle.std.proofs.Common.{◌≡◌, ℕ, ◌<◌, ◌⊎◌, List, [], ◌∷◌, ◌++◌, Option, Some, None, length, arith, refl, sym, ap, ◌∙◌, subst, append_assoc, inl, inr}
+use Rattle.std.proofs.Common.{◌≡◌, ℕ, ◌<◌, ◌⊎◌, List, [], ◌∷◌, ◌++◌, Some, None, length, arith, refl, sym, ap, ◌∙◌, subst, append_assoc, inl, inr}
 use Rattle.std.proofs.lemmas.Bool.{cases_Bool}
 use Rattle.std.proofs.lemmas.Option.{none-some}
 use Rattle.toml_span_read.specs.Data.{Block}
@@ -64,13 +64,9 @@ free-clash [] c d free h clashes = absurd h
 free-clash (x ∷ earlier) c d free (inl same) (t, clashes) = none-some t (sym free.0 ∙ ap (λ y. clash y d) (sym same) ∙ clashes)
 free-clash (x ∷ earlier) c d free (inr more) clashes = free-clash earlier c d free.1 more clashes
 
-none-of : (c d : Claim) (o : Option NamedClash) → clash c d ≡ o → (DoClash c d → ⊥) → clash c d ≡ None
-none-of c d None is free = is
-none-of c d (Some t) is free = absurd (free (t, is))
-
 pub free-of : (earlier : List Claim) (d : Claim) → ((c : Claim) → IsIn c earlier → DoClash c d → ⊥) → IsFree earlier d
 free-of [] d h = tt
-free-of (c ∷ earlier) d h = (none-of c d (clash c d) refl (h c (inl refl)), free-of earlier d (λ x here. h x (inr here)))
+free-of (c ∷ earlier) d h = (elim (cases_option (clash c d)) [ inl none ↦ none | inr clashes ↦ absurd (h c (inl refl) clashes) ], free-of earlier d (λ x here. h x (inr here)))
 
 pub no-pair : (earlier : List Claim) (cs : Claims) (c d : Claim) → AreFree earlier cs → IsPair earlier cs c d → ⊥
 no-pair earlier no_claims c d ok h = absurd h

@@ -1,10 +1,10 @@
 -- The claims of a document ascend in the text.
-use Rattle.std.proofs.Common.{◌≡◌, ℕ, zero, suc, ◌+◌, ◌<◌, ◌≤◌, List, [], ◌∷◌, ◌++◌, Some, length, arith, refl, sym, ap, ◌∙◌, append_assoc, inl, inr}
+use Rattle.std.proofs.Common.{◌≡◌, ℕ, zero, suc, ◌+◌, ◌<◌, ◌≤◌, List, [], ◌∷◌, ◌++◌, Some, None, length, arith, refl, sym, ap, ◌∙◌, append_assoc, inl, inr}
 use Rattle.std.proofs.lemmas.Bool.{cases_Bool}
 use Rattle.std.proofs.lemmas.Option.{none-some, same_Some}
 use Rattle.toml_span_lex.specs.declared.span.Span.{Span}
 use Rattle.toml_span_tree.specs.Path.{Path}
-use Rattle.toml_span_read.specs.Data.{ParsedValue, parsed, ParsedInner, scalar, array, inline, ParsedItems, no_items, item, ParsedPairs, no_pairs, pair, KeyValue, parsed_span, Block}
+use Rattle.toml_span_read.specs.Data.{ParsedValue, parsed, ParsedInner, scalar, array, inline, ParsedItems, no_items, item, ParsedPairs, no_pairs, pair, KeyValue, Block}
 use Rattle.toml_span_read.specs.Grammar.{from_to, Spells, SpellsInner, SpellsItems, SpellsPairs, SpellsKeyValues, SpellsDocument}
 use Rattle.toml_span_read.specs.Keys.{SimpleKey}
 use Rattle.toml_span_read.specs.Places.{Ascend}
@@ -12,11 +12,9 @@ use Rattle.toml_span_laws.proofs.AscendLaws.{AreBlocks, document_blocks, header_
 use Rattle.toml_span_read.proofs.InsideLemmas.{tail_inside}
 use Rattle.toml_span_read.proofs.KeyOrder.{dotted_ascend}
 use Rattle.toml_span_read.proofs.SpanLaws.{value_lies}
-use Rattle.toml_span.specs.declared.claims.Mark.{Mark}
-use Rattle.toml_span.specs.declared.claims.Sort.{Sort}
-use Rattle.toml_span.specs.declared.claims.Sort.TheVariants.{Passed, StandardTable, ArrayOfTables, TableElement, Dotted, Assigned}
+use Rattle.toml_span.specs.declared.claims.Sort.TheVariants.{Passed, StandardTable, ArrayOfTables, TableElement}
 use Rattle.toml_span.specs.declared.claims.Head.{Head}
-use Rattle.toml_span.specs.Claims.{Claim, Claims, no_claims, claimed, scope, followed, key_span_of, table_claim, pair_mark, header_mark, key_claims, value_claims, inner_claims, item_claims, pair_claims, assignment_claims, key_value_claims, element, assigned, dotted, head_of, header_claim, array_claims, end_claims, header_claims, section_claims, claims_behind, claims}
+use Rattle.toml_span.specs.Claims.{Claim, Claims, no_claims, claimed, scope, followed, key_claims, value_claims, inner_claims, item_claims, pair_claims, assignment_claims, key_value_claims, element, assigned, dotted, head_of, header_claim, array_claims, end_claims, header_claims, section_claims, claims_behind, claims}
 use Rattle.toml_span.specs.Flat.{all_claims}
 use Rattle.toml_span_laws.specs.Order.{claim_start, Follows, Ascends}
 use Rattle.toml_span.specs.Paths.{with_key, with_position, enter, elements_added, opened_by, section_path}
@@ -107,22 +105,11 @@ rise-scope cs i j r = rising-append (all_claims cs) [] i j j r (omega arith)
 
 -- ---- keys and values
 
-table-keyed : (q : Path) (k : SimpleKey) (m : Mark) → IsKeyed (table_claim q k m)
-table-keyed q k m t h = by_sort m.sort h
-  where
-    by_sort : (s : Sort) → key_span_of s m.key ≡ Some t → (t ≡ m.key) × (s ≡ TableElement → ⊥)
-    by_sort Passed h = (sym (same_Some m.key t h), λ e. cc)
-    by_sort StandardTable h = (sym (same_Some m.key t h), λ e. cc)
-    by_sort ArrayOfTables h = (sym (same_Some m.key t h), λ e. cc)
-    by_sort TableElement h = absurd (none-some t h)
-    by_sort Dotted h = (sym (same_Some m.key t h), λ e. cc)
-    by_sort Assigned h = (sym (same_Some m.key t h), λ e. cc)
+keyed : (c : Claim) → c.place.key_span ≡ Some c.mark.key → (c.mark.sort ≡ TableElement → ⊥) → IsKeyed c
+keyed c is plain k h = (sym (same_Some c.mark.key k (sym is ∙ h)), plain)
 
-assigned-keyed : (q : Path) (k : SimpleKey) (v : ParsedValue) → IsKeyed (assigned q k v)
-assigned-keyed q k v t h = (sym (same_Some k.span t h), λ e. cc)
-
-element-keyed : (q : Path) (v : ParsedValue) → IsKeyed (element q v)
-element-keyed q v t h = absurd (none-some t h)
+unkeyed : (c : Claim) → c.place.key_span ≡ None → IsKeyed c
+unkeyed c is k h = absurd (none-some k (sym is ∙ h))
 
 -- a key, and what its value claims
 key-rises : (q : Path) (parts : List SimpleKey) (v : ParsedValue) (inside : Path → Claims) (i a j : ℕ) → Ascend parts i a → ((r : Path) → Rise (inside r) a j)
@@ -130,10 +117,10 @@ key-rises : (q : Path) (parts : List SimpleKey) (v : ParsedValue) (inside : Path
 unfolding key_claims
 key-rises q [] v inside i a j h r = rise-none i j (omega (arith, h, rising-forward (all_claims (inside q)) a j (r q)))
 key-rises q (k ∷ []) v inside i a j h r =
-    let here = with_key q k in rise-claimed (assigned here k v) (inside here) i a j (assigned-keyed here k v) h.0 (omega (arith, h.1, h.2)) (r here)
+    let here = with_key q k in rise-claimed (assigned here k v) (inside here) i a j (keyed (assigned here k v) refl (λ e. cc)) h.0 (omega (arith, h.1, h.2)) (r here)
 key-rises q (k ∷ l ∷ more) v inside i a j h r =
     let here = with_key q k in
-    rise-claimed (dotted here k v) (key_claims here (l ∷ more) v inside) i k.span.end j (table-keyed here k (pair_mark Dotted k.span (parsed_span v))) h.0 h.1 (key-rises here (l ∷ more) v inside k.span.end a j h.2 r)
+    rise-claimed (dotted here k v) (key_claims here (l ∷ more) v inside) i k.span.end j (keyed (dotted here k v) refl (λ e. cc)) h.0 h.1 (key-rises here (l ∷ more) v inside k.span.end a j h.2 r)
 
 mutual
   unfolding value_claims inner_claims item_claims pair_claims
@@ -156,7 +143,7 @@ mutual
       → Rise (claimed (element q v) (followed (value_claims v q) rest)) i j
   element-rises (parsed x s) q rest text limit d i m j h r =
       let a = value_lies (parsed x s) text limit d i m h in
-      rise-claimed (element q (parsed x s)) (followed (inner_claims x q) rest) i (s.start + 1) j (element-keyed q (parsed x s)) a.0.0 (omega arith)
+      rise-claimed (element q (parsed x s)) (followed (inner_claims x q) rest) i (s.start + 1) j (unkeyed (element q (parsed x s)) refl) a.0.0 (omega arith)
       (rise-followed (inner_claims x q) rest (s.start + 1) (m + 1) j
       (inner-rises x s q text limit d i m (s.start + 1) (m + 1) (omega (arith, a.0.1, a.0.2)) (omega arith) (λ e. omega (arith, ap (λ t. t.start) e)) h.1) r)
 
@@ -197,14 +184,14 @@ key_values-rise (e ∷ es) before q text limit i j (m, n, k, h, tail, clear, gap
 array-rises : (h : Head) (q : Path) (k : SimpleKey) (n i j : ℕ) → i ≤ k.span.start → k.span.start < j → Rise (array_claims h q k n (claimed (header_claim h TableElement (with_position q n) k) no_claims)) i j
 unfolding all_claims
 array-rises h q k zero i j a b =
-    (a, (table-keyed q k (header_mark h ArrayOfTables k.span), inr (refl, refl, refl), (table-keyed (with_position q 0) k (header_mark h TableElement k.span), b)))
-array-rises h q k (suc n) i j a b = (a, (table-keyed (with_position q (suc n)) k (header_mark h TableElement k.span), b))
+    (a, (keyed (header_claim h ArrayOfTables q k) refl (λ e. cc), inr (refl, refl, refl), (unkeyed (header_claim h TableElement (with_position q 0) k) refl, b)))
+array-rises h q k (suc n) i j a b = (a, (unkeyed (header_claim h TableElement (with_position q (suc n)) k) refl, b))
 
 end-rises : (h : Head) (q : Path) (k : SimpleKey) (n i j : ℕ) → i ≤ k.span.start → k.span.start < j → Rise (end_claims h q k n) i j
 unfolding end_claims all_claims
 end-rises h q k n i j a b = elim (cases_Bool h.array) [
   | inl double ↦ rw double (array-rises h q k n i j a b)
-  | inr single ↦ rw single (a, (table-keyed q k (header_mark h StandardTable k.span), b))
+  | inr single ↦ rw single (a, (keyed (header_claim h StandardTable q k) refl (λ e. cc), b))
 ]
 
 header-rises : (e : Path → ℕ) (h : Head) (q : Path) (parts : List SimpleKey) (i j : ℕ) → Ascend parts i j → Rise (header_claims e h q parts) i j
@@ -213,7 +200,7 @@ header-rises e h q [] i j a = rise-none i j a
 header-rises e h q (k ∷ []) i j a = end-rises h (with_key q k) k (e (with_key q k)) i j a.0 (omega (arith, a.1, a.2))
 header-rises e h q (k ∷ l ∷ more) i j a =
     let next = enter (e (with_key q k)) (with_key q k) in
-    rise-claimed (header_claim h Passed next k) (header_claims e h next (l ∷ more)) i k.span.end j (table-keyed next k (header_mark h Passed k.span)) a.0 a.1 (header-rises e h next (l ∷ more) k.span.end j a.2)
+    rise-claimed (header_claim h Passed next k) (header_claims e h next (l ∷ more)) i k.span.end j (keyed (header_claim h Passed next k) refl (λ e. cc)) a.0 a.1 (header-rises e h next (l ∷ more) k.span.end j a.2)
 
 blocks-rise : (earlier bs : List Block) (text : List ℕ) (limit i : ℕ) → AreBlocks bs text limit i → Rise (claims_behind earlier bs) i (length text)
 unfolding claims_behind section_claims

@@ -279,9 +279,6 @@ Ends true l p n = Has l ArrayOfTables p × Has l TableElement (with_position p n
 Ends false l p n = Has l StandardTable p
 
 -- a header's claims fit, and its end is claimed
-abbrev Header : List Claim → Head → Path → ℕ → Claims → Type 0
-Header earlier h p n cs = Walk Of (λ l. Ends h.array l p n) earlier cs
-
 added : (n : ℕ) (earlier : List Claim) (h : Head) (p : Path) (k : SimpleKey) → Stands [] earlier p → HasEntries earlier (with_key p k) n
     → Walk Of (λ l. Ends true l (with_key p k) n) earlier (array_claims h (with_key p k) k n (claimed (header_claim h TableElement (with_position (with_key p k) n) k) no_claims))
 added zero earlier h p k stands few =
@@ -302,7 +299,7 @@ added (suc n) earlier h p k stands few =
       all = (has-on earlier (c ∷ []) ArrayOfTables q found, (c, in-right c earlier (c ∷ []) (inl refl), refl, refl));
     }
 
-end-header : (n : ℕ) (earlier : List Claim) (h : Head) (p : Path) (k : SimpleKey) → Stands [] earlier p → HasEntries earlier (with_key p k) n → Header earlier h (with_key p k) n (end_claims h (with_key p k) k n)
+end-header : (n : ℕ) (earlier : List Claim) (h : Head) (p : Path) (k : SimpleKey) → Stands [] earlier p → HasEntries earlier (with_key p k) n → Walk Of (λ l. Ends h.array l (with_key p k) n) earlier (end_claims h (with_key p k) k n)
 unfolding end_claims
 end-header n earlier h p k stands few = elim (cases_Bool h.array) [
   | inl arr ↦ rw arr (added n earlier h p k stands few)
@@ -316,7 +313,7 @@ abbrev Counted : List Claim → (Path → ℕ) → Type 0
 Counted l e = (p : Path) → HasEntries l p (e p)
 
 header-scoped : (e : Path → ℕ) (earlier : List Claim) (h : Head) (p : Path) (k : SimpleKey) (parts : List SimpleKey) → Stands [] earlier p → Counted earlier e
-    → Header earlier h (target e p (k ∷ parts)) (e (target e p (k ∷ parts))) (header_claims e h p (k ∷ parts))
+    → Walk Of (λ l. Ends h.array l (target e p (k ∷ parts)) (e (target e p (k ∷ parts)))) earlier (header_claims e h p (k ∷ parts))
 unfolding header_claims target
 header-scoped e earlier h p k [] stands counted = end-header (e (with_key p k)) earlier h p k stands (counted (with_key p k))
 header-scoped e earlier h p k (l ∷ more) stands counted =
