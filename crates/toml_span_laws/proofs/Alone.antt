@@ -1,138 +1,25 @@
 -- Where no two claims clash, a claim that assigns in brackets stands alone on its path, and below it stand its value's claims alone.
-use Rattle.std.proofs.Common.{◌≡◌, ℕ, ◌⊎◌, List, [], ◌∷◌, ◌++◌, Option, Some, None, refl, sym, ap, ◌∙◌, subst, append_assoc, append-nil, inl, inr}
+use Rattle.std.proofs.Common.{◌≡◌, ℕ, List, [], ◌∷◌, ◌++◌, Option, Some, None, refl, sym, ap, ◌∙◌, subst, append-nil, inl, inr}
 use Rattle.std.proofs.lemmas.Bool.{cases_Bool}
-use Rattle.std.proofs.lemmas.Option.{none-some, same_Some}
 use Rattle.toml_span_tree.specs.Node.{Scalar}
 use Rattle.toml_span_tree.specs.Path.{Path, shape_scalar}
 use Rattle.toml_span_read.specs.Data.{ParsedValue, parsed, scalar, array, inline, parsed_span, Block}
 use Rattle.toml_span_read.specs.Grammar.{SpellsDocument}
-use Rattle.toml_span.specs.declared.claims.Blame.TheVariants.{DuplicateKey}
-use Rattle.toml_span.specs.declared.claims.Sort.{Sort}
-use Rattle.toml_span.specs.declared.claims.Sort.TheVariants.{Passed, StandardTable, ArrayOfTables, TableElement, Dotted, Assigned}
+use Rattle.toml_span.specs.declared.claims.Sort.TheVariants.{Assigned}
 use Rattle.toml_span.specs.Claims.{Claim, Claims, no_claims, claimed, scope, followed, value_claims, inner_claims, item_claims, pair_claims, value_shape, parsed_inner, claims}
-use Rattle.toml_span.specs.Clashes.{blame, Resolves}
+use Rattle.toml_span.specs.Clashes.{Resolves}
 use Rattle.toml_span.specs.Flat.{all_claims, claims_at}
 use Rattle.toml_span.specs.Paths.{same_path}
 use Rattle.toml_span.proofs.EachClaim.{same_path-eq}
-use Rattle.toml_span.proofs.Refusals.{spelled-headed}
-use Rattle.toml_span_laws.specs.Clashing.{IsIn, own}
+use Rattle.toml_span_laws.specs.Clashing.{IsIn}
 use Rattle.toml_span_laws.specs.Laws.{AssignsAgain, ValueReadsAgain}
-use Rattle.toml_span_laws.proofs.FirstClash.{AreFree, are-free}
-use Rattle.toml_span_laws.proofs.Apart.{in-left, in-right}
+use Rattle.toml_span_laws.proofs.FirstClash.{AreFree}
+use Rattle.toml_span_laws.proofs.Apart.{in-cases}
 use Rattle.toml_span_laws.proofs.ClaimedValues.{document-again}
 use Rattle.toml_span_laws.proofs.EntryDecides.{at-append}
-use Rattle.toml_span_laws.proofs.FirstPair.{in-cases}
-use Rattle.toml_span_laws.proofs.OneScope.{AllFit, Peaceful, Scene, below-none, do-clash, entry-value, fit-own, origin, peaceful-across, peaceful-own, scene-after, scene-claimed, scene-inside, scoped-under, value-apart, values-apart}
+use Rattle.toml_span_laws.proofs.OneScope.{Scene, claim-before, document-scene, outside, scene-after, scene-claimed, scene-inside, scope-before, scoped-under, under-from}
 use Rattle.toml_span_laws.proofs.Order.{all_claims-followed}
-use Rattle.toml_span_laws.proofs.Scoped.{IsFrom, IsUnder, document-scoped}
-
--- ---- paths
-
-from-cases : (base p : Path) → IsFrom base p → (base ≡ p) ⊎ IsUnder base p
-from-cases base p ([], is) = inl (sym (is ∙ append-nil base))
-from-cases base p (s ∷ r, is) = inr (s, r, is)
-
-under-from : (a p q : Path) → IsUnder a p → IsFrom p q → IsUnder a q
-under-from a p q (s, r, is) (t, on) = (s, r ++ t, on ∙ ap (λ l. l ++ t) is ∙ append_assoc a (s ∷ r) t)
-
--- ---- two claims of a scope
-
-is-value : (s : Sort) → (s ≡ Assigned) ⊎ (s ≡ Assigned → ⊥)
-is-value Passed = inr (λ e. cc)
-is-value StandardTable = inr (λ e. cc)
-is-value ArrayOfTables = inr (λ e. cc)
-is-value TableElement = inr (λ e. cc)
-is-value Dotted = inr (λ e. cc)
-is-value Assigned = inl refl
-
--- a value, and a table on its path or a claim below it
-value-table : (base : Path) (l : List Claim) (a e : Claim) → AllFit base l → Peaceful l → IsIn a l → IsIn e l → a.mark.sort ≡ Assigned → (e.mark.sort ≡ Assigned → ⊥) → IsFrom a.path e.path → ⊥
-value-table base l a e fit peace here there value table from = elim (from-cases a.path e.path from) [
-  | inl same ↦ value-apart l a e peace here there value table (λ entry. entry-value base l a e (fit a here) (fit e there) value entry same) same
-  | inr under ↦ below-none base l a e fit peace here value there under
-]
-
-value-before : (base : Path) (xs ys : List Claim) (a e : Claim) → AllFit base (xs ++ ys) → Peaceful (xs ++ ys) → IsIn a xs → IsIn e ys → a.mark.sort ≡ Assigned → IsFrom a.path e.path → ⊥
-value-before base xs ys a e fit peace here there value from =
-    let among = in-left a xs ys here in
-    let also = in-right e xs ys there in
-    elim (is-value e.mark.sort) [
-      | inr table ↦ value-table base (xs ++ ys) a e fit peace among also value table from
-      | inl other ↦ elim (from-cases a.path e.path from) [
-        | inl same ↦ peaceful-across xs ys a e peace here there (do-clash a e DuplicateKey same (ap (λ s. blame s e.mark.sort) value ∙ ap (blame Assigned) other))
-        | inr under ↦ below-none base (xs ++ ys) a e fit peace among value also under
-      ]
-    ]
-
-value-behind : (base : Path) (xs ys : List Claim) (e a : Claim) → AllFit base (xs ++ ys) → Peaceful (xs ++ ys) → IsIn e xs → IsIn a ys → a.mark.sort ≡ Assigned → IsFrom a.path e.path → ⊥
-value-behind base xs ys e a fit peace here there value from =
-    let among = in-left e xs ys here in
-    let also = in-right a xs ys there in
-    elim (is-value e.mark.sort) [
-      | inr table ↦ value-table base (xs ++ ys) a e fit peace also among value table from
-      | inl other ↦ elim (from-cases a.path e.path from) [
-        | inl same ↦ peaceful-across xs ys e a peace here there (do-clash e a DuplicateKey (sym same) (ap (λ s. blame s a.mark.sort) other ∙ ap (blame Assigned) value))
-        | inr under ↦ below-none base (xs ++ ys) a e fit peace also value among under
-      ]
-    ]
-
--- ---- claims of every scope
-
--- behind the scope of a value nothing is on its path or below
-outside : (base : Path) (earlier : List Claim) (a : Claim) (inner cs : Claims) (d : Claim) → Scene base earlier (Some a) (scope inner cs) → IsIn d (all_claims cs) → IsFrom a.path d.path → ⊥
-outside base earlier a inner cs d h more from =
-    let fit = fit-own base earlier None cs h.scoped.3 h.fit in
-    let peace = peaceful-own earlier cs h.resolves.1 h.peaceful in
-    elim (origin base earlier None cs d h.scoped.3 more) [
-      | inl behind ↦ value-before base earlier (own cs) a d fit peace h.latest behind h.scoped.0 from
-      | inr w ↦ elim w.near [
-        | inl none ↦ none-some w.a none
-        | inr behind ↦ elim (from-cases a.path d.path from) [
-          | inl same ↦
-              below-none base (earlier ++ own cs) w.a a fit peace (in-right w.a earlier (own cs) behind) w.value (in-left a earlier (own cs) h.latest)
-              (subst (IsUnder w.a.path) (sym same) w.under)
-          | inr under ↦ values-apart base earlier (own cs) a w.a d.path fit peace h.latest behind h.scoped.0 w.value under w.under
-        ]
-      ]
-    ]
-
--- a claim of the scope is neither on the path of a later value nor below
-claim-before : (base : Path) (earlier : List Claim) (last : Option Claim) (x : Claim) (cs : Claims) (c : Claim) → Scene base earlier last (claimed x cs) → IsIn c (all_claims cs) → c.mark.sort ≡ Assigned
-    → IsFrom c.path x.path → ⊥
-claim-before base earlier last x cs c h more value from =
-    let s = scene-claimed base earlier last x cs h in
-    let l = earlier ++ (x ∷ []) in
-    let fit = fit-own base l (Some x) cs s.scoped s.fit in
-    let peace = peaceful-own l cs s.resolves s.peaceful in
-    let here : IsIn x l = in-right x earlier (x ∷ []) (inl refl) in
-    elim (origin base l (Some x) cs c s.scoped more) [
-      | inl behind ↦ value-behind base l (own cs) x c fit peace here behind value from
-      | inr w ↦
-          let among : IsIn w.a (l ++ own cs) = elim w.near [
-            | inl same ↦ in-left w.a l (own cs) (subst (λ y. IsIn y l) (same_Some x w.a same) here)
-            | inr behind ↦ in-right w.a l (own cs) behind
-          ] in
-          below-none base (l ++ own cs) w.a x fit peace among w.value (in-left x l (own cs) here) (under-from w.a.path c.path x.path w.under from)
-    ]
-
--- what stands in a value is neither on the path of a later value nor below
-scope-before : (base : Path) (earlier : List Claim) (a : Claim) (inner cs : Claims) (c d : Claim) → Scene base earlier (Some a) (scope inner cs) → IsIn c (all_claims cs) → IsIn d (all_claims inner)
-    → c.mark.sort ≡ Assigned → IsFrom c.path d.path → ⊥
-scope-before base earlier a inner cs c d h more inside value from =
-    let fit = fit-own base earlier None cs h.scoped.3 h.fit in
-    let peace = peaceful-own earlier cs h.resolves.1 h.peaceful in
-    let under = scoped-under a.path [] None inner d h.scoped.2 inside in
-    elim (origin base earlier None cs c h.scoped.3 more) [
-      | inl behind ↦ elim (from-cases c.path d.path from) [
-        | inl same ↦
-            below-none base (earlier ++ own cs) a c fit peace (in-left a earlier (own cs) h.latest) h.scoped.0 (in-right c earlier (own cs) behind) (subst (IsUnder a.path) (sym same) under)
-        | inr below ↦ values-apart base earlier (own cs) a c d.path fit peace h.latest behind h.scoped.0 value under below
-      ]
-      | inr w ↦ elim w.near [
-        | inl none ↦ none-some w.a none
-        | inr behind ↦ values-apart base earlier (own cs) a w.a d.path fit peace h.latest behind h.scoped.0 w.value under (under-from w.a.path c.path d.path w.under from)
-      ]
-    ]
+use Rattle.toml_span_laws.proofs.Scoped.{IsUnder}
 
 -- ---- claims at a path
 
@@ -238,7 +125,5 @@ alone text limit base earlier (Some a) (scope inner cs) c h again here value bra
 pub document-alone : (text : List ℕ) (limit : ℕ) (bs : List Block) (c : Claim) → SpellsDocument bs text limit → Resolves (claims bs) → IsIn c (all_claims (claims bs)) → c.mark.sort ≡ Assigned
     → ((s : Scalar) → c.place.shape ≡ shape_scalar s → ⊥) → Alone text limit c (claims bs) × IsUnder [] c.path
 document-alone text limit bs c h ok here value brackets =
-    let scoped = document-scoped bs (spelled-headed bs text limit h) in (
-      alone text limit [] [] None (claims bs) c (record { scoped = scoped; resolves = are-free [] (claims bs) ok; fit = λ x no. absurd no; peaceful = tt; latest = tt }) (document-again bs text limit h) here value brackets,
-      scoped-under [] [] None (claims bs) c scoped here,
-    )
+    let scene = document-scene text limit bs h ok in
+    (alone text limit [] [] None (claims bs) c scene (document-again bs text limit h) here value brackets, scoped-under [] [] None (claims bs) c scene.scoped here)

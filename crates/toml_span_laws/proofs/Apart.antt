@@ -1,8 +1,8 @@
 -- No two keys of a document start at one place.
-use Rattle.std.proofs.Common.{◌≡◌, ℕ, ◌<◌, ◌⊎◌, List, [], ◌∷◌, ◌++◌, Option, Some, None, length, arith, refl, sym, ap, ◌∙◌, inl, inr}
-use Rattle.std.specs.Prelude.{option_and_then}
+use Rattle.std.proofs.Common.{◌≡◌, ℕ, ◌<◌, ◌⊎◌, List, [], ◌∷◌, ◌++◌, Option, Some, length, arith, refl, sym, ap, ◌∙◌, inl, inr}
+use Rattle.std.specs.Prelude.{⊤, option_and_then}
 use Rattle.std.proofs.lemmas.List.{append_cancel_left}
-use Rattle.std.proofs.lemmas.Option.{none-some}
+use Rattle.std.proofs.lemmas.Option.{none-some, option_and_then_some}
 use Rattle.toml_span_lex.specs.declared.span.Span.{Span}
 use Rattle.toml_span_tree.specs.Path.{Path, key, position, Place, place_at}
 use Rattle.toml_span_tree.specs.Value.{view}
@@ -29,6 +29,30 @@ pub in-right : (c : Claim) (xs ys : List Claim) → IsIn c ys → IsIn c (xs ++ 
 in-right c [] ys h = h
 in-right c (x ∷ xs) ys h = inr (in-right c xs ys h)
 
+pub in-cases : (c : Claim) (xs ys : List Claim) → IsIn c (xs ++ ys) → IsIn c xs ⊎ IsIn c ys
+in-cases c [] ys h = inr h
+in-cases c (x ∷ xs) ys (inl same) = inl (inl same)
+in-cases c (x ∷ xs) ys (inr more) = elim (in-cases c xs ys more) [ inl left ↦ inl (inr left) | inr right ↦ inr right ]
+
+-- R holds of each claim and each behind it
+abbrev pub Pairs : (Claim → Claim → Type 0) → List Claim → Type 0
+Pairs R [] = ⊤
+Pairs R (c ∷ cs) = ((d : Claim) → IsIn d cs → R c d) × Pairs R cs
+
+abbrev pub Across : (Claim → Claim → Type 0) → List Claim → List Claim → Type 0
+Across R xs ys = (c d : Claim) → IsIn c xs → IsIn d ys → R c d
+
+pub pairs-split : (R : Claim → Claim → Type 0) (xs ys : List Claim) → Pairs R (xs ++ ys) → Pairs R xs × Pairs R ys × Across R xs ys
+pairs-split R [] ys r = (tt, r, λ c d h g. absurd h)
+pairs-split R (x ∷ xs) ys r =
+    let (left, right, across) = pairs-split R xs ys r.1 in
+    ((λ d h. r.0 d (in-left d xs ys h), left), right, λ c d h g. elim h [ inl same ↦ rw same (r.0 d (in-right d xs ys g)) | inr more ↦ across c d more g ])
+
+pub pairs-join : (R : Claim → Claim → Type 0) (xs ys : List Claim) → Pairs R xs → Pairs R ys → Across R xs ys → Pairs R (xs ++ ys)
+pairs-join R [] ys l r across = r
+pairs-join R (x ∷ xs) ys l r across =
+    (λ d h. elim (in-cases d xs ys h) [ inl left ↦ l.0 d left | inr right ↦ across x d (inl refl) right ], pairs-join R xs ys l.1 r (λ c d h. across c d (inr h)))
+
 -- each claim is in the list that holds all of them
 each-in : (cs : Claims) (l : List Claim) → ((c : Claim) → IsIn c (all_claims cs) → IsIn c l) → Each (λ c. IsIn c l) cs
 unfolding all_claims
@@ -51,14 +75,18 @@ later-on : (c d e : Claim) → Follows c d → IsLater d e → IsLater c e
 later-on c d e f (inl behind) = inl (omega (arith, follows-start c d f, behind))
 later-on c d e f (inr entry) = inr entry
 
-pub onward-later : (c d : Claim) (ds : List Claim) (j : ℕ) → Onward c ds j → IsIn d ds → IsLater c d
+onward-later : (c d : Claim) (ds : List Claim) (j : ℕ) → Onward c ds j → IsIn d ds → IsLater c d
 onward-later c d [] j h i = absurd i
 onward-later c d (e ∷ ds) j h (inl same) = rw same (follows-later c e h.1)
 onward-later c d (e ∷ ds) j h (inr later) = later-on c e d h.1 (onward-later e d ds j h.2 later)
 
-pub onward-rest : (c : Claim) (ds : List Claim) (j : ℕ) → Onward c ds j → Rising ds (claim_start c) j
+onward-rest : (c : Claim) (ds : List Claim) (j : ℕ) → Onward c ds j → Rising ds (claim_start c) j
 onward-rest c [] j h = omega (arith, h.1)
 onward-rest c (d ∷ ds) j h = (follows-start c d h.1, h.2)
+
+pub rising-later : (cs : List Claim) (i j : ℕ) → Rising cs i j → Pairs IsLater cs
+rising-later [] i j r = tt
+rising-later (c ∷ cs) i j r = (λ d h. onward-later c d cs j r.1 h, rising-later cs (claim_start c) j (onward-rest c cs j r.1))
 
 onward-keyed : (c : Claim) (ds : List Claim) (j : ℕ) → Onward c ds j → IsKeyed c
 onward-keyed c [] j h = h.0
@@ -69,17 +97,17 @@ rising-keyed c [] i j r h = absurd h
 rising-keyed c (d ∷ ds) i j r (inl same) = rw same (onward-keyed d ds j r.1)
 rising-keyed c (d ∷ ds) i j r (inr later) = rising-keyed c ds (claim_start d) j (onward-rest d ds j r.1) later
 
-not-later : (c d : Claim) → (d.mark.sort ≡ TableElement → ⊥) → claim_start c ≡ claim_start d → IsLater c d → ⊥
-not-later c d f e (inl behind) = omega arith
-not-later c d f e (inr entry) = f entry
+pub strictly : (c d : Claim) → IsLater c d → (d.mark.sort ≡ TableElement → ⊥) → claim_start c < claim_start d
+strictly c d (inl behind) plain = behind
+strictly c d (inr entry) plain = absurd (plain entry)
 
 -- two claims that start at one place are one, if neither is an entry
-one-claim : (c d : Claim) (l : List Claim) (i j : ℕ) → Rising l i j → IsIn c l → IsIn d l → (c.mark.sort ≡ TableElement → ⊥) → (d.mark.sort ≡ TableElement → ⊥) → claim_start c ≡ claim_start d → c ≡ d
-one-claim c d [] i j r h g f e at = absurd h
-one-claim c d (x ∷ xs) i j r (inl same) (inl other) f e at = same ∙ sym other
-one-claim c d (x ∷ xs) i j r (inl same) (inr later) f e at = absurd (not-later c d e at (rw same (onward-later x d xs j r.1 later)))
-one-claim c d (x ∷ xs) i j r (inr later) (inl other) f e at = absurd (not-later d c f (sym at) (rw other (onward-later x c xs j r.1 later)))
-one-claim c d (x ∷ xs) i j r (inr later) (inr also) f e at = one-claim c d xs (claim_start x) j (onward-rest x xs j r.1) later also f e at
+one-claim : (c d : Claim) (l : List Claim) → Pairs IsLater l → IsIn c l → IsIn d l → (c.mark.sort ≡ TableElement → ⊥) → (d.mark.sort ≡ TableElement → ⊥) → claim_start c ≡ claim_start d → c ≡ d
+one-claim c d [] r h g f e at = absurd h
+one-claim c d (x ∷ xs) r (inl same) (inl other) f e at = same ∙ sym other
+one-claim c d (x ∷ xs) r (inl same) (inr later) f e at = absurd (let less = strictly c d (rw same (r.0 d later)) e in omega arith)
+one-claim c d (x ∷ xs) r (inr later) (inl other) f e at = absurd (let less = strictly d c (rw other (r.0 c later)) f in omega arith)
+one-claim c d (x ∷ xs) r (inr later) (inr also) f e at = one-claim c d xs r.1 later also f e at
 
 -- ---- keys
 
@@ -90,23 +118,19 @@ record ClaimAt (l : List Claim) (p : Path) (k : Span) : Type 0 where
   among : IsIn claim l
   spanned : claim.place.key_span ≡ Some k
 
-keyed-place : (o : Option Place) (k : Span) → option_and_then (λ x. x.key_span) o ≡ Some k → (x : Place) × (o ≡ Some x) × (x.key_span ≡ Some k)
-keyed-place None k h = absurd (none-some k h)
-keyed-place (Some x) k h = (x, refl, h)
-
 key-claimed : (n : ℕ) (cs : Claims) (p : Path) (k : Span) → key_at (flat n cs) p ≡ Some k → ClaimAt (all_claims cs) p k
 unfolding flat
 key-claimed n cs [] k h = absurd (none-some k h)
 key-claimed n cs (s ∷ p) k h =
-    let (x, is, spanned) = keyed-place (flat n cs (s ∷ p)) k h in
-    let d = flat-decides (λ c. IsIn c (all_claims cs)) n cs s p x (each-in cs (all_claims cs) (λ c i. i)) is in
-    record { claim = d.claim; on = d.on; among = d.holds; spanned = ap (λ y. y.key_span) d.place ∙ spanned }
+    option_and_then_some (λ x. x.key_span) (flat n cs (s ∷ p)) k h (λ x is spanned.
+        let d = flat-decides (λ c. IsIn c (all_claims cs)) n cs s p x (each-in cs (all_claims cs) (λ c i. i)) is in
+        record { claim = d.claim; on = d.on; among = d.holds; spanned = ap (λ y. y.key_span) d.place ∙ spanned })
 
 one-key : (l : List Claim) (i j : ℕ) (p q : Path) (k m : Span) → Rising l i j → ClaimAt l p k → ClaimAt l q m → k.start ≡ m.start → p ≡ q
 one-key l i j p q k m r a b e =
     let c = rising-keyed a.claim l i j r a.among k a.spanned in
     let d = rising-keyed b.claim l i j r b.among m b.spanned in
-    let same = one-claim a.claim b.claim l i j r a.among b.among c.1 d.1 (ap (λ s. s.start) (sym c.0) ∙ e ∙ ap (λ s. s.start) d.0) in
+    let same = one-claim a.claim b.claim l (rising-later l i j r) a.among b.among c.1 d.1 (ap (λ s. s.start) (sym c.0) ∙ e ∙ ap (λ s. s.start) d.0) in
     sym a.on ∙ ap (λ x. x.path) same ∙ b.on
 
 pub flat-apart : (text : List ℕ) (limit n : ℕ) (bs : List Block) → SpellsDocument bs text limit → KeysApart (flat n (claims bs))

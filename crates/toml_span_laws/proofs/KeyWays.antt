@@ -1,21 +1,19 @@
 -- The way of each key from the table of its section, and that a clear one goes through no value of its section.
-use Rattle.std.proofs.Common.{◌≡◌, ℕ, suc, ◌+◌, ◌⊎◌, List, [], ◌∷◌, ◌++◌, length, length-append, arith, refl, sym, ap, ◌∙◌, subst, append_assoc, append-nil, inl, inr}
+use Rattle.std.proofs.Common.{◌≡◌, ℕ, suc, ◌+◌, List, [], ◌∷◌, ◌++◌, length, map, refl, sym, ap, ◌∙◌, subst, append_assoc, append-nil, inl, inr}
 use Rattle.std.specs.Prelude.{⊤}
-use Rattle.std.proofs.lemmas.List.{append_cancel_left}
-use Rattle.toml_span_lex.specs.declared.span.Span.{Span}
+use Rattle.std.proofs.lemmas.List.{append_cancel_left, map-append}
 use Rattle.toml_span_tree.specs.Path.{Path, key}
-use Rattle.toml_span_read.specs.Data.{ParsedValue, parsed, ParsedInner, scalar, array, inline, ParsedItems, no_items, item, ParsedPairs, no_pairs, pair, KeyValue}
+use Rattle.toml_span_read.specs.Data.{ParsedValue, parsed, scalar, array, inline, ParsedItems, no_items, item, ParsedPairs, no_pairs, pair, KeyValue}
 use Rattle.toml_span_read.specs.Earlier.{Clear, NoneAt, part_names}
-use Rattle.toml_span_read.specs.Grammar.{Spells, SpellsInner, SpellsItems, SpellsPairs, SpellsKeyValues}
+use Rattle.toml_span_read.specs.Grammar.{Spells, SpellsItems, SpellsPairs, SpellsKeyValues}
 use Rattle.toml_span_read.specs.Keys.{SimpleKey}
 use Rattle.toml_span.specs.declared.claims.Sort.TheVariants.{Dotted, Assigned}
 use Rattle.toml_span.specs.Claims.{Claim, Claims, no_claims, claimed, scope, followed, key_claims, value_claims, inner_claims, item_claims, pair_claims, key_value_claims, element, assigned, dotted}
 use Rattle.toml_span.specs.Paths.{with_key, with_position}
-use Rattle.toml_span_laws.specs.Clashing.{IsIn, own}
-use Rattle.toml_span_laws.proofs.Apart.{in-left, in-right}
-use Rattle.toml_span_laws.proofs.FirstPair.{in-cases}
+use Rattle.toml_span_laws.specs.Clashing.{DoClash, IsIn, own}
+use Rattle.toml_span_laws.proofs.Apart.{in-cases, in-right, pairs-split}
 use Rattle.toml_span_laws.proofs.OneScope.{Peaceful}
-use Rattle.toml_span_laws.proofs.Scoped.{Has, IsUnder, front-same, has-on, own-followed}
+use Rattle.toml_span_laws.proofs.Scoped.{Has, IsUnder, Walk, front-same, has-on, walk-claimed, walk-followed}
 
 -- ---- ways
 
@@ -57,42 +55,21 @@ one-base R laws l a b _ _ same ra rb peace (next_key p r k is made way) (next_ke
 
 -- ---- the values of a section
 
-unfoldable pub keys : List SimpleKey → Path
-keys [] = []
-keys (k ∷ ks) = key k.name ∷ keys ks
+-- the path of these parts
+abbrev keys : List SimpleKey → Path
+keys parts = map key (part_names parts)
 
-keys-append : (xs ys : List SimpleKey) → keys (xs ++ ys) ≡ keys xs ++ keys ys
-unfolding keys
-keys-append [] ys = refl
-keys-append (x ∷ xs) ys = ap (λ l. key x.name ∷ l) (keys-append xs ys)
+-- The path is that of no assignment but for one of these.
+abbrev pub Bars : Path → List KeyValue → Path → Type 0
+Bars base es p = (names : List (List ℕ)) → NoneAt names es → p ≡ base ++ map key names → ⊥
 
-names-same : (xs ys : List SimpleKey) → keys xs ≡ keys ys → part_names xs ≡ part_names ys
-unfolding keys
-names-same [] [] h = refl
-names-same [] (y ∷ ys) h = cc
-names-same (x ∷ xs) [] h = cc
-names-same (x ∷ xs) (y ∷ ys) h =
-    let first : x.name ≡ y.name = cc in
-    let rest : keys xs ≡ keys ys = cc in
-    ap (λ n. n ∷ part_names xs) first ∙ ap (λ l. y.name ∷ l) (names-same xs ys rest)
+none-before : (names : List (List ℕ)) (es : List KeyValue) (next : KeyValue) → NoneAt names (es ++ (next ∷ [])) → NoneAt names es
+none-before names [] next none = tt
+none-before names (e ∷ es) next none = (none.0, none-before names es next none.1)
 
--- the assignment is one of these
-abbrev pub IsKeyValue : KeyValue → List KeyValue → Type 0
-IsKeyValue e [] = ⊥
-IsKeyValue e (x ∷ xs) = (e ≡ x) ⊎ IsKeyValue e xs
-
-key_value-left : (e : KeyValue) (xs ys : List KeyValue) → IsKeyValue e xs → IsKeyValue e (xs ++ ys)
-key_value-left e [] ys h = absurd h
-key_value-left e (x ∷ xs) ys (inl here) = inl here
-key_value-left e (x ∷ xs) ys (inr later) = inr (key_value-left e xs ys later)
-
-key_value-last : (e : KeyValue) (xs : List KeyValue) → IsKeyValue e (xs ++ (e ∷ []))
-key_value-last e [] = inl refl
-key_value-last e (x ∷ xs) = inr (key_value-last e xs)
-
--- one of the assignments has its value at the path
-abbrev pub AssignsAt : Path → List KeyValue → Path → Type 0
-AssignsAt base es p = (e : KeyValue) × IsKeyValue e es × (p ≡ base ++ keys e.parts)
+none-last : (names : List (List ℕ)) (es : List KeyValue) (next : KeyValue) → NoneAt names (es ++ (next ∷ [])) → part_names next.parts ≡ names → ⊥
+none-last names [] next none is = none.0 is
+none-last names (e ∷ es) next none is = none-last names es next none.1 is
 
 -- a way to the path from a table at which a section begins
 pub record Traced (R : List Claim → Path → Type 0) (l : List Claim) (p : Path) : Type 0 where
@@ -100,26 +77,22 @@ pub record Traced (R : List Claim → Path → Type 0) (l : List Claim) (p : Pat
   pub root : R l base
   pub way : Way l base p
 
--- Each value has such a way, and if it begins at this base, then the value is one of these assignments.
+-- Each value has such a way, and if it begins at this base, then the value's path is that of one of these assignments.
 abbrev pub Known : (List Claim → Path → Type 0) → Path → List KeyValue → List Claim → Type 0
 Known R base es l =
-    (c : Claim) → IsIn c l → c.mark.sort ≡ Assigned → (t : Traced R l c.path) × (t.base ≡ base → Peaceful l → AssignsAt base es c.path)
-
-peaceful-left : (xs ys : List Claim) → Peaceful (xs ++ ys) → Peaceful xs
-peaceful-left [] ys h = tt
-peaceful-left (x ∷ xs) ys h = (λ d here clashes. h.0 d (in-left d xs ys here) clashes, peaceful-left xs ys h.1)
+    (c : Claim) → IsIn c l → c.mark.sort ≡ Assigned → (t : Traced R l c.path) × (t.base ≡ base → Peaceful l → Bars base es c.path)
 
 traced-on : (R : List Claim → Path → Type 0) (laws : Bases R) (l more : List Claim) (p : Path) → Traced R l p → Traced R (l ++ more) p
 traced-on R laws l more p t = record { base = t.base; root = laws.more l more t.base t.root; way = way-on l more t.base p t.way }
 
 -- behind claims that assign nothing, but for one that assigns this
-known-on : (R : List Claim → Path → Type 0) (laws : Bases R) (base : Path) (es fs : List KeyValue) (l more : List Claim) → Known R base es l → ((e : KeyValue) → IsKeyValue e es → IsKeyValue e fs)
-    → ((c : Claim) → IsIn c more → c.mark.sort ≡ Assigned → Traced R (l ++ more) c.path × AssignsAt base fs c.path) → Known R base fs (l ++ more)
+known-on : (R : List Claim → Path → Type 0) (laws : Bases R) (base : Path) (es fs : List KeyValue) (l more : List Claim) → Known R base es l → ((names : List (List ℕ)) → NoneAt names fs → NoneAt names es)
+    → ((c : Claim) → IsIn c more → c.mark.sort ≡ Assigned → Traced R (l ++ more) c.path × Bars base fs c.path) → Known R base fs (l ++ more)
 unfolding traced-on
 known-on R laws base es fs l more known wide new c here is = elim (in-cases c l more here) [
   | inl before ↦
       let (t, from) = known c before is in
-      (traced-on R laws l more c.path t, λ same peace. let (e, among, there) = from same (peaceful-left l more peace) in (e, wide e among, there))
+      (traced-on R laws l more c.path t, λ same peace names none. from same (pairs-split (λ x y. DoClash x y → ⊥) l more peace).0 names (wide names none))
   | inr behind ↦ let (t, there) = new c behind is in (t, λ same peace. there)
 ]
 
@@ -129,18 +102,21 @@ split-last : (m : SimpleKey) (more : List SimpleKey) → (rest : List SimpleKey)
 split-last m [] = ([], m, refl)
 split-last m (n ∷ more) = let (rest, last, is) = split-last n more in (m ∷ rest, last, ap (λ l. m ∷ l) is)
 
-none-there : (names : List (List ℕ)) (es : List KeyValue) (e : KeyValue) → NoneAt names es → IsKeyValue e es → part_names e.parts ≡ names → ⊥
-none-there names [] e none here is = here
-none-there names (x ∷ es) e none (inl same) is = none.0 (ap (λ y. part_names y.parts) (sym same) ∙ is)
-none-there names (x ∷ es) e none (inr more) is = none-there names es e none.1 more is
-
 not-clear : (base : Path) (es : List KeyValue) (next : KeyValue) (outer : List SimpleKey) (k m : SimpleKey) (more : List SimpleKey) (p : Path) → Clear es next → next.parts ≡ outer ++ (k ∷ m ∷ more)
-    → AssignsAt base es p → p ≡ base ++ keys (outer ++ (k ∷ [])) → ⊥
-not-clear base es next outer k m more p clear is (e, among, there) on =
+    → Bars base es p → p ≡ base ++ keys (outer ++ (k ∷ [])) → ⊥
+not-clear base es next outer k m more p clear is bars on =
     let (rest, last, split) = split-last m more in
     let whole : next.parts ≡ (outer ++ (k ∷ rest)) ++ (last ∷ []) = is ∙ ap (λ l. outer ++ (k ∷ l)) split ∙ sym (append_assoc outer (k ∷ rest) (last ∷ [])) in
-    let none = clear (outer ++ (k ∷ rest)) last whole outer k rest refl in
-    none-there (part_names (outer ++ (k ∷ []))) es e none among (names-same e.parts (outer ++ (k ∷ [])) (append_cancel_left base (keys e.parts) (keys (outer ++ (k ∷ []))) (sym there ∙ on)))
+    bars (part_names (outer ++ (k ∷ []))) (clear (outer ++ (k ∷ rest)) last whole outer k rest refl) on
+
+key-names : (xs ys : List (List ℕ)) → map key xs ≡ map key ys → xs ≡ ys
+key-names [] [] h = refl
+key-names [] (y ∷ ys) h = cc
+key-names (x ∷ xs) [] h = cc
+key-names (x ∷ xs) (y ∷ ys) h =
+    let rest : map key xs ≡ map key ys = cc in
+    let same = key-names xs ys rest in
+    cc
 
 -- ---- claims
 
@@ -159,35 +135,34 @@ guarded-followed earlier (claimed c xs) ys h g =
 guarded-followed earlier (scope inner xs) ys h g = (h.0, guarded-followed earlier xs ys h.1 g)
 
 -- claims behind these earlier ones, with the values of these assignments
-pub record Walked (R : List Claim → Path → Type 0) (base : Path) (es : List KeyValue) (l : List Claim) (cs : Claims) : Type 0 where
-  pub guarded : Guarded l cs
-  pub known : Known R base es (l ++ own cs)
+abbrev pub Walked : (List Claim → Path → Type 0) → Path → List KeyValue → List Claim → Claims → Type 0
+Walked R base es l cs = Walk Guarded (Known R base es) l cs
 
 -- the path of a part behind outer ones
 part-at : (base p : Path) (outer : List SimpleKey) (k : SimpleKey) → p ≡ base ++ keys outer → with_key p k ≡ base ++ keys (outer ++ (k ∷ []))
-unfolding keys
 part-at base p outer k on =
-    ap (λ q. q ++ (key k.name ∷ [])) on ∙ append_assoc base (keys outer) (key k.name ∷ []) ∙ ap (λ q. base ++ q) (sym (keys-append outer (k ∷ [])))
+    ap (λ q. q ++ (key k.name ∷ [])) on ∙ append_assoc base (keys outer) (key k.name ∷ [])
+    ∙ ap (λ q. base ++ q) (sym (ap (map key) (map-append (λ p. p.name) outer (k ∷ [])) ∙ map-append key (part_names outer) (k.name ∷ [])))
 
 key-walk : (R : List Claim → Path → Type 0) (laws : Bases R) (base : Path) (es : List KeyValue) (next : KeyValue) (outer parts : List SimpleKey) (v : ParsedValue) (inside : Path → Claims) (l : List Claim) (p : Path)
     → Clear es next → R l base → next.parts ≡ outer ++ parts → p ≡ base ++ keys outer → ((k : SimpleKey) → Way l base (with_key p k)) → Known R base es l
     → ((q : Path) → own (inside q) ≡ []) → ((q : Path) (m : List Claim) → Guarded m (inside q)) → Walked R base (es ++ (next ∷ [])) l (key_claims p parts v inside)
 unfolding key_claims
 key-walk R laws base es next outer [] v inside l p clear root is on way known none inner = record {
-  guarded = tt;
-  known = known-on R laws base es (es ++ (next ∷ [])) l [] known (λ e. key_value-left e es (next ∷ [])) (λ c here sort. absurd here);
+  tree = tt;
+  all = known-on R laws base es (es ++ (next ∷ [])) l [] known (λ names. none-before names es next) (λ c here sort. absurd here);
 }
 key-walk R laws base es next outer (k ∷ []) v inside l p clear root is on way known none inner =
     let q = with_key p k in
     let a = assigned q k v in
     let at : q ≡ base ++ keys next.parts = part-at base p outer k on ∙ ap (λ ps. base ++ keys ps) (sym is) in
     let mine : Traced R (l ++ (a ∷ [])) q = record { base = base; root = laws.more l (a ∷ []) base root; way = way-on l (a ∷ []) base q (way k) } in
-    let found : AssignsAt base (es ++ (next ∷ [])) q = (next, key_value-last next es, at) in
+    let found : Bars base (es ++ (next ∷ [])) q = λ names none there. none-last names es next none (key-names (part_names next.parts) names (append_cancel_left base (keys next.parts) (map key names) (sym at ∙ there))) in
     record {
-      guarded = ((λ dotted. absurd (let no : Assigned ≡ Dotted = dotted in cc)), inner q (l ++ (a ∷ [])));
-      known = subst (λ xs. Known R base (es ++ (next ∷ [])) (l ++ (a ∷ xs))) (sym (none q))
-          (known-on R laws base es (es ++ (next ∷ [])) l (a ∷ []) known (λ e. key_value-left e es (next ∷ [])) (λ c here sort. elim here [
-            | inl same ↦ subst (λ x. Traced R (l ++ (a ∷ [])) x.path × AssignsAt base (es ++ (next ∷ [])) x.path) (sym same) (mine, found)
+      tree = ((λ dotted. absurd (let no : Assigned ≡ Dotted = dotted in cc)), inner q (l ++ (a ∷ [])));
+      all = subst (λ xs. Known R base (es ++ (next ∷ [])) (l ++ (a ∷ xs))) (sym (none q))
+          (known-on R laws base es (es ++ (next ∷ [])) l (a ∷ []) known (λ names. none-before names es next) (λ c here sort. elim here [
+            | inl same ↦ subst (λ x. Traced R (l ++ (a ∷ [])) x.path × Bars base (es ++ (next ∷ [])) x.path) (sym same) (mine, found)
             | inr none ↦ absurd none
           ]));
     }
@@ -196,22 +171,17 @@ key-walk R laws base es next outer (k ∷ m ∷ more) v inside l p clear root is
     let d = dotted q k v in
     let at = part-at base p outer k on in
     let there : Has (l ++ (d ∷ [])) Dotted q = (d, in-right d l (d ∷ []) (inl refl), refl, refl) in
-    let plain = known-on R laws base es es l (d ∷ []) known (λ e h. h) (λ c here sort. elim here [
+    let plain = known-on R laws base es es l (d ∷ []) known (λ names h. h) (λ c here sort. elim here [
       | inl same ↦ absurd (let no : Dotted ≡ Assigned = ap (λ x. x.mark.sort) (sym same) ∙ sort in cc)
       | inr none ↦ absurd none
     ]) in
-    let rest = key-walk R laws base es next (outer ++ (k ∷ [])) (m ∷ more) v inside (l ++ (d ∷ [])) q clear (laws.more l (d ∷ []) base root) (is ∙ sym (append_assoc outer (k ∷ []) (m ∷ more))) at
-    (λ n. next_key (with_key q n) q n.name refl there (way-on l (d ∷ []) base q (way k))) plain none inner in
-    record {
-      guarded = (
-        (λ dotted peace e here sort same.
-            let (t, from) = known e here sort in
-            let one = one-base R laws l t.base base e.path q same t.root root peace t.way (way k) in
-            not-clear base es next outer k m more e.path clear is (from one peace) (same ∙ at)),
-        rest.guarded,
-      );
-      known = subst (λ xs. Known R base (es ++ (next ∷ [])) xs) (append_assoc l (d ∷ []) (own (key_claims q (m ∷ more) v inside))) rest.known;
-    }
+    walk-claimed Guarded (Known R base (es ++ (next ∷ []))) l d (key_claims q (m ∷ more) v inside)
+    (λ rest. ((λ dotted peace e here sort same.
+        let (t, from) = known e here sort in
+        let one = one-base R laws l t.base base e.path q same t.root root peace t.way (way k) in
+        not-clear base es next outer k m more e.path clear is (from one peace) (same ∙ at)), rest))
+    (key-walk R laws base es next (outer ++ (k ∷ [])) (m ∷ more) v inside (l ++ (d ∷ [])) q clear (laws.more l (d ∷ []) base root) (is ∙ sym (append_assoc outer (k ∷ []) (m ∷ more))) at
+    (λ n. next_key (with_key q n) q n.name refl there (way-on l (d ∷ []) base q (way k))) plain none inner)
 
 -- ---- values
 
@@ -225,19 +195,18 @@ value-own (parsed (inline ps) span) p = refl
 abbrev IsAt : Path → List Claim → Path → Type 0
 IsAt p l q = q ≡ p
 
-at-apart : (p : Path) (l : List Claim) (a b : Path) → a ≡ p → b ≡ p → IsUnder a b → ⊥
-at-apart p l a b from to (s, rest, is) =
-    let long = ap (λ x. length x) is ∙ length-append a (s ∷ rest) in
-    let same = ap (λ x. length x) (to ∙ sym from) in
-    omega (arith, long, same)
-
 at-bases : (p : Path) → Bases (IsAt p)
-at-bases p = record { more = λ l m q h. h; apart = λ l a b from to way made peace. at-apart p l a b from to (way-under l a b way) }
+at-bases p = record {
+  more = λ l m q h. h;
+  apart = λ l a b from to way made peace.
+      let (s, rest, is) = way-under l a b way in
+      let none : [] ≡ s ∷ rest = append_cancel_left a [] (s ∷ rest) (append-nil a ∙ from ∙ sym to ∙ is) in
+      cc;
+}
 
 -- a key of this base whose walk begins
 begun : (R : List Claim → Path → Type 0) (laws : Bases R) (base : Path) (es : List KeyValue) (next : KeyValue) (l : List Claim) → Clear es next → R l base → Known R base es l
     → ((q : Path) (m : List Claim) → Guarded m (value_claims next.value q)) → Walked R base (es ++ (next ∷ [])) l (key_claims base next.parts next.value (value_claims next.value))
-unfolding keys
 begun R laws base es next l clear root known inner =
     key-walk R laws base es next [] next.parts next.value (value_claims next.value) l base clear root refl (sym (append-nil base)) (λ k. first_key (with_key base k) k.name refl) known
     (value-own next.value) inner
@@ -252,48 +221,39 @@ mutual
   unfolding value_claims inner_claims item_claims pair_claims
 
   value-guarded : (v : ParsedValue) (p : Path) (l : List Claim) (text : List ℕ) (limit d i j : ℕ) → Spells v text limit d i j → Guarded l (value_claims v p)
-  value-guarded (parsed k span) p l text limit d i j (few, h) = inner-guarded k span p l text limit d i j h
-
-  inner-guarded : (k : ParsedInner) (span : Span) (p : Path) (l : List Claim) (text : List ℕ) (limit d i j : ℕ) → SpellsInner k span text limit d i j → Guarded l (inner_claims k p)
-  inner-guarded (scalar s) span p l text limit d i j h = tt
-  inner-guarded (array vs) span p l text limit d i j (here, e, k, gap, h) = (items-guarded vs 0 p [] text limit (d + 1) k j h, tt)
-  inner-guarded (inline ps) span p l text limit d i j (here, e, k, gap, h) = (pairs-guarded ps [] p [] text limit (d + 1) k j (λ c none. absurd none) h, tt)
+  value-guarded (parsed (scalar s) span) p l text limit d i j h = tt
+  value-guarded (parsed (array vs) span) p l text limit d i j (few, (here, e, k, gap, h)) = (items-guarded vs 0 p [] text limit (d + 1) k j h, tt)
+  value-guarded (parsed (inline ps) span) p l text limit d i j (few, (here, e, k, gap, h)) = (pairs-guarded ps [] p [] text limit (d + 1) k j (λ c none. absurd none) h, tt)
 
   items-guarded : (vs : ParsedItems) (n : ℕ) (p : Path) (l : List Claim) (text : List ℕ) (limit d i j : ℕ) → SpellsItems vs text limit d i j → Guarded l (item_claims vs n p)
   items-guarded no_items n p l text limit d i j h = tt
-  items-guarded (item v vs) n p l text limit d i j (m, h, inl (e, close)) =
-      element-guarded v (with_position p n) (item_claims vs (suc n) p) l (λ x. value-guarded v (with_position p n) x text limit d i m h) (λ x. rw e tt)
-  items-guarded (item v vs) n p l text limit d i j (m, h, inr (k, comma, rest)) =
-      element-guarded v (with_position p n) (item_claims vs (suc n) p) l (λ x. value-guarded v (with_position p n) x text limit d i m h) (λ x. items-guarded vs (suc n) p x text limit d k j rest)
+  items-guarded (item v vs) n p l text limit d i j (m, h, then) =
+      element-guarded v (with_position p n) (item_claims vs (suc n) p) l (λ x. value-guarded v (with_position p n) x text limit d i m h) (λ x. elim then [
+        | inl (e, close) ↦ rw e tt
+        | inr (k, comma, rest) ↦ items-guarded vs (suc n) p x text limit d k j rest
+      ])
 
   pairs-guarded : (ps : ParsedPairs) (es : List KeyValue) (p : Path) (l : List Claim) (text : List ℕ) (limit d i j : ℕ) → Known (IsAt p) p es l → SpellsPairs ps es text limit d i j
       → Guarded l (pair_claims ps p)
   pairs-guarded no_pairs es p l text limit d i j known h = tt
-  pairs-guarded (pair ss v x ps) es p l text limit d i j known (m, (a, b, named, few, sign, h, extent), clear, inl (e, close)) =
-      let walked = begun (IsAt p) (at-bases p) p es (record { parts = ss; value = v; extent = x }) l clear refl known (λ q y. value-guarded v q y text limit (d + length ss) b m h) in
-      guarded-followed l (key_claims p ss v (value_claims v)) (pair_claims ps p) walked.guarded (rw e tt)
-  pairs-guarded (pair ss v x ps) es p l text limit d i j known (m, (a, b, named, few, sign, h, extent), clear, inr (k, comma, rest)) =
+  pairs-guarded (pair ss v x ps) es p l text limit d i j known (m, (a, b, named, few, sign, h, extent), clear, then) =
       let front = key_claims p ss v (value_claims v) in
-      let walked = begun (IsAt p) (at-bases p) p es (record { parts = ss; value = v; extent = x }) l clear refl known (λ q y. value-guarded v q y text limit (d + length ss) b m h) in
-      guarded-followed l front (pair_claims ps p) walked.guarded
-      (pairs-guarded ps (es ++ (record { parts = ss; value = v; extent = x } ∷ [])) p (l ++ own front) text limit d k j walked.known rest)
+      let e : KeyValue = record { parts = ss; value = v; extent = x } in
+      let walked = begun (IsAt p) (at-bases p) p es e l clear refl known (λ q y. value-guarded v q y text limit (d + length ss) b m h) in
+      guarded-followed l front (pair_claims ps p) walked.tree (elim then [
+        | inl (none, close) ↦ rw none tt
+        | inr (k, comma, rest) ↦ pairs-guarded ps (es ++ (e ∷ [])) p (l ++ own front) text limit d k j walked.all rest
+      ])
 
 -- ---- the assignments of a section
 
 pub key_values-walk : (R : List Claim → Path → Type 0) (laws : Bases R) (base : Path) (evs before : List KeyValue) (l : List Claim) (text : List ℕ) (limit i j : ℕ) → SpellsKeyValues evs before text limit i j
     → R l base → Known R base before l → (es : List KeyValue) × Walked R base es l (key_value_claims evs base)
 unfolding key_value_claims
-key_values-walk R laws base [] before l text limit i j h root known = (
-  before,
-  record {
-    guarded = tt;
-    known = known-on R laws base before before l [] known (λ e h. h) (λ c here sort. absurd here);
-  },
-)
+key_values-walk R laws base [] before l text limit i j h root known =
+    (before, record { tree = tt; all = known-on R laws base before before l [] known (λ names h. h) (λ c here sort. absurd here) })
 key_values-walk R laws base (e ∷ evs) before l text limit i j (m, n, k, h, tail, clear, gap, rest) root known =
     let front = key_claims base e.parts e.value (value_claims e.value) in
-    let behind = key_value_claims evs base in
     let walked = begun R laws base before e l clear root known (λ q x. value-guarded e.value q x text limit (length e.parts) h.from m h.spelled) in
-    let (es, more) = key_values-walk R laws base evs (before ++ (e ∷ [])) (l ++ own front) text limit k j rest (laws.more l (own front) base root) walked.known in
-    let all : (l ++ own front) ++ own behind ≡ l ++ own (followed front behind) = append_assoc l (own front) (own behind) ∙ ap (λ x. l ++ x) (sym (own-followed front behind)) in
-    (es, record { guarded = guarded-followed l front behind walked.guarded more.guarded; known = subst (λ xs. Known R base es xs) all more.known })
+    let (es, more) = key_values-walk R laws base evs (before ++ (e ∷ [])) (l ++ own front) text limit k j rest (laws.more l (own front) base root) walked.all in
+    (es, walk-followed Guarded (Known R base (before ++ (e ∷ []))) (Known R base es) guarded-followed l front (key_value_claims evs base) walked (λ all. more))

@@ -26,6 +26,7 @@ pub mod PathDepth
 pub mod Order
 pub mod Apart
 pub mod FirstPair
+pub mod Headed
 pub mod Scoped
 pub mod EntryDecides
 pub mod OneScope

@@ -1,18 +1,17 @@
 -- What a moved value claims is what the value claims, moved.
 use Rattle.std.proofs.Common.{◌≡◌, ℕ, suc, List, [], ◌∷◌, ◌++◌, Option, Some, None, option_map, refl, sym, ap, ◌∙◌, subst, append_assoc, inl, inr}
-use Rattle.std.specs.Prelude.{⊤}
 use Rattle.std.proofs.lemmas.Bool.{cases_Bool}
 use Rattle.std.proofs.lemmas.List.{append_cancel_left}
+use Rattle.std.proofs.lemmas.Option.{none-some}
 use Rattle.toml_span_tree.specs.Path.{Path, Step, key, position}
-use Rattle.toml_span_read.specs.Data.{ParsedValue, parsed, ParsedInner, scalar, array, inline, ParsedItems, no_items, item, ParsedPairs, no_pairs, pair}
+use Rattle.toml_span_read.specs.Data.{ParsedValue, parsed, scalar, array, inline, ParsedItems, no_items, item, ParsedPairs, no_pairs, pair}
 use Rattle.toml_span_read.specs.Keys.{SimpleKey}
-use Rattle.toml_span_laws.specs.Again.{moved, moved_inner, moved_items, moved_pairs, moved_parts, moved_span}
+use Rattle.toml_span_laws.specs.Again.{moved, moved_items, moved_pairs, moved_parts, moved_span}
 use Rattle.toml_span.specs.Claims.{Claim, Claims, no_claims, claimed, scope, followed, key_claims, value_claims, inner_claims, item_claims, pair_claims, element, assigned, dotted}
 use Rattle.toml_span.specs.Clashes.{blame, or_else}
 use Rattle.toml_span.specs.Flat.{all_claims, claims_at, deciding_claim, first_claim, first_claim_by_header, by_header}
 use Rattle.toml_span.specs.Paths.{same_path, with_key, with_position}
 use Rattle.toml_span.proofs.Grafts.{same_step-self}
-use Rattle.toml_span.proofs.EachClaim.{same_path-eq}
 use Rattle.toml_span_laws.specs.Moved.{moved_place}
 use Rattle.toml_span_laws.specs.Clashing.{IsIn, DoClash}
 use Rattle.toml_span_laws.proofs.FirstClash.{AreFree}
@@ -77,12 +76,9 @@ mutual
   unfolding value_claims inner_claims item_claims pair_claims
 
   pub value-moved : (v : ParsedValue) (from to : ℕ) (p r q s : Path) → Beside p r q s → AreMoved from to p r (value_claims v q) (value_claims (moved from to v) s)
-  value-moved (parsed k span) from to p r q s b = inner-moved k from to p r q s b
-
-  inner-moved : (k : ParsedInner) (from to : ℕ) (p r q s : Path) → Beside p r q s → AreMoved from to p r (inner_claims k q) (inner_claims (moved_inner from to k) s)
-  inner-moved (scalar x) from to p r q s b = none_moved
-  inner-moved (array vs) from to p r q s b = scope_moved (item_claims vs 0 q) (item_claims (moved_items from to vs) 0 s) no_claims no_claims (items-moved vs 0 from to p r q s b) none_moved
-  inner-moved (inline ps) from to p r q s b = scope_moved (pair_claims ps q) (pair_claims (moved_pairs from to ps) s) no_claims no_claims (pairs-moved ps from to p r q s b) none_moved
+  value-moved (parsed (scalar x) span) from to p r q s b = none_moved
+  value-moved (parsed (array vs) span) from to p r q s b = scope_moved (item_claims vs 0 q) (item_claims (moved_items from to vs) 0 s) no_claims no_claims (items-moved vs 0 from to p r q s b) none_moved
+  value-moved (parsed (inline ps) span) from to p r q s b = scope_moved (pair_claims ps q) (pair_claims (moved_pairs from to ps) s) no_claims no_claims (pairs-moved ps from to p r q s b) none_moved
 
   items-moved : (vs : ParsedItems) (n : ℕ) (from to : ℕ) (p r q s : Path) → Beside p r q s → AreMoved from to p r (item_claims vs n q) (item_claims (moved_items from to vs) n s)
   items-moved no_items n from to p r q s b = none_moved
@@ -142,52 +138,43 @@ at-moved from to p r _ _ q (one_more x y xs ys m h) =
 
 -- ---- what decides
 
-abbrev MayMove : ℕ → ℕ → Path → Path → Option Claim → Option Claim → Type 0
-MayMove from to p r None None = ⊤
-MayMove from to p r None (Some y) = ⊥
-MayMove from to p r (Some x) None = ⊥
-MayMove from to p r (Some x) (Some y) = Moves from to p r x y
+-- the place of one claim is that of the other, moved
+abbrev IsMoved : ℕ → ℕ → Option Claim → Option Claim → Type 0
+IsMoved from to o p = option_map (λ c. c.place) p ≡ option_map (moved_place from to) (option_map (λ c. c.place) o)
 
-first-moved : (from to : ℕ) (p r : Path) (xs ys : List Claim) → AllMoved from to p r xs ys → MayMove from to p r (first_claim xs) (first_claim ys)
-first-moved from to p r _ _ no_more = tt
-first-moved from to p r _ _ (one_more x y xs ys m h) = m
+first-moved : (from to : ℕ) (p r : Path) (xs ys : List Claim) → AllMoved from to p r xs ys → IsMoved from to (first_claim xs) (first_claim ys)
+first-moved from to p r _ _ no_more = refl
+first-moved from to p r _ _ (one_more x y xs ys m h) = ap Some m.place
 
-header-moved : (from to : ℕ) (p r : Path) (xs ys : List Claim) → AllMoved from to p r xs ys → MayMove from to p r (first_claim_by_header xs) (first_claim_by_header ys)
+header-moved : (from to : ℕ) (p r : Path) (xs ys : List Claim) → AllMoved from to p r xs ys → IsMoved from to (first_claim_by_header xs) (first_claim_by_header ys)
 unfolding first_claim_by_header
-header-moved from to p r _ _ no_more = tt
+header-moved from to p r _ _ no_more = refl
 header-moved from to p r _ _ (one_more x y xs ys m h) =
     let same = ap by_header m.sort in
     elim (cases_Bool (by_header x.mark.sort)) [
-      | inl header ↦ rw (same, header) m
+      | inl header ↦ rw (same, header) (ap Some m.place)
       | inr plain ↦ rw (same, plain) (header-moved from to p r xs ys h)
     ]
 
-or-moved : (from to : ℕ) (p r : Path) (a b c d : Option Claim) → MayMove from to p r a b → MayMove from to p r c d → MayMove from to p r (or_else a c) (or_else b d)
-or-moved from to p r None None c d h g = g
-or-moved from to p r None (Some y) c d h g = absurd h
-or-moved from to p r (Some x) None c d h g = absurd h
-or-moved from to p r (Some x) (Some y) c d h g = h
-
-place-moved : (from to : ℕ) (p r : Path) (a b : Option Claim) → MayMove from to p r a b → option_map (λ c. c.place) b ≡ option_map (moved_place from to) (option_map (λ c. c.place) a)
-place-moved from to p r None None h = refl
-place-moved from to p r None (Some y) h = absurd h
-place-moved from to p r (Some x) None h = absurd h
-place-moved from to p r (Some x) (Some y) h = ap Some h.place
+or-moved : (from to : ℕ) (a b c d : Option Claim) → IsMoved from to a b → IsMoved from to c d → IsMoved from to (or_else a c) (or_else b d)
+or-moved from to None None c d h g = g
+or-moved from to None (Some y) c d h g = absurd (none-some y.place (sym h))
+or-moved from to (Some x) None c d h g = absurd (none-some (moved_place from to x.place) h)
+or-moved from to (Some x) (Some y) c d h g = h
 
 pub decides-moved : (from to : ℕ) (p r : Path) (xs ys : List Claim) → AllMoved from to p r xs ys
     → option_map (λ c. c.place) (deciding_claim ys) ≡ option_map (moved_place from to) (option_map (λ c. c.place) (deciding_claim xs))
 decides-moved from to p r xs ys h =
-    place-moved from to p r (deciding_claim xs) (deciding_claim ys)
-    (or-moved from to p r (first_claim_by_header xs) (first_claim_by_header ys) (first_claim xs) (first_claim ys) (header-moved from to p r xs ys h) (first-moved from to p r xs ys h))
+    or-moved from to (first_claim_by_header xs) (first_claim_by_header ys) (first_claim xs) (first_claim ys) (header-moved from to p r xs ys h) (first-moved from to p r xs ys h)
 
 -- ---- clashes
 
 clash-moved : (from to : ℕ) (p r : Path) (c x d y : Claim) → Moves from to p r c d → Moves from to p r x y → DoClash d y → DoClash c x
-clash-moved from to p r c x d y m n (told, clashes) =
-    let (same, (b, blames)) = clash-blames d y told clashes in
+clash-moved from to p r c x d y m n clashes =
+    let (same, (b, blames)) = clash-blames d y clashes in
     let (t, c_is, d_is) = m.beside in
     let (u, x_is, y_is) = n.beside in
-    let tails = append_cancel_left r t u (sym d_is ∙ same_path-eq d.path y.path same ∙ y_is) in
+    let tails = append_cancel_left r t u (sym d_is ∙ same ∙ y_is) in
     do-clash c x b (c_is ∙ ap (λ l. p ++ l) tails ∙ sym x_is) (ap (λ s. blame s x.mark.sort) (sym m.sort) ∙ ap (blame d.mark.sort) (sym n.sort) ∙ blames)
 
 pub resolves-moved : (from to : ℕ) (p r : Path) (xs ys : Claims) (e f : List Claim) → AreMoved from to p r xs ys → AllMoved from to p r e f → AreFree e xs → AreFree f ys

@@ -81,12 +81,8 @@ head-shown : (a : List ℕ) (s t : Span) (n m : Node) (ms ls : Members) → ((p 
     → (p : Path) → shown (Some (Some s, n)) p ≡ shown (Some (Some t, m)) p
 head-shown a s t n m ms ls same p = ap (λ o. shown o p) (sym (first-entry a s n ms)) ∙ same p ∙ ap (λ o. shown o p) (first-entry a t m ls)
 
-span-in : Place → Option Span
-span-in x = x.key_span
-
 one-key : (s t : Span) (n m : Node) → shown (Some (Some s, n)) [] ≡ shown (Some (Some t, m)) [] → s ≡ t
-unfolding span-in
-one-key s t n m same = same_Some s t (ap span-in (same_Some (place_of (Some s, n)) (place_of (Some t, m)) same))
+one-key s t n m same = same_Some s t (ap (λ (x : Place). x.key_span) (same_Some (place_of (Some s, n)) (place_of (Some t, m)) same))
 
 -- ---- trees
 

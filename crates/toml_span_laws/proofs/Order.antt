@@ -1,23 +1,20 @@
 -- The claims of a document ascend in the text.
-use Rattle.std.proofs.Common.{◌≡◌, ℕ, zero, suc, ◌+◌, ◌<◌, ◌≤◌, false, List, [], ◌∷◌, ◌++◌, Some, length, arith, refl, sym, ap, ◌∙◌, subst, append_assoc, inl, inr}
+use Rattle.std.proofs.Common.{◌≡◌, ℕ, zero, suc, ◌+◌, ◌<◌, ◌≤◌, List, [], ◌∷◌, ◌++◌, Some, None, length, arith, refl, sym, ap, ◌∙◌, append_assoc, inl, inr}
 use Rattle.std.proofs.lemmas.Bool.{cases_Bool}
 use Rattle.std.proofs.lemmas.Option.{none-some, same_Some}
 use Rattle.toml_span_lex.specs.declared.span.Span.{Span}
 use Rattle.toml_span_tree.specs.Path.{Path}
-use Rattle.toml_span_read.specs.Data.{ParsedValue, parsed, ParsedInner, scalar, array, inline, ParsedItems, no_items, item, ParsedPairs, no_pairs, pair, KeyValue, parsed_span, Block}
-use Rattle.toml_span_read.specs.Grammar.{from_to, Spells, SpellsInner, SpellsItems, SpellsPairs, SpellsKeyValues, first_block, last_end, SpellsSections, SpellsDocument}
+use Rattle.toml_span_read.specs.Data.{ParsedValue, parsed, ParsedInner, scalar, array, inline, ParsedItems, no_items, item, ParsedPairs, no_pairs, pair, KeyValue, Block}
+use Rattle.toml_span_read.specs.Grammar.{from_to, Spells, SpellsInner, SpellsItems, SpellsPairs, SpellsKeyValues, SpellsDocument}
 use Rattle.toml_span_read.specs.Keys.{SimpleKey}
 use Rattle.toml_span_read.specs.Places.{Ascend}
-use Rattle.toml_span_laws.specs.Places.{BlocksAscend}
-use Rattle.toml_span_laws.proofs.AscendLaws.{document_ascends}
+use Rattle.toml_span_laws.proofs.AscendLaws.{AreBlocks, document_blocks, header_from}
 use Rattle.toml_span_read.proofs.InsideLemmas.{tail_inside}
 use Rattle.toml_span_read.proofs.KeyOrder.{dotted_ascend}
 use Rattle.toml_span_read.proofs.SpanLaws.{value_lies}
-use Rattle.toml_span.specs.declared.claims.Mark.{Mark}
-use Rattle.toml_span.specs.declared.claims.Sort.{Sort}
-use Rattle.toml_span.specs.declared.claims.Sort.TheVariants.{Passed, StandardTable, ArrayOfTables, TableElement, Dotted, Assigned}
+use Rattle.toml_span.specs.declared.claims.Sort.TheVariants.{Passed, StandardTable, ArrayOfTables, TableElement}
 use Rattle.toml_span.specs.declared.claims.Head.{Head}
-use Rattle.toml_span.specs.Claims.{Claim, Claims, no_claims, claimed, scope, followed, key_span_of, table_claim, pair_mark, header_mark, key_claims, value_claims, inner_claims, item_claims, pair_claims, assignment_claims, key_value_claims, element, assigned, dotted, head_of, header_claim, array_claims, end_claims, header_claims, section_claims, claims_behind, claims}
+use Rattle.toml_span.specs.Claims.{Claim, Claims, no_claims, claimed, scope, followed, key_claims, value_claims, inner_claims, item_claims, pair_claims, assignment_claims, key_value_claims, element, assigned, dotted, head_of, header_claim, array_claims, end_claims, header_claims, section_claims, claims_behind, claims}
 use Rattle.toml_span.specs.Flat.{all_claims}
 use Rattle.toml_span_laws.specs.Order.{claim_start, Follows, Ascends}
 use Rattle.toml_span.specs.Paths.{with_key, with_position, enter, elements_added, opened_by, section_path}
@@ -106,27 +103,13 @@ rise-scope : (cs : Claims) (i j : ℕ) → Rise cs i j → Rise (scope cs no_cla
 unfolding all_claims
 rise-scope cs i j r = rising-append (all_claims cs) [] i j j r (omega arith)
 
-rise-wide : (cs : Claims) (h i j k : ℕ) → h ≤ i → j ≤ k → Rise cs i j → Rise cs h k
-rise-wide cs h i j k a b r = rising-wide (all_claims cs) h i j k a b r
-
 -- ---- keys and values
 
-table-keyed : (q : Path) (k : SimpleKey) (m : Mark) → IsKeyed (table_claim q k m)
-table-keyed q k m t h = by_sort m.sort h
-  where
-    by_sort : (s : Sort) → key_span_of s m.key ≡ Some t → (t ≡ m.key) × (s ≡ TableElement → ⊥)
-    by_sort Passed h = (sym (same_Some m.key t h), λ e. cc)
-    by_sort StandardTable h = (sym (same_Some m.key t h), λ e. cc)
-    by_sort ArrayOfTables h = (sym (same_Some m.key t h), λ e. cc)
-    by_sort TableElement h = absurd (none-some t h)
-    by_sort Dotted h = (sym (same_Some m.key t h), λ e. cc)
-    by_sort Assigned h = (sym (same_Some m.key t h), λ e. cc)
+keyed : (c : Claim) → c.place.key_span ≡ Some c.mark.key → (c.mark.sort ≡ TableElement → ⊥) → IsKeyed c
+keyed c is plain k h = (sym (same_Some c.mark.key k (sym is ∙ h)), plain)
 
-assigned-keyed : (q : Path) (k : SimpleKey) (v : ParsedValue) → IsKeyed (assigned q k v)
-assigned-keyed q k v t h = (sym (same_Some k.span t h), λ e. cc)
-
-element-keyed : (q : Path) (v : ParsedValue) → IsKeyed (element q v)
-element-keyed q v t h = absurd (none-some t h)
+unkeyed : (c : Claim) → c.place.key_span ≡ None → IsKeyed c
+unkeyed c is k h = absurd (none-some k (sym is ∙ h))
 
 -- a key, and what its value claims
 key-rises : (q : Path) (parts : List SimpleKey) (v : ParsedValue) (inside : Path → Claims) (i a j : ℕ) → Ascend parts i a → ((r : Path) → Rise (inside r) a j)
@@ -134,10 +117,10 @@ key-rises : (q : Path) (parts : List SimpleKey) (v : ParsedValue) (inside : Path
 unfolding key_claims
 key-rises q [] v inside i a j h r = rise-none i j (omega (arith, h, rising-forward (all_claims (inside q)) a j (r q)))
 key-rises q (k ∷ []) v inside i a j h r =
-    let here = with_key q k in rise-claimed (assigned here k v) (inside here) i a j (assigned-keyed here k v) h.0 (omega (arith, h.1, h.2)) (r here)
+    let here = with_key q k in rise-claimed (assigned here k v) (inside here) i a j (keyed (assigned here k v) refl (λ e. cc)) h.0 (omega (arith, h.1, h.2)) (r here)
 key-rises q (k ∷ l ∷ more) v inside i a j h r =
     let here = with_key q k in
-    rise-claimed (dotted here k v) (key_claims here (l ∷ more) v inside) i k.span.end j (table-keyed here k (pair_mark Dotted k.span (parsed_span v))) h.0 h.1 (key-rises here (l ∷ more) v inside k.span.end a j h.2 r)
+    rise-claimed (dotted here k v) (key_claims here (l ∷ more) v inside) i k.span.end j (keyed (dotted here k v) refl (λ e. cc)) h.0 h.1 (key-rises here (l ∷ more) v inside k.span.end a j h.2 r)
 
 mutual
   unfolding value_claims inner_claims item_claims pair_claims
@@ -147,9 +130,9 @@ mutual
       → Rise (inner_claims x q) m n
   inner-rises (scalar y) s q text limit d i j m n l w f h = rise-none m n l
   inner-rises (array vs) s q text limit d i j m n l w f (here, e, k, gap, h) =
-      rise-scope (item_claims vs 0 q) m n (rise-wide (item_claims vs 0 q) m k j n (omega (arith, f e, gap.forward)) w (items-rise vs 0 q text limit (d + 1) k j h))
+      rise-scope (item_claims vs 0 q) m n (rising-wide (all_claims (item_claims vs 0 q)) m k j n (omega (arith, f e, gap.forward)) w (items-rise vs 0 q text limit (d + 1) k j h))
   inner-rises (inline ps) s q text limit d i j m n l w f (here, e, k, gap, h) =
-      rise-scope (pair_claims ps q) m n (rise-wide (pair_claims ps q) m k j n (omega (arith, f e, gap.forward)) w (pairs-rise ps [] q text limit (d + 1) k j h))
+      rise-scope (pair_claims ps q) m n (rising-wide (all_claims (pair_claims ps q)) m k j n (omega (arith, f e, gap.forward)) w (pairs-rise ps [] q text limit (d + 1) k j h))
 
   value-rises : (v : ParsedValue) (q : Path) (text : List ℕ) (limit d i j : ℕ) → Spells v text limit d i j → Rise (value_claims v q) i j
   value-rises (parsed x s) q text limit d i j h =
@@ -160,31 +143,31 @@ mutual
       → Rise (claimed (element q v) (followed (value_claims v q) rest)) i j
   element-rises (parsed x s) q rest text limit d i m j h r =
       let a = value_lies (parsed x s) text limit d i m h in
-      rise-claimed (element q (parsed x s)) (followed (inner_claims x q) rest) i (s.start + 1) j (element-keyed q (parsed x s)) a.0.0 (omega arith)
+      rise-claimed (element q (parsed x s)) (followed (inner_claims x q) rest) i (s.start + 1) j (unkeyed (element q (parsed x s)) refl) a.0.0 (omega arith)
       (rise-followed (inner_claims x q) rest (s.start + 1) (m + 1) j
       (inner-rises x s q text limit d i m (s.start + 1) (m + 1) (omega (arith, a.0.1, a.0.2)) (omega arith) (λ e. omega (arith, ap (λ t. t.start) e)) h.1) r)
 
   items-rise : (vs : ParsedItems) (n : ℕ) (q : Path) (text : List ℕ) (limit d i j : ℕ) → SpellsItems vs text limit d i j → Rise (item_claims vs n q) i j
   items-rise no_items n q text limit d i j h = rise-none i j (omega (arith, h.1))
-  items-rise (item v vs) n q text limit d i j (m, h, inl (e, close)) =
-      element-rises v (with_position q n) (item_claims vs (suc n) q) text limit d i m j h (rw e (rise-none (m + 1) j (omega (arith, close.before.forward, close.ends))))
-  items-rise (item v vs) n q text limit d i j (m, h, inr (p, sign, rest)) =
-      element-rises v (with_position q n) (item_claims vs (suc n) q) text limit d i m j h
-      (rise-wide (item_claims vs (suc n) q) (m + 1) p j j (omega (arith, sign.before.forward, sign.behind.forward)) (omega arith) (items-rise vs (suc n) q text limit d p j rest))
+  items-rise (item v vs) n q text limit d i j (m, h, then) =
+      element-rises v (with_position q n) (item_claims vs (suc n) q) text limit d i m j h (elim then [
+        | inl (e, close) ↦ rw e (rise-none (m + 1) j (omega (arith, close.before.forward, close.ends)))
+        | inr (p, sign, rest) ↦
+            rising-wide (all_claims (item_claims vs (suc n) q)) (m + 1) p j j (omega (arith, sign.before.forward, sign.behind.forward)) (omega arith) (items-rise vs (suc n) q text limit d p j rest)
+      ])
 
   pairs-rise : (ps : ParsedPairs) (es : List KeyValue) (q : Path) (text : List ℕ) (limit d i j : ℕ) → SpellsPairs ps es text limit d i j → Rise (pair_claims ps q) i j
   pairs-rise no_pairs es q text limit d i j h = rise-none i j (omega (arith, h.1))
-  pairs-rise (pair ss v x ps) es q text limit d i j (m, (a, b, key, few, sign, h, extent), clear, inl (e, close)) =
+  pairs-rise (pair ss v x ps) es q text limit d i j (m, (a, b, key, few, sign, h, extent), clear, then) =
       rise-followed (key_claims q ss v (value_claims v)) (pair_claims ps q) i m j
       (key-rises q ss v (value_claims v) i a m (dotted_ascend ss text i a key).0
-      (λ r. rise-wide (value_claims v r) a b m m (omega (arith, sign.before.forward, sign.behind.forward)) (omega arith) (value-rises v r text limit (d + length ss) b m h)))
-      (rw e (rise-none m j (omega (arith, close.before.forward, close.ends))))
-  pairs-rise (pair ss v x ps) es q text limit d i j (m, (a, b, key, few, sign, h, extent), clear, inr (p, comma, rest)) =
-      rise-followed (key_claims q ss v (value_claims v)) (pair_claims ps q) i m j
-      (key-rises q ss v (value_claims v) i a m (dotted_ascend ss text i a key).0
-      (λ r. rise-wide (value_claims v r) a b m m (omega (arith, sign.before.forward, sign.behind.forward)) (omega arith) (value-rises v r text limit (d + length ss) b m h)))
-      (rise-wide (pair_claims ps q) m p j j (omega (arith, comma.before.forward, comma.behind.forward)) (omega arith)
-      (pairs-rise ps (es ++ (record { parts = ss; value = v; extent = x } ∷ [])) q text limit d p j rest))
+      (λ r. rising-wide (all_claims (value_claims v r)) a b m m (omega (arith, sign.before.forward, sign.behind.forward)) (omega arith) (value-rises v r text limit (d + length ss) b m h)))
+      (elim then [
+        | inl (e, close) ↦ rw e (rise-none m j (omega (arith, close.before.forward, close.ends)))
+        | inr (p, comma, rest) ↦
+            rising-wide (all_claims (pair_claims ps q)) m p j j (omega (arith, comma.before.forward, comma.behind.forward)) (omega arith)
+            (pairs-rise ps (es ++ (record { parts = ss; value = v; extent = x } ∷ [])) q text limit d p j rest)
+      ])
 
 key_values-rise : (es before : List KeyValue) (q : Path) (text : List ℕ) (limit i j : ℕ) → SpellsKeyValues es before text limit i j → Rise (key_value_claims es q) i j
 unfolding key_value_claims
@@ -192,23 +175,23 @@ key_values-rise [] before q text limit i j h = rise-none i j (omega (arith, h))
 key_values-rise (e ∷ es) before q text limit i j (m, n, k, h, tail, clear, gap, rest) =
     rise-followed (assignment_claims e q) (key_value_claims es q) i m j
     (key-rises q e.parts e.value (value_claims e.value) i h.key_end m (dotted_ascend e.parts text i h.key_end h.key).0
-    (λ r. rise-wide (value_claims e.value r) h.key_end h.from m m (omega (arith, h.sign.before.forward, h.sign.behind.forward)) (omega arith)
+    (λ r. rising-wide (all_claims (value_claims e.value r)) h.key_end h.from m m (omega (arith, h.sign.before.forward, h.sign.behind.forward)) (omega arith)
     (value-rises e.value r text limit (length e.parts) h.from m h.spelled)))
-    (rise-wide (key_value_claims es q) m k j j (omega (arith, (tail_inside text m n tail).0, gap.forward)) (omega arith) (key_values-rise es (before ++ (e ∷ [])) q text limit k j rest))
+    (rising-wide (all_claims (key_value_claims es q)) m k j j (omega (arith, (tail_inside text m n tail).0, gap.forward)) (omega arith) (key_values-rise es (before ++ (e ∷ [])) q text limit k j rest))
 
 -- ---- sections
 
 array-rises : (h : Head) (q : Path) (k : SimpleKey) (n i j : ℕ) → i ≤ k.span.start → k.span.start < j → Rise (array_claims h q k n (claimed (header_claim h TableElement (with_position q n) k) no_claims)) i j
 unfolding all_claims
 array-rises h q k zero i j a b =
-    (a, (table-keyed q k (header_mark h ArrayOfTables k.span), inr (refl, refl, refl), (table-keyed (with_position q 0) k (header_mark h TableElement k.span), b)))
-array-rises h q k (suc n) i j a b = (a, (table-keyed (with_position q (suc n)) k (header_mark h TableElement k.span), b))
+    (a, (keyed (header_claim h ArrayOfTables q k) refl (λ e. cc), inr (refl, refl, refl), (unkeyed (header_claim h TableElement (with_position q 0) k) refl, b)))
+array-rises h q k (suc n) i j a b = (a, (unkeyed (header_claim h TableElement (with_position q (suc n)) k) refl, b))
 
 end-rises : (h : Head) (q : Path) (k : SimpleKey) (n i j : ℕ) → i ≤ k.span.start → k.span.start < j → Rise (end_claims h q k n) i j
 unfolding end_claims all_claims
 end-rises h q k n i j a b = elim (cases_Bool h.array) [
   | inl double ↦ rw double (array-rises h q k n i j a b)
-  | inr single ↦ rw single (a, (table-keyed q k (header_mark h StandardTable k.span), b))
+  | inr single ↦ rw single (a, (keyed (header_claim h StandardTable q k) refl (λ e. cc), b))
 ]
 
 header-rises : (e : Path → ℕ) (h : Head) (q : Path) (parts : List SimpleKey) (i j : ℕ) → Ascend parts i j → Rise (header_claims e h q parts) i j
@@ -217,37 +200,21 @@ header-rises e h q [] i j a = rise-none i j a
 header-rises e h q (k ∷ []) i j a = end-rises h (with_key q k) k (e (with_key q k)) i j a.0 (omega (arith, a.1, a.2))
 header-rises e h q (k ∷ l ∷ more) i j a =
     let next = enter (e (with_key q k)) (with_key q k) in
-    rise-claimed (header_claim h Passed next k) (header_claims e h next (l ∷ more)) i k.span.end j (table-keyed next k (header_mark h Passed k.span)) a.0 a.1 (header-rises e h next (l ∷ more) k.span.end j a.2)
+    rise-claimed (header_claim h Passed next k) (header_claims e h next (l ∷ more)) i k.span.end j (keyed (header_claim h Passed next k) refl (λ e. cc)) a.0 a.1 (header-rises e h next (l ∷ more) k.span.end j a.2)
 
-section-rises : (e : Path → ℕ) (b : Block) (before : List KeyValue) (text : List ℕ) (limit h i k j : ℕ) → Ascend b.header h i → i ≤ k → SpellsKeyValues b.key_values before text limit k j
-    → Rise (section_claims e b) h j
-unfolding section_claims
-section-rises e b before text limit h i k j a l s =
-    let q = section_path e b in
-    rise-followed (header_claims e (head_of b) [] b.header) (key_value_claims b.key_values q) h i j
-    (header-rises e (head_of b) [] b.header h i a) (rise-wide (key_value_claims b.key_values q) i k j j l (omega arith) (key_values-rise b.key_values before q text limit k j s))
-
-sections-rise : (earlier bs : List Block) (text : List ℕ) (limit n i : ℕ) → SpellsSections bs text limit i → BlocksAscend bs n (length text) → Rise (claims_behind earlier bs) i (length text)
-unfolding claims_behind
-sections-rise earlier [] text limit n i h a = rise-none i (length text) (omega (arith, h))
-sections-rise earlier (b ∷ bs) text limit n i (j, s, rest) a =
+blocks-rise : (earlier bs : List Block) (text : List ℕ) (limit i : ℕ) → AreBlocks bs text limit i → Rise (claims_behind earlier bs) i (length text)
+unfolding claims_behind section_claims
+blocks-rise earlier [] text limit i h = rise-none i (length text) h
+blocks-rise earlier (b ∷ bs) text limit i (s, k, j, header, few, plain, on, lines, rest) =
     let e = elements_added (opened_by earlier) in
-    let header = subst (λ (t : Span). Ascend b.header t.start t.end) s.header_span a.1 in
+    let q = section_path e b in
     rise-followed (section_claims e b) (claims_behind (b ∷ earlier) bs) i j (length text)
-    (section-rises e b [] text limit i s.end s.lines.0 j header s.lines.1.forward s.lines.2) (sections-rise (b ∷ earlier) bs text limit b.extent.end j rest a.3)
-
-first-rises : (es : List KeyValue) (bs : List Block) (text : List ℕ) (limit i j : ℕ) → SpellsKeyValues es [] text limit i j → SpellsSections bs text limit j
-    → BlocksAscend (first_block es ++ bs) 0 (length text) → Rise (claims (first_block es ++ bs)) 0 (length text)
-unfolding claims_behind opened_by
-first-rises [] bs text limit i j h rest a = rise-wide (claims bs) 0 j (length text) (length text) (omega arith) (omega arith) (sections-rise [] bs text limit 0 j rest a)
-first-rises (e ∷ es) bs text limit i j h rest a =
-    let b : Block = record { header = []; array = false; header_span = record { start = 0; end = 0 }; extent = record { start = e.extent.start; end = last_end e.extent.end es }; key_values = e ∷ es } in
-    rise-followed (section_claims (elements_added []) b) (claims_behind (b ∷ []) bs) 0 j (length text)
-    (section-rises (elements_added []) b [] text limit 0 0 i j (omega arith) (omega arith) h) (sections-rise (b ∷ []) bs text limit (last_end e.extent.end es) j rest a.3)
+    (rise-followed (header_claims e (head_of b) [] b.header) (key_value_claims b.key_values q) i s j (header-rises e (head_of b) [] b.header i s (header_from b i s header))
+    (rising-wide (all_claims (key_value_claims b.key_values q)) s k j j on (omega arith) (key_values-rise b.key_values [] q text limit k j lines)))
+    (blocks-rise (b ∷ earlier) bs text limit j rest)
 
 pub document-rises : (bs : List Block) (text : List ℕ) (limit : ℕ) → SpellsDocument bs text limit → Rise (claims bs) 0 (length text)
-document-rises bs text limit x =
-    rw x.all (first-rises x.first x.rest text limit x.lines.0 x.end x.lines.2 x.sections (subst (λ l. BlocksAscend l 0 (length text)) x.all (document_ascends bs text limit x)))
+document-rises bs text limit x = blocks-rise [] bs text limit 0 (document_blocks bs text limit x)
 
 pub document-ascends : (bs : List Block) (text : List ℕ) (limit : ℕ) → SpellsDocument bs text limit → Ascends (all_claims (claims bs))
 document-ascends bs text limit x = rising-ascends (all_claims (claims bs)) 0 (length text) (document-rises bs text limit x)

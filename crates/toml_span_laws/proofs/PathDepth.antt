@@ -1,17 +1,16 @@
 -- How many keys, and how many steps, the paths of a document have.
-use Rattle.std.proofs.Common.{◌≡◌, ℕ, zero, suc, ◌+◌, ◌*◌, ◌≤◌, false, List, [], ◌∷◌, ◌++◌, length, Option, Some, None, option_map, refl, sym, ap, ◌∙◌, subst, inl, inr, arith}
-use Rattle.std.specs.Prelude.{⊤}
+use Rattle.std.proofs.Common.{◌≡◌, ℕ, zero, suc, ◌+◌, ◌*◌, ◌≤◌, false, List, [], ◌∷◌, ◌++◌, length, Some, None, option_map, refl, sym, ap, ◌∙◌, subst, inl, inr, arith}
 use Rattle.std.proofs.lemmas.Bool.{cases_Bool}
-use Rattle.std.proofs.lemmas.Option.{none-some}
-use Rattle.toml_span_lex.specs.declared.span.Span.{Span}
 use Rattle.toml_span_tree.specs.Node as tree
 use Rattle.toml_span_tree.specs.Path.{Path, key, position, Place, reached, place_of, node_at}
 use Rattle.toml_span_tree.specs.Value.{view}
 use Rattle.toml_span_tree.specs.declared.value.Value.{Value}
-use Rattle.toml_span_read.specs.Data.{ParsedValue as Read, parsed, ParsedInner, scalar, array, inline, ParsedItems, no_items, item, ParsedPairs, no_pairs, pair, KeyValue, Block}
+use Rattle.toml_span_read.specs.Data.{ParsedValue as Read, parsed, scalar, array, inline, ParsedItems, no_items, item, ParsedPairs, no_pairs, pair, KeyValue, Block}
 use Rattle.toml_span_read.specs.Keys.{SimpleKey}
-use Rattle.toml_span_read.specs.Limits.{Within, WithinInner, WithinItems, WithinPairs, WithinKeyValues}
-use Rattle.toml_span_read.specs.Grammar.{SpellsDocument, SpellsSections, SpellsKeyValues, first_block}
+use Rattle.toml_span_read.specs.Limits.{Within, WithinItems, WithinPairs}
+use Rattle.toml_span_read.specs.Grammar.{SpellsDocument, SpellsKeyValues}
+use Rattle.toml_span_laws.proofs.AscendLaws.{AreBlocks, document_blocks}
+use Rattle.toml_span_laws.proofs.FirstClash.{mapped}
 use Rattle.toml_span_laws.proofs.DepthLaws.{value_within}
 use Rattle.toml_span.specs.declared.claims.Sort.TheVariants.{TableElement}
 use Rattle.toml_span.specs.declared.claims.Head.{Head}
@@ -20,9 +19,7 @@ use Rattle.toml_span.specs.Claims.{Claim, Claims, no_claims, claimed, key_claims
 use Rattle.toml_span.specs.Flat.{flat}
 use Rattle.toml_span_laws.specs.Laws.{keys_in}
 use Rattle.toml_span.specs.Parsing.{IsTree}
-use Rattle.toml_span.specs.code.Placing.{AreSections}
 use Rattle.toml_span.proofs.EachClaim.{Each, each-followed, flat-decides}
-use Rattle.toml_span.proofs.Refusals.{spelled-headed}
 
 -- ---- paths
 
@@ -55,15 +52,16 @@ room-steps : (ks : List SimpleKey) → room 1 ks ≡ 2 * length ks
 room-steps [] = refl
 room-steps (k ∷ ks) = let more = room-steps ks in omega (arith, more)
 
+size-append : (w : ℕ) (p q : Path) → size w (p ++ q) ≡ size w p + size w q
+size-append w [] q = omega arith
+size-append w (key name ∷ p) q = let more = size-append w p q in omega (arith, more)
+size-append w (position i ∷ p) q = let more = size-append w p q in omega (arith, more)
+
 size-below : (w : ℕ) (p : Path) (k : SimpleKey) → size w (with_key p k) ≡ size w p + 1
-size-below w [] k = refl
-size-below w (key name ∷ p) k = let more = size-below w p k in omega (arith, more)
-size-below w (position i ∷ p) k = let more = size-below w p k in omega (arith, more)
+size-below w p k = size-append w p (key k.name ∷ [])
 
 size-at : (w : ℕ) (p : Path) (i : ℕ) → size w (with_position p i) ≡ size w p + w
-size-at w [] i = omega arith
-size-at w (key name ∷ p) i = let more = size-at w p i in omega (arith, more)
-size-at w (position j ∷ p) i = let more = size-at w p i in omega (arith, more)
+size-at w p i = let more = size-append w p (position i ∷ []) in omega (arith, more)
 
 size-enter : (w n : ℕ) (p : Path) → size w (enter n p) ≤ size w p + w
 unfolding enter
@@ -80,18 +78,13 @@ size-target w e p k (l ∷ more) =
     let rest = size-target w e (enter (e q) q) l more in
     omega (arith, here, on, rest)
 
-section-at : (w : ℕ) (e : Path → ℕ) (b : Block) (k : SimpleKey) (parts : List SimpleKey) → b.header ≡ k ∷ parts → size w (section_path e b) ≤ room w (k ∷ parts)
-section-at w e b k parts is =
-    let few : size w (target e [] b.header) + w ≤ room w (k ∷ parts) = rw is (let h = size-target w e [] k parts in omega (arith, h)) in
-    elim (cases_Bool b.array) [
-      | inl arr ↦ rw arr (let here = size-at w (target e [] b.header) (e (target e [] b.header)) in omega (arith, here, few))
-      | inr tab ↦ rw tab (omega (arith, few))
-    ]
-
 size-section : (w : ℕ) (e : Path → ℕ) (b : Block) (parts : List SimpleKey) → b.header ≡ parts → (b.header ≡ [] → b.array ≡ false) → size w (section_path e b) ≤ room w parts
 unfolding target
 size-section w e b [] is header = rw (header is, is) (omega arith)
-size-section w e b (k ∷ parts) is header = section-at w e b k parts is
+size-section w e b (k ∷ parts) is header =
+    let few = size-target w e [] k parts in
+    let here = size-at w (target e [] (k ∷ parts)) (e (target e [] (k ∷ parts))) in
+    elim (cases_Bool b.array) [ inl arr ↦ rw (arr, is) (omega (arith, here, few)) | inr tab ↦ rw (tab, is) (omega (arith, few)) ]
 
 -- ---- claims
 
@@ -108,30 +101,24 @@ key-depth w n p (k ∷ l ∷ more) v inside few h =
     let here = size-below w p k in
     (omega (arith, here, few), key-depth w n (with_key p k) (l ∷ more) v inside (omega (arith, here, few)) (λ q same. h q (omega (arith, here, same))))
 
-at-most : (w n limit d : ℕ) (v : Read) (p : Path) → size w p + limit ≤ n + d → Within limit d v → size w p ≤ n
-at-most w n limit d (parsed k span) p few h = omega (arith, few, h.0)
-
-parts-few : (w n limit d : ℕ) (parts : List SimpleKey) (v : Read) (p : Path) → size w p + limit ≤ n + d → Within limit (d + length parts) v → size w p + length parts ≤ n
-parts-few w n limit d parts (parsed k span) p few h = omega (arith, few, h.0)
+deep : (limit d : ℕ) (v : Read) → Within limit d v → d ≤ limit
+deep limit d (parsed k span) h = h.0
 
 -- each bracket round a value is a step at most, and each part of a key is one
 mutual
   unfolding value_claims inner_claims item_claims pair_claims
 
   value-depth : (w n limit d : ℕ) → w ≤ 1 → (v : Read) (p : Path) → size w p + limit ≤ n + d → Within limit d v → Each (IsWithin w n) (value_claims v p)
-  value-depth w n limit d one (parsed k span) p few h = inner-depth w n limit d one k p few h.1
-
-  inner-depth : (w n limit d : ℕ) → w ≤ 1 → (k : ParsedInner) (p : Path) → size w p + limit ≤ n + d → WithinInner limit d k → Each (IsWithin w n) (inner_claims k p)
-  inner-depth w n limit d one (scalar s) p few h = tt
-  inner-depth w n limit d one (array vs) p few h = (item-depth w n limit (d + 1) one vs 0 p (omega (arith, few)) h, tt)
-  inner-depth w n limit d one (inline ps) p few h = (pair-depth w n limit (d + 1) one ps p (omega (arith, few)) h, tt)
+  value-depth w n limit d one (parsed (scalar s) span) p few h = tt
+  value-depth w n limit d one (parsed (array vs) span) p few h = (item-depth w n limit (d + 1) one vs 0 p (omega (arith, few)) h.1, tt)
+  value-depth w n limit d one (parsed (inline ps) span) p few h = (pair-depth w n limit (d + 1) one ps p (omega (arith, few)) h.1, tt)
 
   item-depth : (w n limit d : ℕ) → w ≤ 1 → (vs : ParsedItems) (i : ℕ) (p : Path) → size w p + limit + 1 ≤ n + d → WithinItems limit d vs → Each (IsWithin w n) (item_claims vs i p)
   item-depth w n limit d one no_items i p few h = tt
   item-depth w n limit d one (item v vs) i p few h =
       let here = size-at w p i in
       let below : size w (with_position p i) + limit ≤ n + d = omega (arith, one, few, here) in (
-        at-most w n limit d v (with_position p i) below h.0,
+        omega (arith, below, deep limit d v h.0),
         each-followed (IsWithin w n) (value_claims v (with_position p i)) (item_claims vs (suc i) p) (value-depth w n limit d one v (with_position p i) below h.0) (item-depth w n limit d one vs (suc i) p few h.1),
       )
 
@@ -139,18 +126,19 @@ mutual
   pair-depth w n limit d one no_pairs p few h = tt
   pair-depth w n limit d one (pair parts v extent rest) p few h =
       each-followed (IsWithin w n) (key_claims p parts v (value_claims v)) (pair_claims rest p)
-      (key-depth w n p parts v (value_claims v) (parts-few w n limit d parts v p few h.1)
+      (key-depth w n p parts v (value_claims v) (omega (arith, few, deep limit (d + length parts) v h.1))
       (λ q same. value-depth w n limit (d + length parts) one v q (omega (arith, same, few)) h.1))
       (pair-depth w n limit d one rest p few h.2)
 
-key_value-depth : (w n limit : ℕ) → w ≤ 1 → (es : List KeyValue) (p : Path) → size w p + limit ≤ n → WithinKeyValues limit es → Each (IsWithin w n) (key_value_claims es p)
+key_values-depth : (w n limit : ℕ) → w ≤ 1 → (es before : List KeyValue) (p : Path) (text : List ℕ) (i j : ℕ) → size w p + limit ≤ n → SpellsKeyValues es before text limit i j
+    → Each (IsWithin w n) (key_value_claims es p)
 unfolding key_value_claims
-key_value-depth w n limit one [] p few h = tt
-key_value-depth w n limit one (e ∷ es) p few h =
+key_values-depth w n limit one [] before p text i j few h = tt
+key_values-depth w n limit one (e ∷ es) before p text i j few (m, o, k, h, tail, clear, gap, rest) =
     each-followed (IsWithin w n) (key_claims p e.parts e.value (value_claims e.value)) (key_value_claims es p)
-    (key-depth w n p e.parts e.value (value_claims e.value) (omega (arith, few, h.0.0))
-    (λ q same. value-depth w n limit (0 + length e.parts) one e.value q (omega (arith, same, few)) h.0.1))
-    (key_value-depth w n limit one es p few h.1)
+    (key-depth w n p e.parts e.value (value_claims e.value) (omega (arith, few, h.few))
+    (λ q same. value-depth w n limit (length e.parts) one e.value q (omega (arith, same, few)) (value_within e.value text limit (length e.parts) h.from m h.spelled)))
+    (key_values-depth w n limit one es (before ++ (e ∷ [])) p text k j few rest)
 
 end-depth : (w n : ℕ) (h : Head) (p : Path) (k : SimpleKey) (entries : ℕ) → size w p + w ≤ n → Each (IsWithin w n) (end_claims h p k entries)
 unfolding end_claims
@@ -175,56 +163,29 @@ header-depth w n e h p (k ∷ l ∷ more) few =
 
 -- ---- documents
 
--- the parts of each header, and the assignments, are within the limit
-abbrev WithinBlocks : ℕ → List Block → Type 0
-WithinBlocks limit [] = ⊤
-WithinBlocks limit (b ∷ bs) = (length b.header ≤ limit) × WithinKeyValues limit b.key_values × WithinBlocks limit bs
-
 -- headers within the limit add at most so much
 abbrev HasRoom : ℕ → ℕ → ℕ → Type 0
 HasRoom w limit n = (parts : List SimpleKey) → length parts ≤ limit → room w parts ≤ n
 
-behind-depth : (w limit n : ℕ) → w ≤ 1 → HasRoom w limit n → (earlier bs : List Block) → AreSections bs → WithinBlocks limit bs → Each (IsWithin w (n + limit)) (claims_behind earlier bs)
+blocks-depth : (w limit n : ℕ) → w ≤ 1 → HasRoom w limit n → (earlier bs : List Block) (text : List ℕ) (i : ℕ) → AreBlocks bs text limit i → Each (IsWithin w (n + limit)) (claims_behind earlier bs)
 unfolding claims_behind section_claims
-behind-depth w limit n one few earlier [] headers h = tt
-behind-depth w limit n one few earlier (b ∷ bs) headers h =
+blocks-depth w limit n one room earlier [] text i h = tt
+blocks-depth w limit n one room earlier (b ∷ bs) text i (s, k, j, at, few, plain, on, lines, rest) =
     let e = elements_added (opened_by earlier) in
     let P = IsWithin w (n + limit) in
-    let header = few b.header h.0 in
-    let here = size-section w e b b.header refl headers.0 in
+    let header = room b.header few in
+    let here = size-section w e b b.header refl plain in
     each-followed P (section_claims e b) (claims_behind (b ∷ earlier) bs)
     (each-followed P (header_claims e (head_of b) [] b.header) (key_value_claims b.key_values (section_path e b))
     (header-depth w (n + limit) e (head_of b) [] b.header (omega (arith, header)))
-    (key_value-depth w (n + limit) limit one b.key_values (section_path e b) (omega (arith, here, header)) h.1))
-    (behind-depth w limit n one few (b ∷ earlier) bs headers.1 h.2)
-
--- ---- what a text spells is within the limit
-
-key_values-within : (es earlier : List KeyValue) (text : List ℕ) (limit i j : ℕ) → SpellsKeyValues es earlier text limit i j → WithinKeyValues limit es
-key_values-within [] earlier text limit i j h = tt
-key_values-within (e ∷ es) earlier text limit i j (m, n, k, here, tail, clear, gap, rest) =
-    let depth : length e.parts ≡ 0 + length e.parts = omega arith in
-    ((here.few, subst (λ d. Within limit d e.value) depth (value_within e.value text limit (length e.parts) here.from m here.spelled)), key_values-within es (earlier ++ (e ∷ [])) text limit k j rest)
-
-sections-within : (bs : List Block) (text : List ℕ) (limit i : ℕ) → SpellsSections bs text limit i → WithinBlocks limit bs
-sections-within [] text limit i h = tt
-sections-within (b ∷ bs) text limit i (j, here, rest) =
-    (here.header.front.few, key_values-within b.key_values [] text limit here.lines.0 j here.lines.2, sections-within bs text limit j rest)
-
-first-within : (limit : ℕ) (evs : List KeyValue) (bs : List Block) → WithinKeyValues limit evs → WithinBlocks limit bs → WithinBlocks limit (first_block evs ++ bs)
-first-within limit [] bs h g = g
-first-within limit (e ∷ evs) bs h g = (omega arith, h, g)
-
-spelled-within : (bs : List Block) (text : List ℕ) (limit : ℕ) → SpellsDocument bs text limit → WithinBlocks limit bs
-spelled-within bs text limit h =
-    subst (WithinBlocks limit) (sym h.all)
-    (first-within limit h.first h.rest (key_values-within h.first [] text limit h.lines.0 h.end h.lines.2) (sections-within h.rest text limit h.end h.sections))
+    (key_values-depth w (n + limit) limit one b.key_values [] (section_path e b) text k j (omega (arith, here, header)) lines))
+    (blocks-depth w limit n one room (b ∷ earlier) bs text j rest)
 
 flat-size : (w n : ℕ) (text : List ℕ) (limit l : ℕ) (bs : List Block) (p : Path) (x : Place) → w ≤ 1 → HasRoom w limit n → SpellsDocument bs text limit
     → flat l (claims bs) p ≡ Some x → size w p ≤ n + limit
 flat-size w n text limit l bs [] x one few spelled is = omega arith
 flat-size w n text limit l bs (s ∷ p) x one few spelled is =
-    let each = behind-depth w limit n one few [] bs (spelled-headed bs text limit spelled) (spelled-within bs text limit spelled) in
+    let each = blocks-depth w limit n one few [] bs text 0 (document_blocks bs text limit spelled) in
     let decides = flat-decides (IsWithin w (n + limit)) l (claims bs) s p x each is in
     subst (λ q. size w q ≤ n + limit) decides.on decides.holds
 
@@ -244,13 +205,9 @@ flat-steps text limit l bs p x spelled is =
 
 -- ---- the tree
 
-found-place : (o : Option (Option Span × tree.Node)) (m : tree.Node) → option_map (λ r. r.1) o ≡ Some m → (x : Place) × (option_map place_of o ≡ Some x)
-found-place None m is = absurd (none-some m is)
-found-place (Some r) m is = (place_of r, refl)
-
 pub tree-depth : (text : List ℕ) (limit : ℕ) (root : Value) (p : Path) (m : tree.Node) → IsTree text limit root → node_at p (view root) ≡ Some m → (keys_in p ≤ 2 * limit) × (length p ≤ 3 * limit)
 tree-depth text limit root p m h is =
     let (bs, has, tree) = h in
-    let (x, here) = found-place (reached p (None, view root)) m is in
-    let found = sym (tree.shows p) ∙ here in
-    (flat-keys text limit (length text) bs p x has.0 found, flat-steps text limit (length text) bs p x has.0 found)
+    let (x, here, same) = mapped (λ r. r.1) (reached p (None, view root)) m is in
+    let found = sym (tree.shows p) ∙ ap (option_map place_of) here in
+    (flat-keys text limit (length text) bs p (place_of x) has.0 found, flat-steps text limit (length text) bs p (place_of x) has.0 found)

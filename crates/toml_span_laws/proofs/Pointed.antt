@@ -1,10 +1,10 @@
 -- What a pointer names in a document's tree is what stands there in the flat document.
-use Rattle.std.proofs.Common.{◌≡◌, ◌↔◌, ℕ, zero, suc, Bool, true, false, cond, List, [], ◌∷◌, ◌++◌, length, Option, Some, None, option_map, refl, sym, ap, ◌∙◌, subst, true≢false}
-use Rattle.std.specs.Prelude.{⊤, option_and_then}
+use Rattle.std.proofs.Common.{◌≡◌, ◌↔◌, ℕ, zero, suc, List, [], ◌∷◌, ◌++◌, length, Option, Some, None, option_map, refl, sym, ap, ◌∙◌, subst, inl, inr, true≢false}
+use Rattle.std.specs.Prelude.{⊤, IfSome, option_and_then}
+use Rattle.std.proofs.lemmas.Bool.{cases_Bool}
 use Rattle.std.specs.Str.{bytes_eq}
-use Rattle.std.proofs.lemmas.Option.{none-some, same_Some}
 use Rattle.toml_span_lex.specs.declared.span.Span.{Span}
-use Rattle.toml_span_tree.specs.Node.{Node, node, Inner, taken, scalar, array, table, Items, no_items, item, Members, no_members, member, entry_at, element_at}
+use Rattle.toml_span_tree.specs.Node.{Node, node, taken, scalar, array, table, Items, no_items, item, Members, no_members, member, entry_at, element_at}
 use Rattle.toml_span_tree.specs.Path.{Path, Step, key, position, Place, reached, at_step, place_of, node_at}
 use Rattle.toml_span_tree.specs.Pointer.{pointed, pointer_segments, NamesPath}
 use Rattle.toml_span_tree.specs.Value.{inner_of, view}
@@ -14,10 +14,11 @@ use Rattle.toml_span_read.specs.Data.{Block}
 use Rattle.toml_span_read.specs.Grammar.{SpellsDocument}
 use Rattle.toml_span.specs.Claims.{claims}
 use Rattle.toml_span.specs.Flat.{flat, Shows}
-use Rattle.toml_span.specs.Ordered.{IsOrdered, HoldsOrdered, AreOrdered, MembersOrdered}
+use Rattle.toml_span.specs.Ordered.{IsOrdered, AreOrdered, MembersOrdered}
 use Rattle.toml_span.specs.Parsing.{IsTree}
 use Rattle.toml_span.proofs.ShownWhole.{shown-filled}
 use Rattle.toml_span_laws.specs.Document.{StandsAt, without_key, subtree, IsValueOf, PointsAt}
+use Rattle.toml_span_laws.proofs.FirstClash.{mapped}
 use Rattle.toml_span_laws.proofs.OneSpelled.{document_unique}
 use Rattle.toml_span_laws.proofs.OneTree.{At, one-value}
 
@@ -32,39 +33,34 @@ reached-on : (p q : Path) (x : At) → reached (p ++ q) x ≡ option_and_then (r
 reached-on [] q x = refl
 reached-on (s ∷ p) q x = further p q (at_step s (inner_of x.1)) (λ y. reached-on p q y)
 
-element-ordered : (i : ℕ) (ns : Items) (x : At) → AreOrdered ns → element_at i ns ≡ Some x → IsOrdered x.1
-element-ordered i no_items x h is = absurd (none-some x is)
-element-ordered zero (item n ns) x h is = subst (λ (y : At). IsOrdered y.1) (same_Some (None, n) x is) h.0
-element-ordered (suc i) (item n ns) x h is = element-ordered i ns x h.1 is
+-- what is found is in order
+abbrev InOrder : Option At → Type 0
+InOrder o = IfSome o (λ x. IsOrdered x.1)
 
-entry-or : (b : Bool) (at : Span) (n : Node) (rest : Option At) (x : At) → IsOrdered n → (rest ≡ Some x → IsOrdered x.1) → cond b (Some (Some at, n)) rest ≡ Some x → IsOrdered x.1
-entry-or true at n rest x h more here = subst (λ (y : At). IsOrdered y.1) (same_Some (Some at, n) x here) h
-entry-or false at n rest x h more there = more there
+element-ordered : (i : ℕ) (ns : Items) → AreOrdered ns → InOrder (element_at i ns)
+element-ordered i no_items h = tt
+element-ordered zero (item n ns) h = h.0
+element-ordered (suc i) (item n ns) h = element-ordered i ns h.1
 
-entry-ordered : (name : List ℕ) (ms : Members) (x : At) → MembersOrdered ms → entry_at name ms ≡ Some x → IsOrdered x.1
-entry-ordered name no_members x h is = absurd (none-some x is)
-entry-ordered name (member other at n ms) x h is = entry-or (bytes_eq name other) at n (entry_at name ms) x h.1 (entry-ordered name ms x h.2) is
+entry-ordered : (name : List ℕ) (ms : Members) → MembersOrdered ms → InOrder (entry_at name ms)
+entry-ordered name no_members h = tt
+entry-ordered name (member other at n ms) h = elim (cases_Bool (bytes_eq name other)) [ inl here ↦ rw here h.1 | inr off ↦ rw off (entry-ordered name ms h.2) ]
 
-below-ordered : (s : Step) (i : Inner) (x : At) → HoldsOrdered i → at_step s i ≡ Some x → IsOrdered x.1
-below-ordered s taken x h is = absurd (none-some x is)
-below-ordered s (scalar y) x h is = absurd (none-some x is)
-below-ordered (key name) (array ns) x h is = absurd (none-some x is)
-below-ordered (position i) (array ns) x h is = element-ordered i ns x h is
-below-ordered (key name) (table ms) x h is = entry-ordered name ms x h is
-below-ordered (position i) (table ms) x h is = absurd (none-some x is)
+below-ordered : (s : Step) (n : Node) → IsOrdered n → InOrder (at_step s (inner_of n))
+below-ordered s (node taken at) h = tt
+below-ordered s (node (scalar y) at) h = tt
+below-ordered (key name) (node (array ns) at) h = tt
+below-ordered (position i) (node (array ns) at) h = element-ordered i ns h
+below-ordered (key name) (node (table ms) at) h = entry-ordered name ms h
+below-ordered (position i) (node (table ms) at) h = tt
 
-step-of : (p : Path) (o : Option At) (x : At) → option_and_then (reached p) o ≡ Some x → (y : At) × (o ≡ Some y) × (reached p y ≡ Some x)
-step-of p None x h = absurd (none-some x h)
-step-of p (Some y) x h = (y, refl, h)
+step-ordered : (p : Path) (o : Option At) → InOrder o → ((x : At) → IsOrdered x.1 → InOrder (reached p x)) → InOrder (option_and_then (reached p) o)
+step-ordered p None h f = tt
+step-ordered p (Some x) h f = f x h
 
-inside-ordered : (n : Node) → IsOrdered n → HoldsOrdered (inner_of n)
-inside-ordered (node i at) h = h
-
-reached-ordered : (p : Path) (y x : At) → IsOrdered y.1 → reached p y ≡ Some x → IsOrdered x.1
-reached-ordered [] y x h is = subst (λ (z : At). IsOrdered z.1) (same_Some y x is) h
-reached-ordered (s ∷ p) y x h is =
-    let (z, there, on) = step-of p (at_step s (inner_of y.1)) x is in
-    reached-ordered p z x (below-ordered s (inner_of y.1) z (inside-ordered y.1 h) there) on
+reached-ordered : (p : Path) (x : At) → IsOrdered x.1 → InOrder (reached p x)
+reached-ordered [] x h = h
+reached-ordered (s ∷ p) x h = step-ordered p (at_step s (inner_of x.1)) (below-ordered s x.1 h) (reached-ordered p)
 
 -- the value at a path shows what stands below the path
 part-shown : (places : Path → Option Place) (n : Node) (path : Path) (x : At) → Shows n places → reached path (None, n) ≡ Some x → Shows x.1 (subtree places path)
@@ -73,21 +69,12 @@ part-shown places n path x shows is (s ∷ p) =
     sym (ap (λ o. option_map place_of (option_and_then (reached (s ∷ p)) o)) is) ∙ sym (ap (option_map place_of) (reached-on path (s ∷ p) (None, n))) ∙ shows (path ++ (s ∷ p))
 
 pub part-value : (places : Path → Option Place) (n : Node) (path : Path) (x : At) → IsValueOf places n → reached path (None, n) ≡ Some x → IsValueOf (subtree places path) x.1
-part-value places n path x h is = (reached-ordered path (None, n) x h.0 is, part-shown places n path x h.1 is)
+part-value places n path x h is = (rw is at (reached-ordered path (None, n) h.0), part-shown places n path x h.1 is)
 
 -- ---- what stands at a path
 
-pub place-node : (o : Option At) (place : Place) → option_map place_of o ≡ Some place → (x : At) × (o ≡ Some x) × (place_of x ≡ place)
-place-node None place h = absurd (none-some place h)
-place-node (Some x) place h = (x, refl, same_Some (place_of x) place h)
-
 pub node-reached : (o : Option At) (m : Node) → option_map (λ r. r.1) o ≡ Some m → (k : Option Span) × (o ≡ Some (k, m))
-node-reached None m h = absurd (none-some m h)
-node-reached (Some r) m h = (r.0, ap (λ (n : Node). Some (r.0, n)) (same_Some r.1 m h))
-
-keyed : (o : Option Place) (place : Place) → Some place ≡ option_map without_key o → (x : Place) × (o ≡ Some x)
-keyed None place h = absurd (none-some place (sym h))
-keyed (Some x) place h = (x, refl)
+node-reached o m h = let (x, is, same) = mapped (λ r. r.1) o m h in (x.0, is ∙ ap (λ (n : Node). Some (x.0, n)) same)
 
 stands : (pointer : List ℕ) (n m : Node) (places : Path → Option Place) → Shows n places → pointed pointer n ≡ Some m → StandsAt pointer places (λ place. ⊤)
 stands pointer n m places shows is =
@@ -108,7 +95,7 @@ found-there : (pointer : List ℕ) (names : List (List ℕ)) (path : Path) (plac
     → pointer_segments pointer ≡ Some names → NamesPath names path → flat length (claims bs) path ≡ Some place
     → (m : Node) × (k : Option Span) × (reached path (None, n) ≡ Some (k, m)) × (pointed pointer n ≡ Some m)
 found-there pointer names path place n length bs shows cut named is =
-    let (x, at, same) = place-node (reached path (None, n)) place (shows path ∙ is) in
+    let (x, at, same) = mapped place_of (reached path (None, n)) place (shows path ∙ is) in
     let there : node_at path n ≡ Some x.1 = ap (option_map (λ r. r.1)) at in
     let filled = shown-filled n length bs shows path x.1 there in
     (x.1, x.0, at, (pointed-is pointer n x.1).1 (names, path, cut, named, there, λ t. absurd (true≢false (sym t ∙ filled))))
@@ -116,7 +103,7 @@ found-there pointer names path place n length bs shows cut named is =
 value-named : (pointer : List ℕ) (n m : Node) (length : ℕ) (bs : List Block) → IsValueOf (flat length (claims bs)) n → PointsAt pointer (flat length (claims bs)) m → pointed pointer n ≡ Some m
 value-named pointer n m length bs h (names, path, cut, named, value) =
     let places = flat length (claims bs) in
-    let (place, stands) = keyed (places path) (place_of (None, m)) (value.1 []) in
+    let (place, stands, same) = mapped without_key (places path) (place_of (None, m)) (sym (value.1 [])) in
     let (w, k, at, is) = found-there pointer names path place n length bs h.1 cut named stands in
     is ∙ ap Some (one-value (subtree places path) w m (part-value places n path (k, w) h at) value)
 

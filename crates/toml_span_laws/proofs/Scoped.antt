@@ -3,7 +3,7 @@ use Rattle.std.proofs.Common.{◌≡◌, ℕ, zero, suc, ◌<◌, ◌⊎◌, Boo
 use Rattle.std.specs.Prelude.{⊤, if◌then◌else◌}
 use Rattle.std.proofs.lemmas.Bool.{cases_Bool, cases_lt}
 use Rattle.toml_span_tree.specs.Path.{Path, Step, key, position}
-use Rattle.toml_span_read.specs.Data.{ParsedValue, parsed, ParsedInner, scalar, array, inline, ParsedItems, no_items, item, ParsedPairs, no_pairs, pair, KeyValue, Block}
+use Rattle.toml_span_read.specs.Data.{ParsedValue, parsed, scalar, array, inline, ParsedItems, no_items, item, ParsedPairs, no_pairs, pair, KeyValue, Block}
 use Rattle.toml_span_read.specs.Keys.{SimpleKey}
 use Rattle.toml_span.specs.declared.claims.Sort.{Sort}
 use Rattle.toml_span.specs.declared.claims.Sort.TheVariants.{Passed, StandardTable, ArrayOfTables, TableElement, Assigned}
@@ -33,13 +33,25 @@ Has l sort p = (e : Claim) × IsIn e l × (e.mark.sort ≡ sort) × (e.path ≡ 
 abbrev pub Makes : List Claim → Path → Type 0
 Makes l p = (e : Claim) × IsIn e l × (e.mark.sort ≡ Assigned → ⊥) × (e.path ≡ p)
 
+-- a key's claim
+abbrev Keyed : Claim → Type 0
+Keyed c = ((p : Path) × (k : List ℕ) × (c.path ≡ p ++ (key k ∷ []))) × (c.mark.sort ≡ TableElement → ⊥)
+
+-- an element's claim, in an array at the base
+abbrev Element : Path → Claim → Type 0
+Element base c = (n : ℕ) × (c.path ≡ base ++ (position n ∷ [])) × (c.mark.sort ≡ Assigned)
+
+-- a header's claim of an entry, or its passage through one
+abbrev Entry : Path → List Claim → Claim → Type 0
+Entry base earlier c =
+    (base ≡ []) × ((p : Path) × (k : List ℕ) × (n : ℕ) × (c.path ≡ (p ++ (key k ∷ [])) ++ (position n ∷ []))) × (c.mark.sort ≡ Assigned → ⊥)
+    × (c.mark.sort ≡ Passed → Has earlier TableElement c.path)
+
 -- a claim of a scope with this base, behind these earlier ones of the scope
 pub record Fits (base : Path) (earlier : List Claim) (c : Claim) : Type 0 where
   pub under : IsUnder base c.path
-  pub parent : IsChild base c.path ⊎ ((p : Path) × Makes earlier p × IsChild p c.path)
-  pub entry : c.mark.sort ≡ TableElement → (base ≡ []) × ((p : Path) × (k : List ℕ) × (n : ℕ) × (c.path ≡ (p ++ (key k ∷ [])) ++ (position n ∷ [])))
-  pub assigned : c.mark.sort ≡ Assigned → ((p : Path) × (k : List ℕ) × (c.path ≡ p ++ (key k ∷ []))) ⊎ IsChild base c.path
-  pub passed : c.mark.sort ≡ Passed → (p : Path) (n : ℕ) → c.path ≡ p ++ (position n ∷ []) → Has earlier TableElement c.path
+  pub parent : (p : Path) × ((p ≡ base) ⊎ Makes earlier p) × IsChild p c.path
+  pub kind : Keyed c ⊎ Element base c ⊎ Entry base earlier c
 
 -- Each claim fits its scope, and each scope stands right behind a claim that assigns, at whose path it has its base.
 abbrev pub Scoped : Path → List Claim → Option Claim → Claims → Type 0
@@ -51,17 +63,18 @@ Scoped base earlier (Some a) (scope inner cs) =
 
 -- ---- paths
 
+pub nil-under : (a : Path) (s : Step) (rest : Path) → [] ≡ a ++ (s ∷ rest) → ⊥
+nil-under [] s rest h = cc
+nil-under (x ∷ a) s rest h = cc
+
 unsnoc : (p q : Path) (x y : Step) → p ++ (x ∷ []) ≡ q ++ (y ∷ []) → (p ≡ q) × (x ≡ y)
 unsnoc [] [] x y h = (refl, cc)
-unsnoc [] (b ∷ []) x y h = cc
-unsnoc [] (b ∷ c ∷ q) x y h = cc
-unsnoc (a ∷ []) [] x y h = cc
-unsnoc (a ∷ b ∷ p) [] x y h = cc
+unsnoc [] (b ∷ q) x y h = absurd (nil-under q y [] cc)
+unsnoc (a ∷ p) [] x y h = absurd (nil-under p x [] cc)
 unsnoc (a ∷ p) (b ∷ q) x y h =
-    let first : a ≡ b = cc in
     let rest : p ++ (x ∷ []) ≡ q ++ (y ∷ []) = cc in
-    let more = unsnoc p q x y rest in
-    (ap (λ l. l ∷ p) first ∙ ap (λ l. b ∷ l) more.0, more.1)
+    let (same, last) = unsnoc p q x y rest in
+    (cc, last)
 
 pub front-same : (p q : Path) (x y : Step) → p ++ (x ∷ []) ≡ q ++ (y ∷ []) → p ≡ q
 front-same p q x y h = (unsnoc p q x y h).0
@@ -72,18 +85,13 @@ last-same p q x y h = (unsnoc p q x y h).1
 pub key-position : (p q : Path) (k : List ℕ) (n : ℕ) → p ++ (key k ∷ []) ≡ q ++ (position n ∷ []) → ⊥
 key-position p q k n h = let no : key k ≡ position n = last-same p q (key k) (position n) h in cc
 
-some-first : (r : Path) (x : Step) → (s : Step) × (rest : Path) × (r ++ (x ∷ []) ≡ s ∷ rest)
-some-first [] x = (x, [], refl)
-some-first (s ∷ r) x = (s, r ++ (x ∷ []), refl)
-
 -- a path at the base or further inside
 abbrev pub IsFrom : Path → Path → Type 0
 IsFrom base p = (r : Path) × (p ≡ base ++ r)
 
 child-under : (base p : Path) (x : Step) → IsFrom base p → IsUnder base (p ++ (x ∷ []))
-child-under base p x (r, is) =
-    let (s, rest, first) = some-first r x in
-    (s, rest, ap (λ l. l ++ (x ∷ [])) is ∙ append_assoc base r (x ∷ []) ∙ ap (λ l. base ++ l) first)
+child-under base p x ([], is) = (x, [], ap (λ l. l ++ (x ∷ [])) is ∙ append_assoc base [] (x ∷ []))
+child-under base p x (s ∷ r, is) = (s, r ++ (x ∷ []), ap (λ l. l ++ (x ∷ [])) is ∙ append_assoc base (s ∷ r) (x ∷ []))
 
 child-from : (base p : Path) (x : Step) → IsFrom base p → IsFrom base (p ++ (x ∷ []))
 child-from base p x (r, is) = (r ++ (x ∷ []), ap (λ l. l ++ (x ∷ [])) is ∙ append_assoc base r (x ∷ []))
@@ -99,14 +107,33 @@ makes-on l more p (e, here, is, on) = (e, in-left e l more here, is, on)
 pub fits-on : (base : Path) (l more : List Claim) (c : Claim) → Fits base l c → Fits base (l ++ more) c
 fits-on base l more c f = record {
   under = f.under;
-  parent = elim f.parent [
-    | inl child ↦ inl child
-    | inr inside ↦ inr (inside.0, makes-on l more inside.0 inside.1, inside.2)
+  parent = (f.parent.0, elim f.parent.1 [ inl same ↦ inl same | inr made ↦ inr (makes-on l more f.parent.0 made) ], f.parent.2);
+  kind = elim f.kind [
+    | inl keyed ↦ inl keyed
+    | inr (inl element) ↦ inr (inl element)
+    | inr (inr (root, at, table, passed)) ↦ inr (inr (root, at, table, λ is. has-on l more TableElement c.path (passed is)))
   ];
-  entry = f.entry;
-  assigned = f.assigned;
-  passed = λ is p n on. has-on l more TableElement c.path (f.passed is p n on);
 }
+
+-- a header passes through at a position where an entry stands
+pub passed-entered : (base : Path) (l : List Claim) (c : Claim) (p : Path) (n : ℕ) → Fits base l c → c.mark.sort ≡ Passed → c.path ≡ p ++ (position n ∷ []) → Has l TableElement c.path
+passed-entered base l c p n f is on = elim f.kind [
+  | inl ((q, k, at), table) ↦ absurd (key-position q p k n (sym at ∙ on))
+  | inr (inl (m, at, assigns)) ↦ absurd (let no : Passed ≡ Assigned = sym is ∙ assigns in cc)
+  | inr (inr (root, at, table, passed)) ↦ passed is
+]
+
+-- an entry and a value are never on one path
+pub entry-value : (base : Path) (l : List Claim) (a e : Claim) → Fits base l a → Fits base l e → a.mark.sort ≡ Assigned → e.mark.sort ≡ TableElement → a.path ≡ e.path → ⊥
+entry-value base l a e fits there value is same = elim there.kind [
+  | inl (at, plain) ↦ plain is
+  | inr (inl (n, on, assigns)) ↦ let no : TableElement ≡ Assigned = sym is ∙ assigns in cc
+  | inr (inr (root, (p, k, n, on), table, passed)) ↦ elim fits.kind [
+    | inl ((q, m, at), plain) ↦ key-position q (p ++ (key k ∷ [])) m n (sym at ∙ same ∙ on)
+    | inr (inl (m, at, assigns)) ↦ nil-under p (key k) [] (sym root ∙ front-same base (p ++ (key k ∷ [])) (position m) (position n) (sym at ∙ same ∙ on))
+    | inr (inr (none, at, other, more)) ↦ other value
+  ]
+]
 
 scoped-loose : (base : Path) (earlier : List Claim) (last : Option Claim) (cs : Claims) → Scoped base earlier None cs → Scoped base earlier last cs
 scoped-loose base earlier None cs h = h
@@ -132,19 +159,10 @@ stands-on : (base : Path) (l more : List Claim) (p : Path) → Stands base l p �
 stands-on base l more p (from, inl same) = (from, inl same)
 stands-on base l more p (from, inr made) = (from, inr (makes-on l more p made))
 
-child-parent : (base : Path) (earlier : List Claim) (p : Path) (x : Step) → Stands base earlier p → IsChild base (p ++ (x ∷ [])) ⊎ ((q : Path) × Makes earlier q × IsChild q (p ++ (x ∷ [])))
-child-parent base earlier p x (from, inl same) = inl (x, ap (λ l. l ++ (x ∷ [])) same)
-child-parent base earlier p x (from, inr made) = inr (p, made, (x, refl))
-
 -- a claim of a table at a key
 table-fits : (base : Path) (earlier : List Claim) (p : Path) (k : List ℕ) (c : Claim) → Stands base earlier p → c.path ≡ p ++ (key k ∷ []) → (c.mark.sort ≡ TableElement → ⊥) → Fits base earlier c
-table-fits base earlier p k c stands on plain = record {
-  under = rw on (child-under base p (key k) stands.0);
-  parent = rw on (child-parent base earlier p (key k) stands);
-  entry = λ is. absurd (plain is);
-  assigned = λ is. inl (p, k, on);
-  passed = λ is q n there. absurd (key-position p q k n (sym on ∙ there));
-}
+table-fits base earlier p k c stands on plain =
+    record { under = rw on (child-under base p (key k) stands.0); parent = (p, stands.1, (key k, on)); kind = inl ((p, k, on), plain) }
 
 key-scoped : (base : Path) (earlier : List Claim) (p : Path) (parts : List SimpleKey) (v : ParsedValue) (inside : Path → Claims) → Stands base earlier p
     → ((k : SimpleKey) (q : Path) (l : List Claim) → IsUnder base (with_key q k) → Scoped base l (Some (assigned (with_key q k) k v)) (inside (with_key q k))) → Scoped base earlier None (key_claims p parts v inside)
@@ -161,24 +179,15 @@ key-scoped base earlier p (k ∷ l ∷ more) v inside stands h =
     )
 
 element-fits : (p : Path) (earlier : List Claim) (n : ℕ) (v : ParsedValue) → Fits p earlier (element (with_position p n) v)
-element-fits p earlier n v = record {
-  under = (position n, [], refl);
-  parent = inl (position n, refl);
-  entry = λ is. cc;
-  assigned = λ is. inr (position n, refl);
-  passed = λ is q m there. cc;
-}
+element-fits p earlier n v = record { under = (position n, [], refl); parent = (p, inl refl, (position n, refl)); kind = inr (inl (n, refl, refl)) }
 
 mutual
   unfolding value_claims inner_claims item_claims pair_claims
 
   value-scoped : (v : ParsedValue) (base : Path) (earlier : List Claim) (a : Claim) → a.mark.sort ≡ Assigned → IsUnder base a.path → Scoped base earlier (Some a) (value_claims v a.path)
-  value-scoped (parsed k span) base earlier a is under = inner-scoped k base earlier a is under
-
-  inner-scoped : (k : ParsedInner) (base : Path) (earlier : List Claim) (a : Claim) → a.mark.sort ≡ Assigned → IsUnder base a.path → Scoped base earlier (Some a) (inner_claims k a.path)
-  inner-scoped (scalar s) base earlier a is under = tt
-  inner-scoped (array vs) base earlier a is under = (is, under, items-scoped vs 0 a.path [], tt)
-  inner-scoped (inline ps) base earlier a is under = (is, under, pairs-scoped ps a.path [], tt)
+  value-scoped (parsed (scalar s) span) base earlier a is under = tt
+  value-scoped (parsed (array vs) span) base earlier a is under = (is, under, items-scoped vs 0 a.path [], tt)
+  value-scoped (parsed (inline ps) span) base earlier a is under = (is, under, pairs-scoped ps a.path [], tt)
 
   items-scoped : (vs : ParsedItems) (n : ℕ) (p : Path) (earlier : List Claim) → Scoped p earlier None (item_claims vs n p)
   items-scoped no_items n p earlier = tt
@@ -209,6 +218,33 @@ key_values-scoped (e ∷ es) base earlier p stands =
     (λ k q l under. value-scoped e.value base l (assigned (with_key q k) k e.value) refl under))
     (key_values-scoped es base (earlier ++ own front) p (stands-on base earlier (own front) p stands))
 
+-- ---- claims and what holds behind them
+
+pub own-followed : (xs ys : Claims) → own (followed xs ys) ≡ own xs ++ own ys
+unfolding followed
+own-followed no_claims ys = refl
+own-followed (claimed c xs) ys = ap (λ l. c ∷ l) (own-followed xs ys)
+own-followed (scope inner xs) ys = own-followed xs ys
+
+-- T holds of the claims behind these earlier ones, and P of all together
+pub record Walk (T : List Claim → Claims → Type 0) (P : List Claim → Type 0) (l : List Claim) (cs : Claims) : Type 0 where
+  pub tree : T l cs
+  pub all : P (l ++ own cs)
+
+pub walk-claimed : (T : List Claim → Claims → Type 0) (P : List Claim → Type 0) (l : List Claim) (c : Claim) (cs : Claims) → (T (l ++ (c ∷ [])) cs → T l (claimed c cs)) → Walk T P (l ++ (c ∷ [])) cs
+    → Walk T P l (claimed c cs)
+walk-claimed T P l c cs first w = record { tree = first w.tree; all = subst P (append_assoc l (c ∷ []) (own cs)) w.all }
+
+pub walk-followed : (T : List Claim → Claims → Type 0) (P Q : List Claim → Type 0) → ((l : List Claim) (xs ys : Claims) → T l xs → T (l ++ own xs) ys → T l (followed xs ys)) → (l : List Claim) (xs ys : Claims) → Walk T P l xs
+    → (P (l ++ own xs) → Walk T Q (l ++ own xs) ys) → Walk T Q l (followed xs ys)
+walk-followed T P Q joins l xs ys w more =
+    let rest = more w.all in
+    record { tree = joins l xs ys w.tree rest.tree; all = subst Q (append_assoc l (own xs) (own ys) ∙ ap (λ k. l ++ k) (sym (own-followed xs ys))) rest.all }
+
+-- claims of a document
+abbrev Of : List Claim → Claims → Type 0
+Of l cs = Scoped [] l None cs
+
 -- ---- headers
 
 -- an array of tables with so many entries
@@ -226,10 +262,8 @@ entry-fits : (earlier : List Claim) (p : Path) (k : List ℕ) (n : ℕ) (c : Cla
     → (c.mark.sort ≡ Assigned → ⊥) → (c.mark.sort ≡ Passed → Has earlier TableElement ((p ++ (key k ∷ [])) ++ (position n ∷ []))) → Fits [] earlier c
 entry-fits earlier p k n c (e, here, is, there) on plain passed = record {
   under = rw on (child-under [] (p ++ (key k ∷ [])) (position n) (root-from (p ++ (key k ∷ []))));
-  parent = inr (p ++ (key k ∷ []), (e, here, (λ no. let wrong : ArrayOfTables ≡ Assigned = sym is ∙ no in cc), there), (position n, on));
-  entry = λ e. (refl, (p, k, n, on));
-  assigned = λ is. absurd (plain is);
-  passed = λ is q m there. rw on (passed is);
+  parent = (p ++ (key k ∷ []), inr (e, here, (λ no. let wrong : ArrayOfTables ≡ Assigned = sym is ∙ no in cc), there), (position n, on));
+  kind = inr (inr (refl, (p, k, n, on), plain, λ is. rw on (passed is)));
 }
 
 passed-fits : (n : ℕ) (earlier : List Claim) (h : Head) (p : Path) (k : SimpleKey) → Stands [] earlier p → HasEntries earlier (with_key p k) n → Fits [] earlier (header_claim h Passed (enter n (with_key p k)) k)
@@ -245,39 +279,33 @@ Ends true l p n = Has l ArrayOfTables p × Has l TableElement (with_position p n
 Ends false l p n = Has l StandardTable p
 
 -- a header's claims fit, and its end is claimed
-record Header (earlier : List Claim) (h : Head) (p : Path) (n : ℕ) (cs : Claims) : Type 0 where
-  scoped : Scoped [] earlier None cs
-  ends : Ends h.array (earlier ++ own cs) p n
-
 added : (n : ℕ) (earlier : List Claim) (h : Head) (p : Path) (k : SimpleKey) → Stands [] earlier p → HasEntries earlier (with_key p k) n
-    → Scoped [] earlier None (array_claims h (with_key p k) k n (claimed (header_claim h TableElement (with_position (with_key p k) n) k) no_claims))
-    × Ends true (earlier ++ own (array_claims h (with_key p k) k n (claimed (header_claim h TableElement (with_position (with_key p k) n) k) no_claims))) (with_key p k) n
+    → Walk Of (λ l. Ends true l (with_key p k) n) earlier (array_claims h (with_key p k) k n (claimed (header_claim h TableElement (with_position (with_key p k) n) k) no_claims))
 added zero earlier h p k stands few =
     let q = with_key p k in
     let a = header_claim h ArrayOfTables q k in
     let c = header_claim h TableElement (with_position q 0) k in
-    let found : Has (earlier ++ (a ∷ [])) ArrayOfTables q = (a, in-right a earlier (a ∷ []) (inl refl), refl, refl) in (
-      (table-fits [] earlier p k.name a stands refl (λ e. cc), (entry-fits (earlier ++ (a ∷ [])) p k.name 0 c found refl (λ e. cc) (λ e. cc), tt)),
-      ((a, in-right a earlier (a ∷ c ∷ []) (inl refl), refl, refl), (c, in-right c earlier (a ∷ c ∷ []) (inr (inl refl)), refl, refl)),
-    )
+    let found : Has (earlier ++ (a ∷ [])) ArrayOfTables q = (a, in-right a earlier (a ∷ []) (inl refl), refl, refl) in
+    record {
+      tree = (table-fits [] earlier p k.name a stands refl (λ e. cc), (entry-fits (earlier ++ (a ∷ [])) p k.name 0 c found refl (λ e. cc) (λ e. cc), tt));
+      all = ((a, in-right a earlier (a ∷ c ∷ []) (inl refl), refl, refl), (c, in-right c earlier (a ∷ c ∷ []) (inr (inl refl)), refl, refl));
+    }
 added (suc n) earlier h p k stands few =
     let q = with_key p k in
     let c = header_claim h TableElement (with_position q (suc n)) k in
-    let found = (few n (omega arith)).0 in (
-      (entry-fits earlier p k.name (suc n) c found refl (λ e. cc) (λ e. cc), tt),
-      (has-on earlier (c ∷ []) ArrayOfTables q found, (c, in-right c earlier (c ∷ []) (inl refl), refl, refl)),
-    )
+    let found = (few n (omega arith)).0 in
+    record {
+      tree = (entry-fits earlier p k.name (suc n) c found refl (λ e. cc) (λ e. cc), tt);
+      all = (has-on earlier (c ∷ []) ArrayOfTables q found, (c, in-right c earlier (c ∷ []) (inl refl), refl, refl));
+    }
 
-end-header : (n : ℕ) (earlier : List Claim) (h : Head) (p : Path) (k : SimpleKey) → Stands [] earlier p → HasEntries earlier (with_key p k) n → Header earlier h (with_key p k) n (end_claims h (with_key p k) k n)
+end-header : (n : ℕ) (earlier : List Claim) (h : Head) (p : Path) (k : SimpleKey) → Stands [] earlier p → HasEntries earlier (with_key p k) n → Walk Of (λ l. Ends h.array l (with_key p k) n) earlier (end_claims h (with_key p k) k n)
 unfolding end_claims
 end-header n earlier h p k stands few = elim (cases_Bool h.array) [
-  | inl arr ↦ let both = added n earlier h p k stands few in record { scoped = rw arr both.0; ends = rw arr both.1 }
+  | inl arr ↦ rw arr (added n earlier h p k stands few)
   | inr tab ↦
       let c = header_claim h StandardTable (with_key p k) k in
-      record {
-        scoped = rw tab (table-fits [] earlier p k.name c stands refl (λ e. cc), tt);
-        ends = rw tab (c, in-right c earlier (c ∷ []) (inl refl), refl, refl);
-      }
+      rw tab (record { tree = (table-fits [] earlier p k.name c stands refl (λ e. cc), tt); all = (c, in-right c earlier (c ∷ []) (inl refl), refl, refl) })
 ]
 
 -- at each path as many entries as are counted
@@ -285,7 +313,7 @@ abbrev Counted : List Claim → (Path → ℕ) → Type 0
 Counted l e = (p : Path) → HasEntries l p (e p)
 
 header-scoped : (e : Path → ℕ) (earlier : List Claim) (h : Head) (p : Path) (k : SimpleKey) (parts : List SimpleKey) → Stands [] earlier p → Counted earlier e
-    → Header earlier h (target e p (k ∷ parts)) (e (target e p (k ∷ parts))) (header_claims e h p (k ∷ parts))
+    → Walk Of (λ l. Ends h.array l (target e p (k ∷ parts)) (e (target e p (k ∷ parts)))) earlier (header_claims e h p (k ∷ parts))
 unfolding header_claims target
 header-scoped e earlier h p k [] stands counted = end-header (e (with_key p k)) earlier h p k stands (counted (with_key p k))
 header-scoped e earlier h p k (l ∷ more) stands counted =
@@ -293,11 +321,9 @@ header-scoped e earlier h p k (l ∷ more) stands counted =
     let q = enter n (with_key p k) in
     let c = header_claim h Passed q k in
     let on = earlier ++ (c ∷ []) in
-    let rest = header-scoped e on h q l more (root-from q, inr (c, in-right c earlier (c ∷ []) (inl refl), (λ e. cc), refl)) (λ r. entries-on earlier (c ∷ []) r (e r) (counted r)) in
-    record {
-      scoped = (passed-fits n earlier h p k stands (counted (with_key p k)), scoped-loose [] on (Some c) (header_claims e h q (l ∷ more)) rest.scoped);
-      ends = subst (λ xs. Ends h.array xs (target e q (l ∷ more)) (e (target e q (l ∷ more)))) (append_assoc earlier (c ∷ []) (own (header_claims e h q (l ∷ more)))) rest.ends;
-    }
+    walk-claimed Of (λ xs. Ends h.array xs (target e q (l ∷ more)) (e (target e q (l ∷ more)))) earlier c (header_claims e h q (l ∷ more))
+    (λ rest. (passed-fits n earlier h p k stands (counted (with_key p k)), scoped-loose [] on (Some c) (header_claims e h q (l ∷ more)) rest))
+    (header-scoped e on h q l more (root-from q, inr (c, in-right c earlier (c ∷ []) (inl refl), (λ e. cc), refl)) (λ r. entries-on earlier (c ∷ []) r (e r) (counted r)))
 
 -- ---- sections
 
@@ -307,12 +333,6 @@ makes-of l sort p plain (e, here, is, on) = (e, here, (λ no. plain (sym is ∙ 
 end-makes : (array : Bool) (l : List Claim) (p : Path) (n : ℕ) → Ends array l p n → Makes l (if array then with_position p n else p)
 end-makes true l p n h = makes-of l TableElement (with_position p n) (λ e. cc) h.1
 end-makes false l p n h = makes-of l StandardTable p (λ e. cc) h
-
-pub own-followed : (xs ys : Claims) → own (followed xs ys) ≡ own xs ++ own ys
-unfolding followed
-own-followed no_claims ys = refl
-own-followed (claimed c xs) ys = ap (λ l. c ∷ l) (own-followed xs ys)
-own-followed (scope inner xs) ys = own-followed xs ys
 
 one-more : (l : List Claim) (p : Path) (n : ℕ) → HasEntries l p n → Has l ArrayOfTables p → Has l TableElement (with_position p n) → HasEntries l p (suc n)
 one-more l p n h made entry m few = elim (cases_lt m n) [
@@ -328,17 +348,6 @@ counted-array l before t counted ends p = elim (cases_Bool (same_path t p)) [
   | inr off ↦ rw off (counted p)
 ]
 
--- what a section claims fits, and its entries are counted
-record Placed (earlier : List Claim) (b : Block) (blocks : List Block) : Type 0 where
-  scoped : Scoped [] earlier None (section_claims (elements_added (opened_by blocks)) b)
-  counted : Counted (earlier ++ own (section_claims (elements_added (opened_by blocks)) b)) (elements_added (opened_by (b ∷ blocks)))
-
--- the header of a section, and what is opened by it
-record Opened (earlier : List Claim) (b : Block) (blocks : List Block) : Type 0 where
-  scoped : Scoped [] earlier None (header_claims (elements_added (opened_by blocks)) (head_of b) [] b.header)
-  stands : Stands [] (earlier ++ own (header_claims (elements_added (opened_by blocks)) (head_of b) [] b.header)) (section_path (elements_added (opened_by blocks)) b)
-  counted : Counted (earlier ++ own (header_claims (elements_added (opened_by blocks)) (head_of b) [] b.header)) (elements_added (opened_by (b ∷ blocks)))
-
 counted-on : (l more : List Claim) (e : Path → ℕ) → Counted l e → Counted (l ++ more) e
 counted-on l more e h p = entries-on l more p (e p) (h p)
 
@@ -346,39 +355,39 @@ counted-end : (array : Bool) (l : List Claim) (before : List Path) (t : Path) �
 counted-end true l before t counted ends = counted-array l before t counted ends
 counted-end false l before t counted ends = counted
 
-opened : (earlier : List Claim) (b : Block) (blocks : List Block) (parts : List SimpleKey) → b.header ≡ parts → (b.header ≡ [] → b.array ≡ false) → Counted earlier (elements_added (opened_by blocks)) → Opened earlier b blocks
+-- what is opened by the header of a section
+abbrev Opened : Block → List Block → List Claim → Type 0
+Opened b blocks l = Stands [] l (section_path (elements_added (opened_by blocks)) b) × Counted l (elements_added (opened_by (b ∷ blocks)))
+
+opened : (earlier : List Claim) (b : Block) (blocks : List Block) (parts : List SimpleKey) → b.header ≡ parts → (b.header ≡ [] → b.array ≡ false) → Counted earlier (elements_added (opened_by blocks))
+    → Walk Of (Opened b blocks) earlier (header_claims (elements_added (opened_by blocks)) (head_of b) [] b.header)
 unfolding header_claims target opened_by
 opened earlier b blocks [] is headers counted =
-    record {
-      scoped = rw is tt;
-      stands = rw (is, headers is) (root-from [], inl refl);
-      counted = rw (is, headers is) (counted-on earlier [] (elements_added (opened_by blocks)) counted);
-    }
+    record { tree = rw is tt; all = rw (is, headers is) ((root-from [], inl refl), counted-on earlier [] (elements_added (opened_by blocks)) counted) }
 opened earlier b blocks (k ∷ parts) is headers counted =
     let e = elements_added (opened_by blocks) in
     let t = target e [] (k ∷ parts) in
     let made = header-scoped e earlier (head_of b) [] k parts (root-from [], inl refl) counted in
     let l = earlier ++ own (header_claims e (head_of b) [] (k ∷ parts)) in
     record {
-      scoped = rw is made.scoped;
-      stands = rw is (root-from (if b.array then with_position t (e t) else t), inr (end-makes b.array l t (e t) made.ends));
-      counted = rw is (counted-end b.array l (opened_by blocks) t (counted-on earlier (own (header_claims e (head_of b) [] (k ∷ parts))) e counted) made.ends);
+      tree = rw is made.tree;
+      all = rw is (
+        (root-from (if b.array then with_position t (e t) else t), inr (end-makes b.array l t (e t) made.all)),
+        counted-end b.array l (opened_by blocks) t (counted-on earlier (own (header_claims e (head_of b) [] (k ∷ parts))) e counted) made.all,
+      );
     }
 
-section-scoped : (earlier : List Claim) (b : Block) (blocks : List Block) → (b.header ≡ [] → b.array ≡ false) → Counted earlier (elements_added (opened_by blocks)) → Placed earlier b blocks
+-- what a section claims fits, and its entries are counted
+section-scoped : (earlier : List Claim) (b : Block) (blocks : List Block) → (b.header ≡ [] → b.array ≡ false) → Counted earlier (elements_added (opened_by blocks))
+    → Walk Of (λ l. Counted l (elements_added (opened_by (b ∷ blocks)))) earlier (section_claims (elements_added (opened_by blocks)) b)
 unfolding section_claims
 section-scoped earlier b blocks headers counted =
     let e = elements_added (opened_by blocks) in
     let front = header_claims e (head_of b) [] b.header in
-    let p = section_path e b in
-    let behind = key_value_claims b.key_values p in
-    let o = opened earlier b blocks b.header refl headers counted in
-    let all : (earlier ++ own front) ++ own behind ≡ earlier ++ own (followed front behind) =
-    append_assoc earlier (own front) (own behind) ∙ ap (λ l. earlier ++ l) (sym (own-followed front behind)) in
-    record {
-      scoped = scoped-followed [] earlier None front behind o.scoped (key_values-scoped b.key_values [] (earlier ++ own front) p o.stands);
-      counted = subst (λ l. Counted l (elements_added (opened_by (b ∷ blocks)))) all (counted-on (earlier ++ own front) (own behind) (elements_added (opened_by (b ∷ blocks))) o.counted);
-    }
+    let behind = key_value_claims b.key_values (section_path e b) in
+    let after = elements_added (opened_by (b ∷ blocks)) in
+    walk-followed Of (Opened b blocks) (λ l. Counted l after) (λ l. scoped-followed [] l None) earlier front behind (opened earlier b blocks b.header refl headers counted) (λ (stands, made).
+        record { tree = key_values-scoped b.key_values [] (earlier ++ own front) (section_path e b) stands; all = counted-on (earlier ++ own front) (own behind) after made })
 
 behind-scoped : (earlier : List Claim) (blocks bs : List Block) → AreSections bs → Counted earlier (elements_added (opened_by blocks)) → Scoped [] earlier None (claims_behind blocks bs)
 unfolding claims_behind
@@ -386,8 +395,8 @@ behind-scoped earlier blocks [] headers counted = tt
 behind-scoped earlier blocks (b ∷ bs) headers counted =
     let front = section_claims (elements_added (opened_by blocks)) b in
     let here = section-scoped earlier b blocks headers.0 counted in
-    scoped-followed [] earlier None front (claims_behind (b ∷ blocks) bs) here.scoped
-    (behind-scoped (earlier ++ own front) (b ∷ blocks) bs headers.1 here.counted)
+    scoped-followed [] earlier None front (claims_behind (b ∷ blocks) bs) here.tree
+    (behind-scoped (earlier ++ own front) (b ∷ blocks) bs headers.1 here.all)
 
 pub document-scoped : (bs : List Block) → AreSections bs → Scoped [] [] None (claims bs)
 unfolding opened_by

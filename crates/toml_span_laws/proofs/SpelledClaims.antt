@@ -1,20 +1,21 @@
 -- What the claims of a document assign is spelled in its text, and the claims behind each are those of its value.
-use Rattle.std.proofs.Common.{◌≡◌, ℕ, zero, suc, ◌+◌, ◌≤◌, ◌⊎◌, List, [], ◌∷◌, ◌++◌, length, arith, refl, sym, ap, ◌∙◌, subst, inl, inr}
+use Rattle.std.proofs.Common.{◌≡◌, ℕ, suc, ◌+◌, ◌≤◌, ◌⊎◌, true, false, List, [], ◌∷◌, ◌++◌, length, arith, refl, sym, ap, ◌∙◌, inl, inr}
 use Rattle.std.specs.Prelude.{⊤}
-use Rattle.std.proofs.lemmas.Bool.{cases_Bool}
-use Rattle.toml_span_lex.specs.declared.span.Span.{Span}
 use Rattle.toml_span_tree.specs.Node.{Scalar}
 use Rattle.toml_span_tree.specs.Path.{Path, shape_scalar}
-use Rattle.toml_span_read.specs.Data.{ParsedValue, parsed, ParsedInner, scalar, array, inline, ParsedItems, no_items, item, ParsedPairs, no_pairs, pair, KeyValue, parsed_span, Block}
-use Rattle.toml_span_read.specs.Grammar.{Spells, SpellsInner, SpellsItems, SpellsPairs, SpellsDocument, SpellsSections, SpellsKeyValues, first_block}
+use Rattle.toml_span_read.specs.Data.{ParsedValue, parsed, scalar, array, inline, ParsedItems, no_items, item, ParsedPairs, no_pairs, pair, KeyValue, parsed_span, Block}
+use Rattle.toml_span_read.specs.Grammar.{Spells, SpellsItems, SpellsPairs, SpellsDocument, SpellsKeyValues}
 use Rattle.toml_span_read.specs.Keys.{SimpleKey, SpellsKey}
-use Rattle.toml_span.specs.declared.claims.Mark.{Mark}
 use Rattle.toml_span.specs.declared.claims.Sort.{Sort}
 use Rattle.toml_span.specs.declared.claims.Sort.TheVariants.{Passed, StandardTable, ArrayOfTables, TableElement, Dotted as DottedTable, Assigned}
 use Rattle.toml_span.specs.declared.claims.Head.{Head}
-use Rattle.toml_span.specs.Paths.{with_key, with_position, enter, elements_added, opened_by, section_path}
-use Rattle.toml_span.specs.Claims.{Claim, Claims, no_claims, claimed, scope, followed, shape_claimed, table_claim, header_mark, header_claim, pair_mark, value_shape, parsed_inner, element, key_claims, value_claims, inner_claims, item_claims, pair_claims, key_value_claims, array_claims, end_claims, header_claims, section_claims, claims_behind, claims, head_of}
+use Rattle.toml_span.specs.Paths.{with_key, with_position, elements_added, opened_by, section_path}
+use Rattle.toml_span.specs.Claims.{Claim, Claims, no_claims, claimed, scope, followed, shape_claimed, value_shape, parsed_inner, element, key_claims, value_claims, inner_claims, item_claims, pair_claims, key_value_claims, header_claims, section_claims, claims_behind, claims, head_of}
+use Rattle.toml_span.specs.Flat.{by_header}
+use Rattle.toml_span.proofs.Grafts.{followed-assoc}
 use Rattle.toml_span.proofs.EachClaim.{Each}
+use Rattle.toml_span_laws.proofs.AscendLaws.{AreBlocks, document_blocks}
+use Rattle.toml_span_laws.proofs.Headed.{Headed, header-headed}
 
 -- ---- one claim
 
@@ -54,12 +55,6 @@ followed-none no_claims = refl
 followed-none (claimed c xs) = ap (claimed c) (followed-none xs)
 followed-none (scope inner xs) = ap (scope inner) (followed-none xs)
 
-followed-assoc : (xs ys zs : Claims) → followed (followed xs ys) zs ≡ followed xs (followed ys zs)
-unfolding followed
-followed-assoc no_claims ys zs = refl
-followed-assoc (claimed c xs) ys zs = ap (claimed c) (followed-assoc xs ys zs)
-followed-assoc (scope inner xs) ys zs = ap (scope inner) (followed-assoc xs ys zs)
-
 spelled-followed : (text : List ℕ) (limit : ℕ) (xs ys : Claims) → AllSpelled text limit xs → AllSpelled text limit ys → AllSpelled text limit (followed xs ys)
 unfolding followed
 spelled-followed text limit no_claims ys h g = g
@@ -80,9 +75,11 @@ no-scalar TableElement s h = cc
 no-scalar DottedTable s h = cc
 no-scalar Assigned s h = cc
 
--- a claim that assigns nothing, before others
-table-of_text : (text : List ℕ) (limit : ℕ) (p : Path) (k : SimpleKey) (m : Mark) (cs : Claims) → (m.sort ≡ Assigned → ⊥) → AllSpelled text limit cs → AllSpelled text limit (claimed (table_claim p k m) cs)
-table-of_text text limit p k m cs h g = (inr (record { sort = h; shape = no-scalar m.sort }), g)
+-- claims that assign nothing
+made-spelled : (text : List ℕ) (limit : ℕ) (cs : Claims) → Headed Makes cs → AllSpelled text limit cs
+made-spelled text limit no_claims h = tt
+made-spelled text limit (claimed c cs) h = (inr h.0, made-spelled text limit cs h.1)
+made-spelled text limit (scope inner cs) h = absurd h
 
 -- ---- values
 
@@ -93,8 +90,7 @@ key-of_text text limit p [] v s h = tt
 key-of_text text limit p (k ∷ []) v s h =
     let q = with_key p k in (inl (record { value = v; spelled = s; shape = refl; span = refl }, no_claims, sym (followed-none (value_claims v q))), h q)
 key-of_text text limit p (k ∷ l ∷ more) v s h =
-    table-of_text text limit (with_key p k) k (pair_mark DottedTable k.span (parsed_span v)) (key_claims (with_key p k) (l ∷ more) v (value_claims v)) (λ e. cc)
-    (key-of_text text limit (with_key p k) (l ∷ more) v s h)
+    (inr (record { sort = λ e. cc; shape = λ x e. cc }), key-of_text text limit (with_key p k) (l ∷ more) v s h)
 
 element-of_text : (v : ParsedValue) (q : Path) (rest : Claims) (text : List ℕ) (limit : ℕ) → Spelled text limit v → AllSpelled text limit (value_claims v q) → AllSpelled text limit rest
     → AllSpelled text limit (claimed (element q v) (followed (value_claims v q) rest))
@@ -105,33 +101,27 @@ mutual
   unfolding value_claims inner_claims item_claims pair_claims
 
   value-of_text : (v : ParsedValue) (p : Path) (text : List ℕ) (limit d i j : ℕ) → 1 ≤ d → Spells v text limit d i j → AllSpelled text limit (value_claims v p)
-  value-of_text (parsed k span) p text limit d i j deep (few, h) = inner-of_text k span p text limit d i j h
-
-  inner-of_text : (k : ParsedInner) (span : Span) (p : Path) (text : List ℕ) (limit d i j : ℕ) → SpellsInner k span text limit d i j → AllSpelled text limit (inner_claims k p)
-  inner-of_text (scalar s) span p text limit d i j h = tt
-  inner-of_text (array vs) span p text limit d i j (here, e, k, gap, h) = (items-of_text vs 0 p text limit (d + 1) k j (omega arith) h, tt)
-  inner-of_text (inline ps) span p text limit d i j (here, e, k, gap, h) = (pairs-of_text ps [] p text limit (d + 1) k j (omega arith) h, tt)
+  value-of_text (parsed (scalar s) span) p text limit d i j deep h = tt
+  value-of_text (parsed (array vs) span) p text limit d i j deep (few, (here, e, k, gap, h)) = (items-of_text vs 0 p text limit (d + 1) k j (omega arith) h, tt)
+  value-of_text (parsed (inline ps) span) p text limit d i j deep (few, (here, e, k, gap, h)) = (pairs-of_text ps [] p text limit (d + 1) k j (omega arith) h, tt)
 
   items-of_text : (vs : ParsedItems) (n : ℕ) (p : Path) (text : List ℕ) (limit d i j : ℕ) → 1 ≤ d → SpellsItems vs text limit d i j → AllSpelled text limit (item_claims vs n p)
   items-of_text no_items n p text limit d i j deep h = tt
-  items-of_text (item v vs) n p text limit d i j deep (m, h, inl (e, close)) =
+  items-of_text (item v vs) n p text limit d i j deep (m, h, then) =
       element-of_text v (with_position p n) (item_claims vs (suc n) p) text limit (record { depth = d; from = i; to = m; deep = deep; spells = h })
-      (value-of_text v (with_position p n) text limit d i m deep h) (rw e tt)
-  items-of_text (item v vs) n p text limit d i j deep (m, h, inr (k, comma, rest)) =
-      element-of_text v (with_position p n) (item_claims vs (suc n) p) text limit (record { depth = d; from = i; to = m; deep = deep; spells = h })
-      (value-of_text v (with_position p n) text limit d i m deep h) (items-of_text vs (suc n) p text limit d k j deep rest)
+      (value-of_text v (with_position p n) text limit d i m deep h)
+      (elim then [ inl (e, close) ↦ rw e tt | inr (k, comma, rest) ↦ items-of_text vs (suc n) p text limit d k j deep rest ])
 
   pairs-of_text : (ps : ParsedPairs) (es : List KeyValue) (p : Path) (text : List ℕ) (limit d i j : ℕ) → 1 ≤ d → SpellsPairs ps es text limit d i j → AllSpelled text limit (pair_claims ps p)
   pairs-of_text no_pairs es p text limit d i j deep h = tt
-  pairs-of_text (pair ss v x ps) es p text limit d i j deep (m, (a, b, key, few, sign, h, extent), clear, inl (e, close)) =
-      spelled-followed text limit (key_claims p ss v (value_claims v)) (pair_claims ps p)
-      (key-of_text text limit p ss v (record { depth = d + length ss; from = b; to = m; deep = omega arith; spells = h })
-      (λ q. value-of_text v q text limit (d + length ss) b m (omega arith) h)) (rw e tt)
-  pairs-of_text (pair ss v x ps) es p text limit d i j deep (m, (a, b, key, few, sign, h, extent), clear, inr (k, comma, rest)) =
+  pairs-of_text (pair ss v x ps) es p text limit d i j deep (m, (a, b, key, few, sign, h, extent), clear, then) =
       spelled-followed text limit (key_claims p ss v (value_claims v)) (pair_claims ps p)
       (key-of_text text limit p ss v (record { depth = d + length ss; from = b; to = m; deep = omega arith; spells = h })
       (λ q. value-of_text v q text limit (d + length ss) b m (omega arith) h))
-      (pairs-of_text ps (es ++ (record { parts = ss; value = v; extent = x } ∷ [])) p text limit d k j deep rest)
+      (elim then [
+        | inl (e, close) ↦ rw e tt
+        | inr (k, comma, rest) ↦ pairs-of_text ps (es ++ (record { parts = ss; value = v; extent = x } ∷ [])) p text limit d k j deep rest
+      ])
 
 -- ---- sections
 
@@ -149,59 +139,24 @@ key_values-of_text (e ∷ es) before p text limit i j (m, n, k, h, tail, clear, 
     (λ q. value-of_text e.value q text limit (length e.parts) h.from m deep h.spelled))
     (key_values-of_text es (before ++ (e ∷ [])) p text limit k j rest)
 
-made : (text : List ℕ) (limit : ℕ) (h : Head) (sort : Sort) (p : Path) (k : SimpleKey) (cs : Claims) → (sort ≡ Assigned → ⊥) → AllSpelled text limit cs → AllSpelled text limit (claimed (header_claim h sort p k) cs)
-made text limit h sort p k cs f g = table-of_text text limit p k (header_mark h sort k.span) cs f g
-
-entry-of_text : (text : List ℕ) (limit : ℕ) (h : Head) (p : Path) (k : SimpleKey) (n : ℕ) → AllSpelled text limit (array_claims h p k n (claimed (header_claim h TableElement (with_position p n) k) no_claims))
-entry-of_text text limit h p k zero =
-    made text limit h ArrayOfTables p k (claimed (header_claim h TableElement (with_position p 0) k) no_claims) (λ e. cc) (made text limit h TableElement (with_position p 0) k no_claims (λ e. cc) tt)
-entry-of_text text limit h p k (suc n) = made text limit h TableElement (with_position p (suc n)) k no_claims (λ e. cc) tt
-
-end-of_text : (text : List ℕ) (limit : ℕ) (h : Head) (p : Path) (k : SimpleKey) (n : ℕ) → AllSpelled text limit (end_claims h p k n)
-unfolding end_claims
-end-of_text text limit h p k n = elim (cases_Bool h.array) [
-  | inl double ↦ rw double (entry-of_text text limit h p k n)
-  | inr single ↦ rw single (made text limit h StandardTable p k no_claims (λ e. cc) tt)
-]
-
 header-of_text : (text : List ℕ) (limit : ℕ) (e : Path → ℕ) (h : Head) (p : Path) (parts : List SimpleKey) → AllSpelled text limit (header_claims e h p parts)
-unfolding header_claims
-header-of_text text limit e h p [] = tt
-header-of_text text limit e h p (k ∷ []) = end-of_text text limit h (with_key p k) k (e (with_key p k))
-header-of_text text limit e h p (k ∷ l ∷ more) =
-    let q = enter (e (with_key p k)) (with_key p k) in made text limit h Passed q k (header_claims e h q (l ∷ more)) (λ e. cc) (header-of_text text limit e h q (l ∷ more))
+header-of_text text limit e h p parts =
+    made-spelled text limit (header_claims e h p parts) (header-headed Makes h (λ s q k header. record { sort = λ is. let no : false ≡ true = sym (ap by_header is) ∙ header in cc; shape = no-scalar s }) e p parts)
 
 -- ---- documents
 
--- what these sections assign is spelled
-abbrev BlocksOfText : List ℕ → ℕ → List Block → Type 0
-BlocksOfText text limit [] = ⊤
-BlocksOfText text limit (b ∷ bs) = ((p : Path) → AllSpelled text limit (key_value_claims b.key_values p)) × BlocksOfText text limit bs
-
-sections-of_text : (bs : List Block) (text : List ℕ) (limit i : ℕ) → SpellsSections bs text limit i → BlocksOfText text limit bs
-sections-of_text [] text limit i h = tt
-sections-of_text (b ∷ bs) text limit i (j, h, rest) = (λ p. key_values-of_text b.key_values [] p text limit h.lines.0 j h.lines.2, sections-of_text bs text limit j rest)
-
-with-first : (es : List KeyValue) (bs : List Block) (text : List ℕ) (limit : ℕ) → ((p : Path) → AllSpelled text limit (key_value_claims es p)) → BlocksOfText text limit bs
-    → BlocksOfText text limit (first_block es ++ bs)
-with-first [] bs text limit h more = more
-with-first (e ∷ es) bs text limit h more = (h, more)
-
-behind-of_text : (earlier bs : List Block) (text : List ℕ) (limit : ℕ) → BlocksOfText text limit bs → AllSpelled text limit (claims_behind earlier bs)
+blocks-of_text : (earlier bs : List Block) (text : List ℕ) (limit i : ℕ) → AreBlocks bs text limit i → AllSpelled text limit (claims_behind earlier bs)
 unfolding claims_behind section_claims
-behind-of_text earlier [] text limit h = tt
-behind-of_text earlier (b ∷ bs) text limit h =
+blocks-of_text earlier [] text limit i h = tt
+blocks-of_text earlier (b ∷ bs) text limit i (s, k, j, header, few, plain, on, lines, rest) =
     let e = elements_added (opened_by earlier) in
     spelled-followed text limit (section_claims e b) (claims_behind (b ∷ earlier) bs)
     (spelled-followed text limit (header_claims e (head_of b) [] b.header) (key_value_claims b.key_values (section_path e b))
-    (header-of_text text limit e (head_of b) [] b.header) (h.0 (section_path e b)))
-    (behind-of_text (b ∷ earlier) bs text limit h.1)
+    (header-of_text text limit e (head_of b) [] b.header) (key_values-of_text b.key_values [] (section_path e b) text limit k j lines))
+    (blocks-of_text (b ∷ earlier) bs text limit j rest)
 
 pub document-spelled : (bs : List Block) (text : List ℕ) (limit : ℕ) → SpellsDocument bs text limit → AllSpelled text limit (claims bs)
-document-spelled bs text limit x =
-    let first = λ (p : Path). key_values-of_text x.first [] p text limit x.lines.0 x.end x.lines.2 in
-    behind-of_text [] bs text limit
-    (subst (BlocksOfText text limit) (sym x.all) (with-first x.first x.rest text limit first (sections-of_text x.rest text limit x.end x.sections)))
+document-spelled bs text limit x = blocks-of_text [] bs text limit 0 (document_blocks bs text limit x)
 
 -- each claim by itself
 each-of_text : (text : List ℕ) (limit : ℕ) (cs : Claims) → AllSpelled text limit cs → Each (OfText text limit) cs
