@@ -1,6 +1,7 @@
 -- A value is read again from the text that spells it.
 use Rattle.std.proofs.Common.{◌≡◌, ℕ, ◌+◌, ◌-◌, ◌<◌, ◌≤◌, Bool, true, false, List, [], ◌∷◌, ◌++◌, length, get_or, drop, arith, inl, inr, sym, ◌∙◌, refl, ap, subst, length-append, length-take, length-drop}
 use Rattle.std.specs.Prelude.{◌==◌, ◌||◌, slice_range, codes}
+use Rattle.std.proofs.lemmas.Bool.{or_cases}
 use Rattle.std.proofs.lemmas.List.{get_or_past, get_or-drop, get_or-take, get_or-append_right}
 use Rattle.toml_span_lex.specs.Bytes.{is_blank, is_keylike, MaximalRun}
 use Rattle.toml_span_lex.specs.Tokenizer.{FirstPlace}
@@ -13,7 +14,7 @@ use Rattle.toml_span_laws.specs.Again.{moved, assigned_again, key_value_again}
 use Rattle.toml_span_read.proofs.NumberLemmas.{is_false, byte_is, clash}
 use Rattle.toml_span_read.proofs.SpanLaws.{value_lies}
 use Rattle.toml_span_laws.proofs.ScalarLaws.{scalar_byte}
-use Rattle.toml_span_laws.proofs.AgainRuns.{Copied, or_cases}
+use Rattle.toml_span_places.proofs.Moves.{Copied, At}
 use Rattle.toml_span_laws.proofs.AgainValues.{value_copied}
 
 -- ---- the text
@@ -32,10 +33,10 @@ again_byte text i j x k o e l =
     let d : get_or text (i + (k - 4)) 0 ≡ get_or text x 0 = ap (λ (m : ℕ). get_or text m 0) n in
     sym (a ∙ (b ∙ (c ∙ d)))
 
-again_copied : (text : List ℕ) (i j : ℕ) → i ≤ j → j ≤ length text → Copied text (assigned_again text i j) i 4
+again_copied : (text : List ℕ) (i j : ℕ) → i ≤ j → j ≤ length text → Copied text (assigned_again text i j) i 4 (length (assigned_again text i j)) 0
 again_copied text i j on within =
     let n = again_length text i j on within in
-    record { same = λ x k o e l. again_byte text i j x k o e (omega arith); fits = omega arith }
+    record { same = λ x k o e l. again_byte text i j x k o e (omega arith); fits = omega arith; within = omega arith; next = get_or_past (assigned_again text i j) (length (assigned_again text i j)) 0 (omega arith) }
 
 -- ---- a run of one byte
 
@@ -80,7 +81,7 @@ key_value_spelled v text limit d i j deep h =
     let on : i ≤ j = lies.1 in
     let w = again_copied text i j on lies.2 in
     let n = again_length text i j on lies.2 in
-    let again = value_copied text (assigned_again text i j) i 4 w v limit 1 d i j 4 ((j + 4) - i) deep (omega arith) (omega arith) (omega arith) (omega arith) h in
+    let again = (value_copied w v limit 1 d deep).to i j 4 ((j + 4) - i) (record { after = omega arith; moved = omega arith; inside = omega arith }) (record { after = on; moved = omega arith; inside = omega arith }) h in
     let least = few v text limit d i j h in
     record {
       key_end = 1;

@@ -6,13 +6,13 @@ use Rattle.std.proofs.lemmas.Bool.{cases_lt, cases_Bool, false≢true, or_cases,
 use Rattle.std.proofs.lemmas.List.{get_or_past, get_or-take, get_or-drop, map-append, take_all}
 use Rattle.std.proofs.lemmas.List.Elements.{filter-append}
 use Rattle.toml_span_lex.proofs.PieceLemmas.{slice_join}
-use Rattle.toml_span_tree.specs.Node.{finite}
+use Rattle.toml_span_tree.specs.Node.{float, finite}
 use Rattle.toml_span_read.specs.Dates.{begins_date}
 use Rattle.toml_span_read.specs.Numbers.{is_digit_in, is_figure, Digits, behind_sign, is_exponent, Exponent, Fraction, FloatLiteral, cleaned}
-use Rattle.toml_span_read.proofs.NumberLemmas.{clash, digit_figure, digit_no_underscore, no_sign, slice_cons}
+use Rattle.toml_span_read.proofs.NumberLemmas.{clash, sign_on, digit_figure, digit_no_underscore, no_sign, slice_cons}
 use Rattle.toml_span_read.proofs.Places.{run_some}
 use Rattle.toml_span_places.specs.Again.{IsFloatText}
-use Rattle.toml_span_places.proofs.FloatsAgain.{behind_on}
+use Rattle.toml_span_places.proofs.Undated.{no_date}
 use Rattle.toml_span_places.proofs.Parts.{Part, same_part, front, back, tail, here, byte_at, next, within, each, whole, empty_range}
 
 -- ---- what cleaning does
@@ -181,7 +181,7 @@ Rest r =
 clean_exponent : (text : List ℕ) (a b : ℕ) → Exponent text a b → (s ds : List ℕ) × IsSign s × Plain ds × (cleaned (slice_range text a b) ≡ 69 ∷ (s ++ ds))
 clean_exponent text a b h =
     let k = behind_sign text (a + 1) in
-    let on = behind_on text (a + 1) in
+    let on = (sign_on text (a + 1)).0 in
     let w = h.digits.run.within in
     let l : k < b = run_some (is_figure 10) text k b refl (digit_figure 10 (get_or text k 0) h.digits.begins) h.digits.run in
     let d = clean_digits text k b h.digits in
@@ -218,7 +218,7 @@ fraction_on text a b h =
 exponent_on : (text : List ℕ) (a b : ℕ) → Exponent text a b → (a < b) × (b ≤ length text)
 exponent_on text a b h =
     let k = behind_sign text (a + 1) in
-    let on = behind_on text (a + 1) in
+    let on = (sign_on text (a + 1)).0 in
     let l : k < b = run_some (is_figure 10) text k b refl (digit_figure 10 (get_or text k 0) h.digits.begins) h.digits.run in
     (omega arith, h.digits.run.within)
 
@@ -247,67 +247,30 @@ rest_in {text} {i} {j} r (inr (inr (fs, s, ds, plain, sign, digits, e))) p =
     let b = back (46 ∷ fs) (69 ∷ (s ++ ds)) q in
     inr (i + length (46 ∷ fs), fraction_in fs plain refl a, inr (exponent_in s ds sign digits b))
 
--- what is behind the integer part begins with no figure, no digit, no colon and no dash
-rest_byte : (r : List ℕ) → Rest r → (get_or r 0 0 ≡ 69) ⊎ (get_or r 0 0 ≡ 46)
-rest_byte r (inl (s, ds, sign, plain, e)) = inl (ap (λ (l : List ℕ). get_or l 0 0) e)
-rest_byte r (inr (inl (fs, plain, e))) = inr (ap (λ (l : List ℕ). get_or l 0 0) e)
-rest_byte r (inr (inr (fs, s, ds, plain, sign, digits, e))) = inr (ap (λ (l : List ℕ). get_or l 0 0) e)
-
-abbrev Ends : ℕ → Type 0
-Ends c = (is_figure 10 c ≡ false) × (is_ascii_digit c ≡ false) × ((c == 58) ≡ false) × ((c == 45) ≡ false)
-
-ends : (c : ℕ) → (c ≡ 69) ⊎ (c ≡ 46) → Ends c
-ends c (inl e) = rw e (refl, refl, refl, refl)
-ends c (inr e) = rw e (refl, refl, refl, refl)
-
--- ---- no date
-
-no_date : {text rest : List ℕ} {i j : ℕ} (ds : List ℕ) → Plain ds → Ends (get_or rest 0 0) → Part text ds rest i j → begins_date text i ≡ false
-no_date {text} {rest} {i} {j} ds plain stop p = false_from_ne_true (begins_date text i) (λ h.
-    let a = and_parts (is_ascii_digit (get_or text i 0) && is_ascii_digit (get_or text (i + 1) 0)) _ h in
-    let b = and_parts (is_ascii_digit (get_or text i 0)) (is_ascii_digit (get_or text (i + 1) 0)) a.0 in
-    let some = plain.some in
-    let on = p.on in
-    let l1 = inside (i + 1) (omega arith) b.1 in
-    elim (or_cases (get_or text (i + 2) 0 == 58) _ a.1) [
-      | inl colon ↦ never 58 (i + 2) (omega arith) (omega arith) (λ c d. digit_other c 58 d refl) stop.2 colon
-      | inr more ↦
-          let c = and_parts (is_ascii_digit (get_or text (i + 2) 0) && is_ascii_digit (get_or text (i + 3) 0)) (get_or text (i + 4) 0 == 45) more in
-          let d = and_parts (is_ascii_digit (get_or text (i + 2) 0)) (is_ascii_digit (get_or text (i + 3) 0)) c.0 in
-          let l2 = inside (i + 2) (omega arith) d.0 in
-          let l3 = inside (i + 3) (omega arith) d.1 in
-          never 45 (i + 4) (omega arith) (omega arith) (λ c d. digit_other c 45 d refl) stop.3 c.1
-    ])
-  where
-    inside : (k : ℕ) → k ≤ j → is_ascii_digit (get_or text k 0) ≡ true → k < j
-    inside k le h = elim (cases_lt k j) [ inl l ↦ l | inr g ↦ let e : k ≡ j = omega arith in absurd (false≢true (sym stop.1 ∙ (rw (e, next p) at h))) ]
-
-    never : (b k : ℕ) → i ≤ k → k ≤ j → ((c : ℕ) → is_digit_in 10 c ≡ true → (c == b) ≡ false) → (get_or rest 0 0 == b) ≡ false → (get_or text k 0 == b) ≡ true → ⊥
-    never b k ge le other end h = elim (cases_lt k j) [
-      | inl l ↦ false≢true (sym (other (get_or text k 0) (each p (is_digit_in 10) plain.digits k ge l)) ∙ h)
-      | inr g ↦ let e : k ≡ j = omega arith in false≢true (sym end ∙ (rw (e, next p) at h))
-    ]
+-- what is behind the integer part begins with no figure
+rest_byte : (r : List ℕ) → Rest r → is_figure 10 (get_or r 0 0) ≡ false
+rest_byte r (inl (s, ds, sign, plain, e)) = rw e refl
+rest_byte r (inr (inl (fs, plain, e))) = rw e refl
+rest_byte r (inr (inr (fs, s, ds, plain, sign, digits, e))) = rw e refl
 
 -- ---- the float
 
-parts_spell : (s ds r : List ℕ) → IsSign s → Plain ds → (get_or ds 0 0 ≡ 48 → length ds ≡ 1) → Rest r → (text : List ℕ) → text ≡ s ++ (ds ++ r) → (begins_date text 0 ≡ false) × FloatLiteral text 0 (length text)
+parts_spell : (s ds r : List ℕ) → IsSign s → Plain ds → (get_or ds 0 0 ≡ 48 → length ds ≡ 1) → Rest r → (text : List ℕ) → text ≡ s ++ (ds ++ r) → FloatLiteral text 0 (length text)
 parts_spell s ds r sign plain leading rest text is =
     let p : Part text (s ++ (ds ++ r)) [] 0 (length text) = same_part (s ++ (ds ++ r)) is (whole text) in
     let a : Part text s (ds ++ (r ++ [])) 0 (0 + length s) = rw (append_assoc ds r []) at (front s (ds ++ r) p) in
     let q = back s (ds ++ r) p in
     let b = front ds r q in
-    let stop : Ends (get_or (r ++ []) 0 0) = rw (append-nil r) (ends (get_or r 0 0) (rest_byte r rest)) in
+    let stop : is_figure 10 (get_or (r ++ []) 0 0) ≡ false = rw (append-nil r) (rest_byte r rest) in
     let on = b.on in
     let behind : behind_sign text 0 ≡ 0 + length s = signed_in s ds sign plain a ((0 + length s) + length ds) b in
-    let first = first_byte b in (
-      date sign a b stop,
-      record {
-        integer_end = (0 + length s) + length ds;
-        integer_part = rw behind (record { digits = plain_in ds plain stop.0 b; leading = λ e. (let n = leading (sym first ∙ e) in omega arith) });
-        rest = rest_in r rest (back ds r q);
-        ends = rw (get_or_past text (length text) 0 (omega arith)) refl;
-      },
-    )
+    let first = first_byte b in
+    record {
+      integer_end = (0 + length s) + length ds;
+      integer_part = rw behind (record { digits = plain_in ds plain stop b; leading = λ e. (let n = leading (sym first ∙ e) in omega arith) });
+      rest = rest_in r rest (back ds r q);
+      ends = rw (get_or_past text (length text) 0 (omega arith)) refl;
+    }
   where
     first_byte : {text more : List ℕ} {i j : ℕ} → Part text ds more i j → get_or text i 0 ≡ get_or ds 0 0
     first_byte {text} {more} {i} {j} p =
@@ -316,15 +279,11 @@ parts_spell s ds r sign plain leading rest text is =
         let z : i - i ≡ 0 = omega arith in
         rw z at (byte_at p i (omega arith) (omega arith))
 
-    date : {text others more : List ℕ} {k : ℕ} → IsSign s → Part text s others 0 (0 + length s) → Part text ds more (0 + length s) k → Ends (get_or more 0 0) → begins_date text 0 ≡ false
-    date (inl e) a b stop = let at : 0 + length s ≡ 0 = omega (arith, ap length e) in no_date ds plain stop (rw at at b)
-    date (inr e) a b stop = rw (here 45 [] (rw e at a)) refl
-
 pub cleaned_spells : (text : List ℕ) (i j : ℕ) → FloatLiteral text i j → IsFloatText (finite (cleaned (slice_range text i j)))
 cleaned_spells text i j h =
     let b = behind_sign text i in
     let e = h.integer_end in
-    let on = behind_on text i in
+    let on = (sign_on text i).0 in
     let w = h.integer_part.digits.run.within in
     let l : b < e = run_some (is_figure 10) text b e refl (digit_figure 10 (get_or text b 0) h.integer_part.digits.begins) h.integer_part.digits.run in
     let m = rest_on text e j h.rest in
@@ -341,4 +300,4 @@ cleaned_spells text i j h =
     let z : length c - 0 ≡ length c = omega arith in
     let all : slice_range c 0 (length c) ≡ c = rw z (take_all (length c) c (omega arith)) in
     let clean : c ≡ cleaned (slice_range c 0 (length c)) = sym (ap cleaned all ∙ cleaned_twice (slice_range text i j)) in
-    (spells.0, (spells.1, clean), refl)
+    (no_date (float (finite c)) c 0 (length c) (spells, clean) (rw (get_or_past c (length c) 0 (omega arith)) refl), (spells, clean), refl)
