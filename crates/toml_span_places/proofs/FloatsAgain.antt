@@ -1,5 +1,5 @@
 -- A float whose text spells it by itself is read again.
-use Rattle.std.proofs.Common.{◌≡◌, ℕ, ◌+◌, ◌-◌, ◌<◌, ◌≤◌, true, false, List, length, get_or, arith, sym, ◌∙◌, refl}
+use Rattle.std.proofs.Common.{◌≡◌, ℕ, ◌-◌, false, List, length, get_or, arith, sym, refl}
 use Rattle.std.specs.Prelude.{slice_range}
 use Rattle.std.proofs.lemmas.List.{take_all}
 use Rattle.toml_span_tree.specs.Node.{float, finite}
@@ -8,7 +8,7 @@ use Rattle.toml_span_read.specs.Grammar.{from_to, SpellsScalar}
 use Rattle.toml_span_read.specs.Numbers.{FloatLiteral, cleaned}
 use Rattle.toml_span_places.specs.Again.{IsFloatText}
 use Rattle.toml_span_places.proofs.Parts.{Part, byte_at, next, range, within}
-use Rattle.toml_span_places.proofs.Moves.{Copied, At}
+use Rattle.toml_span_places.proofs.Moves.{Copied}
 use Rattle.toml_span_places.proofs.NumbersMove.{literal}
 use Rattle.toml_span_places.proofs.NumbersAgain.{off_bytes}
 use Rattle.toml_span_places.proofs.Undated.{no_date}

@@ -1,6 +1,6 @@
 -- A number that stands in a part of a text stands in its copy, behind which no byte goes on with it.
-use Rattle.std.proofs.Common.{◌≡◌, ℕ, ℤ, ◌+◌, ◌-◌, ◌<◌, ◌≤◌, ◌⊎◌, Bool, true, false, List, length, get_or, filter, arith, inl, inr, sym, ◌∙◌, refl, ap, cond, codes}
-use Rattle.std.specs.Prelude.{◌==◌, ◌||◌, Some, slice_range}
+use Rattle.std.proofs.Common.{◌≡◌, ℕ, ℤ, ◌+◌, ◌-◌, ◌<◌, ◌≤◌, Bool, true, false, List, get_or, filter, arith, inl, inr, sym, ◌∙◌, ap, cond, codes}
+use Rattle.std.specs.Prelude.{◌==◌, ◌||◌, Some}
 use Rattle.std.proofs.lemmas.Bool.{cases_lt, false≢true, or_from}
 use Rattle.toml_span_lex.specs.Bytes.{is_keylike}
 use Rattle.toml_span_tree.specs.Node.{Scalar, text as text_scalar, integer, float, boolean, datetime, finite, infinite, not_a_number}
