@@ -31,57 +31,38 @@ unfolding moved_key_value
 none_moved s t names [] h = tt
 none_moved s t names (e ∷ es) (h, more) = ((λ x. h (sym (path_moved s t e.parts) ∙ x)), none_moved s t names es more)
 
--- a list of moved parts that is cut is a list that is cut, moved
-record CutAt (s t : ℕ) (ps xs : List SimpleKey) (y : SimpleKey) (ys : List SimpleKey) : Type 0 where
+-- a list with the names of one that is cut
+record CutAt (ps xs : List SimpleKey) (y : SimpleKey) (ys : List SimpleKey) : Type 0 where
   before : List SimpleKey
   here : SimpleKey
   behind : List SimpleKey
   is : ps ≡ before ++ (here ∷ behind)
-  before_is : moved_parts s t before ≡ xs
-  here_is : moved_part s t here ≡ y
-  behind_is : moved_parts s t behind ≡ ys
+  first : part_names before ≡ part_names xs
+  path : part_names (before ++ (here ∷ [])) ≡ part_names (xs ++ (y ∷ []))
+  last : part_names behind ≡ part_names ys
 
-cut_moved : (s t : ℕ) (ps xs : List SimpleKey) (y : SimpleKey) (ys : List SimpleKey) → moved_parts s t ps ≡ xs ++ (y ∷ ys) → CutAt s t ps xs y ys
-unfolding moved_part
-cut_moved s t [] [] y ys e = absurd (omega (arith, ap length e))
-cut_moved s t [] (x ∷ xs) y ys e = absurd (omega (arith, ap length e))
-cut_moved s t (p ∷ ps) [] y ys e =
-    record { before = []; here = p; behind = ps; is = refl; before_is = refl; here_is = ap (λ (l : List SimpleKey). get_or l 0 y) e; behind_is = ap (λ (l : List SimpleKey). drop 1 l) e }
-cut_moved s t (p ∷ ps) (x ∷ xs) y ys e =
-    let c = cut_moved s t ps xs y ys (ap (λ (l : List SimpleKey). drop 1 l) e) in
-    let first : moved_part s t p ≡ x = ap (λ (l : List SimpleKey). get_or l 0 y) e in
-    record {
-      before = p ∷ c.before;
-      here = c.here;
-      behind = c.behind;
-      is = ap (λ (l : List SimpleKey). p ∷ l) c.is;
-      before_is = rw (c.before_is, first) refl;
-      here_is = c.here_is;
-      behind_is = c.behind_is;
-    }
+cut_alike : (ps xs : List SimpleKey) (y : SimpleKey) (ys : List SimpleKey) → part_names (xs ++ (y ∷ ys)) ≡ part_names ps → CutAt ps xs y ys
+cut_alike [] [] y ys e = absurd (cc)
+cut_alike [] (x ∷ xs) y ys e = absurd (cc)
+cut_alike (p ∷ ps) [] y ys e = record { before = []; here = p; behind = ps; is = refl; first = refl; path = cc; last = cc }
+cut_alike (p ∷ ps) (x ∷ xs) y ys e =
+    let c = cut_alike ps xs y ys cc in
+    record { before = p ∷ c.before; here = c.here; behind = c.behind; is = cc (c.is); first = cc; path = cc; last = c.last }
 
-path_cut : (s t : ℕ) (us xs : List SimpleKey) (v y : SimpleKey) → moved_parts s t us ≡ xs → moved_part s t v ≡ y → part_names (us ++ (v ∷ [])) ≡ part_names (xs ++ (y ∷ []))
-unfolding moved_part
-path_cut s t us xs v y e f =
-    let m : moved_parts s t (us ++ (v ∷ [])) ≡ moved_parts s t us ++ (moved_part s t v ∷ []) = map-append _ us (v ∷ []) in
-    let p : part_names (us ++ (v ∷ [])) ≡ part_names (moved_parts s t us ++ (moved_part s t v ∷ [])) = sym (path_moved s t (us ++ (v ∷ []))) ∙ ap (λ (l : List SimpleKey). part_names l) m in
-    subst (λ (z : SimpleKey). part_names (us ++ (v ∷ [])) ≡ part_names (xs ++ (z ∷ []))) f (subst (λ (z : List SimpleKey). part_names (us ++ (v ∷ [])) ≡ part_names (z ++ (moved_part s t v ∷ []))) e p)
-
-through_moved : (s t : ℕ) (ps qs : List SimpleKey) (es : List KeyValue) → moved_parts s t ps ≡ qs → NoneThrough ps es → NoneThrough qs (map (moved_key_value s t) es)
+through_moved : (s t : ℕ) (ps qs : List SimpleKey) (es : List KeyValue) → part_names qs ≡ part_names ps → NoneThrough ps es → NoneThrough qs (map (moved_key_value s t) es)
 through_moved s t ps qs es m h outer p rest e =
-    let c = cut_moved s t ps outer p rest (m ∙ e) in
-    none_moved s t (part_names (outer ++ (p ∷ []))) es (subst (λ (n : List (List ℕ)). NoneAt n es) (path_cut s t c.before outer c.here p c.before_is c.here_is) (h c.before c.here c.behind c.is))
+    let c = cut_alike ps outer p rest (sym (ap (λ (l : List SimpleKey). part_names l) e) ∙ m) in
+    none_moved s t (part_names (outer ++ (p ∷ []))) es (subst (λ (n : List (List ℕ)). NoneAt n es) c.path (h c.before c.here c.behind c.is))
 
-none_of : (s t : ℕ) (ps : List SimpleKey) → moved_parts s t ps ≡ [] → ps ≡ []
-none_of s t [] e = refl
-none_of s t (p ∷ ps) e = absurd (omega (arith, ap length e))
+none_of : (ps : List SimpleKey) → part_names ps ≡ [] → ps ≡ []
+none_of [] e = refl
+none_of (p ∷ ps) e = absurd (cc)
 
 clear_moved : (s t : ℕ) (es : List KeyValue) (next : KeyValue) → Clear es next → Clear (map (moved_key_value s t) es) (moved_key_value s t next)
 unfolding moved_key_value
 clear_moved s t es next h inner last e =
-    let c = cut_moved s t next.parts inner last [] e in
-    let z : c.behind ≡ [] = none_of s t c.behind c.behind_is in
-    through_moved s t c.before inner es c.before_is (h c.before c.here (subst (λ (l : List SimpleKey). next.parts ≡ c.before ++ (c.here ∷ l)) z c.is))
+    let c = cut_alike next.parts inner last [] (sym (ap (λ (l : List SimpleKey). part_names l) e) ∙ path_moved s t next.parts) in
+    through_moved s t c.before inner es (sym c.first) (h c.before c.here (subst (λ (l : List SimpleKey). next.parts ≡ c.before ++ (c.here ∷ l)) (none_of c.behind c.last) c.is))
 
 length_moved : (s t : ℕ) (ss : List SimpleKey) → length (moved_parts s t ss) ≡ length ss
 length_moved s t ss = length-map ss _

@@ -19,7 +19,7 @@ use Rattle.toml_span_read.specs.Gaps.{begins_gap, MaximalGap, Separator, Closes}
 use Rattle.toml_span_read.specs.Grammar.{from_to, truth_text, SpellsScalar, Spells, SpellsInner, SpellsItems, SpellsPairs}
 use Rattle.toml_span_read.specs.Keys.{SimpleKey, SpellsSimpleKey, SpellsKey}
 use Rattle.toml_span_read.specs.Numbers.{is_digit_in, behind_sign, radix_at, SpecialFloat}
-use Rattle.toml_span_read.proofs.NumberLemmas.{clash, digit_keylike, no_sign, stands_alone}
+use Rattle.toml_span_read.proofs.NumberLemmas.{clash, digit_keylike, no_sign, slice_first, stands_alone}
 use Rattle.toml_span_read.proofs.ShortIntegers.{decimal_keylike}
 use Rattle.toml_span_places.specs.Again.{parts_off, HasValue, HoldsValue, HaveValues, HaveEntries, IsFloatText, IsScalarText, HasFloatTexts, InnerHasFloatTexts, ItemsHaveFloatTexts, MembersHaveFloatTexts, IsWithin, InnerIsWithin, ItemsAreWithin, MembersAreWithin, ReadsAsValue}
 use Rattle.toml_span_places.specs.Quoted.{key_text}
@@ -53,17 +53,18 @@ pub quote_no_gap : (c : ℕ) → IsQuote c → NoGap c
 quote_no_gap c (inl e) = rw e (refl, refl, refl)
 quote_no_gap c (inr e) = rw e (refl, refl, refl)
 
--- digits behind a sign, or without one
-signed_no_gap : (text : List ℕ) (i : ℕ) → is_digit_in 10 (get_or text (behind_sign text i) 0) ≡ true → NoGap (get_or text i 0)
+-- a sign, or what stands without one
+signed_no_gap : (text : List ℕ) (i : ℕ) → (behind_sign text i ≡ i → is_keylike (get_or text i 0) ≡ true) → NoGap (get_or text i 0)
 signed_no_gap text i h = elim (cases_Bool (get_or text i 0 == 43 || get_or text i 0 == 45)) [
   | inl sign ↦ elim (or_cases (get_or text i 0 == 43) (get_or text i 0 == 45) sign) [
     | inl plus ↦ rw (eqb-true (get_or text i 0) 43 plus) (refl, refl, refl)
     | inr minus ↦ rw (eqb-true (get_or text i 0) 45 minus) (refl, refl, refl)
   ]
-  | inr none ↦
-      let n = or_parts (get_or text i 0 == 43) (get_or text i 0 == 45) none in
-      keylike_no_gap (get_or text i 0) (digit_keylike 10 (get_or text i 0) (rw (no_sign text i n.0 n.1) at h))
+  | inr none ↦ let n = or_parts (get_or text i 0 == 43) (get_or text i 0 == 45) none in keylike_no_gap (get_or text i 0) (h (no_sign text i n.0 n.1))
 ]
+
+digits_no_gap : (text : List ℕ) (i : ℕ) → is_digit_in 10 (get_or text (behind_sign text i) 0) ≡ true → NoGap (get_or text i 0)
+digits_no_gap text i h = signed_no_gap text i (λ at. digit_keylike 10 (get_or text i 0) (rw at at h))
 
 radix_no_gap : (text : List ℕ) (i radix : ℕ) → radix_at text i ≡ Some radix → NoGap (get_or text i 0)
 radix_no_gap text i radix h = elim (cases_Bool (get_or text i 0 == 48)) [
@@ -75,32 +76,16 @@ digit_no_gap : (text : List ℕ) (i : ℕ) → begins_date text i ≡ true → N
 digit_no_gap text i h = keylike_no_gap (get_or text i 0) (decimal_keylike (get_or text i 0) (and_parts _ _ (and_parts _ _ h).0).0)
 
 -- the text of a special float, behind its sign
-word_no_gap : (text : List ℕ) (i j c : ℕ) (cs : List ℕ) → slice_range text (behind_sign text i) j ≡ c ∷ cs → behind_sign text i < j → j ≤ length text → is_keylike c ≡ true → NoGap (get_or text i 0)
-word_no_gap text i j c cs e some w k = elim (cases_Bool (get_or text i 0 == 43 || get_or text i 0 == 45)) [
-  | inl sign ↦ elim (or_cases (get_or text i 0 == 43) (get_or text i 0 == 45) sign) [
-    | inl plus ↦ rw (eqb-true (get_or text i 0) 43 plus) (refl, refl, refl)
-    | inr minus ↦ rw (eqb-true (get_or text i 0) 45 minus) (refl, refl, refl)
-  ]
-  | inr none ↦
-      let n = or_parts (get_or text i 0 == 43) (get_or text i 0 == 45) none in
-      let at : behind_sign text i ≡ i = no_sign text i n.0 n.1 in
-      keylike_no_gap (get_or text i 0) (rw (first_of text i j c cs (rw at at e) (rw at at some)) k)
-]
-  where
-    first_of : (text : List ℕ) (i j c : ℕ) (cs : List ℕ) → slice_range text i j ≡ c ∷ cs → i < j → get_or text i 0 ≡ c
-    first_of text i j c cs e l =
-        let z : i + 0 ≡ i = omega arith in
-        let some : 0 < j - i = omega arith in
-        let a : get_or (slice_range text i j) 0 0 ≡ get_or text i 0 = rw z at (get_or-take (j - i) (drop i text) 0 0 some ∙ get_or-drop i text 0 0) in
-        sym a ∙ ap (λ (l : List ℕ). get_or l 0 0) e
+word_no_gap : (text : List ℕ) (i j c : ℕ) (cs : List ℕ) → SpecialFloat (c ∷ cs) text i j → is_keylike c ≡ true → NoGap (get_or text i 0)
+word_no_gap text i j c cs h k = signed_no_gap text i (λ at. rw ((slice_first text i j c cs (rw at at h.some) h.within (rw at at h.letters)).0) k)
 
 scalar_starts : (s : Scalar) (span : Span) (text : List ℕ) (i j : ℕ) → SpellsScalar s span text i j → NoGap (get_or text i 0)
 scalar_starts (text_scalar v) span text i j (source, multi, h) = quote_no_gap (get_or text i 0) h.quote
-scalar_starts (integer z) span text i j (no_date, inl h, is) = signed_no_gap text i h.digits.digits.begins
+scalar_starts (integer z) span text i j (no_date, inl h, is) = digits_no_gap text i h.digits.digits.begins
 scalar_starts (integer z) span text i j (no_date, inr h, is) = radix_no_gap text i h.radix h.prefix
-scalar_starts (float (finite digits)) span text i j (no_date, h, is) = signed_no_gap text i h.0.integer_part.digits.begins
-scalar_starts (float (infinite b)) span text i j (no_date, h, is) = word_no_gap text i j 105 (110 ∷ 102 ∷ []) h.0.letters h.0.some h.0.within refl
-scalar_starts (float (not_a_number b)) span text i j (no_date, h, is) = word_no_gap text i j 110 (97 ∷ 110 ∷ []) h.0.letters h.0.some h.0.within refl
+scalar_starts (float (finite digits)) span text i j (no_date, h, is) = digits_no_gap text i h.0.integer_part.digits.begins
+scalar_starts (float (infinite b)) span text i j (no_date, h, is) = word_no_gap text i j 105 (110 ∷ 102 ∷ []) h.0 refl
+scalar_starts (float (not_a_number b)) span text i j (no_date, h, is) = word_no_gap text i j 110 (97 ∷ 110 ∷ []) h.0 refl
 scalar_starts (boolean b) span text i j (h, is) = keylike_no_gap (get_or text i 0) (h.1.passes i (omega arith) h.0)
 scalar_starts (datetime d) span text i j h = digit_no_gap text i h.0
 
