@@ -1,13 +1,11 @@
 -- The text of a float that is read spells the float by itself.
 use Rattle.std.proofs.Common.{◌≡◌, ℕ, zero, suc, ◌+◌, ◌-◌, ◌<◌, ◌≤◌, ◌⊎◌, Bool, true, false, cond, List, [], ◌∷◌, ◌++◌, map, filter, length, get_or, drop, arith, inl, inr, sym, ◌∙◌, refl, ap, subst, length-append, length-take, length-drop}
-use Rattle.std.specs.Prelude.{◌==◌, ◌||◌, ◌&&◌, not, slice_range}
-use Rattle.std.specs.Char.{is_ascii_digit}
-use Rattle.std.proofs.lemmas.Bool.{cases_lt, cases_Bool, false≢true, or_cases, and_parts, eqb-true, false_from_ne_true}
+use Rattle.std.specs.Prelude.{◌==◌, ◌||◌, not, slice_range}
+use Rattle.std.proofs.lemmas.Bool.{cases_Bool, or_cases, eqb-true, false_from_ne_true}
 use Rattle.std.proofs.lemmas.List.{get_or_past, get_or-take, get_or-drop, map-append, take_all, drop_at}
 use Rattle.std.proofs.lemmas.List.Elements.{filter-append}
 use Rattle.toml_span_lex.proofs.PieceLemmas.{slice_join}
 use Rattle.toml_span_tree.specs.Node.{float, finite}
-use Rattle.toml_span_read.specs.Dates.{begins_date}
 use Rattle.toml_span_read.specs.Numbers.{is_digit_in, is_figure, Digits, behind_sign, is_exponent, Exponent, Fraction, FloatLiteral, cleaned}
 use Rattle.toml_span_read.proofs.NumberLemmas.{clash, sign_on, digits_on, digit_figure, digit_no_underscore, no_sign, slice_cons}
 use Rattle.toml_span_places.specs.Again.{IsFloatText}
