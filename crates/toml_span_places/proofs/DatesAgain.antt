@@ -58,11 +58,12 @@ date_carried a b i k end step h =
 abbrev At : List ℕ → ℕ → Type 0
 At xs k = is_date_byte (get_or xs k 0) ≡ true
 
-digit_at : (xs : List ℕ) (k : ℕ) → is_ascii_digit (get_or xs k 0) ≡ true → At xs k
-digit_at xs k h = digit_date (get_or xs k 0) h
+-- two digits more, or this byte
+pair : (xs : List ℕ) (n : ℕ) → ((k : ℕ) → k < n → At xs k) → (is_ascii_digit (get_or xs n 0) ≡ true) × (is_ascii_digit (get_or xs (n + 1) 0) ≡ true) → (k : ℕ) → k < (n + 1) + 1 → At xs k
+pair xs n f d = below_more (At xs) (n + 1) (below_more (At xs) n f (digit_date (get_or xs n 0) d.0)) (digit_date (get_or xs (n + 1) 0) d.1)
 
-this_at : (xs : List ℕ) (k b : ℕ) → is_date_byte b ≡ true → (get_or xs k 0 == b) ≡ true → At xs k
-this_at xs k b d h = this_date (get_or xs k 0) b d h
+one : (xs : List ℕ) (n b : ℕ) → is_date_byte b ≡ true → ((k : ℕ) → k < n → At xs k) → (get_or xs n 0 == b) ≡ true → (k : ℕ) → k < n + 1 → At xs k
+one xs n b d f h = below_more (At xs) n f (this_date (get_or xs n 0) b d h)
 
 abbrev All : List ℕ → Type 0
 All xs = (k : ℕ) → k < length xs → At xs k
@@ -114,24 +115,7 @@ full_date xs h =
     let m = two 1 12 xs 5 c.1 in
     let n = two 1 _ xs 8 a.1 in
     let long : length xs ≡ 10 = eqb-true (length xs) 10 e.0 in
-    let ten =
-    below_more (At xs) 9
-    (below_more (At xs) 8
-    (below_more (At xs) 7
-    (below_more (At xs) 6
-    (below_more (At xs) 5
-    (below_more (At xs) 4
-    (below_more (At xs) 3
-    (below_more (At xs) 2
-    (below_more (At xs) 1 (below_more (At xs) 0 (below_none (At xs)) (digit_at xs 0 y1.0)) (digit_at xs 1 y1.1))
-    (digit_at xs 2 y2.0))
-    (digit_at xs 3 y2.1))
-    (this_at xs 4 45 refl d.1))
-    (digit_at xs 5 m.0))
-    (digit_at xs 6 m.1))
-    (this_at xs 7 45 refl b.1))
-    (digit_at xs 8 n.0))
-    (digit_at xs 9 n.1) in (
+    let ten = pair xs 8 (one xs 7 45 refl (pair xs 5 (one xs 4 45 refl (pair xs 2 (pair xs 0 (below_none (At xs)) y1) y2) d.1) m) b.1) n in (
       long,
       (λ k l. ten k (omega arith)),
       begins xs y1 (or_right (get_or xs 2 0 == 58) _ (and_from (is_ascii_digit (get_or xs 2 0) && is_ascii_digit (get_or xs 3 0)) _ (and_from (is_ascii_digit (get_or xs 2 0)) _ y2.0 y2.1) d.1)),
@@ -144,11 +128,7 @@ hour_minute xs h =
     let b = and_parts _ _ a.0 in
     let hour = two 0 23 xs 0 b.0 in
     let minute = two 0 59 xs 3 a.1 in (
-      below_more (At xs) 4
-          (below_more (At xs) 3
-          (below_more (At xs) 2 (below_more (At xs) 1 (below_more (At xs) 0 (below_none (At xs)) (digit_at xs 0 hour.0)) (digit_at xs 1 hour.1)) (this_at xs 2 58 refl b.1))
-          (digit_at xs 3 minute.0))
-          (digit_at xs 4 minute.1),
+      pair xs 3 (one xs 2 58 refl (pair xs 0 (below_none (At xs)) hour) b.1) minute,
       begins xs hour (or_left (get_or xs 2 0 == 58) _ b.1),
     )
 
@@ -156,7 +136,7 @@ secfrac : (xs : List ℕ) → is_time_secfrac xs ≡ true → All xs
 secfrac xs h =
     let a = and_parts _ _ h in
     let b = and_parts _ _ a.0 in
-    joined xs 1 (below_more (At xs) 0 (below_none (At xs)) (this_at xs 0 46 refl b.0)) (digits_all (drop 1 xs) a.1)
+    joined xs 1 (one xs 0 46 refl (below_none (At xs)) b.0) (digits_all (drop 1 xs) a.1)
 
 seconds : (xs : List ℕ) → is_seconds xs ≡ true → All xs
 seconds xs h = elim (or_cases _ _ h) [
@@ -165,7 +145,7 @@ seconds xs h = elim (or_cases _ _ h) [
       let a = and_parts _ _ some in
       let b = and_parts _ _ a.0 in
       let s = two 0 60 xs 1 b.1 in
-      joined xs 3 (below_more (At xs) 2 (below_more (At xs) 1 (below_more (At xs) 0 (below_none (At xs)) (this_at xs 0 58 refl b.0)) (digit_at xs 1 s.0)) (digit_at xs 2 s.1))
+      joined xs 3 (pair xs 1 (one xs 0 58 refl (below_none (At xs)) b.0) s)
       (elim (or_cases _ _ a.1) [
         | inl three ↦ let e : length xs ≡ 3 = eqb-true (length xs) 3 three in none (drop 3 xs) (omega (arith, length-drop 3 xs))
         | inr more ↦ secfrac (drop 3 xs) more

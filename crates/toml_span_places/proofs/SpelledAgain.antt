@@ -17,7 +17,7 @@ use Rattle.toml_span_read.specs.Earlier.{Clear}
 use Rattle.toml_span_read.specs.Gaps.{begins_gap, MaximalGap, Separator, Closes}
 use Rattle.toml_span_read.specs.Grammar.{from_to, truth_text, SpellsScalar, Spells, SpellsInner, SpellsItems, SpellsPairs}
 use Rattle.toml_span_read.specs.Keys.{SimpleKey, SpellsSimpleKey, SpellsKey}
-use Rattle.toml_span_read.specs.Numbers.{is_digit_in, behind_sign, radix_at, SpecialFloat}
+use Rattle.toml_span_read.specs.Numbers.{is_digit_in, behind_sign, is_negative, radix_at, SpecialFloat}
 use Rattle.toml_span_read.proofs.NumberLemmas.{clash, digit_keylike, no_sign, slice_first, stands_alone}
 use Rattle.toml_span_read.proofs.ShortIntegers.{decimal_keylike}
 use Rattle.toml_span_places.specs.Again.{parts_off, HasValue, HoldsValue, HaveValues, HaveEntries, IsFloatText, IsScalarText, HasFloatTexts, InnerHasFloatTexts, ItemsHaveFloatTexts, MembersHaveFloatTexts, IsWithin, InnerIsWithin, ItemsAreWithin, MembersAreWithin, ReadsAsValue}
@@ -106,30 +106,22 @@ one_space text i e h = record { ends = (i + 1) ∷ []; pieces = (inl (rw e refl,
 abbrev ScalarAt : List ℕ → Scalar → ℕ → ℕ → Type 0
 ScalarAt text s i j = (span : Span) × SpellsScalar s span text i j
 
-special : {text rest : List ℕ} {k j : ℕ} (word : List ℕ) (i : ℕ) → 0 < length word → is_date_byte (get_or rest 0 0) ≡ false → behind_sign text i ≡ k → Part text word rest k j → SpecialFloat word text i j
+special : {text rest : List ℕ} {k j : ℕ} (word : List ℕ) (i : ℕ) → length word ≡ 3 → is_date_byte (get_or rest 0 0) ≡ false → behind_sign text i ≡ k → Part text word rest k j → SpecialFloat word text i j
 special {text} {rest} {k} {j} word i some off e p =
     let on = p.on in
     let b = off_bytes (get_or text j 0) (rw (next p) off) in
     record { letters = rw e (range p); some = rw e (omega arith); within = within p; ends = stands_alone text j b.0 b.2 }
 
-inf_some : 0 < length (codes "inf")
-inf_some = let n : length (codes "inf") ≡ 3 = refl in omega (arith, n)
-
-nan_some : 0 < length (codes "nan")
-nan_some = let n : length (codes "nan") ≡ 3 = refl in omega (arith, n)
+-- a word behind a dash, or without one
+minus_word : {text rest : List ℕ} {i j : ℕ} (word : List ℕ) → length word ≡ 3 → is_date_byte (get_or rest 0 0) ≡ false → Part text (45 ∷ word) rest i j → (begins_date text i ≡ false) × SpecialFloat word text i j × (true ≡ is_negative text i)
+minus_word {i = i} word some off p = let first = here 45 word p in (rw first refl, special word i some off (rw first refl) (tail 45 word p), rw first refl)
 
 float_again : {text rest : List ℕ} {i j : ℕ} (x : FloatValue) → IsFloatText x → is_date_byte (get_or rest 0 0) ≡ false → Part text (float_text x) rest i j → ScalarAt text (float x) i j
-float_again {text} {rest} {i} {j} (finite digits) is off p = (from_to i j, literal_again digits is off p)
-float_again {text} {rest} {i} {j} (infinite true) is off p =
-    let first = here 45 (codes "inf") p in
-    (from_to i j, (rw first refl, (special (codes "inf") i inf_some off (rw first refl) (tail 45 (codes "inf") p), rw first refl), refl))
-float_again {text} {rest} {i} {j} (infinite false) is off p =
-    let first = here 105 (110 ∷ 102 ∷ []) p in (from_to i j, (rw first refl, (special (codes "inf") i inf_some off (rw first refl) p, rw first refl), refl))
-float_again {text} {rest} {i} {j} (not_a_number true) is off p =
-    let first = here 45 (codes "nan") p in
-    (from_to i j, (rw first refl, (special (codes "nan") i nan_some off (rw first refl) (tail 45 (codes "nan") p), rw first refl), refl))
-float_again {text} {rest} {i} {j} (not_a_number false) is off p =
-    let first = here 110 (97 ∷ 110 ∷ []) p in (from_to i j, (rw first refl, (special (codes "nan") i nan_some off (rw first refl) p, rw first refl), refl))
+float_again {i = i} {j} (finite digits) is off p = (from_to i j, literal_again digits is off p)
+float_again {i = i} {j} (infinite true) is off p = let (none, h, minus) = minus_word (codes "inf") refl off p in (from_to i j, (none, (h, minus), refl))
+float_again {i = i} {j} (infinite false) is off p = let first = here 105 (110 ∷ 102 ∷ []) p in (from_to i j, (rw first refl, (special (codes "inf") i refl off (rw first refl) p, rw first refl), refl))
+float_again {i = i} {j} (not_a_number true) is off p = let (none, h, minus) = minus_word (codes "nan") refl off p in (from_to i j, (none, (h, minus), refl))
+float_again {i = i} {j} (not_a_number false) is off p = let first = here 110 (97 ∷ 110 ∷ []) p in (from_to i j, (rw first refl, (special (codes "nan") i refl off (rw first refl) p, rw first refl), refl))
 
 word : (b : Bool) → (0 < length (truth_text b)) × (list_all is_keylike (truth_text b) ≡ true)
 word true = let n : length (codes "true") ≡ 4 = refl in (omega (arith, n), refl)
