@@ -9,6 +9,7 @@ use Rattle.toml_span_tree.specs.Node.{float, finite}
 use Rattle.toml_span_read.specs.Numbers.{is_digit_in, is_figure, Digits, behind_sign, is_exponent, Exponent, Fraction, FloatLiteral, cleaned}
 use Rattle.toml_span_read.proofs.NumberLemmas.{clash, sign_on, digits_on, digit_figure, digit_no_underscore, no_sign, slice_cons}
 use Rattle.toml_span_places.specs.Again.{IsFloatText}
+use Rattle.toml_span_places.proofs.NumbersAgain.{Plain, plain_in}
 use Rattle.toml_span_places.proofs.Undated.{no_date}
 use Rattle.toml_span_places.proofs.Parts.{Part, same_part, here, byte_at, next, within, each, empty_range}
 
@@ -49,11 +50,6 @@ digit_other c k h n = false_from_ne_true (c == k) (λ e. clash (is_digit_in 10) 
 
 digit_kept : (c : ℕ) → is_digit_in 10 c ≡ true → (kept c ≡ true) × (capital c ≡ c)
 digit_kept c h = (rw (digit_other c 43 h refl, digit_other c 95 h refl) refl, rw (digit_other c 101 h refl) refl)
-
--- digits without underscores
-record Plain (ds : List ℕ) : Type 0 where
-  some : 0 < length ds
-  digits : (k : ℕ) → k < length ds → is_digit_in 10 (get_or ds k 0) ≡ true
 
 first_and : (c : ℕ) (ds : List ℕ) → is_digit_in 10 c ≡ true → ((k : ℕ) → k < length ds → is_digit_in 10 (get_or ds k 0) ≡ true) → (k : ℕ) → k < suc (length ds) → is_digit_in 10 (get_or (c ∷ ds) k 0) ≡ true
 first_and c ds digit more zero l = digit
@@ -125,17 +121,6 @@ clean_sign text a l = elim (cases_Bool (get_or text a 0 == 43)) [
 ]
 
 -- ---- what is cleaned, as it stands
-
-plain_in : {text rest : List ℕ} {i j : ℕ} (ds : List ℕ) → Plain ds → is_figure 10 (get_or rest 0 0) ≡ false → Part text ds rest i j → Digits 10 text i j
-plain_in {text} {rest} {i} {j} ds plain off p =
-    let on = p.on in
-    let some = plain.some in
-    let all = each p (is_digit_in 10) plain.digits in
-    record {
-      begins = all i (omega arith) (omega arith);
-      run = record { forward = omega arith; within = within p; passes = λ k a b. digit_figure 10 (get_or text k 0) (all k a b); stops = λ x. rw (next p) off };
-      between = λ k a b u. absurd (digit_no_underscore 10 (get_or text k 0) (all k a b) u);
-    }
 
 -- behind a sign, if one is there, a digit
 signed_in : {text rest : List ℕ} {i j : ℕ} (s : List ℕ) → IsSign s → Part text s rest i j → is_digit_in 10 (get_or text j 0) ≡ true → behind_sign text i ≡ j

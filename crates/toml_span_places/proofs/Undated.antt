@@ -61,16 +61,12 @@ no_prefix text i radix h d =
       | inr e ↦ let n : None ≡ Some radix = rw e at h in none_some radix n
     ]
 
-rest_first : (text : List ℕ) (m j : ℕ) → Exponent text m j ⊎ ((p : ℕ) × Fraction text m p × ((j ≡ p) ⊎ Exponent text p j)) → (is_exponent (get_or text m 0) ≡ true) ⊎ (get_or text m 0 ≡ 46)
-rest_first text m j (inl x) = inl x.letter
-rest_first text m j (inr (p, f, r)) = inr f.point
-
 -- an exponent's letter or a dot is neither a colon nor a dash
-front_rest : (c : ℕ) → (c ≡ 58) ⊎ (c ≡ 45) → (is_exponent c ≡ true) ⊎ (c ≡ 46) → ⊥
-front_rest c (inl e) (inl x) = clash is_exponent c 58 x e refl
-front_rest c (inr e) (inl x) = clash is_exponent c 45 x e refl
-front_rest c (inl e) (inr x) = omega arith
-front_rest c (inr e) (inr x) = omega arith
+front_rest : (text : List ℕ) (m j : ℕ) → (get_or text m 0 ≡ 58) ⊎ (get_or text m 0 ≡ 45) → Exponent text m j ⊎ ((p : ℕ) × Fraction text m p × ((j ≡ p) ⊎ Exponent text p j)) → ⊥
+front_rest text m j (inl e) (inl x) = clash is_exponent (get_or text m 0) 58 x.letter e refl
+front_rest text m j (inr e) (inl x) = clash is_exponent (get_or text m 0) 45 x.letter e refl
+front_rest text m j (inl e) (inr (p, f, r)) = omega (arith, f.point)
+front_rest text m j (inr e) (inr (p, f, r)) = omega (arith, f.point)
 
 special_decimal : (text : List ℕ) (i j x : ℕ) (xs : List ℕ) → SpecialFloat (x ∷ xs) text i j → is_ascii_digit x ≡ false → is_ascii_digit (get_or text i 0) ≡ true → ⊥
 special_decimal text i j x xs s n d =
@@ -84,7 +80,7 @@ number_front (integer n) text i j d a b (inl h) =
     elim (front_ends text i j d (rw (behind_none text i a) at h.digits.digits)) [ inl e ↦ e | inr e ↦ absurd (false≢true (sym h.ends ∙ goes_on_dash text j e)) ]
 number_front (integer n) text i j d a b (inr h) = absurd (no_prefix text i h.radix h.prefix b)
 number_front (float (finite digits)) text i j d a b (h, c) =
-    absurd (front_rest (get_or text h.integer_end 0) (front_ends text i h.integer_end d (rw (behind_none text i a) at h.integer_part.digits)) (rest_first text h.integer_end j h.rest))
+    absurd (front_rest text h.integer_end j (front_ends text i h.integer_end d (rw (behind_none text i a) at h.integer_part.digits)) h.rest)
 number_front (float (infinite negative)) text i j d a b (h, c) = absurd (special_decimal text i j 105 _ h refl a)
 number_front (float (not_a_number negative)) text i j d a b (h, c) = absurd (special_decimal text i j 110 _ h refl a)
 number_front (text_scalar x) text i j d a b h = absurd h
