@@ -7,7 +7,7 @@ use Rattle.toml_span_read.specs.Data.{ParsedValue, parsed}
 use Rattle.toml_span_read.specs.Grammar.{from_to, Spells, SpellsDocument, first_block}
 use Rattle.toml_span_laws.specs.Again.{moved, assigned_again, key_value_again}
 use Rattle.toml_span_read.proofs.SpanLaws.{value_lies}
-use Rattle.toml_span_places.proofs.Moves.{Copied, At}
+use Rattle.toml_span_places.proofs.Moves.{Copied}
 use Rattle.toml_span_laws.proofs.AgainValues.{value_copied}
 use Rattle.toml_span_laws.proofs.SpelledLine.{assigned, document}
 
@@ -35,16 +35,14 @@ again_copied text i j on within =
 few : (v : ParsedValue) (text : List ℕ) (limit d i j : ℕ) → Spells v text limit d i j → d ≤ limit
 few (parsed x s) text limit d i j h = h.0
 
-x_key : SimpleKey
+abbrev x_key : SimpleKey
 x_key = record { name = codes "x"; span = record { start = 0; end = 1 } }
 
 x_stands : (text : List ℕ) (i j : ℕ) → 4 ≤ length (assigned_again text i j) → SpellsSimpleKey x_key (assigned_again text i j) 0 1
-unfolding x_key
 x_stands text i j l =
     inl ((omega arith, record { forward = omega arith; within = omega arith; passes = λ k x y. (let z : k ≡ 0 = omega arith in rw z refl); stops = λ x. refl }, refl), refl)
 
 pub document_spelled : (v : ParsedValue) (text : List ℕ) (limit d i j : ℕ) → 1 ≤ d → Spells v text limit d i j → SpellsDocument (first_block (key_value_again v i j ∷ [])) (assigned_again text i j) limit
-unfolding x_key
 document_spelled v text limit d i j deep h =
     let lies = value_lies v text limit d i j h in
     let on = lies.1 in

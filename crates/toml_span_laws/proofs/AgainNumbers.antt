@@ -10,11 +10,11 @@ use Rattle.toml_span_tree.specs.Node.{Scalar, text as text_scalar, integer, floa
 use Rattle.toml_span_read.specs.Dates.{is_date_byte, begins_date, continues_date, IsCandidate}
 use Rattle.toml_span_read.specs.Numbers.{IsNumber}
 use Rattle.toml_span_read.specs.Grammar.{SpellsScalar, from_to, truth_text}
-use Rattle.toml_span_places.proofs.Moves.{Moves, said, also, Copied, At, further, byte, before_end, back, same_range}
+use Rattle.toml_span_places.proofs.Moves.{Moves, also, Copied, At, further, before_end, back, same_range}
 use Rattle.toml_span_places.proofs.NumbersMove.{number}
 use Rattle.toml_span_places.proofs.DatesAgain.{digit_date, date_carried}
 use Rattle.toml_span_laws.specs.Again.{moved_span}
-use Rattle.toml_span_laws.proofs.AgainRuns.{Alike, runs, worded}
+use Rattle.toml_span_laws.proofs.AgainRuns.{runs, worded}
 use Rattle.toml_span_laws.proofs.AgainStrings.{string, string_on, spans, equal_moved}
 
 -- a run goes on over a byte that passes

@@ -1,6 +1,6 @@
 -- A part of a text that ends another one: runs and gaps that stand in the part stand in its copy.
-use Rattle.std.proofs.Common.{◌≡◌, ℕ, ◌+◌, ◌-◌, ◌<◌, ◌≤◌, ◌⊎◌, Bool, true, false, List, [], ◌∷◌, length, get_or, arith, inl, inr, sym, ◌∙◌, refl}
-use Rattle.std.specs.Prelude.{◌==◌, ◌||◌, slice_range}
+use Rattle.std.proofs.Common.{◌≡◌, ℕ, ◌+◌, ◌-◌, ◌<◌, ◌⊎◌, Bool, true, false, List, [], ◌∷◌, length, get_or, arith, inl, inr, sym, ◌∙◌, refl}
+use Rattle.std.specs.Prelude.{◌==◌, ◌||◌}
 use Rattle.std.proofs.lemmas.Bool.{cases_lt, false≢true, or_cases, or_left, or_right, and_parts, false_from_ne_true, eqb-true}
 use Rattle.std.proofs.lemmas.List.{get_or_past}
 use Rattle.toml_span_lex.specs.Bytes.{is_blank, is_printed, MaximalRun}
@@ -9,7 +9,7 @@ use Rattle.toml_span_lex.specs.Text.{is_crlf, LineEnd}
 use Rattle.toml_span_lex.specs.Tokens.{RunAt}
 use Rattle.toml_span_read.specs.Gaps.{GapPiece, begins_gap, GapBy, MaximalGap, Dot, NoDot, Separator, Closes}
 use Rattle.toml_span_read.proofs.Places.{read_within, run_some}
-use Rattle.toml_span_places.proofs.Moves.{Moves, either, said, Copied, At, further, behind, nothing, byte, back, stays, first, run, same_range}
+use Rattle.toml_span_places.proofs.Moves.{Moves, either, said, Copied, At, behind, nothing, byte, back, stays, first, run, same_range}
 
 module _ {a b : List ℕ} {s t : ℕ} (w : Copied a b s t (length b) 0) where
   abbrev pub Alike : ℕ → (List ℕ → ℕ → ℕ → Type 0) → Type 0

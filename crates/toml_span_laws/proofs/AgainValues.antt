@@ -1,9 +1,9 @@
 -- Values that stand in a part of a text stand in its copy.
-use Rattle.std.proofs.Common.{◌≡◌, ℕ, ◌+◌, ◌-◌, ◌<◌, ◌≤◌, ◌⊎◌, List, [], ◌∷◌, ◌++◌, map, length, get_or, drop, arith, inl, inr, sym, ◌∙◌, refl, ap, subst}
+use Rattle.std.proofs.Common.{◌≡◌, ℕ, ◌+◌, ◌≤◌, List, [], ◌∷◌, ◌++◌, map, length, get_or, arith, sym, ◌∙◌, refl, ap, subst}
 use Rattle.std.proofs.lemmas.List.{map-append, length-map}
 use Rattle.toml_span_lex.specs.declared.span.Span.{Span}
 use Rattle.toml_span_lex.specs.Bytes.{is_keylike}
-use Rattle.toml_span_read.specs.Gaps.{Separator, Closes, MaximalGap}
+use Rattle.toml_span_read.specs.Gaps.{Separator, MaximalGap}
 use Rattle.toml_span_read.specs.Keys.{SimpleKey, SpellsSimpleKey, Onward, SpellsKey}
 use Rattle.toml_span_read.specs.Data.{ParsedValue, parsed, ParsedInner, scalar, array, inline, ParsedItems, no_items, item, ParsedPairs, no_pairs, pair, KeyValue}
 use Rattle.toml_span_read.specs.Earlier.{part_names, NoneAt, NoneThrough, Clear}
@@ -14,12 +14,12 @@ use Rattle.toml_span_laws.proofs.AgainRuns.{worded, gap, sign, closes, dot, no_d
 use Rattle.toml_span_laws.proofs.AgainStrings.{string, spans}
 use Rattle.toml_span_laws.proofs.AgainNumbers.{scalar_copied}
 
-moved_part : ℕ → ℕ → SimpleKey → SimpleKey
+abbrev moved_part : ℕ → ℕ → SimpleKey → SimpleKey
 moved_part s t p = record { name = p.name; span = moved_span s t p.span }
 
 -- ---- keys that go through earlier values
 
-moved_key_value : ℕ → ℕ → KeyValue → KeyValue
+abbrev moved_key_value : ℕ → ℕ → KeyValue → KeyValue
 moved_key_value s t e = record { parts = moved_parts s t e.parts; value = moved s t e.value; extent = moved_span s t e.extent }
 
 path_moved : (s t : ℕ) (ps : List SimpleKey) → part_names (moved_parts s t ps) ≡ part_names ps
@@ -27,7 +27,6 @@ path_moved s t [] = refl
 path_moved s t (p ∷ ps) = ap (λ (ns : List (List ℕ)). p.name ∷ ns) (path_moved s t ps)
 
 none_moved : (s t : ℕ) (names : List (List ℕ)) (es : List KeyValue) → NoneAt names es → NoneAt names (map (moved_key_value s t) es)
-unfolding moved_key_value
 none_moved s t names [] h = tt
 none_moved s t names (e ∷ es) (h, more) = ((λ x. h (sym (path_moved s t e.parts) ∙ x)), none_moved s t names es more)
 
@@ -59,7 +58,6 @@ none_of [] e = refl
 none_of (p ∷ ps) e = absurd (cc)
 
 clear_moved : (s t : ℕ) (es : List KeyValue) (next : KeyValue) → Clear es next → Clear (map (moved_key_value s t) es) (moved_key_value s t next)
-unfolding moved_key_value
 clear_moved s t es next h inner last e =
     let c = cut_alike next.parts inner last [] (sym (ap (λ (l : List SimpleKey). part_names l) e) ∙ path_moved s t next.parts) in
     through_moved s t c.before inner es (sym c.first) (h c.before c.here (subst (λ (l : List SimpleKey). next.parts ≡ c.before ++ (c.here ∷ l)) (none_of c.behind c.last) c.is))
@@ -74,19 +72,16 @@ module _ {a b : List ℕ} {s t : ℕ} (w : Copied a b s t (length b) 0) where
   To R S = Moves (At s t (length b) 0) R S
 
   key : (p : SimpleKey) → To (SpellsSimpleKey p a) (SpellsSimpleKey (moved_part s t p) b)
-  unfolding moved_part
   key p = either (also (worded w is_keylike p.name) (λ i j k l o u v h z. spans w u v z)) (record {
     on = λ i j h. (string w p.span h.0 p.name _).on i j h.1;
     to = λ i j k l u v h. (h.0, (string w p.span h.0 p.name _).to i j k l u v h.1);
   })
 
   onward : (ps : List SimpleKey) → To (Onward ps a) (Onward (moved_parts s t ps) b)
-  unfolding moved_part
   onward [] = also nothing (λ i j k l o u v e h. no_dot w u h)
   onward (p ∷ ps) = said (λ i j h. (h.0, h.2, (h.1, h.3, h.4))) (λ k l h. (h.0, h.2.0, h.1, h.2.1, h.2.2)) (behind (dot w) (behind (key p) (onward ps)))
 
   dotted : (ps : List SimpleKey) → To (SpellsKey ps a) (SpellsKey (moved_parts s t ps) b)
-  unfolding moved_part
   dotted [] = record { on = λ i j h. absurd h; to = λ i j k l u v h. absurd h }
   dotted (p ∷ ps) = behind (key p) (onward ps)
 
@@ -103,8 +98,6 @@ module _ {a b : List ℕ} {s t : ℕ} (w : Copied a b s t (length b) 0) where
   opened c span x = said (λ i j h. ((h.0, (h.2, h.3, h.4)), h.1)) (λ k l h. (h.0.0, h.1, h.0.1.0, h.0.1.1, h.0.1.2)) (also (first w (λ x. x) c (behind (gap w) x)) (λ i j k l o u v h z. spans w u v z))
 
   mutual
-    unfolding moved_key_value
-
     pub value_copied : (v : ParsedValue) (limit c d : ℕ) → c ≤ d → To (Spells v a limit d) (Spells (moved s t v) b limit c)
     value_copied (parsed x span) limit c d q = said (λ i j h. (h.1, h.0)) (λ k l h. (h.1, h.0)) (also (inner_copied x span limit c d q) (λ i j k l o u v h few. omega arith))
 

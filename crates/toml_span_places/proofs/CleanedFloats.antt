@@ -7,11 +7,11 @@ use Rattle.std.proofs.lemmas.List.Elements.{filter-append}
 use Rattle.toml_span_lex.proofs.PieceLemmas.{slice_join}
 use Rattle.toml_span_tree.specs.Node.{float, finite}
 use Rattle.toml_span_read.specs.Numbers.{is_digit_in, is_figure, Digits, behind_sign, is_exponent, Exponent, Fraction, FloatLiteral, cleaned}
-use Rattle.toml_span_read.proofs.NumberLemmas.{clash, sign_on, digits_on, digit_figure, digit_no_underscore, no_sign, slice_cons}
+use Rattle.toml_span_read.proofs.NumberLemmas.{clash, sign_on, digits_on, no_sign, slice_cons}
 use Rattle.toml_span_places.specs.Again.{IsFloatText}
 use Rattle.toml_span_places.proofs.NumbersAgain.{Plain, plain_in}
 use Rattle.toml_span_places.proofs.Undated.{no_date}
-use Rattle.toml_span_places.proofs.Parts.{Part, same_part, here, byte_at, next, within, each, empty_range}
+use Rattle.toml_span_places.proofs.Parts.{Part, same_part, here, byte_at, empty_range}
 
 -- ---- what cleaning does
 

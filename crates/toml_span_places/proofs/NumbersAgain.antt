@@ -17,7 +17,7 @@ use Rattle.toml_span_read.specs.Data.{kind_view, scalar}
 use Rattle.toml_span_read.specs.declared.value.ValKind.{Integer, the_lemmas}
 use Rattle.toml_span_read.specs.Dates.{is_date_byte}
 use Rattle.toml_span_read.specs.Grammar.{from_to, SpellsScalar}
-use Rattle.toml_span_read.specs.Numbers.{is_digit_in, Digits, is_figure, sum_of_digits, magnitude, behind_sign, is_negative, UnsignedDecimal, IsSigned}
+use Rattle.toml_span_read.specs.Numbers.{is_digit_in, Digits, is_figure, sum_of_digits, magnitude, behind_sign, is_negative, IsSigned}
 use Rattle.toml_span_read.proofs.NumberLemmas.{digit_figure, no_keylike_figure, digit_no_underscore, stands_alone}
 use Rattle.toml_span_read.proofs.ShortIntegers.{decimal_digit as digit_ten, short_made}
 use Rattle.toml_span_places.proofs.Parts.{Part, tail, here, byte_at, next, range, within, each}

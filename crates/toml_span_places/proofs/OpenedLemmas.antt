@@ -1,5 +1,5 @@
 -- The elements of arrays of tables, as they are kept in a map.
-use Rattle.std.proofs.Common.{◌≡◌, ◌∙◌, ℕ, suc, ◌+◌, Bool, true, false, cond, ◌&&◌, nat_eq, List}
+use Rattle.std.proofs.Common.{◌≡◌, ◌∙◌, ℕ, suc, ◌+◌, Bool, true, false, cond, nat_eq, List}
 use Rattle.std.proofs.Common.{[], ◌∷◌, ◌++◌, map, filter, length, Option, Some, unwrap_or, Vec, Global, refl}
 use Rattle.std.proofs.Common.{ap, sym, subst, Ordering, Less, Equal, Greater, true≢false, length-append, arith}
 use Rattle.std.specs.Cmp.{both_tied}
