@@ -1,7 +1,7 @@
 -- Strings that stand in a part of a text stand in its copy.
 use Rattle.std.proofs.Common.{◌≡◌, ℕ, ◌+◌, ◌-◌, ◌<◌, ◌≤◌, ◌⊎◌, Bool, true, false, List, [], ◌∷◌, ◌++◌, length, get_or, take, drop, arith, inl, inr, sym, ◌∙◌, refl, subst, cond}
 use Rattle.std.specs.Prelude.{◌==◌, ◌||◌, ◌&&◌, not}
-use Rattle.std.proofs.lemmas.Bool.{cases_lt, false≢true, or_cases, or_left, or_right, false_from_ne_true}
+use Rattle.std.proofs.lemmas.Bool.{cases_lt, cases_Bool, false≢true, or_cases, or_left, or_right, false_from_ne_true}
 use Rattle.std.proofs.lemmas.Bool.Decides.{nat_tests}
 use Rattle.std.proofs.lemmas.List.{get_or_past}
 use Rattle.toml_span_lex.specs.declared.span.Span.{Span}
@@ -15,6 +15,7 @@ use Rattle.toml_span_lex.specs.Strings.{Cut, content, content_end, IsContent, Is
 use Rattle.toml_span_lex.proofs.PieceLemmas.{line_forward, piece_forward, Cut-forward, closing}
 use Rattle.toml_span_lex.proofs.Copies.{content_fits}
 use Rattle.toml_span_lex.proofs.MadeStrings.{content_from_after}
+use Rattle.toml_span_read.proofs.NumberLemmas.{byte_is, same_byte}
 use Rattle.toml_span_laws.specs.Again.{moved_span}
 use Rattle.toml_span_places.proofs.Moves.{Moves, said, Copied, At, further, room, between, behind, byte, same_range}
 use Rattle.toml_span_laws.proofs.AgainRuns.{Alike, runs, run_cut, crlf, no_crlf, line, ws_back}
@@ -22,14 +23,10 @@ use Rattle.toml_span_laws.proofs.AgainRuns.{Alike, runs, run_cut, crlf, no_crlf,
 -- ---- spans
 
 pub equal_moved : (s t x y x' y' : ℕ) → x + t ≡ x' + s → y + t ≡ y' + s → (x == y) ≡ (x' == y')
-equal_moved s t x y x' y' e f =
-    elim (cases_lt x y) [
-      | inl l ↦ let n : (x == y) ≡ false = grind (arith, nat_tests) in let m : (x' == y') ≡ false = grind (arith, nat_tests) in n ∙ sym m
-      | inr g ↦ elim (cases_lt y x) [
-        | inl l ↦ let n : (x == y) ≡ false = grind (arith, nat_tests) in let m : (x' == y') ≡ false = grind (arith, nat_tests) in n ∙ sym m
-        | inr h ↦ let n : (x == y) ≡ true = grind (arith, nat_tests) in let m : (x' == y') ≡ true = grind (arith, nat_tests) in n ∙ sym m
-      ]
-    ]
+equal_moved s t x y x' y' e f = elim (cases_Bool (x == y)) [
+  | inl h ↦ let z : x' ≡ y' = omega (arith, byte_is x y h) in h ∙ sym (same_byte x' y' z)
+  | inr h ↦ h ∙ sym (false_from_ne_true (x' == y') (λ g. (let z : x ≡ y = omega (arith, byte_is x' y' g) in false≢true (sym h ∙ same_byte x y z))))
+]
 
 place_moved : (s t x y : ℕ) → x + t ≡ y + s → (x + t) - s ≡ y
 place_moved s t x y e = omega arith
