@@ -1,31 +1,34 @@
 -- The values of a document are read again from the texts at their spans.
 use Rattle.std.proofs.Common.{◌≡◌, ℕ, ◌+◌, ◌≤◌, List, [], ◌∷◌, ◌++◌, length, arith, inl, inr, sym, subst}
 use Rattle.toml_span_lex.specs.declared.span.Span.{Span}
-use Rattle.toml_span_tree.specs.Node.{text as text_scalar, integer, float, boolean, datetime}
+use Rattle.toml_span_tree.specs.Node.{Scalar, text as text_scalar, integer, float, boolean, datetime}
 use Rattle.toml_span_read.specs.Keys.{SimpleKey, SpellsKey}
 use Rattle.toml_span_read.specs.Data.{ParsedValue, parsed, ParsedInner, scalar, array, inline, ParsedItems, no_items, item, ParsedPairs, no_pairs, pair, KeyValue, parsed_span, Block}
 use Rattle.toml_span_read.specs.Grammar.{from_to, Spells, SpellsInner, SpellsItems, SpellsPairs, SpellsKeyValues, first_block, SpellsSections, SpellsDocument}
-use Rattle.toml_span_laws.specs.Again.{SpellsAgain, ReadsAgain, AllReadAgain, InnerReadAgain, ItemsReadAgain, PairsReadAgain, KeyValuesReadAgain, BlocksReadAgain}
+use Rattle.toml_span_laws.specs.Again.{SpellsAgain, ReadsAgain, ScalarReadsAgain, AllReadAgain, InnerReadAgain, ItemsReadAgain, PairsReadAgain, KeyValuesReadAgain, BlocksReadAgain}
 use Rattle.toml_span_laws.proofs.AgainLines.{document_spelled}
 
 -- a value whose span is from where it begins to where it ends
-at_span : (v : ParsedValue) (text : List ℕ) (limit d i j : ℕ) → 1 ≤ d → Spells v text limit d i j → parsed_span v ≡ from_to i j → ReadsAgain text limit v
-at_span v text limit d i j deep h e = subst (λ (s : Span). SpellsAgain v text limit s.start s.end) (sym e) (document_spelled v text limit d i j deep h)
+pub at-span : (v : ParsedValue) (text : List ℕ) (limit d i j : ℕ) → 1 ≤ d → Spells v text limit d i j → parsed_span v ≡ from_to i j → ReadsAgain text limit v
+at-span v text limit d i j deep h e = subst (λ (s : Span). SpellsAgain v text limit s.start s.end) (sym e) (document_spelled v text limit d i j deep h)
+
+pub scalar-again : (s : Scalar) (span : Span) (text : List ℕ) (limit d i j : ℕ) → 1 ≤ d → Spells (parsed (scalar s) span) text limit d i j → ScalarReadsAgain text limit s span
+scalar-again (text_scalar v) span text limit d i j deep h = tt
+scalar-again (integer n) span text limit d i j deep h = at-span (parsed (scalar (integer n)) span) text limit d i j deep h h.1.2
+scalar-again (float x) span text limit d i j deep h = at-span (parsed (scalar (float x)) span) text limit d i j deep h h.1.2
+scalar-again (boolean b) span text limit d i j deep h = at-span (parsed (scalar (boolean b)) span) text limit d i j deep h h.1.1
+scalar-again (datetime x) span text limit d i j deep h = at-span (parsed (scalar (datetime x)) span) text limit d i j deep h h.1.4
 
 mutual
   value_again : (v : ParsedValue) (text : List ℕ) (limit d i j : ℕ) → 1 ≤ d → Spells v text limit d i j → AllReadAgain text limit v
   value_again (parsed x s) text limit d i j deep (few, h) = inner_again x s text limit d i j deep few h
 
   inner_again : (x : ParsedInner) (s : Span) (text : List ℕ) (limit d i j : ℕ) → 1 ≤ d → d ≤ limit → SpellsInner x s text limit d i j → InnerReadAgain text limit x s
-  inner_again (scalar (text_scalar v)) s text limit d i j deep few h = tt
-  inner_again (scalar (integer n)) s text limit d i j deep few h = at_span (parsed (scalar (integer n)) s) text limit d i j deep (few, h) h.2
-  inner_again (scalar (float x)) s text limit d i j deep few h = at_span (parsed (scalar (float x)) s) text limit d i j deep (few, h) h.2
-  inner_again (scalar (boolean b)) s text limit d i j deep few h = at_span (parsed (scalar (boolean b)) s) text limit d i j deep (few, h) h.1
-  inner_again (scalar (datetime x)) s text limit d i j deep few h = at_span (parsed (scalar (datetime x)) s) text limit d i j deep (few, h) h.4
+  inner_again (scalar x) s text limit d i j deep few h = scalar-again x s text limit d i j deep (few, h)
   inner_again (array vs) s text limit d i j deep few (here, e, k, gap, h) =
-      (at_span (parsed (array vs) s) text limit d i j deep (few, (here, e, k, gap, h)) e, items_again vs text limit (d + 1) k j (omega arith) h)
+      (at-span (parsed (array vs) s) text limit d i j deep (few, (here, e, k, gap, h)) e, items_again vs text limit (d + 1) k j (omega arith) h)
   inner_again (inline ps) s text limit d i j deep few (here, e, k, gap, h) =
-      (at_span (parsed (inline ps) s) text limit d i j deep (few, (here, e, k, gap, h)) e, pairs_again ps [] text limit (d + 1) k j (omega arith) h)
+      (at-span (parsed (inline ps) s) text limit d i j deep (few, (here, e, k, gap, h)) e, pairs_again ps [] text limit (d + 1) k j (omega arith) h)
 
   items_again : (vs : ParsedItems) (text : List ℕ) (limit d i j : ℕ) → 1 ≤ d → SpellsItems vs text limit d i j → ItemsReadAgain text limit vs
   items_again no_items text limit d i j deep h = tt

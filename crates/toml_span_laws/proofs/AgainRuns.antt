@@ -1,207 +1,118 @@
 -- A part of a text that ends another one: runs and gaps that stand in the part stand in its copy.
-use Rattle.std.proofs.Common.{◌≡◌, ℕ, ◌+◌, ◌-◌, ◌<◌, ◌≤◌, ◌⊎◌, Bool, true, false, List, [], ◌∷◌, length, get_or, take, drop, arith, inl, inr, sym, ◌∙◌, refl, length-take, length-drop}
-use Rattle.std.specs.Prelude.{◌==◌, ◌||◌, slice_range}
-use Rattle.std.proofs.lemmas.Bool.{cases_lt, false≢true}
-use Rattle.std.proofs.lemmas.List.{get_or_past, get_or-drop, get_or-take, ext_get_or}
+use Rattle.std.proofs.Common.{◌≡◌, ℕ, ◌+◌, ◌-◌, ◌<◌, ◌⊎◌, Bool, true, false, List, [], ◌∷◌, length, get_or, arith, inl, inr, sym, ◌∙◌, refl}
+use Rattle.std.specs.Prelude.{◌==◌, ◌||◌}
+use Rattle.std.proofs.lemmas.Bool.{cases_lt, false≢true, or_cases, or_left, or_right, and_parts, false_from_ne_true, eqb-true}
+use Rattle.std.proofs.lemmas.List.{get_or_past}
 use Rattle.toml_span_lex.specs.Bytes.{is_blank, is_printed, MaximalRun}
+use Rattle.toml_span_lex.specs.Pieces.{is_ws_or_newline}
 use Rattle.toml_span_lex.specs.Text.{is_crlf, LineEnd}
+use Rattle.toml_span_lex.specs.Tokens.{RunAt}
 use Rattle.toml_span_read.specs.Gaps.{GapPiece, begins_gap, GapBy, MaximalGap, Dot, NoDot, Separator, Closes}
 use Rattle.toml_span_read.proofs.Places.{read_within, run_some}
-use Rattle.toml_span_read.proofs.NumberLemmas.{is_false}
+use Rattle.toml_span_places.proofs.Moves.{Moves, either, said, Copied, At, behind, nothing, byte, back, stays, first, run, same_range}
 
--- From t on to its end, the text b is a part of a that begins at s: what is at i in a is at k in b, where i + t ≡ k + s.
-pub record Copied (a b : List ℕ) (s t : ℕ) : Type 0 where
-  pub same : (i k : ℕ) → s ≤ i → i + t ≡ k + s → k < length b → get_or a i 0 ≡ get_or b k 0
-  pub fits : length b + s ≤ length a + t
+module _ {a b : List ℕ} {s t : ℕ} (w : Copied a b s t (length b) 0) where
+  abbrev pub Alike : ℕ → (List ℕ → ℕ → ℕ → Type 0) → Type 0
+  Alike e R = Moves (At s t (length b) e) (R a) (R b)
 
--- ---- tests of bytes
+  -- ---- runs
 
--- past the end of the copy stands no byte
-pub back : (a b : List ℕ) (s t : ℕ) → Copied a b s t → (p : ℕ → Bool) (i k : ℕ) → s ≤ i → i + t ≡ k + s → p 0 ≡ false → p (get_or b k 0) ≡ true → p (get_or a i 0) ≡ true
-back a b s t w p i k o e z h =
-    elim (cases_lt k (length b)) [
-      | inl l ↦ rw (w.same i k o e l) h
-      | inr g ↦ absurd (false≢true (sym z ∙ (rw (get_or_past b k 0 g) at h)))
-    ]
+  pub runs : {e : ℕ} (p : ℕ → Bool) → Alike e (MaximalRun p)
+  runs p = run w p (λ x. absurd (omega arith))
 
-pub stays : (a b : List ℕ) (s t : ℕ) → Copied a b s t → (p : ℕ → Bool) (i k : ℕ) → s ≤ i → i + t ≡ k + s → p 0 ≡ false → p (get_or a i 0) ≡ false → p (get_or b k 0) ≡ false
-stays a b s t w p i k o e z h = is_false (p (get_or b k 0)) (λ y. false≢true (sym h ∙ back a b s t w p i k o e z y))
+  pub worded : (p : ℕ → Bool) (word : List ℕ) → Alike 0 (λ x i j. RunAt p x i j word)
+  worded p word = record {
+    on = λ i j h. omega (arith, h.0);
+    to = λ i j k l u v h. (let some = h.0 in (omega arith, (runs p).to i j k l u v h.1, h.2 ∙ same_range w i j k l (omega arith) u v));
+  }
 
-pub passes : (a b : List ℕ) (s t : ℕ) → Copied a b s t → (p : ℕ → Bool) (x : Bool) (i k : ℕ) → s ≤ i → i + t ≡ k + s → k < length b → p (get_or a i 0) ≡ x → p (get_or b k 0) ≡ x
-passes a b s t w p x i k o e l h = rw (w.same i k o e l) at h
+  -- a run that may go on behind the copy's end
+  pub run_cut : (p : ℕ → Bool) (i j k : ℕ) → At s t (length b) 0 i k → MaximalRun p a i j → (l : ℕ) × MaximalRun p b k l × ((j + t ≡ l + s) ⊎ ((l ≡ length b) × (l + s < j + t)))
+  run_cut p i j k u r =
+      elim (cases_lt (length b + s) (j + t)) [
+        | inl past ↦ (
+          length b,
+          record {
+            forward = omega arith;
+            within = omega arith;
+            passes = λ m x y. (let g = r.passes ((m + s) - t) (omega arith) (omega arith) in rw (w.same ((m + s) - t) m (omega arith) (omega arith) y) at g);
+            stops = λ x. absurd (omega arith);
+          },
+          inr (refl, past),
+        )
+        | inr within ↦
+            let f : j + t ≡ ((j + t) - s) + s = omega (arith, r.forward) in
+            ((j + t) - s, (runs p).to i j k ((j + t) - s) u (record { after = omega (arith, r.forward); moved = f; inside = omega arith }) r, inl f)
+      ]
 
-pub byte : (a b : List ℕ) (s t c : ℕ) → Copied a b s t → (i k : ℕ) → s ≤ i → i + t ≡ k + s → k < length b → get_or a i 0 ≡ c → get_or b k 0 ≡ c
-byte a b s t c w i k o e l h = sym (w.same i k o e l) ∙ h
+  -- ---- line ends
 
--- ---- ranges
+  pub crlf : {e i k : ℕ} (x : Bool) → At s t (length b) e i k → k + 1 < length b → is_crlf a i ≡ x → is_crlf b k ≡ x
+  crlf {i = i} {k} x u l h = rw (w.same i k u.after u.moved (omega arith), w.same (i + 1) (k + 1) (omega arith) (omega arith) l) at h
 
-pub same_take : (a b : List ℕ) (s t : ℕ) → Copied a b s t → (i k n : ℕ) → s ≤ i → i + t ≡ k + s → k + n ≤ length b → take n (drop i a) ≡ take n (drop k b)
-same_take a b s t w i k n o e l =
-    ext_get_or 0 (take n (drop i a)) (take n (drop k b)) (omega (arith, w.fits, length-take n (drop i a), length-take n (drop k b), length-drop i a, length-drop k b)) (
-    λ m u.
-    let less : m < n = omega (arith, length-take n (drop i a)) in
-    get_or-take n (drop i a) m 0 less
-    ∙ (get_or-drop i a m 0
-    ∙ (w.same (i + m) (k + m) (omega arith) (omega arith) (omega arith)
-    ∙ (sym (get_or-drop k b m 0) ∙ sym (get_or-take n (drop k b) m 0 less))))
-    )
+  crlf_back : {e i k : ℕ} → At s t (length b) e i k → is_crlf b k ≡ true → is_crlf a i ≡ true
+  crlf_back {i = i} {k} u h =
+      let l : k + 1 < length b = read_within b (k + 1) (omega (arith, eqb-true (get_or b (k + 1) 0) 10 (and_parts (get_or b k 0 == 13) _ h).1)) in
+      rw (w.same i k u.after u.moved (omega arith), w.same (i + 1) (k + 1) (omega arith) (omega arith) l) h
 
-pub same_range : (a b : List ℕ) (s t : ℕ) → Copied a b s t → (i j k l : ℕ) → s ≤ i → i ≤ j → i + t ≡ k + s → j + t ≡ l + s → l ≤ length b → slice_range a i j ≡ slice_range b k l
-same_range a b s t w i j k l o on e f u =
-    let n : j - i ≡ l - k = omega arith in rw n (same_take a b s t w i k (l - k) o e (omega arith))
+  pub no_crlf : {e i k : ℕ} → At s t (length b) e i k → is_crlf a i ≡ false → is_crlf b k ≡ false
+  no_crlf u h = false_from_ne_true _ (λ y. false≢true (sym h ∙ crlf_back u y))
 
--- ---- runs
+  pub line : {e : ℕ} → Alike e LineEnd
+  line = either (first w (λ x. x) 10 nothing) (record { on = λ i j h. omega (arith, h.1); to = λ i j k l u v h. (crlf true u (omega (arith, h.1)) h.0, omega (arith, h.1)) })
 
-pub run : (a b : List ℕ) (s t : ℕ) → Copied a b s t → (p : ℕ → Bool) (i j k l : ℕ) → s ≤ i → i + t ≡ k + s → j + t ≡ l + s → l ≤ length b → MaximalRun p a i j → MaximalRun p b k l
-run a b s t w p i j k l o e f u r =
-    record {
-      forward = omega (arith, r.forward);
-      within = u;
-      passes = λ n x y. passes a b s t w p true ((n + s) - t) n (omega arith) (omega arith) (omega arith) (r.passes ((n + s) - t) (omega arith) (omega arith));
-      stops = λ x. passes a b s t w p false j l (omega (arith, r.forward)) f x (r.stops (omega (arith, w.fits)));
-    }
+  -- ---- gaps
 
--- a run that may go on behind the copy's end
-pub run_cut : (a b : List ℕ) (s t : ℕ) → Copied a b s t → (p : ℕ → Bool) (i j k : ℕ) → s ≤ i → i + t ≡ k + s → k ≤ length b → MaximalRun p a i j
-    → (l : ℕ) × MaximalRun p b k l × ((j + t ≡ l + s) ⊎ ((l ≡ length b) × (l + s < j + t)))
-run_cut a b s t w p i j k o e u r =
-    elim (cases_lt (length b + s) (j + t)) [
-      | inl past ↦ (
-        length b,
-        record {
-          forward = u;
-          within = omega arith;
-          passes = λ n x y. passes a b s t w p true ((n + s) - t) n (omega arith) (omega arith) y (r.passes ((n + s) - t) (omega arith) (omega arith));
-          stops = λ x. absurd (omega arith);
-        },
-        inr (refl, past),
-      )
-      | inr within ↦ let f : j + t ≡ ((j + t) - s) + s = omega (arith, r.forward) in ((j + t) - s, run a b s t w p i j k ((j + t) - s) o e f (omega arith) r, inl f)
-    ]
+  pub ws_back : {e i k : ℕ} → At s t (length b) e i k → is_ws_or_newline b k ≡ true → is_ws_or_newline a i ≡ true
+  ws_back {i = i} {k} u h =
+      elim (or_cases (is_blank (get_or b k 0) || get_or b k 0 == 10) (is_crlf b k) h) [
+        | inl y ↦ or_left _ _ (back w (λ c. is_blank c || c == 10) u refl y)
+        | inr y ↦ or_right (is_blank (get_or a i 0) || get_or a i 0 == 10) (is_crlf a i) (crlf_back u y)
+      ]
 
--- ---- line ends
+  gap_back : {e i k : ℕ} → At s t (length b) e i k → begins_gap b k ≡ true → begins_gap a i ≡ true
+  gap_back {i = i} {k} u h =
+      elim (or_cases (is_ws_or_newline b k) (get_or b k 0 == 35) h) [
+        | inl x ↦ or_left (is_ws_or_newline a i) _ (ws_back u x)
+        | inr x ↦ or_right (is_ws_or_newline a i) (get_or a i 0 == 35) (back w (λ c. c == 35) u refl x)
+      ]
 
-pub crlf : (a b : List ℕ) (s t : ℕ) → Copied a b s t → (x : Bool) (i k : ℕ) → s ≤ i → i + t ≡ k + s → k + 1 < length b → is_crlf a i ≡ x → is_crlf b k ≡ x
-crlf a b s t w x i k o e l h = rw (w.same i k o e (omega arith), w.same (i + 1) (k + 1) (omega arith) (omega arith) l) at h
+  gap_piece : Alike 0 GapPiece
+  gap_piece = either (first w is_blank true nothing) (either line comment)
+    where
+      comment : Alike 0 (λ x i j. (get_or x i 0 ≡ 35) × MaximalRun is_printed x i j)
+      comment = record {
+        on = λ i j h. h.1.forward;
+        to = λ i j k l u v h. (let some = run_some is_printed a i j refl (rw (h.0) refl) h.1 in (byte w (λ x. x) 35 u (omega arith) h.0, (runs is_printed).to i j k l u v h.1));
+      }
 
-pub crlf_bytes : (b : List ℕ) (k : ℕ) → is_crlf b k ≡ true → (get_or b k 0 ≡ 13) × (get_or b (k + 1) 0 ≡ 10)
-crlf_bytes b k h = (grind arith, grind arith)
+  gap_pieces : (ns : List ℕ) → Moves (At s t (length b) 0) (λ i j. GapBy a i ns j) (λ k l. (ms : List ℕ) × GapBy b k ms l)
+  gap_pieces [] = said (λ i j h. sym h) (λ k l h. ([], sym h)) nothing
+  gap_pieces (n ∷ ns) = said (λ i j h. (n, h.0, h.1)) (λ k l h. (h.0 ∷ h.2.0, (h.1, h.2.1))) (behind gap_piece (gap_pieces ns))
 
-pub crlf_back : (a b : List ℕ) (s t : ℕ) → Copied a b s t → (i k : ℕ) → s ≤ i → i + t ≡ k + s → is_crlf b k ≡ true → is_crlf a i ≡ true
-crlf_back a b s t w i k o e h =
-    let l : k + 1 < length b = read_within b (k + 1) (omega (arith, (crlf_bytes b k h).1)) in
-    rw (w.same i k o e (omega arith), w.same (i + 1) (k + 1) (omega arith) (omega arith) l) h
+  pub gap : Alike 0 MaximalGap
+  gap = record {
+    on = λ i j h. h.forward;
+    to = λ i j k l u v h. (
+        let by = (gap_pieces h.ends).to i j k l u v h.pieces in
+        record { ends = by.0; pieces = by.1; forward = omega (arith, h.forward); stops = false_from_ne_true _ (λ y. false≢true (sym h.stops ∙ gap_back v y)) });
+  }
 
-pub no_crlf : (a b : List ℕ) (s t : ℕ) → Copied a b s t → (i k : ℕ) → s ≤ i → i + t ≡ k + s → is_crlf a i ≡ false → is_crlf b k ≡ false
-no_crlf a b s t w i k o e h = is_false (is_crlf b k) (λ y. false≢true (sym h ∙ crlf_back a b s t w i k o e y))
+  -- ---- signs
 
-pub line : (a b : List ℕ) (s t : ℕ) → Copied a b s t → (i j k l : ℕ) → s ≤ i → i + t ≡ k + s → j + t ≡ l + s → l ≤ length b → LineEnd a i j → LineEnd b k l
-line a b s t w i j k l o e f u (inl h) = inl (byte a b s t 10 w i k o e (omega (arith, h.1)) h.0, omega (arith, h.1))
-line a b s t w i j k l o e f u (inr h) = inr (crlf a b s t w true i k o e (omega (arith, h.1)) h.0, omega (arith, h.1))
+  pub sign : (c : ℕ) → Alike 0 (Separator c)
+  sign c = said (λ i j h. (h.at, h.before, (h.here, h.behind))) (λ k l h. record { at = h.0; before = h.1; here = h.2.0; behind = h.2.1 }) (behind gap (first w (λ x. x) c gap))
 
--- ---- gaps
+  pub closes : (c : ℕ) → Alike 0 (Closes c)
+  closes c = said (λ i j h. (h.at, h.before, (h.here, h.ends))) (λ k l h. record { at = h.0; before = h.1; here = h.2.0; ends = h.2.1 }) (behind gap (first w (λ x. x) c nothing))
 
-pub or_cases : (x y : Bool) → (x || y) ≡ true → (x ≡ true) ⊎ (y ≡ true)
-or_cases true y h = inl refl
-or_cases false y h = inr h
+  pub dot : Alike 0 Dot
+  dot = said (λ i j h. (h.at, h.before, (h.here, h.behind))) (λ k l h. record { at = h.0; before = h.1; here = h.2.0; behind = h.2.1 }) (behind (runs is_blank) (first w (λ x. x) 46 (runs is_blank)))
 
-pub or_left : (x y : Bool) → x ≡ true → (x || y) ≡ true
-or_left true y h = refl
-or_left false y h = absurd (false≢true h)
-
-pub or_right : (x y : Bool) → y ≡ true → (x || y) ≡ true
-or_right true y h = refl
-or_right false y h = h
-
-gap_back : (a b : List ℕ) (s t : ℕ) → Copied a b s t → (i k : ℕ) → s ≤ i → i + t ≡ k + s → begins_gap b k ≡ true → begins_gap a i ≡ true
-gap_back a b s t w i k o e h =
-    elim (or_cases ((is_blank (get_or b k 0) || get_or b k 0 == 10) || is_crlf b k) (get_or b k 0 == 35) h) [
-      | inl x ↦ or_left _ _
-          (elim (or_cases (is_blank (get_or b k 0) || get_or b k 0 == 10) (is_crlf b k) x) [
-            | inl y ↦ or_left _ _ (back a b s t w (λ c. is_blank c || c == 10) i k o e refl y)
-            | inr y ↦ or_right (is_blank (get_or a i 0) || get_or a i 0 == 10) (is_crlf a i) (crlf_back a b s t w i k o e y)
-          ])
-      | inr x ↦ or_right ((is_blank (get_or a i 0) || get_or a i 0 == 10) || is_crlf a i) (get_or a i 0 == 35) (back a b s t w (λ c. c == 35) i k o e refl x)
-    ]
-
-piece_forward : (a : List ℕ) (i j : ℕ) → GapPiece a i j → i ≤ j
-piece_forward a i j (inl h) = omega (arith, h.1)
-piece_forward a i j (inr (inl (inl h))) = omega (arith, h.1)
-piece_forward a i j (inr (inl (inr h))) = omega (arith, h.1)
-piece_forward a i j (inr (inr h)) = h.1.forward
-
-pieces_forward : (a : List ℕ) (i j : ℕ) (ns : List ℕ) → GapBy a i ns j → i ≤ j
-pieces_forward a i j [] h = omega arith
-pieces_forward a i j (n ∷ ns) h = omega (arith, piece_forward a i n h.0, pieces_forward a n j ns h.1)
-
-gap_piece : (a b : List ℕ) (s t : ℕ) → Copied a b s t → (i j k l : ℕ) → s ≤ i → i + t ≡ k + s → j + t ≡ l + s → l ≤ length b → GapPiece a i j → GapPiece b k l
-gap_piece a b s t w i j k l o e f u (inl h) = inl (passes a b s t w is_blank true i k o e (omega (arith, h.1)) h.0, omega (arith, h.1))
-gap_piece a b s t w i j k l o e f u (inr (inl h)) = inr (inl (line a b s t w i j k l o e f u h))
-gap_piece a b s t w i j k l o e f u (inr (inr h)) =
-    let some : i < j = run_some is_printed a i j refl (rw h.0 refl) h.1 in
-    inr (inr (byte a b s t 35 w i k o e (omega arith) h.0, run a b s t w is_printed i j k l o e f u h.1))
-
-gap_pieces : (a b : List ℕ) (s t : ℕ) → Copied a b s t → (ns : List ℕ) (i j k l : ℕ) → s ≤ i → i + t ≡ k + s → j + t ≡ l + s → l ≤ length b → GapBy a i ns j → (ms : List ℕ) × GapBy b k ms l
-gap_pieces a b s t w [] i j k l o e f u h = let same : k ≡ l = omega arith in ([], same)
-gap_pieces a b s t w (n ∷ ns) i j k l o e f u (h, more) =
-    let x = piece_forward a i n h in
-    let y = pieces_forward a n j ns more in
-    let at : n + t ≡ ((n + t) - s) + s = omega arith in
-    let rest = gap_pieces a b s t w ns n j ((n + t) - s) l (omega arith) at f u more in
-    (((n + t) - s) ∷ rest.0, (gap_piece a b s t w i n k ((n + t) - s) o e at (omega arith) h, rest.1))
-
-pub gap : (a b : List ℕ) (s t : ℕ) → Copied a b s t → (i j k l : ℕ) → s ≤ i → i + t ≡ k + s → j + t ≡ l + s → l ≤ length b → MaximalGap a i j → MaximalGap b k l
-gap a b s t w i j k l o e f u h =
-    let by = gap_pieces a b s t w h.ends i j k l o e f u h.pieces in
-    record {
-      ends = by.0;
-      pieces = by.1;
-      forward = omega (arith, h.forward);
-      stops = is_false (begins_gap b l) (λ y. false≢true (sym h.stops ∙ gap_back a b s t w j l (omega (arith, h.forward)) f y));
-    }
-
--- ---- signs
-
-pub sign : (a b : List ℕ) (s t c : ℕ) → Copied a b s t → (i j k l : ℕ) → s ≤ i → i + t ≡ k + s → j + t ≡ l + s → l ≤ length b → Separator c a i j → Separator c b k l
-sign a b s t c w i j k l o e f u h =
-    let x = h.before.forward in
-    let y = h.behind.forward in
-    let at : h.at + t ≡ ((h.at + t) - s) + s = omega arith in
-    record {
-      at = (h.at + t) - s;
-      before = gap a b s t w i h.at k ((h.at + t) - s) o e at (omega arith) h.before;
-      here = byte a b s t c w h.at ((h.at + t) - s) (omega arith) at (omega arith) h.here;
-      behind = gap a b s t w (h.at + 1) j (((h.at + t) - s) + 1) l (omega arith) (omega arith) f u h.behind;
-    }
-
-pub closes : (a b : List ℕ) (s t c : ℕ) → Copied a b s t → (i j k l : ℕ) → s ≤ i → i + t ≡ k + s → j + t ≡ l + s → l ≤ length b → Closes c a i j → Closes c b k l
-closes a b s t c w i j k l o e f u h =
-    let x = h.before.forward in
-    let y = h.ends in
-    let at : h.at + t ≡ ((h.at + t) - s) + s = omega arith in
-    record {
-      at = (h.at + t) - s;
-      before = gap a b s t w i h.at k ((h.at + t) - s) o e at (omega arith) h.before;
-      here = byte a b s t c w h.at ((h.at + t) - s) (omega arith) at (omega arith) h.here;
-      ends = omega arith;
-    }
-
-pub dot : (a b : List ℕ) (s t : ℕ) → Copied a b s t → (i j k l : ℕ) → s ≤ i → i + t ≡ k + s → j + t ≡ l + s → l ≤ length b → Dot a i j → Dot b k l
-dot a b s t w i j k l o e f u h =
-    let x = h.before.forward in
-    let y = h.behind.forward in
-    let at : h.at + t ≡ ((h.at + t) - s) + s = omega arith in
-    record {
-      at = (h.at + t) - s;
-      before = run a b s t w is_blank i h.at k ((h.at + t) - s) o e at (omega arith) h.before;
-      here = byte a b s t 46 w h.at ((h.at + t) - s) (omega arith) at (omega arith) h.here;
-      behind = run a b s t w is_blank (h.at + 1) j (((h.at + t) - s) + 1) l (omega arith) (omega arith) f u h.behind;
-    }
-
-no_dot_at : (a b : List ℕ) (s t i k at l : ℕ) → Copied a b s t → s ≤ i → i ≤ at → (get_or a at 0 == 46) ≡ false → MaximalRun is_blank b k l → (at + t ≡ l + s) ⊎ ((l ≡ length b) × (l + s < at + t)) → NoDot b k
-no_dot_at a b s t i k at l w o on h r (inl f) = record { at = l; before = r; here = stays a b s t w (λ c. c == 46) at l (omega arith) f refl h }
-no_dot_at a b s t i k at l w o on h r (inr (z, past)) = record { at = l; before = r; here = rw (get_or_past b l 0 (omega arith)) refl }
-
-pub no_dot : (a b : List ℕ) (s t : ℕ) → Copied a b s t → (i k : ℕ) → s ≤ i → i + t ≡ k + s → k ≤ length b → NoDot a i → NoDot b k
-no_dot a b s t w i k o e u h =
-    let r = run_cut a b s t w is_blank i h.at k o e u h.before in no_dot_at a b s t i k h.at r.0 w o h.before.forward h.here r.1 r.2
+  pub no_dot : {i k : ℕ} → At s t (length b) 0 i k → NoDot a i → NoDot b k
+  no_dot {i} {k} u h = (let r = run_cut is_blank i h.at k u h.before in no_dot_at r.0 r.1 r.2)
+    where
+      no_dot_at : (l : ℕ) → MaximalRun is_blank b k l → (h.at + t ≡ l + s) ⊎ ((l ≡ length b) × (l + s < h.at + t)) → NoDot b k
+      no_dot_at l r (inl f) = (let on = h.before.forward in let in_b = r.within in
+          record { at = l; before = r; here = stays w {e = 0} {i = h.at} (λ c. c == 46) (record { after = omega arith; moved = f; inside = omega arith }) refl h.here })
+      no_dot_at l r (inr (z, past)) = record { at = l; before = r; here = rw (get_or_past b l 0 (omega arith)) refl }

@@ -1,33 +1,20 @@
 -- What is assigned in a document is read again from the text at its place.
-use Rattle.std.proofs.Common.{◌≡◌, ℕ, ◌≤◌, List, [], ◌∷◌, Some, None, length, sym, ◌∙◌, ap, subst, inl, inr}
+use Rattle.std.proofs.Common.{◌≡◌, ℕ, List, [], ◌∷◌, Some, None, length, sym, ◌∙◌, ap, subst, inl, inr}
 use Rattle.std.proofs.lemmas.Option.{same_Some}
 use Rattle.toml_span_lex.specs.declared.span.Span.{Span}
-use Rattle.toml_span_tree.specs.Node.{Scalar, text as text_scalar, integer, float, boolean, datetime}
+use Rattle.toml_span_tree.specs.Node.{Scalar}
 use Rattle.toml_span_tree.specs.Path.{Path, Place, shape_scalar, shape_table, place_at}
 use Rattle.toml_span_tree.specs.Value.{view}
 use Rattle.toml_span_tree.specs.declared.value.Value.{Value}
-use Rattle.toml_span_laws.specs.Again.{SpellsAgain, ReadsAgain, ScalarReadsAgain}
+use Rattle.toml_span_laws.specs.Again.{ScalarReadsAgain}
 use Rattle.toml_span_read.specs.Data.{ParsedValue, parsed, scalar, array, inline, parsed_span, Block}
-use Rattle.toml_span_read.specs.Grammar.{from_to, Spells, SpellsDocument}
-use Rattle.toml_span_laws.proofs.AgainLines.{document_spelled}
+use Rattle.toml_span_read.specs.Grammar.{SpellsDocument}
+pub use Rattle.toml_span_laws.proofs.AgainLaws.{at-span, scalar-again}
 use Rattle.toml_span.specs.Claims.{Claim, parsed_inner, value_shape, claims}
 use Rattle.toml_span.specs.Flat.{flat}
 use Rattle.toml_span.specs.Parsing.{IsTree}
 use Rattle.toml_span.proofs.EachClaim.{flat-decides}
 use Rattle.toml_span_laws.proofs.SpelledClaims.{Spelled, OfText, document-of_text}
-
--- ---- values
-
--- a value whose span is from where it begins to where it ends
-pub at-span : (v : ParsedValue) (text : List ℕ) (limit d i j : ℕ) → 1 ≤ d → Spells v text limit d i j → parsed_span v ≡ from_to i j → ReadsAgain text limit v
-at-span v text limit d i j deep h e = subst (λ (s : Span). SpellsAgain v text limit s.start s.end) (sym e) (document_spelled v text limit d i j deep h)
-
-pub scalar-again : (s : Scalar) (span : Span) (text : List ℕ) (limit d i j : ℕ) → 1 ≤ d → Spells (parsed (scalar s) span) text limit d i j → ScalarReadsAgain text limit s span
-scalar-again (text_scalar v) span text limit d i j deep h = tt
-scalar-again (integer n) span text limit d i j deep h = at-span (parsed (scalar (integer n)) span) text limit d i j deep h h.1.2
-scalar-again (float x) span text limit d i j deep h = at-span (parsed (scalar (float x)) span) text limit d i j deep h h.1.2
-scalar-again (boolean b) span text limit d i j deep h = at-span (parsed (scalar (boolean b)) span) text limit d i j deep h h.1.1
-scalar-again (datetime x) span text limit d i j deep h = at-span (parsed (scalar (datetime x)) span) text limit d i j deep h h.1.4
 
 -- ---- the flat document
 

@@ -2,7 +2,7 @@
 use Rattle.std.proofs.Common.{◌≡◌, ℕ, ◌+◌, ◌<◌, ◌≤◌, true, false, List, [], ◌∷◌, ◌++◌, length, get_or, drop, arith, inl, inr, sym, ◌∙◌, refl, ap, subst, append-nil, append_assoc, length-append, codes}
 use Rattle.std.specs.Prelude.{◌==◌, ◌||◌}
 use Rattle.std.proofs.lemmas.Bool.{or_parts}
-use Rattle.std.proofs.lemmas.List.{drop_more}
+use Rattle.std.proofs.lemmas.List.{drop_more, get_or_past}
 use Rattle.std.proofs.lemmas.Str.{encode_ascii, len_utf8_ascii}
 use Rattle.toml_span_lex.specs.Bytes.{is_blank}
 use Rattle.toml_span_lex.specs.Tokenizer.{FirstPlace}
@@ -10,14 +10,13 @@ use Rattle.toml_span_lex.proofs.Runs.{keylike_ascii, read_within}
 use Rattle.toml_span_tree.specs.Node.{Node, node}
 use Rattle.toml_span_tree.specs.Value.{is_whole}
 use Rattle.toml_span_read.specs.Data.{ParsedValue, KeyValue}
-use Rattle.toml_span_read.specs.Gaps.{begins_gap}
-use Rattle.toml_span_read.specs.Grammar.{from_to, Spells, SpellsKeyValue}
+use Rattle.toml_span_read.specs.Gaps.{begins_gap, MaximalGap, Tail}
+use Rattle.toml_span_read.specs.Grammar.{from_to, Spells, SpellsKeyValue, SpellsDocument, first_block}
 use Rattle.toml_span_read.specs.Keys.{SimpleKey, SpellsSimpleKey}
 use Rattle.toml_span_places.specs.Again.{ReadsAsKey, ReadsAsValue, HasFloatTexts, IsWithin}
 use Rattle.toml_span_places.proofs.Parts.{Part, same_part, back, tail, here, whole}
 use Rattle.toml_span_places.proofs.SpelledAgain.{no_gap, key_starts, value_starts, nothing, blank_run}
 use Rattle.toml_span_laws.specs.Again.{SpellsAssignment}
-use Rattle.toml_span_laws.proofs.AgainLines.{no_more}
 
 -- a key's first byte
 key_byte : (s : SimpleKey) (text : List ℕ) (i j : ℕ) → SpellsSimpleKey s text i j → (i < length text) × (get_or text i 0 < 128)
@@ -41,12 +40,11 @@ no_blank : (text : List ℕ) (i : ℕ) → begins_gap text i ≡ false → is_bl
 no_blank text i h = (or_parts (is_blank (get_or text i 0)) (get_or text i 0 == 10) (or_parts (is_blank (get_or text i 0) || get_or text i 0 == 10) _ (or_parts _ (get_or text i 0 == 35) h).0).0).0
 
 -- the assignment
-pair : (text : List ℕ) (s : SimpleKey) (v : ParsedValue) → KeyValue
+abbrev pub pair : (text : List ℕ) (s : SimpleKey) (v : ParsedValue) → KeyValue
 pair text s v = record { parts = s ∷ []; value = v; extent = from_to 0 (length text) }
 
-assigned : (key value : List ℕ) (s : SimpleKey) (v : ParsedValue) (limit a b : ℕ) → b ≡ ((a + 1) + 1) + 1 → a ≡ 0 + length key → 1 ≤ limit → (text : List ℕ) → text ≡ key ++ (codes " = " ++ value)
+pub assigned : (key value : List ℕ) (s : SimpleKey) (v : ParsedValue) (limit a b : ℕ) → b ≡ ((a + 1) + 1) + 1 → a ≡ 0 + length key → 1 ≤ limit → (text : List ℕ) → text ≡ key ++ (codes " = " ++ value)
     → SpellsSimpleKey s text 0 a → Spells v text limit 1 b (length text) → SpellsKeyValue (pair text s v) text limit 0 (length text)
-unfolding pair
 assigned key value s v limit a b at is few text e k h =
     let q = back key (32 ∷ 61 ∷ 32 ∷ value) (same_part (key ++ (32 ∷ 61 ∷ 32 ∷ value)) e (whole text)) in
     let r : Part text (32 ∷ 61 ∷ 32 ∷ value) [] a (length text) = rw (sym is) at q in
@@ -73,6 +71,35 @@ assigned key value s v limit a b at is few text e k h =
 
 -- ---- the document
 
+no_more : (b : List ℕ) (l : ℕ) → l ≡ length b → Tail b l l × MaximalGap b l l
+no_more b l e =
+    let past : get_or b l 0 ≡ 0 = get_or_past b l 0 (omega arith) in (
+      (
+        l,
+        record {
+          at = l;
+          blank = record { forward = omega arith; within = omega arith; passes = λ k x y. absurd (omega arith); stops = λ x. absurd (omega arith) };
+          comment = inr ((rw past refl), refl);
+        },
+        inr (e, refl),
+      ),
+      record { ends = []; pieces = refl; forward = omega arith; stops = rw past refl },
+    )
+
+pub document : (s : SimpleKey) (v : ParsedValue) (text : List ℕ) (limit a : ℕ) → SpellsSimpleKey s text 0 a → SpellsKeyValue (pair text s v) text limit 0 (length text) → SpellsDocument (first_block (pair text s v ∷ [])) text limit
+document s v text limit a k line =
+    let more = no_more text (length text) refl in
+    record {
+      start = 0;
+      end = length text;
+      first = pair text s v ∷ [];
+      rest = [];
+      begins = first_place s text a k;
+      lines = (0, nothing text 0 (no_gap text 0 (key_starts s text 0 a k)), (length text, length text, length text, line, more.0, (λ inner last e outer p rest q. tt), more.1, refl));
+      sections = refl;
+      all = refl;
+    }
+
 moved_to : (v : ParsedValue) (limit b : ℕ) (t u : List ℕ) (j k : ℕ) → t ≡ u → j ≡ k → Spells v t limit 1 b j → Spells v u limit 1 b k
 moved_to v limit b t u j k e f h = subst (λ (x : List ℕ). Spells v x limit 1 b k) e (subst (λ (m : ℕ). Spells v t limit 1 b m) f h)
 
@@ -80,7 +107,6 @@ least : (n : Node) (limit d : ℕ) → IsWithin limit d n → d ≤ limit
 least (node k at) limit d h = h.0
 
 pub line_spelled : (limit : ℕ) (name key : List ℕ) (n : Node) (value : List ℕ) → ReadsAsKey name key → ReadsAsValue n value → is_whole n ≡ true → IsWithin limit 1 n → HasFloatTexts n → SpellsAssignment name n (key ++ (codes " = " ++ value)) limit
-unfolding pair
 line_spelled limit name key n value hk hv full within floats =
     let text = key ++ (codes " = " ++ value) in
     let (span, k) = hk [] (codes " = " ++ value) refl in
@@ -94,18 +120,4 @@ line_spelled limit name key n value hk hv full within floats =
     let end : length (key ++ codes " = ") + length value ≡ length text = omega arith in
     let spells = moved_to v limit (length (key ++ codes " = ")) _ text _ (length text) e end h in
     let line = assigned key value s v limit (0 + length key) (length (key ++ codes " = ")) (omega arith) refl (least n limit 1 within) text refl k spells in
-    let more = no_more text (length text) refl in (
-      pair text s v,
-      record {
-        start = 0;
-        end = length text;
-        first = pair text s v ∷ [];
-        rest = [];
-        begins = first_place s text (0 + length key) k;
-        lines = (0, nothing text 0 (no_gap text 0 (key_starts s text 0 (0 + length key) k)), (length text, length text, length text, line, more.0, (λ inner last e outer p rest q. tt), more.1, refl));
-        sections = refl;
-        all = refl;
-      },
-      refl,
-      same,
-    )
+    (pair text s v, document s v text limit (0 + length key) k line, refl, same)

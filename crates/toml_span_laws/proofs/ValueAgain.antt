@@ -33,20 +33,20 @@ use Rattle.toml_span_laws.proofs.Scoped.{IsUnder}
 -- ---- the other document
 
 -- the one assignment of the value that is read again
-again_block : ParsedValue → List Block
+abbrev again_block : ParsedValue → List Block
 again_block v = first_block (key_value_again v (parsed_span v).start (parsed_span v).end ∷ [])
 
-x_part : SimpleKey
+abbrev x_part : SimpleKey
 x_part = record { name = codes "x"; span = record { start = 0; end = 1 } }
 
-x_claim : ParsedValue → Claim
+abbrev x_claim : ParsedValue → Claim
 x_claim v = assigned at_x x_part (moved (parsed_span v).start 4 v)
 
-x_inside : ParsedValue → Claims
+abbrev x_inside : ParsedValue → Claims
 x_inside v = value_claims (moved (parsed_span v).start 4 v) at_x
 
 again-claims : (v : ParsedValue) → claims (again_block v) ≡ claimed (x_claim v) (x_inside v)
-unfolding again_block x_part x_claim x_inside claims_behind section_claims header_claims key_value_claims key_claims followed target opened_by
+unfolding claims_behind section_claims header_claims key_value_claims key_claims followed target opened_by
 again-claims v =
     followed-none (followed (claimed (x_claim v) (x_inside v)) no_claims) ∙ followed-none (claimed (x_claim v) (x_inside v))
 
@@ -88,13 +88,11 @@ any-earlier (parsed (array vs) span) p e f h = h
 any-earlier (parsed (inline ps) span) p e f h = h
 
 top-place : (v : ParsedValue) (x : Place) → x.shape ≡ value_shape (parsed_inner v) → x.span ≡ parsed_span v → without_key (x_claim v).place ≡ moved_place (parsed_span v).start 4 (without_key x)
-unfolding x_claim
 top-place (parsed (scalar s) span) x shape at = rw (shape, at) refl
 top-place (parsed (array vs) span) x shape at = rw (shape, at) refl
 top-place (parsed (inline ps) span) x shape at = rw (shape, at) refl
 
 x_moved : (c : Claim) (v : ParsedValue) → AreMoved (parsed_span v).start 4 c.path at_x (value_claims v c.path) (x_inside v)
-unfolding x_inside
 x_moved c v = value-moved v (parsed_span v).start 4 c.path at_x c.path at_x ([], sym (append-nil c.path), refl)
 
 x_all : (c : Claim) (v : ParsedValue) → AllMoved (parsed_span v).start 4 c.path at_x (all_claims (value_claims v c.path)) (all_claims (x_inside v))
@@ -112,7 +110,6 @@ unfolding all_claims
 x_at v q = ap (λ cs. claims_at q (all_claims cs)) (again-claims v)
 
 x_resolves : (c : Claim) (v : ParsedValue) → AreFree [] (value_claims v c.path) → Resolves (claims (again_block v))
-unfolding x_inside
 x_resolves c v ok =
     let inside = resolves-moved (parsed_span v).start 4 c.path at_x (value_claims v c.path) (x_inside v) [] [] (x_moved c v) no_more ok in
     none-behind [] (claims (again_block v)) (subst (λ cs. AreFree [] cs) (sym (again-claims v)) (tt, any-earlier (moved (parsed_span v).start 4 v) at_x [] (x_claim v ∷ []) inside))
@@ -127,7 +124,6 @@ alone-place text limit c cs s p n a value path =
 
 stands-moved : (text : List ℕ) (limit : ℕ) (c : Claim) (cs : Claims) (s : Step) (p : Path) (m n : ℕ) (a : Alone text limit c cs) → c.mark.sort ≡ Assigned → c.path ≡ s ∷ p
     → StandsMoved (parsed_span a.value).start 4 (flat m cs) c.path (flat n (claims (again_block a.value))) at_x
-unfolding x_claim
 stands-moved text limit c cs s p m n a value path [] =
     let v = a.value in
     let first = alone-place text limit c cs s p m a value path in
@@ -149,32 +145,20 @@ stands-moved text limit c cs s p m n a value path (t ∷ r) =
 
 -- ---- documents and trees
 
--- the value of the claim is a document of its own, and what stands in it is what stands in the claim's document
-record Again (text : List ℕ) (limit : ℕ) (bs : List Block) (c : Claim) (span : Span) : Type 0 where
-  again : List Block
-  outcome : HasOutcome (text_again text span) limit (resolved again)
-  stands : (m n : ℕ) → StandsMoved span.start 4 (flat m (claims bs)) c.path (flat n (claims again)) at_x
-
-document-again : (text : List ℕ) (limit : ℕ) (bs : List Block) (c : Claim) → SpellsDocument bs text limit → Resolves (claims bs) → AssignsBrackets bs c → Again text limit bs c c.place.span
-unfolding again_block
-document-again text limit bs c h ok (here, value, brackets) =
-    let (a, (s, p, path)) = document-alone text limit bs c h ok here value brackets in
-    let v = a.value in
-    subst (λ (x : Span). Again text limit bs c x) (sym a.span) (record {
-      again = again_block v;
-      outcome = (bracket-reads text limit v a.brackets a.again, x_resolves c v a.resolves);
-      stands = λ m n. stands-moved text limit c (claims bs) s p m n a value path;
-    })
-
 pub flat-place : (text : List ℕ) (limit n : ℕ) (bs : List Block) (c : Claim) → SpellsDocument bs text limit → Resolves (claims bs) → AssignsBrackets bs c → flat n (claims bs) c.path ≡ Some c.place
 flat-place text limit n bs c h ok (here, value, brackets) =
     let (a, (s, p, path)) = document-alone text limit bs c h ok here value brackets in alone-place text limit c (claims bs) s p n a value path
 
+-- the value of the claim is a document of its own, and what stands in it is what stands in the claim's document
 pub flat-again : (text : List ℕ) (limit : ℕ) (bs : List Block) (c : Claim) → SpellsDocument bs text limit → Resolves (claims bs) → AssignsBrackets bs c
     → (again : List Block) × HasOutcome (text_again text c.place.span) limit (resolved again)
     × StandsMoved c.place.span.start 4 (flat (length text) (claims bs)) c.path (flat (length (text_again text c.place.span)) (claims again)) at_x
-flat-again text limit bs c h ok is =
-    let a = document-again text limit bs c h ok is in (a.again, a.outcome, a.stands (length text) (length (text_again text c.place.span)))
+flat-again text limit bs c h ok (here, value, brackets) =
+    let (a, (s, p, path)) = document-alone text limit bs c h ok here value brackets in
+    let v = a.value in
+    let n = length (text_again text (parsed_span v)) in
+    subst (λ (x : Span). (again : List Block) × HasOutcome (text_again text x) limit (resolved again) × StandsMoved x.start 4 (flat (length text) (claims bs)) c.path (flat (length (text_again text x)) (claims again)) at_x) (sym a.span)
+    (again_block v, (bracket-reads text limit v a.brackets a.again, x_resolves c v a.resolves), stands-moved text limit c (claims bs) s p (length text) n a value path)
 
 part-same : (f g : Path → Option Place) (path p : Path) → ((q : Path) → f q ≡ g q) → subtree f path p ≡ subtree g path p
 part-same f g path [] same = ap (option_map without_key) (same path)

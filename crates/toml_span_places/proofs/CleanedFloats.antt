@@ -1,19 +1,17 @@
 -- The text of a float that is read spells the float by itself.
-use Rattle.std.proofs.Common.{◌≡◌, ℕ, zero, suc, ◌+◌, ◌-◌, ◌<◌, ◌≤◌, ◌⊎◌, Bool, true, false, cond, List, [], ◌∷◌, ◌++◌, map, filter, length, get_or, drop, arith, inl, inr, sym, ◌∙◌, refl, ap, subst, append-nil, append_assoc, length-take, length-drop}
-use Rattle.std.specs.Prelude.{◌==◌, ◌||◌, ◌&&◌, not, slice_range}
-use Rattle.std.specs.Char.{is_ascii_digit}
-use Rattle.std.proofs.lemmas.Bool.{cases_lt, cases_Bool, false≢true, or_cases, and_parts, eqb-true, false_from_ne_true}
-use Rattle.std.proofs.lemmas.List.{get_or_past, get_or-take, get_or-drop, map-append, take_all}
+use Rattle.std.proofs.Common.{◌≡◌, ℕ, zero, suc, ◌+◌, ◌-◌, ◌<◌, ◌≤◌, ◌⊎◌, Bool, true, false, cond, List, [], ◌∷◌, ◌++◌, map, filter, length, get_or, drop, arith, inl, inr, sym, ◌∙◌, refl, ap, subst, length-append, length-take, length-drop}
+use Rattle.std.specs.Prelude.{◌==◌, ◌||◌, not, slice_range}
+use Rattle.std.proofs.lemmas.Bool.{cases_Bool, or_cases, eqb-true, false_from_ne_true}
+use Rattle.std.proofs.lemmas.List.{get_or_past, get_or-take, get_or-drop, map-append, take_all, drop_at}
 use Rattle.std.proofs.lemmas.List.Elements.{filter-append}
 use Rattle.toml_span_lex.proofs.PieceLemmas.{slice_join}
-use Rattle.toml_span_tree.specs.Node.{finite}
-use Rattle.toml_span_read.specs.Dates.{begins_date}
+use Rattle.toml_span_tree.specs.Node.{float, finite}
 use Rattle.toml_span_read.specs.Numbers.{is_digit_in, is_figure, Digits, behind_sign, is_exponent, Exponent, Fraction, FloatLiteral, cleaned}
-use Rattle.toml_span_read.proofs.NumberLemmas.{clash, digit_figure, digit_no_underscore, no_sign, slice_cons}
-use Rattle.toml_span_read.proofs.Places.{run_some}
+use Rattle.toml_span_read.proofs.NumberLemmas.{clash, sign_on, digits_on, no_sign, slice_cons}
 use Rattle.toml_span_places.specs.Again.{IsFloatText}
-use Rattle.toml_span_places.proofs.FloatsAgain.{behind_on}
-use Rattle.toml_span_places.proofs.Parts.{Part, same_part, front, back, tail, here, byte_at, next, within, each, whole, empty_range}
+use Rattle.toml_span_places.proofs.NumbersAgain.{Plain, plain_in}
+use Rattle.toml_span_places.proofs.Undated.{no_date}
+use Rattle.toml_span_places.proofs.Parts.{Part, same_part, here, byte_at, empty_range}
 
 -- ---- what cleaning does
 
@@ -53,11 +51,6 @@ digit_other c k h n = false_from_ne_true (c == k) (λ e. clash (is_digit_in 10) 
 digit_kept : (c : ℕ) → is_digit_in 10 c ≡ true → (kept c ≡ true) × (capital c ≡ c)
 digit_kept c h = (rw (digit_other c 43 h refl, digit_other c 95 h refl) refl, rw (digit_other c 101 h refl) refl)
 
--- digits without underscores
-record Plain (ds : List ℕ) : Type 0 where
-  some : 0 < length ds
-  digits : (k : ℕ) → k < length ds → is_digit_in 10 (get_or ds k 0) ≡ true
-
 first_and : (c : ℕ) (ds : List ℕ) → is_digit_in 10 c ≡ true → ((k : ℕ) → k < length ds → is_digit_in 10 (get_or ds k 0) ≡ true) → (k : ℕ) → k < suc (length ds) → is_digit_in 10 (get_or (c ∷ ds) k 0) ≡ true
 first_and c ds digit more zero l = digit
 first_and c ds digit more (suc k) l = more k (omega arith)
@@ -90,7 +83,7 @@ range_length text a b w = omega (arith, length-take (b - a) (drop a text), lengt
 clean_digits : (text : List ℕ) (a b : ℕ) → Digits 10 text a b → Cleaned text a b
 clean_digits text a b h =
     let w = h.run.within in
-    let l : a < b = run_some (is_figure 10) text a b refl (digit_figure 10 (get_or text a 0) h.begins) h.run in
+    let l = digits_on 10 text a b h in
     let d = digit_kept (get_or text a 0) h.begins in
     let e : cleaned (slice_range text a b) ≡ get_or text a 0 ∷ cleaned (slice_range text (a + 1) b) =
     ap cleaned (slice_cons text a b l w) ∙ (cleaned_kept (get_or text a 0) (slice_range text (a + 1) b) d.0 ∙ ap (λ x. x ∷ cleaned (slice_range text (a + 1) b)) d.1) in
@@ -127,218 +120,149 @@ clean_sign text a l = elim (cases_Bool (get_or text a 0 == 43)) [
   ]
 ]
 
-digit_no_sign : (c : ℕ) → is_digit_in 10 c ≡ true → ((c == 43) ≡ false) × ((c == 45) ≡ false)
-digit_no_sign c h = (digit_other c 43 h refl, digit_other c 45 h refl)
-
 -- ---- what is cleaned, as it stands
 
-plain_in : {text rest : List ℕ} {i j : ℕ} (ds : List ℕ) → Plain ds → is_figure 10 (get_or rest 0 0) ≡ false → Part text ds rest i j → Digits 10 text i j
-plain_in {text} {rest} {i} {j} ds plain off p =
-    let on = p.on in
-    let some = plain.some in
-    let all = each p (is_digit_in 10) plain.digits in
-    record {
-      begins = all i (omega arith) (omega arith);
-      run = record { forward = omega arith; within = within p; passes = λ k a b. digit_figure 10 (get_or text k 0) (all k a b); stops = λ x. rw (next p) off };
-      between = λ k a b u. absurd (digit_no_underscore 10 (get_or text k 0) (all k a b) u);
-    }
-
-first_digit : {text rest : List ℕ} {i j : ℕ} (ds : List ℕ) → Plain ds → Part text ds rest i j → is_digit_in 10 (get_or text i 0) ≡ true
-first_digit {text} {rest} {i} {j} ds plain p = let on = p.on in let some = plain.some in each p (is_digit_in 10) plain.digits i (omega arith) (omega arith)
-
--- behind a sign, if one is there, digits stand
-signed_in : {text rest : List ℕ} {i j : ℕ} (s ds : List ℕ) → IsSign s → Plain ds → Part text s (ds ++ rest) i j → (k : ℕ) → Part text ds rest j k → behind_sign text i ≡ j
-signed_in {text} {rest} {i} {j} s ds (inl e) plain p k q =
+-- behind a sign, if one is there, a digit
+signed_in : {text rest : List ℕ} {i j : ℕ} (s : List ℕ) → IsSign s → Part text s rest i j → is_digit_in 10 (get_or text j 0) ≡ true → behind_sign text i ≡ j
+signed_in {text} {rest} {i} {j} s (inl e) p h =
     let at : j ≡ i = omega (arith, p.on, ap length e) in
-    let d : is_digit_in 10 (get_or text i 0) ≡ true = rw at at (first_digit ds plain q) in
-    let n = digit_no_sign (get_or text i 0) d in
-    no_sign text i n.0 n.1 ∙ sym at
-signed_in {text} {rest} {i} {j} s ds (inr e) plain p k q =
+    let d : is_digit_in 10 (get_or text i 0) ≡ true = rw at at h in
+    no_sign text i (digit_other (get_or text i 0) 43 d refl) (digit_other (get_or text i 0) 45 d refl) ∙ sym at
+signed_in {text} {rest} {i} {j} s (inr e) p h =
     let at : j ≡ i + 1 = omega (arith, p.on, ap length e) in
     let c : get_or text i 0 ≡ 45 = here 45 [] (rw e at p) in
     rw (c, at) refl
 
-exponent_in : {text : List ℕ} {i j : ℕ} (s ds : List ℕ) → IsSign s → Plain ds → Part text (69 ∷ (s ++ ds)) [] i j → Exponent text i j
-exponent_in {text} {i} {j} s ds sign plain p =
-    let q = tail 69 (s ++ ds) p in
-    let a = front s ds q in
-    let b = back s ds q in
-    let at : behind_sign text (i + 1) ≡ (i + 1) + length s = signed_in {rest = []} s ds sign plain a j b in
-    record { letter = rw (here 69 (s ++ ds) p) refl; digits = rw at (plain_in ds plain refl b) }
+-- a letter or a dot, which stays
+abbrev Mark : ℕ → Type 0
+Mark c = (is_exponent c ≡ true) ⊎ (c ≡ 46)
 
-fraction_in : {text rest : List ℕ} {i j : ℕ} (ds : List ℕ) → Plain ds → is_figure 10 (get_or rest 0 0) ≡ false → Part text (46 ∷ ds) rest i j → Fraction text i j
-fraction_in ds plain off p = record { point = here 46 ds p; digits = plain_in ds plain off (tail 46 ds p) }
+letter_kept : (c : ℕ) → is_exponent c ≡ true → (kept c ≡ true) × (capital c ≡ 69)
+letter_kept c h = elim (or_cases (c == 101) (c == 69) h) [
+  | inl e ↦ rw (eqb-true c 101 e) (refl, refl)
+  | inr e ↦ rw (eqb-true c 69 e) (refl, refl)
+]
 
--- ---- the parts of what is cleaned
+mark_kept : (c : ℕ) → Mark c → (kept c ≡ true) × (is_figure 10 (capital c) ≡ false)
+mark_kept c (inl h) = let k = letter_kept c h in (k.0, rw k.1 refl)
+mark_kept c (inr e) = rw e (refl, refl)
 
--- what is behind the integer part
-abbrev Rest : List ℕ → Type 0
-Rest r =
-    ((s ds : List ℕ) × IsSign s × Plain ds × (r ≡ 69 ∷ (s ++ ds)))
-    ⊎ ((fs : List ℕ) × Plain fs × (r ≡ 46 ∷ fs))
-    ⊎ ((fs s ds : List ℕ) × Plain fs × IsSign s × Plain ds × (r ≡ 46 ∷ (fs ++ (69 ∷ (s ++ ds)))))
+exponent_on : (text : List ℕ) (a b : ℕ) → Exponent text a b → a < b
+exponent_on text a b h = omega (arith, (sign_on text (a + 1)).0, digits_on 10 text (behind_sign text (a + 1)) b h.digits)
 
-clean_exponent : (text : List ℕ) (a b : ℕ) → Exponent text a b → (s ds : List ℕ) × IsSign s × Plain ds × (cleaned (slice_range text a b) ≡ 69 ∷ (s ++ ds))
-clean_exponent text a b h =
-    let k = behind_sign text (a + 1) in
-    let on = behind_on text (a + 1) in
-    let w = h.digits.run.within in
-    let l : k < b = run_some (is_figure 10) text k b refl (digit_figure 10 (get_or text k 0) h.digits.begins) h.digits.run in
-    let d = clean_digits text k b h.digits in
-    let letter = exponent_clean (get_or text a 0) h.letter in
-    let cut : slice_range text a b ≡ get_or text a 0 ∷ (slice_range text (a + 1) k ++ slice_range text k b) =
-    slice_cons text a b (omega arith) w ∙ ap (λ (l : List ℕ). get_or text a 0 ∷ l) (sym (slice_join text (a + 1) k b on (omega arith))) in (
-      cleaned (slice_range text (a + 1) k),
-      cleaned (slice_range text k b),
-      clean_sign text (a + 1) (omega arith),
-      d.plain,
-      ap cleaned cut
-          ∙ (cleaned_kept (get_or text a 0) (slice_range text (a + 1) k ++ slice_range text k b) letter.0
-          ∙ (ap (λ x. x ∷ cleaned (slice_range text (a + 1) k ++ slice_range text k b)) letter.1
-          ∙ ap (λ (l : List ℕ). 69 ∷ l) (cleaned-append (slice_range text (a + 1) k) (slice_range text k b)))),
-    )
-  where
-    exponent_clean : (c : ℕ) → is_exponent c ≡ true → (kept c ≡ true) × (capital c ≡ 69)
-    exponent_clean c h = elim (or_cases (c == 101) (c == 69) h) [
-      | inl e ↦ rw (eqb-true c 101 e) (refl, refl)
-      | inr e ↦ rw (eqb-true c 69 e) (refl, refl)
-    ]
+fraction_on : (text : List ℕ) (a b : ℕ) → Fraction text a b → a < b
+fraction_on text a b h = omega (arith, digits_on 10 text (a + 1) b h.digits)
 
-clean_fraction : (text : List ℕ) (a b : ℕ) → Fraction text a b → (fs : List ℕ) × Plain fs × (cleaned (slice_range text a b) ≡ 46 ∷ fs)
-clean_fraction text a b h =
-    let w = h.digits.run.within in
-    let l : a + 1 < b = run_some (is_figure 10) text (a + 1) b refl (digit_figure 10 (get_or text (a + 1) 0) h.digits.begins) h.digits.run in
-    let d = clean_digits text (a + 1) b h.digits in
-    (cleaned (slice_range text (a + 1) b), d.plain, ap cleaned (slice_cons text a b (omega arith) w) ∙ (rw h.point refl))
+abbrev Rest : List ℕ → ℕ → ℕ → Type 0
+Rest text a b = Exponent text a b ⊎ ((m : ℕ) × Fraction text a m × ((b ≡ m) ⊎ Exponent text m b))
 
-fraction_on : (text : List ℕ) (a b : ℕ) → Fraction text a b → (a < b) × (b ≤ length text)
-fraction_on text a b h =
-    let l = run_some (is_figure 10) text (a + 1) b refl (digit_figure 10 (get_or text (a + 1) 0) h.digits.begins) h.digits.run in (omega arith, h.digits.run.within)
+rest_on : (text : List ℕ) (a b : ℕ) → Rest text a b → (a < b) × Mark (get_or text a 0)
+rest_on text a b (inl h) = (exponent_on text a b h, inl h.letter)
+rest_on text a b (inr (m, h, inl e)) = (omega (arith, fraction_on text a m h), inr h.point)
+rest_on text a b (inr (m, h, inr x)) = (omega (arith, fraction_on text a m h, exponent_on text m b x), inr h.point)
 
-exponent_on : (text : List ℕ) (a b : ℕ) → Exponent text a b → (a < b) × (b ≤ length text)
-exponent_on text a b h =
-    let k = behind_sign text (a + 1) in
-    let on = behind_on text (a + 1) in
-    let l : k < b = run_some (is_figure 10) text k b refl (digit_figure 10 (get_or text k 0) h.digits.begins) h.digits.run in
-    (omega arith, h.digits.run.within)
+module _ (text : List ℕ) (i j : ℕ) (fits : j ≤ length text) where
+  abbrev Clean : ℕ → ℕ → List ℕ
+  Clean a b = cleaned (slice_range text a b)
 
-rest_on : (text : List ℕ) (a b : ℕ) → Exponent text a b ⊎ ((m : ℕ) × Fraction text a m × ((b ≡ m) ⊎ Exponent text m b)) → a < b
-rest_on text a b (inl h) = (exponent_on text a b h).0
-rest_on text a b (inr (m, h, inl e)) = let l = (fraction_on text a m h).0 in omega arith
-rest_on text a b (inr (m, h, inr x)) = let l = (fraction_on text a m h).0 in let k = (exponent_on text m b x).0 in omega arith
+  -- where what stands at m stands in what is cleaned
+  abbrev To : ℕ → ℕ
+  To m = length (Clean i m)
 
-clean_rest : (text : List ℕ) (a b : ℕ) → Exponent text a b ⊎ ((m : ℕ) × Fraction text a m × ((b ≡ m) ⊎ Exponent text m b)) → Rest (cleaned (slice_range text a b))
-clean_rest text a b (inl h) = inl (clean_exponent text a b h)
-clean_rest text a b (inr (m, h, inl e)) = inr (inl (rw (sym e) at (clean_fraction text a m h)))
-clean_rest text a b (inr (m, h, inr x)) =
-    let (fs, plain, f) = clean_fraction text a m h in
-    let (s, ds, sign, digits, e) = clean_exponent text m b x in
-    let on = (fraction_on text a m h).0 in
-    let more = (exponent_on text m b x).0 in
-    let cut : slice_range text a b ≡ slice_range text a m ++ slice_range text m b = sym (slice_join text a m b (omega arith) (omega arith)) in
-    inr (inr (fs, s, ds, plain, sign, digits, ap cleaned cut ∙ (cleaned-append (slice_range text a m) (slice_range text m b) ∙ (rw (f, e) refl))))
+  join : (a m b : ℕ) → a ≤ m → m ≤ b → Clean a b ≡ Clean a m ++ Clean m b
+  join a m b o l = ap cleaned (sym (slice_join text a m b o l)) ∙ cleaned-append (slice_range text a m) (slice_range text m b)
 
-rest_in : {text : List ℕ} {i j : ℕ} (r : List ℕ) → Rest r → Part text r [] i j → Exponent text i j ⊎ ((m : ℕ) × Fraction text i m × ((j ≡ m) ⊎ Exponent text m j))
-rest_in {text} {i} {j} r (inl (s, ds, sign, plain, e)) p = inl (exponent_in s ds sign plain (rw e at p))
-rest_in {text} {i} {j} r (inr (inl (fs, plain, e))) p = inr (j, fraction_in fs plain refl (rw e at p), inl refl)
-rest_in {text} {i} {j} r (inr (inr (fs, s, ds, plain, sign, digits, e))) p =
-    let q = rw e at p in
-    let a = front (46 ∷ fs) (69 ∷ (s ++ ds)) q in
-    let b = back (46 ∷ fs) (69 ∷ (s ++ ds)) q in
-    inr (i + length (46 ∷ fs), fraction_in fs plain refl a, inr (exponent_in s ds sign digits b))
+  split : (m n : ℕ) → i ≤ m → m ≤ n → n ≤ j → Part (Clean i j) (Clean m n) (Clean n j) (To m) (To n)
+  split m n o l u = record {
+    is = ap (drop (To m)) (join i m j o (omega arith) ∙ ap (λ (x : List ℕ). Clean i m ++ x) (join m n j l u)) ∙ drop_at (Clean i m) (Clean m n ++ Clean n j) (To m) refl;
+    on = omega (arith, ap length (join i m n o l), length-append (Clean i m) (Clean m n));
+    all = omega (arith, ap length (join i n j (omega arith) u), length-append (Clean i n) (Clean n j));
+  }
 
--- what is behind the integer part begins with no figure, no digit, no colon and no dash
-rest_byte : (r : List ℕ) → Rest r → (get_or r 0 0 ≡ 69) ⊎ (get_or r 0 0 ≡ 46)
-rest_byte r (inl (s, ds, sign, plain, e)) = inl (ap (λ (l : List ℕ). get_or l 0 0) e)
-rest_byte r (inr (inl (fs, plain, e))) = inr (ap (λ (l : List ℕ). get_or l 0 0) e)
-rest_byte r (inr (inr (fs, s, ds, plain, sign, digits, e))) = inr (ap (λ (l : List ℕ). get_or l 0 0) e)
+  -- a byte that is kept
+  byte : (m : ℕ) → i ≤ m → m < j → kept (get_or text m 0) ≡ true → (get_or (Clean i j) (To m) 0 ≡ capital (get_or text m 0)) × (To (m + 1) ≡ To m + 1)
+  byte m o l k =
+      let e : Clean m (m + 1) ≡ capital (get_or text m 0) ∷ [] = ap cleaned (one_byte text m (omega arith)) ∙ cleaned_kept (get_or text m 0) [] k in
+      let p = same_part (capital (get_or text m 0) ∷ []) e (split m (m + 1) o (omega arith) (omega arith)) in
+      (here (capital (get_or text m 0)) [] p, p.on)
 
-abbrev Ends : ℕ → Type 0
-Ends c = (is_figure 10 c ≡ false) × (is_ascii_digit c ≡ false) × ((c == 58) ≡ false) × ((c == 45) ≡ false)
+  abbrev IsEnd : ℕ → Type 0
+  IsEnd n = (n ≡ j) ⊎ ((n < j) × Mark (get_or text n 0))
 
-ends : (c : ℕ) → (c ≡ 69) ⊎ (c ≡ 46) → Ends c
-ends c (inl e) = rw e (refl, refl, refl, refl)
-ends c (inr e) = rw e (refl, refl, refl, refl)
+  off : (n : ℕ) → i ≤ n → IsEnd n → is_figure 10 (get_or (Clean n j) 0 0) ≡ false
+  off n o (inl e) = rw (e, empty_range text j) refl
+  off n o (inr (l, m)) =
+      let k = mark_kept (get_or text n 0) m in
+      let e : Clean n j ≡ capital (get_or text n 0) ∷ Clean (n + 1) j = ap cleaned (slice_cons text n j l fits) ∙ cleaned_kept (get_or text n 0) (slice_range text (n + 1) j) k.0 in
+      rw e (k.1)
 
--- ---- no date
+  digits : (m n : ℕ) → i ≤ m → n ≤ j → IsEnd n → Digits 10 text m n → Digits 10 (Clean i j) (To m) (To n)
+  digits m n o u e h = let l = digits_on 10 text m n h in plain_in (Clean m n) (clean_digits text m n h).plain (off n (omega arith) e) (split m n o (omega arith) u)
 
-no_date : {text rest : List ℕ} {i j : ℕ} (ds : List ℕ) → Plain ds → Ends (get_or rest 0 0) → Part text ds rest i j → begins_date text i ≡ false
-no_date {text} {rest} {i} {j} ds plain stop p = false_from_ne_true (begins_date text i) (λ h.
-    let a = and_parts (is_ascii_digit (get_or text i 0) && is_ascii_digit (get_or text (i + 1) 0)) _ h in
-    let b = and_parts (is_ascii_digit (get_or text i 0)) (is_ascii_digit (get_or text (i + 1) 0)) a.0 in
-    let some = plain.some in
-    let on = p.on in
-    let l1 = inside (i + 1) (omega arith) b.1 in
-    elim (or_cases (get_or text (i + 2) 0 == 58) _ a.1) [
-      | inl colon ↦ never 58 (i + 2) (omega arith) (omega arith) (λ c d. digit_other c 58 d refl) stop.2 colon
-      | inr more ↦
-          let c = and_parts (is_ascii_digit (get_or text (i + 2) 0) && is_ascii_digit (get_or text (i + 3) 0)) (get_or text (i + 4) 0 == 45) more in
-          let d = and_parts (is_ascii_digit (get_or text (i + 2) 0)) (is_ascii_digit (get_or text (i + 3) 0)) c.0 in
-          let l2 = inside (i + 2) (omega arith) d.0 in
-          let l3 = inside (i + 3) (omega arith) d.1 in
-          never 45 (i + 4) (omega arith) (omega arith) (λ c d. digit_other c 45 d refl) stop.3 c.1
-    ])
-  where
-    inside : (k : ℕ) → k ≤ j → is_ascii_digit (get_or text k 0) ≡ true → k < j
-    inside k le h = elim (cases_lt k j) [ inl l ↦ l | inr g ↦ let e : k ≡ j = omega arith in absurd (false≢true (sym stop.1 ∙ (rw (e, next p) at h))) ]
+  signed : (m n : ℕ) → i ≤ m → n ≤ j → IsEnd n → Digits 10 text (behind_sign text m) n → behind_sign (Clean i j) (To m) ≡ To (behind_sign text m)
+  signed m n o u e h =
+      let on = (sign_on text m).0 in
+      let l = digits_on 10 text (behind_sign text m) n h in
+      signed_in (Clean m (behind_sign text m)) (clean_sign text m (omega arith)) (split m (behind_sign text m) o on (omega arith)) (digits (behind_sign text m) n (omega arith) u e h).begins
 
-    never : (b k : ℕ) → i ≤ k → k ≤ j → ((c : ℕ) → is_digit_in 10 c ≡ true → (c == b) ≡ false) → (get_or rest 0 0 == b) ≡ false → (get_or text k 0 == b) ≡ true → ⊥
-    never b k ge le other end h = elim (cases_lt k j) [
-      | inl l ↦ false≢true (sym (other (get_or text k 0) (each p (is_digit_in 10) plain.digits k ge l)) ∙ h)
-      | inr g ↦ let e : k ≡ j = omega arith in false≢true (sym end ∙ (rw (e, next p) at h))
-    ]
+  exponent : (m : ℕ) → i ≤ m → Exponent text m j → Exponent (Clean i j) (To m) (To j)
+  exponent m o h =
+      let on = (sign_on text (m + 1)).0 in
+      let l = exponent_on text m j h in
+      let k = letter_kept (get_or text m 0) h.letter in
+      let b = byte m o l k.0 in
+      let s = signed (m + 1) j (omega arith) (omega arith) (inl refl) h.digits in
+      record { letter = rw (b.0, k.1) refl; digits = rw (sym b.1, s) (digits (behind_sign text (m + 1)) j (omega arith) (omega arith) (inl refl) h.digits) }
 
--- ---- the float
+  fraction : (m n : ℕ) → i ≤ m → n ≤ j → IsEnd n → Fraction text m n → Fraction (Clean i j) (To m) (To n)
+  fraction m n o u e h =
+      let l = fraction_on text m n h in
+      let b = byte m o (omega arith) (rw (h.point) refl) in
+      record { point = rw (b.0, h.point) refl; digits = rw (sym b.1) (digits (m + 1) n (omega arith) u e h.digits) }
 
-parts_spell : (s ds r : List ℕ) → IsSign s → Plain ds → (get_or ds 0 0 ≡ 48 → length ds ≡ 1) → Rest r → (text : List ℕ) → text ≡ s ++ (ds ++ r) → (begins_date text 0 ≡ false) × FloatLiteral text 0 (length text)
-parts_spell s ds r sign plain leading rest text is =
-    let p : Part text (s ++ (ds ++ r)) [] 0 (length text) = same_part (s ++ (ds ++ r)) is (whole text) in
-    let a : Part text s (ds ++ (r ++ [])) 0 (0 + length s) = rw (append_assoc ds r []) at (front s (ds ++ r) p) in
-    let q = back s (ds ++ r) p in
-    let b = front ds r q in
-    let stop : Ends (get_or (r ++ []) 0 0) = rw (append-nil r) (ends (get_or r 0 0) (rest_byte r rest)) in
-    let on = b.on in
-    let behind : behind_sign text 0 ≡ 0 + length s = signed_in s ds sign plain a ((0 + length s) + length ds) b in
-    let first = first_byte b in (
-      date sign a b stop,
+  rest : (m : ℕ) → i ≤ m → Rest text m j → Rest (Clean i j) (To m) (To j)
+  rest m o (inl h) = inl (exponent m o h)
+  rest m o (inr (n, h, inl e)) = inr (To n, fraction m n o (omega arith) (inl (sym e)) h, inl (ap To e))
+  rest m o (inr (n, h, inr x)) =
+      let l = fraction_on text m n h in
+      let k = exponent_on text n j x in
+      inr (To n, fraction m n o (omega arith) (inr (k, inl x.letter)) h, inr (exponent n (omega arith) x))
+
+  literal : FloatLiteral text i j → FloatLiteral (Clean i j) 0 (length (Clean i j))
+  literal h =
+      let on = (sign_on text i).0 in
+      let b = behind_sign text i in
+      let e = h.integer_end in
+      let l = digits_on 10 text b e h.integer_part.digits in
+      let r = rest_on text e j h.rest in
+      let d = clean_digits text b e h.integer_part.digits in
+      let p = split b e on (omega arith) (omega arith) in
+      let z : To i ≡ 0 = ap (λ (x : List ℕ). length (cleaned x)) (empty_range text i) in
+      let s : behind_sign (Clean i j) 0 ≡ To b = rw z at (signed i e (omega arith) (omega arith) (inr r) h.integer_part.digits) in
+      let same : get_or (Clean i j) (To b) 0 ≡ get_or (Clean b e) 0 0 = first p d.plain.some in
       record {
-        integer_end = (0 + length s) + length ds;
-        integer_part = rw behind (record { digits = plain_in ds plain stop.0 b; leading = λ e. (let n = leading (sym first ∙ e) in omega arith) });
-        rest = rest_in r rest (back ds r q);
-        ends = rw (get_or_past text (length text) 0 (omega arith)) refl;
-      },
-    )
-  where
-    first_byte : {text more : List ℕ} {i j : ℕ} → Part text ds more i j → get_or text i 0 ≡ get_or ds 0 0
-    first_byte {text} {more} {i} {j} p =
-        let some = plain.some in
-        let on = p.on in
-        let z : i - i ≡ 0 = omega arith in
-        rw z at (byte_at p i (omega arith) (omega arith))
-
-    date : {text others more : List ℕ} {k : ℕ} → IsSign s → Part text s others 0 (0 + length s) → Part text ds more (0 + length s) k → Ends (get_or more 0 0) → begins_date text 0 ≡ false
-    date (inl e) a b stop = let at : 0 + length s ≡ 0 = omega (arith, ap length e) in no_date ds plain stop (rw at at b)
-    date (inr e) a b stop = rw (here 45 [] (rw e at a)) refl
+        integer_end = To e;
+        integer_part = rw s (record {
+          digits = digits b e on (omega arith) (inr r) h.integer_part.digits;
+          leading = λ x. (let n = d.one (h.integer_part.leading (sym d.first ∙ (sym same ∙ x))) in omega (arith, p.on));
+        });
+        rest = rest e (omega arith) h.rest;
+        ends = rw (get_or_past (Clean i j) (length (Clean i j)) 0 (omega arith)) refl;
+      }
+    where
+      first : {xs more : List ℕ} {k l : ℕ} → Part (Clean i j) xs more k l → 0 < length xs → get_or (Clean i j) k 0 ≡ get_or xs 0 0
+      first {xs} {more} {k} p some = let on = p.on in let z : k - k ≡ 0 = omega arith in rw z at (byte_at p k (omega arith) (omega arith))
 
 pub cleaned_spells : (text : List ℕ) (i j : ℕ) → FloatLiteral text i j → IsFloatText (finite (cleaned (slice_range text i j)))
 cleaned_spells text i j h =
-    let b = behind_sign text i in
-    let e = h.integer_end in
-    let on = behind_on text i in
-    let w = h.integer_part.digits.run.within in
-    let l : b < e = run_some (is_figure 10) text b e refl (digit_figure 10 (get_or text b 0) h.integer_part.digits.begins) h.integer_part.digits.run in
-    let m = rest_on text e j h.rest in
-    let d = clean_digits text b e h.integer_part.digits in
     let c = cleaned (slice_range text i j) in
-    let cut : slice_range text i j ≡ slice_range text i b ++ (slice_range text b e ++ slice_range text e j) =
-    sym (slice_join text i b j on (omega arith)) ∙ ap (λ (x : List ℕ). slice_range text i b ++ x) (sym (slice_join text b e j (omega arith) (omega arith))) in
-    let is : c ≡ cleaned (slice_range text i b) ++ (cleaned (slice_range text b e) ++ cleaned (slice_range text e j)) =
-    ap cleaned cut
-    ∙ (cleaned-append (slice_range text i b) (slice_range text b e ++ slice_range text e j)
-    ∙ ap (λ (x : List ℕ). cleaned (slice_range text i b) ++ x) (cleaned-append (slice_range text b e) (slice_range text e j))) in
-    let spells =
-    parts_spell (cleaned (slice_range text i b)) (cleaned (slice_range text b e)) (cleaned (slice_range text e j)) (clean_sign text i (omega arith)) d.plain (λ z. d.one (h.integer_part.leading (sym d.first ∙ z))) (clean_rest text e j h.rest) c is in
+    let spells = literal text i j (rest_within text h.integer_end j h.rest) h in
     let z : length c - 0 ≡ length c = omega arith in
     let all : slice_range c 0 (length c) ≡ c = rw z (take_all (length c) c (omega arith)) in
     let clean : c ≡ cleaned (slice_range c 0 (length c)) = sym (ap cleaned all ∙ cleaned_twice (slice_range text i j)) in
-    (spells.0, (spells.1, clean), refl)
+    (no_date (float (finite c)) c 0 (length c) (spells, clean) (rw (get_or_past c (length c) 0 (omega arith)) refl), (spells, clean), refl)
+  where
+    rest_within : (text : List ℕ) (a b : ℕ) → Rest text a b → b ≤ length text
+    rest_within text a b (inl h) = h.digits.run.within
+    rest_within text a b (inr (m, h, inl e)) = omega (arith, h.digits.run.within)
+    rest_within text a b (inr (m, h, inr x)) = x.digits.run.within

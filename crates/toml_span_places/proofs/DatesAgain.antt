@@ -5,6 +5,7 @@ use Rattle.std.specs.Char.{is_ascii_digit}
 use Rattle.std.specs.List.{list_all}
 use Rattle.std.proofs.lemmas.Bool.{cases_lt, false≢true, or_cases, and_parts, and_from, or_left, or_right, and_right, eqb-true, true_from_ne_false}
 use Rattle.toml_span_read.proofs.NumberLemmas.{clash}
+use Rattle.toml_span_read.proofs.ShortIntegers.{decimal_keylike}
 use Rattle.std.proofs.lemmas.List.{get_or-drop, get_or_append_left, get_or-append_right}
 use Rattle.std.proofs.lemmas.List.Folds.{list_all_at}
 use borrow.Author.Count.{below_none, below_more}
@@ -15,7 +16,6 @@ use Rattle.toml_span_tree.specs.Node.{datetime}
 use Rattle.toml_span_tree.proofs.DateTexts.{parts_of_text}
 use Rattle.toml_span_read.specs.Dates.{begins_date, is_date_byte, continues_date, IsCandidate}
 use Rattle.toml_span_read.specs.Grammar.{from_to, SpellsScalar}
-use Rattle.toml_span_places.proofs.FloatsAgain.{digit_date, this_date}
 use Rattle.toml_span_places.proofs.Parts.{Part, same_part, front, back, tail, here, byte, byte_at, behind, next, range, within}
 
 -- ---- bytes
@@ -23,18 +23,47 @@ use Rattle.toml_span_places.proofs.Parts.{Part, same_part, front, back, tail, he
 digit_some : (c : ℕ) → is_ascii_digit c ≡ true → 0 < c
 digit_some c h = elim (cases_lt 0 c) [ inl l ↦ l | inr z ↦ absurd (clash is_ascii_digit c 0 h (omega arith) refl) ]
 
+pub digit_date : (c : ℕ) → is_ascii_digit c ≡ true → is_date_byte c ≡ true
+digit_date c h = rw (decimal_keylike c h) refl
+
+pub this_date : (c k : ℕ) → is_date_byte k ≡ true → (c == k) ≡ true → is_date_byte c ≡ true
+this_date c k d h = rw (eqb-true c k h) d
+
 either_date : (c k l : ℕ) → is_date_byte k ≡ true → is_date_byte l ≡ true → (c == k || c == l) ≡ true → is_date_byte c ≡ true
 either_date c k l d e h = elim (or_cases (c == k) (c == l) h) [ inl x ↦ this_date c k d x | inr x ↦ this_date c l e x ]
+
+-- a date begins in another text too, if such bytes go on to a place before which the texts are the same
+pub date_carried : (a b : List ℕ) (i k end : ℕ) → ((m : ℕ) → m ≤ end → is_date_byte (get_or a (i + m) 0) ≡ true → (m < end) × (get_or a (i + m) 0 ≡ get_or b (k + m) 0)) → begins_date a i ≡ true → begins_date b k ≡ true
+date_carried a b i k end step h =
+    let zi : i + 0 ≡ i = omega arith in
+    let zk : k + 0 ≡ k = omega arith in
+    let x = and_parts (is_ascii_digit (get_or a i 0) && is_ascii_digit (get_or a (i + 1) 0)) _ h in
+    let y = and_parts (is_ascii_digit (get_or a i 0)) (is_ascii_digit (get_or a (i + 1) 0)) x.0 in
+    let s0 : (0 < end) × (get_or a i 0 ≡ get_or b k 0) = rw (zi, zk) at (step 0 (omega arith) (rw zi (digit_date (get_or a i 0) y.0))) in
+    let s1 = step 1 (omega arith) (digit_date (get_or a (i + 1) 0) y.1) in
+    and_from (is_ascii_digit (get_or b k 0) && is_ascii_digit (get_or b (k + 1) 0)) _ (and_from (is_ascii_digit (get_or b k 0)) _ (rw s0.1 at y.0) (rw s1.1 at y.1))
+    (elim (or_cases (get_or a (i + 2) 0 == 58) _ x.1) [
+      | inl c ↦ let s2 = step 2 (omega arith) (this_date (get_or a (i + 2) 0) 58 refl c) in or_left (get_or b (k + 2) 0 == 58) _ (rw s2.1 at c)
+      | inr d ↦
+          let f = and_parts (is_ascii_digit (get_or a (i + 2) 0) && is_ascii_digit (get_or a (i + 3) 0)) (get_or a (i + 4) 0 == 45) d in
+          let g = and_parts (is_ascii_digit (get_or a (i + 2) 0)) (is_ascii_digit (get_or a (i + 3) 0)) f.0 in
+          let s2 = step 2 (omega arith) (digit_date (get_or a (i + 2) 0) g.0) in
+          let s3 = step 3 (omega arith) (digit_date (get_or a (i + 3) 0) g.1) in
+          let s4 = step 4 (omega arith) (this_date (get_or a (i + 4) 0) 45 refl f.1) in
+          or_right (get_or b (k + 2) 0 == 58) _
+          (and_from (is_ascii_digit (get_or b (k + 2) 0) && is_ascii_digit (get_or b (k + 3) 0)) _ (and_from (is_ascii_digit (get_or b (k + 2) 0)) _ (rw s2.1 at g.0) (rw s3.1 at g.1)) (rw s4.1 at f.1))
+    ])
 
 -- the byte at k is one that dates are written with, and so are all of a list
 abbrev At : List ℕ → ℕ → Type 0
 At xs k = is_date_byte (get_or xs k 0) ≡ true
 
-digit_at : (xs : List ℕ) (k : ℕ) → is_ascii_digit (get_or xs k 0) ≡ true → At xs k
-digit_at xs k h = digit_date (get_or xs k 0) h
+-- two digits more, or this byte
+pair : (xs : List ℕ) (n : ℕ) → ((k : ℕ) → k < n → At xs k) → (is_ascii_digit (get_or xs n 0) ≡ true) × (is_ascii_digit (get_or xs (n + 1) 0) ≡ true) → (k : ℕ) → k < (n + 1) + 1 → At xs k
+pair xs n f d = below_more (At xs) (n + 1) (below_more (At xs) n f (digit_date (get_or xs n 0) d.0)) (digit_date (get_or xs (n + 1) 0) d.1)
 
-this_at : (xs : List ℕ) (k b : ℕ) → is_date_byte b ≡ true → (get_or xs k 0 == b) ≡ true → At xs k
-this_at xs k b d h = this_date (get_or xs k 0) b d h
+one : (xs : List ℕ) (n b : ℕ) → is_date_byte b ≡ true → ((k : ℕ) → k < n → At xs k) → (get_or xs n 0 == b) ≡ true → (k : ℕ) → k < n + 1 → At xs k
+one xs n b d f h = below_more (At xs) n f (this_date (get_or xs n 0) b d h)
 
 abbrev All : List ℕ → Type 0
 All xs = (k : ℕ) → k < length xs → At xs k
@@ -66,11 +95,11 @@ two : (low high : ℕ) (xs : List ℕ) (i : ℕ) → is_two_digits low high xs i
 two low high xs i h = and_parts _ _ (and_parts _ _ (and_parts _ _ h).0).0
 
 -- how a date or a time begins
-record Begins (xs : List ℕ) : Type 0 where
-  first : is_ascii_digit (get_or xs 0 0) ≡ true
-  second : is_ascii_digit (get_or xs 1 0) ≡ true
-  more : ((get_or xs 2 0 == 58) ≡ true) ⊎ ((is_ascii_digit (get_or xs 2 0) ≡ true) × (is_ascii_digit (get_or xs 3 0) ≡ true) × ((get_or xs 4 0 == 45) ≡ true))
-  long : 5 ≤ length xs
+abbrev Begins : List ℕ → Type 0
+Begins xs = begins_date xs 0 ≡ true
+
+begins : (xs : List ℕ) → (is_ascii_digit (get_or xs 0 0) ≡ true) × (is_ascii_digit (get_or xs 1 0) ≡ true) → (get_or xs 2 0 == 58 || ((is_ascii_digit (get_or xs 2 0) && is_ascii_digit (get_or xs 3 0)) && get_or xs 4 0 == 45)) ≡ true → Begins xs
+begins xs h more = and_from (is_ascii_digit (get_or xs 0 0) && is_ascii_digit (get_or xs 1 0)) _ (and_from (is_ascii_digit (get_or xs 0 0)) _ h.0 h.1) more
 
 full_date : (xs : List ℕ) → is_full_date xs ≡ true → (length xs ≡ 10) × All xs × Begins xs
 unfolding is_full_date
@@ -86,27 +115,10 @@ full_date xs h =
     let m = two 1 12 xs 5 c.1 in
     let n = two 1 _ xs 8 a.1 in
     let long : length xs ≡ 10 = eqb-true (length xs) 10 e.0 in
-    let ten =
-    below_more (At xs) 9
-    (below_more (At xs) 8
-    (below_more (At xs) 7
-    (below_more (At xs) 6
-    (below_more (At xs) 5
-    (below_more (At xs) 4
-    (below_more (At xs) 3
-    (below_more (At xs) 2
-    (below_more (At xs) 1 (below_more (At xs) 0 (below_none (At xs)) (digit_at xs 0 y1.0)) (digit_at xs 1 y1.1))
-    (digit_at xs 2 y2.0))
-    (digit_at xs 3 y2.1))
-    (this_at xs 4 45 refl d.1))
-    (digit_at xs 5 m.0))
-    (digit_at xs 6 m.1))
-    (this_at xs 7 45 refl b.1))
-    (digit_at xs 8 n.0))
-    (digit_at xs 9 n.1) in (
+    let ten = pair xs 8 (one xs 7 45 refl (pair xs 5 (one xs 4 45 refl (pair xs 2 (pair xs 0 (below_none (At xs)) y1) y2) d.1) m) b.1) n in (
       long,
       (λ k l. ten k (omega arith)),
-      record { first = y1.0; second = y1.1; more = inr (y2.0, y2.1, d.1); long = omega arith },
+      begins xs y1 (or_right (get_or xs 2 0 == 58) _ (and_from (is_ascii_digit (get_or xs 2 0) && is_ascii_digit (get_or xs 3 0)) _ (and_from (is_ascii_digit (get_or xs 2 0)) _ y2.0 y2.1) d.1)),
     )
 
 -- hours and minutes, at the front
@@ -116,19 +128,15 @@ hour_minute xs h =
     let b = and_parts _ _ a.0 in
     let hour = two 0 23 xs 0 b.0 in
     let minute = two 0 59 xs 3 a.1 in (
-      below_more (At xs) 4
-          (below_more (At xs) 3
-          (below_more (At xs) 2 (below_more (At xs) 1 (below_more (At xs) 0 (below_none (At xs)) (digit_at xs 0 hour.0)) (digit_at xs 1 hour.1)) (this_at xs 2 58 refl b.1))
-          (digit_at xs 3 minute.0))
-          (digit_at xs 4 minute.1),
-      record { first = hour.0; second = hour.1; more = inl b.1; long = read_within xs 4 (digit_some (get_or xs 4 0) minute.1) },
+      pair xs 3 (one xs 2 58 refl (pair xs 0 (below_none (At xs)) hour) b.1) minute,
+      begins xs hour (or_left (get_or xs 2 0 == 58) _ b.1),
     )
 
 secfrac : (xs : List ℕ) → is_time_secfrac xs ≡ true → All xs
 secfrac xs h =
     let a = and_parts _ _ h in
     let b = and_parts _ _ a.0 in
-    joined xs 1 (below_more (At xs) 0 (below_none (At xs)) (this_at xs 0 46 refl b.0)) (digits_all (drop 1 xs) a.1)
+    joined xs 1 (one xs 0 46 refl (below_none (At xs)) b.0) (digits_all (drop 1 xs) a.1)
 
 seconds : (xs : List ℕ) → is_seconds xs ≡ true → All xs
 seconds xs h = elim (or_cases _ _ h) [
@@ -137,7 +145,7 @@ seconds xs h = elim (or_cases _ _ h) [
       let a = and_parts _ _ some in
       let b = and_parts _ _ a.0 in
       let s = two 0 60 xs 1 b.1 in
-      joined xs 3 (below_more (At xs) 2 (below_more (At xs) 1 (below_more (At xs) 0 (below_none (At xs)) (this_at xs 0 58 refl b.0)) (digit_at xs 1 s.0)) (digit_at xs 2 s.1))
+      joined xs 3 (pair xs 1 (one xs 0 58 refl (below_none (At xs)) b.0) s)
       (elim (or_cases _ _ a.1) [
         | inl three ↦ let e : length xs ≡ 3 = eqb-true (length xs) 3 three in none (drop 3 xs) (omega (arith, length-drop 3 xs))
         | inr more ↦ secfrac (drop 3 xs) more
@@ -170,33 +178,24 @@ time : (d : List ℕ) (more : List ℕ) → is_partial_time d ≡ true → (more
 time d more p (inl e) = rw e (appended d [] (partial d p).0 (none [] refl))
 time d more p (inr h) = appended d more (partial d p).0 (offset more h)
 
+-- a date that begins in a text begins where the text stands in another
+begins_in : (xs text : List ℕ) (i : ℕ) → ((k : ℕ) → k < length xs → get_or xs k 0 ≡ get_or text (i + k) 0) → Begins xs → begins_date text i ≡ true
+begins_in xs text i same b = date_carried xs text 0 i (length xs) (λ m l h. (
+    let z : 0 + m ≡ m = omega arith in
+    let d : is_date_byte (get_or xs m 0) ≡ true = rw z at h in
+    let inside = date_within xs m d in
+    (inside, rw z (same m inside)))) b
+  where
+    date_within : (xs : List ℕ) (m : ℕ) → is_date_byte (get_or xs m 0) ≡ true → m < length xs
+    date_within xs m h = read_within xs m (elim (cases_lt 0 (get_or xs m 0)) [ inl l ↦ l | inr z ↦ absurd (clash is_date_byte (get_or xs m 0) 0 h (omega arith) refl) ])
+
 begins_before : (xs ys : List ℕ) → Begins xs → Begins (xs ++ ys)
-begins_before xs ys b =
-    let long = b.long in
-    let e0 = get_or_append_left xs ys 0 0 (omega arith) in
-    let e1 = get_or_append_left xs ys 0 1 (omega arith) in
-    let e2 = get_or_append_left xs ys 0 2 (omega arith) in
-    let e3 = get_or_append_left xs ys 0 3 (omega arith) in
-    let e4 = get_or_append_left xs ys 0 4 (omega arith) in
-    record { first = rw e0 b.first; second = rw e1 b.second; more = rw (e2, e3, e4) b.more; long = omega (arith, length-append xs ys) }
+begins_before xs ys b = begins_in xs (xs ++ ys) 0 (λ k l. (let z : 0 + k ≡ k = omega arith in rw z (sym (get_or_append_left xs ys 0 k l)))) b
 
 -- ---- where it stands
 
 begins_at : {text rest : List ℕ} {i j : ℕ} (xs : List ℕ) → Begins xs → Part text xs rest i j → begins_date text i ≡ true
-begins_at {text} {rest} {i} xs b p =
-    let long = b.long in
-    let z : i + 0 ≡ i = omega arith in
-    let e0 : get_or text i 0 ≡ get_or xs 0 0 = rw z at (byte p 0 (omega arith)) in
-    let e1 = byte p 1 (omega arith) in
-    let e2 = byte p 2 (omega arith) in
-    let e3 = byte p 3 (omega arith) in
-    let e4 = byte p 4 (omega arith) in
-    and_from (is_ascii_digit (get_or text i 0) && is_ascii_digit (get_or text (i + 1) 0)) _ (and_from (is_ascii_digit (get_or text i 0)) _ (rw e0 b.first) (rw e1 b.second))
-    (elim b.more [
-      | inl c ↦ or_left (get_or text (i + 2) 0 == 58) _ (rw e2 c)
-      | inr d ↦ or_right (get_or text (i + 2) 0 == 58) _
-          (and_from (is_ascii_digit (get_or text (i + 2) 0) && is_ascii_digit (get_or text (i + 3) 0)) _ (and_from (is_ascii_digit (get_or text (i + 2) 0)) _ (rw e2 d.0) (rw e3 d.1)) (rw e4 d.2))
-    ])
+begins_at {text} {rest} {i} xs b p = begins_in xs text i (λ k l. sym (byte p k l)) b
 
 -- bytes that dates are written with, from a place of the part on to its end
 run_to : {text rest : List ℕ} {i j : ℕ} (xs : List ℕ) → All xs → is_date_byte (get_or rest 0 0) ≡ false → Part text xs rest i j → MaximalRun is_date_byte text i j
@@ -233,17 +232,15 @@ date_time {text} {rest} {i} {j} xs d off none p =
     let q = same_part (d.date ++ d.delimiter ∷ more) d.whole p in
     let date = full_date d.date d.has_date in
     let clock = partial d.time d.has_time in
-    let later = begins_before d.time d.offset clock.1 in
-    let long = later.long in
-    let begins = begins_at (d.date ++ d.delimiter ∷ more) (begins_before d.date (d.delimiter ∷ more) date.2) q in
+    let later = (and_parts _ _ (and_parts _ _ (begins_before d.time d.offset clock.1)).0).0 in
     let bytes = time d.time d.offset d.has_time d.has_offset in (
       elim (or_cases (d.delimiter == 84 || d.delimiter == 116) (d.delimiter == 32) d.has_delimiter) [
         | inl letter ↦ in_one (d.date ++ d.delimiter ∷ more) (with_letter d.date d.delimiter more date.1 bytes (either_date d.delimiter 84 116 refl refl letter)) off none q
         | inr space ↦
             let is : d.delimiter ≡ 32 = eqb-true d.delimiter 32 space in
-            with_space d.date more date.0 date.1 bytes later.first (omega arith) off (rw is at q)
+            with_space d.date more date.0 date.1 bytes later (read_within more 0 (digit_some (get_or more 0 0) later)) off (rw is at q)
       ],
-      begins,
+      begins_at (d.date ++ d.delimiter ∷ more) (begins_before d.date (d.delimiter ∷ more) date.2) q,
     )
 
 pub date_again : {text rest : List ℕ} {i j : ℕ} (xs : List ℕ) → IsDateText xs → is_date_byte (get_or rest 0 0) ≡ false → continues_date rest 0 ≡ false → Part text xs rest i j → SpellsScalar (datetime xs) (from_to i j) text i j

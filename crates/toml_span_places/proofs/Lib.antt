@@ -1,5 +1,8 @@
 pub mod PathLemmas
 pub mod Parts
+pub mod Moves
+pub mod NumbersMove
+pub mod Undated
 pub mod EscapedChars
 pub mod QuotedAgain
 pub mod NumbersAgain

@@ -17,7 +17,7 @@ use Rattle.toml_span_read.specs.Data.{kind_view, scalar}
 use Rattle.toml_span_read.specs.declared.value.ValKind.{Integer, the_lemmas}
 use Rattle.toml_span_read.specs.Dates.{is_date_byte}
 use Rattle.toml_span_read.specs.Grammar.{from_to, SpellsScalar}
-use Rattle.toml_span_read.specs.Numbers.{is_digit_in, sum_of_digits, magnitude, behind_sign, is_negative, UnsignedDecimal, IsSigned}
+use Rattle.toml_span_read.specs.Numbers.{is_digit_in, Digits, is_figure, sum_of_digits, magnitude, behind_sign, is_negative, IsSigned}
 use Rattle.toml_span_read.proofs.NumberLemmas.{digit_figure, no_keylike_figure, digit_no_underscore, stands_alone}
 use Rattle.toml_span_read.proofs.ShortIntegers.{decimal_digit as digit_ten, short_spelled}
 use Rattle.toml_span_places.proofs.Parts.{Part, tail, here, byte_at, next, range, within, each}
@@ -50,6 +50,22 @@ all_kept p (x ∷ xs) h =
     let e : p x ≡ true = h 0 (omega arith) in
     rw e (ap (λ (l : List ℕ). x ∷ l) (all_kept p xs (λ k l. h (suc k) (omega arith))))
 
+-- digits without underscores
+pub record Plain (ds : List ℕ) : Type 0 where
+  pub some : 0 < length ds
+  pub digits : (k : ℕ) → k < length ds → is_digit_in 10 (get_or ds k 0) ≡ true
+
+pub plain_in : {text rest : List ℕ} {i j : ℕ} (ds : List ℕ) → Plain ds → is_figure 10 (get_or rest 0 0) ≡ false → Part text ds rest i j → Digits 10 text i j
+plain_in {text} {rest} {i} {j} ds plain off p =
+    let on = p.on in
+    let some = plain.some in
+    let all = each p (is_digit_in 10) plain.digits in
+    record {
+      begins = all i (omega arith) (omega arith);
+      run = record { forward = omega arith; within = within p; passes = λ k a b. digit_figure 10 (get_or text k 0) (all k a b); stops = λ x. rw (next p) off };
+      between = λ k a b u. absurd (digit_no_underscore 10 (get_or text k 0) (all k a b) u);
+    }
+
 -- a number of 64 bits in decimal digits, as it stands in a text
 record Decimal (text : List ℕ) (n i j : ℕ) : Type 0 where
   some : i < j
@@ -60,6 +76,9 @@ record Decimal (text : List ℕ) (n i j : ℕ) : Type 0 where
 leads : (n : ℕ) → n < 2 ^ 64 → get_or (decimal n) 0 0 ≡ 48 → length (decimal n) ≡ 1
 leads zero h e = ap length (decimal_digit 0 (omega arith))
 leads (suc n) h e = absurd (omega (arith, first_decimal (suc n) (omega arith) h))
+
+plain : (n : ℕ) → n < 2 ^ 64 → Plain (decimal n)
+plain n h = let numeral = (decimal_is_IsNumeral n h).0 in record { some = numeral.0; digits = λ k l. digit_ten (get_or (decimal n) k 0) (in_range (get_or (decimal n) k 0) (digit_at (decimal n) k numeral.1 l)) }
 
 decimal_in : {text rest : List ℕ} {i j : ℕ} (n : ℕ) → n < 2 ^ 64 → Part text (decimal n) rest i j → Decimal text n i j
 decimal_in {text} {rest} {i} {j} n h p =
@@ -75,23 +94,6 @@ decimal_in {text} {rest} {i} {j} n h p =
       leading = λ e. (let z : i - i ≡ 0 = omega arith in
           let same : get_or text i 0 ≡ get_or (decimal n) 0 0 = rw z at (byte_at p i (omega arith) (omega arith)) in
           let one : length (decimal n) ≡ 1 = leads n h (sym same ∙ e) in omega arith);
-    }
-
-unsigned : (text : List ℕ) (n i j : ℕ) → Decimal text n i j → j ≤ length text → is_keylike (get_or text j 0) ≡ false → UnsignedDecimal text i j
-unsigned text n i j d w off =
-    let some = d.some in
-    record {
-      digits = record {
-        begins = digit_ten (get_or text i 0) (d.digits i (omega arith) some);
-        run = record {
-          forward = omega arith;
-          within = w;
-          passes = λ k a b. digit_figure 10 (get_or text k 0) (digit_ten (get_or text k 0) (d.digits k a b));
-          stops = λ x. no_keylike_figure 10 (get_or text j 0) off;
-        };
-        between = λ k a b u. absurd (digit_no_underscore 10 (get_or text k 0) (digit_ten (get_or text k 0) (d.digits k a b)) u);
-      };
-      leading = d.leading;
     }
 
 -- ---- integers
@@ -115,7 +117,7 @@ negative {text} {rest} {i} {j} n h off p =
     let minus : is_negative text i ≡ true = rw first refl in
     let value : IsSigned true (magnitude 10 text (i + 1) j) (negsuc n) = rw (d.value) (refl, omega arith) in (
       rw first refl,
-      inl (record { digits = rw sign (unsigned text (suc n) (i + 1) j d (within p) b.0); ends = stands_alone text j b.0 b.2; value = rw (sign, minus) value }),
+      inl (record { digits = rw sign (record { digits = plain_in (decimal (suc n)) (plain (suc n) (omega arith)) (no_keylike_figure 10 (get_or rest 0 0) (off_bytes (get_or rest 0 0) off).0) q; leading = d.leading }); ends = stands_alone text j b.0 b.2; value = rw (sign, minus) value }),
       refl,
     )
 

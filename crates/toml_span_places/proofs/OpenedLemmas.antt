@@ -1,7 +1,9 @@
 -- The elements of arrays of tables, as they are kept in a map.
-use Rattle.std.proofs.Common.{◌≡◌, ◌∙◌, ℕ, suc, ◌+◌, Bool, true, false, cond, ◌&&◌, nat_eq, List}
+use Rattle.std.proofs.Common.{◌≡◌, ◌∙◌, ℕ, suc, ◌+◌, Bool, true, false, cond, nat_eq, List}
 use Rattle.std.proofs.Common.{[], ◌∷◌, ◌++◌, map, filter, length, Option, Some, unwrap_or, Vec, Global, refl}
 use Rattle.std.proofs.Common.{ap, sym, subst, Ordering, Less, Equal, Greater, true≢false, length-append, arith}
+use Rattle.std.specs.Cmp.{both_tied}
+use Rattle.std.proofs.Math.Bool.{and-true}
 use Rattle.std.specs.Ordering.{is_eq, ordering_then, match_ordering, nat_cmp}
 use Rattle.std.specs.Map.{lookup}
 use Rattle.std.specs.BTreeMap.{insert_entry}
@@ -46,12 +48,8 @@ then_equal Less = refl
 then_equal Equal = refl
 then_equal Greater = refl
 
-and_true : (b : Bool) → b && true ≡ b
-and_true true = refl
-and_true false = refl
-
 number_tie : (i j : ℕ) → is_eq (nat_cmp i j) ≡ nat_eq i j
-number_tie i j = ap is_eq (then_equal (nat_cmp i j)) ∙ is_eq-slice_cmp (i ∷ []) (j ∷ []) ∙ and_true (nat_eq i j)
+number_tie i j = ap is_eq (then_equal (nat_cmp i j)) ∙ is_eq-slice_cmp (i ∷ []) (j ∷ []) ∙ and-true (nat_eq i j)
 
 step_tie : (x y : SortedStep) → is_eq (order.ghosts.cmp x y) ≡ same_step (sorted_step x) (sorted_step y)
 step_tie (sorted.Key a) (sorted.Key b) = is_eq-slice_cmp a.now b.now
@@ -59,18 +57,13 @@ step_tie (sorted.Position i) (sorted.Position j) = number_tie i j
 step_tie (sorted.Key a) (sorted.Position j) = refl
 step_tie (sorted.Position i) (sorted.Key b) = refl
 
-then_tie : (o r : Ordering) → is_eq (ordering_then o r) ≡ is_eq o && is_eq r
-then_tie Less r = refl
-then_tie Equal r = refl
-then_tie Greater r = refl
-
 pub path_tie : (xs ys : List SortedStep) →
     is_eq (slice_cmp order.ghosts.cmp xs ys) ≡ same_path (map sorted_step xs) (map sorted_step ys)
 unfolding same_path
 path_tie [] [] = refl
 path_tie [] (y ∷ ys) = refl
 path_tie (x ∷ xs) [] = refl
-path_tie (x ∷ xs) (y ∷ ys) = then_tie (order.ghosts.cmp x y) _ ∙ rw (step_tie x y, path_tie xs ys) refl
+path_tie (x ∷ xs) (y ∷ ys) = sym (both_tied _ _ (order.ghosts.cmp x y) _ (sym (step_tie x y)) (sym (path_tie xs ys)))
 
 -- ---- entries
 

@@ -1,10 +1,9 @@
 -- A value as it is spelled is read again.
-use Rattle.std.proofs.Common.{◌≡◌, ℕ, ◌+◌, ◌-◌, ◌<◌, ◌≤◌, ◌⊎◌, Bool, true, false, cond, Some, None, Result, Ok, Err, IfOk, OnOk, String, string_bytes, List, [], ◌∷◌, ◌++◌, length, get_or, drop, arith, inl, inr, sym, ◌∙◌, refl, ap, subst, append_assoc, length-append, codes, IsUtf8}
+use Rattle.std.proofs.Common.{◌≡◌, ℕ, ◌+◌, ◌<◌, ◌≤◌, ◌⊎◌, Bool, true, false, cond, Some, None, Result, Ok, Err, IfOk, OnOk, String, string_bytes, List, [], ◌∷◌, ◌++◌, length, get_or, arith, inl, inr, sym, ◌∙◌, refl, ap, subst, append_assoc, length-append, codes, IsUtf8}
 use Rattle.std.specs.Prelude.{◌==◌, ◌||◌, slice_range}
 use Rattle.std.specs.Global.{Global}
 use Rattle.std.specs.List.{list_all}
 use Rattle.std.proofs.lemmas.Bool.{cases_Bool, false≢true, or_cases, or_parts, or_from, and_parts, eqb-true, false_from_ne_true}
-use Rattle.std.proofs.lemmas.List.{get_or-take, get_or-drop}
 use Rattle.toml_span_lex.specs.Bytes.{is_blank, is_keylike, MaximalRun}
 use Rattle.toml_span_lex.specs.Strings.{IsQuote}
 use Rattle.toml_span_lex.specs.declared.span.Span.{Span}
@@ -18,8 +17,8 @@ use Rattle.toml_span_read.specs.Earlier.{Clear}
 use Rattle.toml_span_read.specs.Gaps.{begins_gap, MaximalGap, Separator, Closes}
 use Rattle.toml_span_read.specs.Grammar.{from_to, truth_text, SpellsScalar, Spells, SpellsInner, SpellsItems, SpellsPairs}
 use Rattle.toml_span_read.specs.Keys.{SimpleKey, SpellsSimpleKey, SpellsKey}
-use Rattle.toml_span_read.specs.Numbers.{is_digit_in, behind_sign, radix_at, SpecialFloat}
-use Rattle.toml_span_read.proofs.NumberLemmas.{clash, digit_keylike, no_sign, stands_alone}
+use Rattle.toml_span_read.specs.Numbers.{is_digit_in, behind_sign, is_negative, radix_at, SpecialFloat}
+use Rattle.toml_span_read.proofs.NumberLemmas.{clash, digit_keylike, no_sign, slice_first, stands_alone}
 use Rattle.toml_span_read.proofs.ShortIntegers.{decimal_keylike}
 use Rattle.toml_span_places.specs.Again.{parts_off, HasValue, HoldsValue, HaveValues, HaveEntries, IsFloatText, IsScalarText, HasFloatTexts, InnerHasFloatTexts, ItemsHaveFloatTexts, MembersHaveFloatTexts, IsWithin, InnerIsWithin, ItemsAreWithin, MembersAreWithin, ReadsAsValue}
 use Rattle.toml_span_places.specs.Quoted.{key_text}
@@ -53,17 +52,18 @@ pub quote_no_gap : (c : ℕ) → IsQuote c → NoGap c
 quote_no_gap c (inl e) = rw e (refl, refl, refl)
 quote_no_gap c (inr e) = rw e (refl, refl, refl)
 
--- digits behind a sign, or without one
-signed_no_gap : (text : List ℕ) (i : ℕ) → is_digit_in 10 (get_or text (behind_sign text i) 0) ≡ true → NoGap (get_or text i 0)
+-- a sign, or what stands without one
+signed_no_gap : (text : List ℕ) (i : ℕ) → (behind_sign text i ≡ i → is_keylike (get_or text i 0) ≡ true) → NoGap (get_or text i 0)
 signed_no_gap text i h = elim (cases_Bool (get_or text i 0 == 43 || get_or text i 0 == 45)) [
   | inl sign ↦ elim (or_cases (get_or text i 0 == 43) (get_or text i 0 == 45) sign) [
     | inl plus ↦ rw (eqb-true (get_or text i 0) 43 plus) (refl, refl, refl)
     | inr minus ↦ rw (eqb-true (get_or text i 0) 45 minus) (refl, refl, refl)
   ]
-  | inr none ↦
-      let n = or_parts (get_or text i 0 == 43) (get_or text i 0 == 45) none in
-      keylike_no_gap (get_or text i 0) (digit_keylike 10 (get_or text i 0) (rw (no_sign text i n.0 n.1) at h))
+  | inr none ↦ let n = or_parts (get_or text i 0 == 43) (get_or text i 0 == 45) none in keylike_no_gap (get_or text i 0) (h (no_sign text i n.0 n.1))
 ]
+
+digits_no_gap : (text : List ℕ) (i : ℕ) → is_digit_in 10 (get_or text (behind_sign text i) 0) ≡ true → NoGap (get_or text i 0)
+digits_no_gap text i h = signed_no_gap text i (λ at. digit_keylike 10 (get_or text i 0) (rw at at h))
 
 radix_no_gap : (text : List ℕ) (i radix : ℕ) → radix_at text i ≡ Some radix → NoGap (get_or text i 0)
 radix_no_gap text i radix h = elim (cases_Bool (get_or text i 0 == 48)) [
@@ -75,32 +75,16 @@ digit_no_gap : (text : List ℕ) (i : ℕ) → begins_date text i ≡ true → N
 digit_no_gap text i h = keylike_no_gap (get_or text i 0) (decimal_keylike (get_or text i 0) (and_parts _ _ (and_parts _ _ h).0).0)
 
 -- the text of a special float, behind its sign
-word_no_gap : (text : List ℕ) (i j c : ℕ) (cs : List ℕ) → slice_range text (behind_sign text i) j ≡ c ∷ cs → behind_sign text i < j → j ≤ length text → is_keylike c ≡ true → NoGap (get_or text i 0)
-word_no_gap text i j c cs e some w k = elim (cases_Bool (get_or text i 0 == 43 || get_or text i 0 == 45)) [
-  | inl sign ↦ elim (or_cases (get_or text i 0 == 43) (get_or text i 0 == 45) sign) [
-    | inl plus ↦ rw (eqb-true (get_or text i 0) 43 plus) (refl, refl, refl)
-    | inr minus ↦ rw (eqb-true (get_or text i 0) 45 minus) (refl, refl, refl)
-  ]
-  | inr none ↦
-      let n = or_parts (get_or text i 0 == 43) (get_or text i 0 == 45) none in
-      let at : behind_sign text i ≡ i = no_sign text i n.0 n.1 in
-      keylike_no_gap (get_or text i 0) (rw (first_of text i j c cs (rw at at e) (rw at at some)) k)
-]
-  where
-    first_of : (text : List ℕ) (i j c : ℕ) (cs : List ℕ) → slice_range text i j ≡ c ∷ cs → i < j → get_or text i 0 ≡ c
-    first_of text i j c cs e l =
-        let z : i + 0 ≡ i = omega arith in
-        let some : 0 < j - i = omega arith in
-        let a : get_or (slice_range text i j) 0 0 ≡ get_or text i 0 = rw z at (get_or-take (j - i) (drop i text) 0 0 some ∙ get_or-drop i text 0 0) in
-        sym a ∙ ap (λ (l : List ℕ). get_or l 0 0) e
+word_no_gap : (text : List ℕ) (i j c : ℕ) (cs : List ℕ) → SpecialFloat (c ∷ cs) text i j → is_keylike c ≡ true → NoGap (get_or text i 0)
+word_no_gap text i j c cs h k = signed_no_gap text i (λ at. rw ((slice_first text i j c cs (rw at at h.some) h.within (rw at at h.letters)).0) k)
 
 scalar_starts : (s : Scalar) (span : Span) (text : List ℕ) (i j : ℕ) → SpellsScalar s span text i j → NoGap (get_or text i 0)
 scalar_starts (text_scalar v) span text i j (source, multi, h) = quote_no_gap (get_or text i 0) h.quote
-scalar_starts (integer z) span text i j (no_date, inl h, is) = signed_no_gap text i h.digits.digits.begins
+scalar_starts (integer z) span text i j (no_date, inl h, is) = digits_no_gap text i h.digits.digits.begins
 scalar_starts (integer z) span text i j (no_date, inr h, is) = radix_no_gap text i h.radix h.prefix
-scalar_starts (float (finite digits)) span text i j (no_date, h, is) = signed_no_gap text i h.0.integer_part.digits.begins
-scalar_starts (float (infinite b)) span text i j (no_date, h, is) = word_no_gap text i j 105 (110 ∷ 102 ∷ []) h.0.letters h.0.some h.0.within refl
-scalar_starts (float (not_a_number b)) span text i j (no_date, h, is) = word_no_gap text i j 110 (97 ∷ 110 ∷ []) h.0.letters h.0.some h.0.within refl
+scalar_starts (float (finite digits)) span text i j (no_date, h, is) = digits_no_gap text i h.0.integer_part.digits.begins
+scalar_starts (float (infinite b)) span text i j (no_date, h, is) = word_no_gap text i j 105 (110 ∷ 102 ∷ []) h.0 refl
+scalar_starts (float (not_a_number b)) span text i j (no_date, h, is) = word_no_gap text i j 110 (97 ∷ 110 ∷ []) h.0 refl
 scalar_starts (boolean b) span text i j (h, is) = keylike_no_gap (get_or text i 0) (h.1.passes i (omega arith) h.0)
 scalar_starts (datetime d) span text i j h = digit_no_gap text i h.0
 
@@ -122,30 +106,22 @@ one_space text i e h = record { ends = (i + 1) ∷ []; pieces = (inl (rw e refl,
 abbrev ScalarAt : List ℕ → Scalar → ℕ → ℕ → Type 0
 ScalarAt text s i j = (span : Span) × SpellsScalar s span text i j
 
-special : {text rest : List ℕ} {k j : ℕ} (word : List ℕ) (i : ℕ) → 0 < length word → is_date_byte (get_or rest 0 0) ≡ false → behind_sign text i ≡ k → Part text word rest k j → SpecialFloat word text i j
+special : {text rest : List ℕ} {k j : ℕ} (word : List ℕ) (i : ℕ) → length word ≡ 3 → is_date_byte (get_or rest 0 0) ≡ false → behind_sign text i ≡ k → Part text word rest k j → SpecialFloat word text i j
 special {text} {rest} {k} {j} word i some off e p =
     let on = p.on in
     let b = off_bytes (get_or text j 0) (rw (next p) off) in
     record { letters = rw e (range p); some = rw e (omega arith); within = within p; ends = stands_alone text j b.0 b.2 }
 
-inf_some : 0 < length (codes "inf")
-inf_some = let n : length (codes "inf") ≡ 3 = refl in omega (arith, n)
-
-nan_some : 0 < length (codes "nan")
-nan_some = let n : length (codes "nan") ≡ 3 = refl in omega (arith, n)
+-- a word behind a dash, or without one
+minus_word : {text rest : List ℕ} {i j : ℕ} (word : List ℕ) → length word ≡ 3 → is_date_byte (get_or rest 0 0) ≡ false → Part text (45 ∷ word) rest i j → (begins_date text i ≡ false) × SpecialFloat word text i j × (true ≡ is_negative text i)
+minus_word {i = i} word some off p = let first = here 45 word p in (rw first refl, special word i some off (rw first refl) (tail 45 word p), rw first refl)
 
 float_again : {text rest : List ℕ} {i j : ℕ} (x : FloatValue) → IsFloatText x → is_date_byte (get_or rest 0 0) ≡ false → Part text (float_text x) rest i j → ScalarAt text (float x) i j
-float_again {text} {rest} {i} {j} (finite digits) is off p = (from_to i j, literal_again digits is off p)
-float_again {text} {rest} {i} {j} (infinite true) is off p =
-    let first = here 45 (codes "inf") p in
-    (from_to i j, (rw first refl, (special (codes "inf") i inf_some off (rw first refl) (tail 45 (codes "inf") p), rw first refl), refl))
-float_again {text} {rest} {i} {j} (infinite false) is off p =
-    let first = here 105 (110 ∷ 102 ∷ []) p in (from_to i j, (rw first refl, (special (codes "inf") i inf_some off (rw first refl) p, rw first refl), refl))
-float_again {text} {rest} {i} {j} (not_a_number true) is off p =
-    let first = here 45 (codes "nan") p in
-    (from_to i j, (rw first refl, (special (codes "nan") i nan_some off (rw first refl) (tail 45 (codes "nan") p), rw first refl), refl))
-float_again {text} {rest} {i} {j} (not_a_number false) is off p =
-    let first = here 110 (97 ∷ 110 ∷ []) p in (from_to i j, (rw first refl, (special (codes "nan") i nan_some off (rw first refl) p, rw first refl), refl))
+float_again {i = i} {j} (finite digits) is off p = (from_to i j, literal_again digits is off p)
+float_again {i = i} {j} (infinite true) is off p = let (none, h, minus) = minus_word (codes "inf") refl off p in (from_to i j, (none, (h, minus), refl))
+float_again {i = i} {j} (infinite false) is off p = let first = here 105 (110 ∷ 102 ∷ []) p in (from_to i j, (rw first refl, (special (codes "inf") i refl off (rw first refl) p, rw first refl), refl))
+float_again {i = i} {j} (not_a_number true) is off p = let (none, h, minus) = minus_word (codes "nan") refl off p in (from_to i j, (none, (h, minus), refl))
+float_again {i = i} {j} (not_a_number false) is off p = let first = here 110 (97 ∷ 110 ∷ []) p in (from_to i j, (rw first refl, (special (codes "nan") i refl off (rw first refl) p, rw first refl), refl))
 
 word : (b : Bool) → (0 < length (truth_text b)) × (list_all is_keylike (truth_text b) ≡ true)
 word true = let n : length (codes "true") ≡ 4 = refl in (omega (arith, n), refl)
