@@ -13,7 +13,7 @@ use Rattle.toml_span_read.specs.Keys.{SimpleKey, SpellsKey}
 use Rattle.toml_span_read.specs.Numbers.{IsNumber}
 use Rattle.toml_span_read.specs.Numerals.{number}
 use Rattle.toml_span_read.specs.Read as read
-use Rattle.toml_span_read.specs.Read.{Reading, Head}
+use Rattle.toml_span_read.specs.Read.{Reading, HeaderEnd}
 use Rattle.toml_span_read.specs.Reading.{ReadsDocument, AreRead}
 use Rattle.toml_span_read.proofs.NumberComplete.{number_complete}
 use Rattle.toml_span_laws.proofs.KeyLaws.{key_one, key_complete}
@@ -47,8 +47,8 @@ value_unique text limit d i j k v w a b =
 
 pub header_unique : (text : List ℕ) (limit i j k : ℕ) (ps qs : List SimpleKey) (b c : Bool) → SpellsHeader ps b text limit i j → SpellsHeader qs c text limit i k → (ps ≡ qs) × (b ≡ c) × (j ≡ k)
 header_unique text limit i j k ps qs b c x y =
-    let g : Head = record { parts = ps; array = b; end = j } in
-    let h : Head = record { parts = qs; array = c; end = k } in
+    let g : HeaderEnd = record { parts = ps; array = b; end = j } in
+    let h : HeaderEnd = record { parts = qs; array = c; end = k } in
     let e : g ≡ h = same_read (read.header text limit i) g h (header_one text limit i) (header_complete ps b text limit i j x) (header_complete qs c text limit i k y) in
     (ap (λ z. z.parts) e, ap (λ z. z.array) e, ap (λ z. z.end) e)
 

@@ -24,7 +24,7 @@ use Rattle.toml_span_read.specs.Keys.{SimpleKey}
 use Rattle.toml_span_read.specs.Numerals.{number, numeral, run_end, special}
 use Rattle.toml_span_read.specs.code.Gaps.{DotGives, TailGives}
 use Rattle.toml_span_read.specs.Read as read
-use Rattle.toml_span_read.specs.Read.{Reading, run_at, number_or_word, next_section, Standing, token, text_end, no_token, StandsAt, key_of, string_of, Parts, onward, behind, choice, missing, Turn, on, done, Loop, ValueEnd, Items, Pairs, Blocks, Head}
+use Rattle.toml_span_read.specs.Read.{Reading, run_at, number_or_word, next_section, Standing, token, text_end, no_token, StandsAt, key_of, string_of, Parts, onward, behind, choice, missing, Turn, on, done, Loop, ValueEnd, Items, Pairs, Blocks, HeaderEnd}
 use Rattle.toml_span_read.proofs.NumberLemmas.{bool_cases, byte_is, run_is}
 use Rattle.toml_span_read.proofs.NumberReads.{Starts, number_advances}
 use Rattle.toml_span_read.proofs.Places.{run_some, behind_byte}
@@ -93,7 +93,7 @@ onward_sure text ps h m next o (Some p, d) sure = let (r, g, e) = sure p (omega 
 
 pub key_sure : (header : Bool) (text : List ℕ) (left : ℕ) (ps : List SimpleKey) (h i : ℕ) → AllJudged text → Onto text h i → Sure (Ends text (h + 1)) (read.key header text left ps i)
 unfolding read.key
-key_sure header text zero ps h i all o = sure_after (simple_sure text i all o.1) (λ f e. (Err (read.past header i f.0), refl, tt))
+key_sure header text zero ps h i all o = sure_after (simple_sure text i all o.1) (λ f e. (Err (read.one_too_many header i f.0), refl, tt))
 key_sure header text (suc n) ps h i all o =
     sure_after (simple_sure text i all o.1)
     (λ (s, m) e. onward_sure text (ps ++ (s ∷ [])) (h + 1) m _ (omega (arith, o.0, e.0), e.1) (all.1 m e.1).dot (λ p f. key_sure header text n (ps ++ (s ∷ [])) h p all (omega (arith, f.0), f.1)))

@@ -19,7 +19,7 @@ pub fn one_reading()
         → read.keyval text limit (MaximalRun is_blank text) (read.value text limit (limit + 1)) i r
         → read.keyval text limit (MaximalRun is_blank text) (read.value text limit (limit + 1)) i s → r ≡ s }
     ensures rest { (text : List ℕ) (i : ℕ) (r s : Result ℕ Fault) → read.tail text i r → read.tail text i s → r ≡ s }
-    ensures header { (text : List ℕ) (limit i : ℕ) (r s : Result read.Head Fault) → read.header text limit i r
+    ensures header { (text : List ℕ) (limit i : ℕ) (r s : Result read.HeaderEnd Fault) → read.header text limit i r
         → read.header text limit i s → r ≡ s }
     ensures document { (text : List ℕ) (limit : ℕ) (r s : Result (List Block) Fault) → read.document text limit r
         → read.document text limit s → r ≡ s }

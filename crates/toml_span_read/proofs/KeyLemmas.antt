@@ -20,7 +20,7 @@ use Rattle.toml_span_read.specs.declared.fault.Fault.{Fault}
 use Rattle.toml_span_read.specs.Gaps.{Dot, NoDot}
 use Rattle.toml_span_read.specs.Keys.{SimpleKey, simple_key, SpellsSimpleKey, SpellsKey, opens_string}
 use Rattle.toml_span_read.specs.Read as read
-use Rattle.toml_span_read.specs.Read.{Standing, StandsAt, token, no_token, key_of, past, Parts}
+use Rattle.toml_span_read.specs.Read.{Standing, StandsAt, token, no_token, key_of, one_too_many, Parts}
 use Rattle.toml_span_read.specs.code.Keys.{key_found, PartGives}
 use Rattle.toml_span_read.specs.code.Faults.{Gives, IsPlacedStop}
 use Rattle.toml_span_read.specs.code.Wanted.{StringReads, WantedGives}
@@ -80,7 +80,7 @@ unfolding read.key
 key_stops header text zero i e h ps = inr (e, h, refl)
 key_stops header text (suc left) i e h ps = inr (e, h, refl)
 
-pub key_past : (header : Bool) (text : List ℕ) (left i j : ℕ) (s : SimpleKey) → left ≡ 0 → read.simple_key_at text i (Ok (s, j)) → (ps : List SimpleKey) → read.key header text left ps i (Err (past header i s))
+pub key_past : (header : Bool) (text : List ℕ) (left i j : ℕ) (s : SimpleKey) → left ≡ 0 → read.simple_key_at text i (Ok (s, j)) → (ps : List SimpleKey) → read.key header text left ps i (Err (one_too_many header i s))
 unfolding read.key
 key_past header text left i j s z h ps = rw z (inl ((s, j), h, refl))
 
@@ -157,7 +157,7 @@ behind_sound header text (suc n) ps i f (inr (e, h, u)) = absurd cc
 pub key_sound : (header : Bool) (text : List ℕ) (limit i j : ℕ) (ss : List SimpleKey) → read.key header text limit [] i (Ok (ss, j)) → SpellsKey ss text i j × (length ss ≤ limit)
 key_sound header text limit i j ss h = let (ts, is, spelled, few) = behind_sound header text limit [] i (ss, j) h in rw is (spelled, few)
 
-pub past_placed : (header : Bool) (text : List ℕ) (i j : ℕ) (s : SimpleKey) → i ≤ length text → SpellsSimpleKey s text i j → StartsInside text (past header i s)
+pub past_placed : (header : Bool) (text : List ℕ) (i j : ℕ) (s : SimpleKey) → i ≤ length text → SpellsSimpleKey s text i j → StartsInside text (one_too_many header i s)
 past_placed true text i j s within h = key_placed text i j s _ h
 past_placed false text i j s within h = record { within = within; forward = omega arith }
 

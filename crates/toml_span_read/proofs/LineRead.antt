@@ -23,7 +23,7 @@ use Rattle.toml_span_read.specs.Gaps.{MaximalGap, Equals, NoTail}
 use Rattle.toml_span_read.specs.Grammar.{OpensHeader, last_end, first_block}
 use Rattle.toml_span_read.specs.Keys.{SimpleKey}
 use Rattle.toml_span_read.specs.Read as read
-use Rattle.toml_span_read.specs.Read.{Reading, Turn, on, done, Loop, ends, stops as stops_there, goes_on, ValueEnd, Pairs, Blocks, Head}
+use Rattle.toml_span_read.specs.Read.{Reading, Turn, on, done, Loop, ends, stops as stops_there, goes_on, ValueEnd, Pairs, Blocks, HeaderEnd}
 use Rattle.toml_span_read.proofs.NumberLemmas.{is_false, same_byte, byte_is}
 use Rattle.toml_span_read.proofs.ValueRead.{map_end, or_left, or_right}
 use Rattle.toml_span_read.proofs.ValueRead as value
@@ -132,7 +132,7 @@ close_second array (stops.Fault e) text i k b a run here u none h = rw a (k, run
 pub close_both : (array : Bool) (text : List ℕ) (i k b j : ℕ) → array ≡ true → MaximalRun is_blank text i k → get_or text k 0 ≡ 93 → b ≡ k + 1 → get_or text b 0 ≡ 93 → j ≡ b + 1 → closed array text i (Ok j)
 close_both array text i k b j a run here u there e = rw a (k, run, inl (b, inl (same_byte _ _ here, ap (λ n. Ok n) u), inl (same_byte _ _ there, ap (λ n. Ok n) e)))
 
-opened : (array : Bool) (text : List ℕ) (limit i m : ℕ) (r : Result Head Fault) → OpensHeader array text i m → read.heading array text limit m r → read.header text limit i r
+opened : (array : Bool) (text : List ℕ) (limit i m : ℕ) (r : Result HeaderEnd Fault) → OpensHeader array text i m → read.heading array text limit m r → read.header text limit i r
 opened false text limit i m r (here, one, e) h = inr (one, rw e at h)
 opened true text limit i m r (here, two, e) h = inl (same_byte _ _ two, rw e at h)
 

@@ -21,7 +21,7 @@ use Rattle.toml_span_read.specs.Keys.{SpellsKey}
 use Rattle.toml_span_read.specs.Numbers.{IsNumber}
 use Rattle.toml_span_read.specs.Numerals.{Read, ◌>>=◌, scalar_of, special, numeral, number, run_end}
 use Rattle.toml_span_read.specs.Read as read
-use Rattle.toml_span_read.specs.Read.{Reading, Turn, on, done, Loop, ends, stops, goes_on, ValueEnd, Items, Pairs, Blocks, Head, token, text_end, no_token}
+use Rattle.toml_span_read.specs.Read.{Reading, Turn, on, done, Loop, ends, stops, goes_on, ValueEnd, Items, Pairs, Blocks, HeaderEnd, token, text_end, no_token}
 use Rattle.toml_span_read.proofs.KeyLemmas.{key_sound}
 use Rattle.toml_span_read.proofs.NumberLemmas.{byte_is, run_found}
 use Rattle.toml_span_read.proofs.NumberReads.{Starts, Spelled, numeral_reads}
@@ -330,7 +330,7 @@ closing_sound true text i j (inl (k, h, g)) =
     (a.0, rw a.1 at b.0, omega (arith, a.1, b.1))
 closing_sound true text i j (inr (x, h, e)) = absurd cc
 
-heading_sound : (opened array : Bool) (h : Head) (text : List ℕ) (limit i m : ℕ) → OpensHeader array text i m → read.heading array text limit m (Ok h) → (h.array ≡ array) × SpellsHeader h.parts h.array text limit i h.end
+heading_sound : (opened array : Bool) (h : HeaderEnd) (text : List ℕ) (limit i m : ℕ) → OpensHeader array text i m → read.heading array text limit m (Ok h) → (h.array ≡ array) × SpellsHeader h.parts h.array text limit i h.end
 heading_sound opened array h text limit i m opens (k, before, inl ((ps, a), key, (c, behind, inl (e, shut, inl (j, rest, is))))) =
     let s = key_sound true text limit k a ps key in
     let found : h ≡ record { parts = ps; array = array; end = j } = cc in
@@ -348,7 +348,7 @@ heading_sound opened array h text limit i m opens (k, before, inl ((ps, a), key,
 heading_sound opened array h text limit i m opens (k, before, inl ((ps, a), key, (c, behind, inr (x, shut, is)))) = absurd cc
 heading_sound opened array h text limit i m opens (k, before, inr (x, key, is)) = absurd cc
 
-pub header_sound : (h : Head) (text : List ℕ) (limit i : ℕ) → get_or text i 0 ≡ 91 → read.header text limit i (Ok h) → SpellsHeader h.parts h.array text limit i h.end
+pub header_sound : (h : HeaderEnd) (text : List ℕ) (limit i : ℕ) → get_or text i 0 ≡ 91 → read.header text limit i (Ok h) → SpellsHeader h.parts h.array text limit i h.end
 header_sound h text limit i here (inl (two, g)) = (heading_sound true true h text limit i (i + 2) (here, byte_is _ _ two, refl) g).1
 header_sound h text limit i here (inr (one, g)) = (heading_sound false false h text limit i (i + 1) (here, one, refl) g).1
 

@@ -113,7 +113,8 @@ found_of (punctuator c) =
     else if c == left_bracket then founds.LeftBracket
     else founds.RightBracket
 
--- where one token is due another one stands, or the text ends
+-- Where one token is due another one stands, or the text ends. The span is as long as the words for what is found, and
+-- may end past the text.
 abbrev pub wanted_fault : Due → Found → ℕ → Fault
 wanted_fault expected found i =
     record { kind = kinds.Wanted expected found; span = record { start = i; end = i + length (found_words found) } }

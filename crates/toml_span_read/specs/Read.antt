@@ -1,6 +1,8 @@
 -- How a text is read: what is read at a place and where it ends, or the fault that is told (TOML 1.1, "Overall
 -- Structure", "Keys", "Key/Value Pair", "String" to "Local Time", "Array", "Inline Table", "Table", "Array of Tables").
--- The standard says nothing of faults: this fixes which one is told, and where. What spells a form is in `Grammar`.
+-- The standard says nothing of faults: this fixes which one is told, and where. `document`, the last definition, reads
+-- a whole text; each definition uses those above it. That two keys clash, as those of two lines `a = 1`, is no fault of
+-- reading: see `Clashes` of toml_span. `Grammar` says, without faults, what spells a form; that both agree is a law.
 use Rattle.std.specs.Prelude.{◌≡◌, ℕ, zero, suc, ◌+◌, ◌⊎◌, Bool, true, false, ◌||◌, ◌==◌, List, [], ◌∷◌, ◌++◌, length}
 use Rattle.std.specs.Prelude.{if◌then◌else◌, slice_index, slice_range, codes, is_some, Result, Ok, Err}
 use Rattle.std.specs.Str.{bytes_eq}
@@ -30,7 +32,8 @@ use Rattle.toml_span_read.specs.Numerals.{run_end, special, number}
 
 -- ---- reading
 
--- What reading gives: what is read, or the fault that is told. That it is one and one alone is a law.
+-- What a form's reading may give: what is read, or the fault that is told. `λ r. r ≡ x` gives x. That each of the forms
+-- gives one thing, and one alone, is a law.
 abbrev pub Reading : Type 0 → Type 1
 Reading A = Result A Fault → Type 0
 
@@ -38,7 +41,7 @@ Reading A = Result A Fault → Type 0
 abbrev pub after : {A B : Type 0} → Reading A → (A → Reading B) → Reading B
 after {A = A} m f r = ((a : A) × m (Ok a) × f a r) ⊎ ((e : Fault) × m (Err e) × (r ≡ Err e))
 
--- behind what is skipped from i on, this is read
+-- from i to some k stands what `skipped` says, and from k on `next` is read
 abbrev pub behind : {A : Type 0} → (ℕ → ℕ → Type 0) → ℕ → (ℕ → Reading A) → Reading A
 behind skipped i next r = (k : ℕ) × skipped i k × next k r
 
@@ -46,7 +49,7 @@ behind skipped i next r = (k : ℕ) × skipped i k × next k r
 abbrev pub choice : {A : Type 0} → Bool → Reading A → Reading A → Reading A
 choice test this that r = ((test ≡ true) × this r) ⊎ ((test ≡ false) × that r)
 
--- a turn of a loop: it goes on from there, or this is what the loop reads
+-- a turn of a loop: one more turn follows, from what it has now, or the loop has read this
 pub data Turn (S A : Type 0) : Type 0 where
   on : S → Turn S A
   done : A → Turn S A
@@ -59,7 +62,8 @@ pub data Loop {S A : Type 0} (turn : S → Result (Turn S A) Fault → Type 0) :
 
 -- ---- tokens
 
--- what stands at a place: a token by its span, its content and its end, the end of the text, or the fault of none
+-- What stands at a place: a token, by its span (of a string that of its content), its content and the place behind it;
+-- the end of the text; or, where no token stands, the fault of that.
 pub data Standing : Type 0 where
   token : Span → Lexeme → ℕ → Standing
   text_end : Standing
@@ -71,7 +75,8 @@ StandsAt text i (token span l j) = Stands text i j span l
 StandsAt text i text_end = i ≡ length text
 StandsAt text i (no_token e) = (j : ℕ) × IsNoToken text i j e
 
--- what is told where this is due at i and something else stands there
+-- What is told where this is due at i and something else stands there: what was wanted and what was found. The span
+-- begins at i and is as long as the words for what was found. Where no token stands, the fault of that is told.
 abbrev pub wanted : Due → ℕ → Standing → Fault
 wanted due i (token span l j) = wanted_fault due (found_of l) i
 wanted due i text_end = wanted_fault due founds.EndOfText i
@@ -85,7 +90,7 @@ missing due text i r = (standing : Standing) × StandsAt text i standing × (r �
 
 -- `simple-key = quoted-key / unquoted-key`, `unquoted-key = 1*( ALPHA / DIGIT / %x2D / %x5F )`,
 -- `quoted-key = basic-string / literal-string`
--- A string of several lines is told at its first quote, with the length of its value; all else by what stands there.
+-- The fault of a string of several lines begins at its first quote and is as long as its value.
 abbrev pub key_of : ℕ → Standing → Result (SimpleKey × ℕ) Fault
 key_of i (token span (keylike name) j) = Ok (record { name = name; span = span }, j)
 key_of i (token span (string source name false) j) = Ok (record { name = name; span = span }, j)
@@ -96,12 +101,12 @@ key_of i standing = Err (wanted dues.TableKey i standing)
 abbrev pub simple_key_at : List ℕ → ℕ → Reading (SimpleKey × ℕ)
 simple_key_at text i r = (standing : Standing) × StandsAt text i standing × (r ≡ key_of i standing)
 
--- a part that is one too many is told where it begins, in a header by its span
-abbrev pub past : Bool → ℕ → SimpleKey → Fault
-past in_header i s =
+-- the fault of a part past the limit: one byte, where it begins; in a header its span
+abbrev pub one_too_many : Bool → ℕ → SimpleKey → Fault
+one_too_many in_header i s =
     record { kind = kinds.ExceededDepthLimit; span = if in_header then s.span else from_to i (i + 1) }
 
--- the parts that are read so far, and the place behind them
+-- the simple keys that are read so far, the parts of a key, and the place behind them
 abbrev pub Parts : Type 0
 Parts = List SimpleKey × ℕ
 
@@ -110,10 +115,10 @@ Parts = List SimpleKey × ℕ
 abbrev pub onward : List ℕ → List SimpleKey → ℕ → (ℕ → Reading Parts) → Reading Parts
 onward text ps m next r = (NoDot text m × (r ≡ Ok (ps, m))) ⊎ ((p : ℕ) × Dot text m p × next p r)
 
--- `key = simple-key / dotted-key`, `dotted-key = simple-key 1*( dot-sep simple-key )`: behind these parts at most so
--- many. One more is read, so that its own fault comes first, and then told.
+-- `key = simple-key / dotted-key`, `dotted-key = simple-key 1*( dot-sep simple-key )`: the parts ps are read already,
+-- and at most `left` may follow. One more is read all the same, so that its own fault comes first, and then told.
 unfoldable pub key : Bool → List ℕ → ℕ → List SimpleKey → ℕ → Reading Parts
-key in_header text zero ps i = after (simple_key_at text i) (λ (s, m) r. r ≡ Err (past in_header i s))
+key in_header text zero ps i = after (simple_key_at text i) (λ (s, m) r. r ≡ Err (one_too_many in_header i s))
 key in_header text (suc left) ps i =
     after (simple_key_at text i) (λ (s, m). onward text (ps ++ (s ∷ [])) m (key in_header text left (ps ++ (s ∷ []))))
 
@@ -141,7 +146,8 @@ word text i =
     else Err (record { kind = kinds.UnquotedString; span = from_to i (run_end text i) })
 
 -- `integer = dec-int / hex-int / oct-int / bin-int`, `float = float-int-part ( exp / frac [ exp ] )`,
--- `float =/ special-float`: what begins with a digit or a sign, or is inf or nan, is read as a number, or told as one
+-- `float =/ special-float`: what begins with a digit or a sign, or is inf or nan, is read as a number, or is told as
+-- `InvalidNumber`
 abbrev pub number_or_word : List ℕ → ℕ → Result (Scalar × ℕ) Fault
 number_or_word text i =
     if begins_number (slice_index text i) || is_some (special false (run_at text i)) then number text i
@@ -156,7 +162,7 @@ abbrev pub ValueEnd : Type 0
 ValueEnd = ParsedValue × ℕ
 
 -- `string = ml-basic-string / basic-string / ml-literal-string / literal-string`
--- Another token is told by its own bytes; where the text ends, the place.
+-- Of another token the fault's span has its bytes, and isn't as long as the words for it.
 abbrev pub string_of : ℕ → Standing → Result ValueEnd Fault
 string_of i (token span (string source value multi) j) = Ok (parsed (scalar (text_scalar value)) span, j)
 string_of i (token span l j) =
@@ -184,16 +190,16 @@ abbrev pub nested : List ℕ → ℕ → (ℕ → Reading (ParsedInner × ℕ)) 
 nested text i inner =
     behind (MaximalGap text) (i + 1) (λ k. after (inner k) (λ (v, j) r. r ≡ Ok (parsed v (from_to i j), j)))
 
--- behind an element or a pair and a gap: a comma, behind which more may follow; the closing bracket; or this is due
---
 -- `array-sep = %x2C`, `inline-table-sep = %x2C`, `array-close = %x5D`, `inline-table-close = %x7D`
+-- Behind an element or a pair, which ends at m, and a gap: a comma and a gap, and the loop goes on with `next` of the
+-- place; the closing bracket or brace, and it ends with `end` of the place behind; or `due` is told as missing.
 abbrev pub separator : {S A : Type 0} → ℕ → Due → List ℕ → ℕ → (ℕ → S) → (ℕ → A) → Reading (Turn S A)
 separator close due text m next end =
     behind (MaximalGap text) m (λ k.
     choice (slice_index text k == comma) (behind (MaximalGap text) (k + 1) (λ p r. r ≡ Ok (on (next p))))
     (choice (slice_index text k == close) (λ r. r ≡ Ok (done (end (k + 1)))) (missing due text k)))
 
--- the elements that are read so far, and the place behind them
+-- the elements that are read so far, and the place where one more or the closing bracket is due
 abbrev pub Items : Type 0
 Items = List ParsedValue × ℕ
 
@@ -202,11 +208,11 @@ array_end vs j = (array_node (onto vs no_items), j)
 
 -- `array-values =  ws-comment-newline val ws-comment-newline array-sep array-values`
 -- `array-values =/ ws-comment-newline val ws-comment-newline [ array-sep ]`
--- Behind these elements the closing bracket or one more is due.
+-- Behind the opening bracket or a comma: the closing bracket, or one more element.
 abbrev pub next_element : List ℕ → (ℕ → Reading ValueEnd) → Items → Reading (Turn Items (ParsedInner × ℕ))
-next_element text value (vs, i) =
+next_element text element (vs, i) =
     choice (slice_index text i == right_bracket) (λ r. r ≡ Ok (done (array_end vs (i + 1))))
-    (after (value i) (λ (v, m).
+    (after (element i) (λ (v, m).
     separator right_bracket dues.RightBracket text m (λ p. (vs ++ (v ∷ []), p)) (array_end (vs ++ (v ∷ [])))))
 
 -- `keyval = key keyval-sep val`, `keyval-sep = ws %x3D ws`, with this skipped round the equals sign; `value n b` reads
@@ -223,7 +229,7 @@ keyval text limit skipped value i =
 abbrev pub added : List KeyValue → KeyValue → Reading (List KeyValue)
 added es e r = (Clear es e × (r ≡ Ok (es ++ (e ∷ [])))) ⊎ ((fault : Fault) × Crossing es e fault × (r ≡ Err fault))
 
--- the pairs or assignments that are read so far, and the place behind them
+-- the pairs or assignments that are read so far, and the place where one more or what ends them is due
 abbrev pub Pairs : Type 0
 Pairs = List KeyValue × ℕ
 
@@ -232,8 +238,9 @@ table_end es j = (inline_node (pairs_onto es no_pairs), j)
 
 -- `inline-table-keyvals =  ws-comment-newline keyval ws-comment-newline inline-table-sep inline-table-keyvals`
 -- `inline-table-keyvals =/ ws-comment-newline keyval ws-comment-newline [ inline-table-sep ]`
--- Behind these pairs the closing brace or one more is due. Unlike the standard's `keyval-sep`, line ends and comments
--- may stand round its equals sign. A key that goes through an earlier value is told before what stands behind the pair.
+-- Behind the opening brace or a comma: the closing brace, or one more pair. Unlike the standard's `keyval-sep`, line
+-- ends and comments may stand round its equals sign. A key that goes through an earlier value is told before what is
+-- wrong behind the pair.
 abbrev pub next_pair : List ℕ → ℕ → (ℕ → ℕ → Reading ValueEnd) → Pairs → Reading (Turn Pairs (ParsedInner × ℕ))
 next_pair text limit value (es, i) =
     choice (slice_index text i == right_brace) (λ r. r ≡ Ok (done (table_end es (i + 1))))
@@ -241,8 +248,8 @@ next_pair text limit value (es, i) =
     after (added es e) (λ fs. separator right_brace dues.Comma text m (λ p. (fs, p)) (table_end fs))))
 
 -- `val = string / boolean / array / inline-table / date-time / float / integer`
--- So many levels are left: limit + 1, less one for each bracket and brace round the value and for each part of its key
--- and of those round it. With none left it is past the limit. n parts of its key have still to take theirs.
+-- The value at i. So many levels are left: limit + 1, less one for each bracket and brace round it and for each part of
+-- its key and of those round it. With none left it is past the limit. n parts of its key have still to take theirs.
 unfoldable pub value : List ℕ → ℕ → ℕ → ℕ → ℕ → Reading ValueEnd
 value text limit zero n i = too_deep text i
 value text limit (suc left) (suc n) i = value text limit left n i
@@ -257,7 +264,7 @@ value text limit (suc left) zero i =
 
 -- ---- lines
 
--- `ws [ comment ]`, and a line end or the end of the text
+-- `ws [ comment ]`, and a line end or the end of the text; else a line end is told as missing
 abbrev pub tail : List ℕ → ℕ → Reading ℕ
 tail text i r =
     ((j : ℕ) × Tail text i j × (r ≡ Ok j)) ⊎ ((k : ℕ) × NoTail text i k × missing dues.Newline text k r)
@@ -281,24 +288,25 @@ lines text limit i = behind (MaximalGap text) i (λ k. Loop (next_assignment tex
 
 -- ---- headers, sections and the document
 
+-- `%x5D`, the closing bracket of a header, which else is told as missing
 abbrev pub bracket : List ℕ → ℕ → Reading ℕ
 bracket text i =
     choice (slice_index text i == right_bracket) (λ r. r ≡ Ok (i + 1)) (missing dues.RightBracket text i)
 
--- `std-table-close = ws %x5D`, `array-table-close = ws %x5D.5D`, less the white space
+-- `std-table-close = ws %x5D`, `array-table-close = ws %x5D.5D`, behind the white space
 abbrev pub closing : Bool → List ℕ → ℕ → Reading ℕ
 closing false text i = bracket text i
 closing true text i = after (bracket text i) (bracket text)
 
--- what a header says, and where its line ends
-pub record Head : Type 0 where
+-- what a header says, and the place behind its line
+pub record HeaderEnd : Type 0 where
   pub parts : List SimpleKey
   pub array : Bool
   pub end : ℕ
 
 -- `std-table = std-table-open key std-table-close` or `array-table = array-table-open key array-table-close`, behind
 -- its opening brackets, with the rest of its line
-abbrev pub heading : Bool → List ℕ → ℕ → ℕ → Reading Head
+abbrev pub heading : Bool → List ℕ → ℕ → ℕ → Reading HeaderEnd
 heading array text limit i =
     behind (MaximalRun is_blank text) i (λ k. after (key true text limit [] k) (λ (ps, a).
     behind (MaximalRun is_blank text) a (λ c. after (closing array text c) (λ m. after (tail text m) (λ j r.
@@ -306,13 +314,13 @@ heading array text limit i =
 
 -- `expression =/ ws table ws [ comment ]`, where `table = std-table / array-table`, `std-table-open = %x5B ws` and
 -- `array-table-open = %x5B.5B ws`. A bracket stands at i: lines end there or with the text.
-abbrev pub header : List ℕ → ℕ → ℕ → Reading Head
+abbrev pub header : List ℕ → ℕ → ℕ → Reading HeaderEnd
 header text limit i =
     choice (slice_index text (i + 1) == left_bracket) (heading true text limit (i + 2))
     (heading false text limit (i + 1))
 
 -- a section with its header at i, and these assignments
-abbrev pub block_at : ℕ → Head → List KeyValue → Block
+abbrev pub block_at : ℕ → HeaderEnd → List KeyValue → Block
 block_at i h es = record {
   header = h.parts;
   array = h.array;

@@ -93,7 +93,7 @@ pub(crate) fn simple_key<'de>(
 /// The fault of a part that is one too many: of a header all of it is told, else the place where it begins.
 fn one_too_many(key: &Key<'_>, at: usize, in_header: bool) -> Fault
     requires { at < usize.MAX }
-    ensures { result ≡ spec.past in_header at (grammar.simple_key key.now) }
+    ensures { result ≡ spec.one_too_many in_header at (grammar.simple_key key.now) }
 {
     let kind = FaultKind::ExceededDepthLimit;
     if in_header {

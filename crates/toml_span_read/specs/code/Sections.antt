@@ -8,7 +8,7 @@ use Rattle.toml_span_lex.specs.Bytes.{left_bracket}
 use Rattle.toml_span_read.specs.declared.fault.Fault.{Fault}
 use Rattle.toml_span_read.specs.declared.value.Assignment.{Assignment}
 use Rattle.toml_span_read.specs.Data.{key_value, Block, block}
-use Rattle.toml_span_read.specs.Read.{Pairs, Head, Blocks}
+use Rattle.toml_span_read.specs.Read.{Pairs, HeaderEnd, Blocks}
 use Rattle.toml_span_read.specs.declared.sections.Header.{Header}
 use Rattle.toml_span_read.specs.Keys.{simple_key}
 use Rattle.toml_span_read.specs.declared.section.Section.{Section}
@@ -21,7 +21,7 @@ use Rattle.toml_span_read.specs.code.Gaps.{Further}
 abbrev pub lines_found : Vec Assignment Global × ℕ → Pairs
 lines_found (found, j) = (map key_value found.items, j)
 
-abbrev pub head_found : Header → Head
+abbrev pub head_found : Header → HeaderEnd
 head_found h = record { parts = map simple_key h.parts.items; array = h.array; end = h.extent.end }
 
 abbrev pub first_blocks : Option Section → List Block
