@@ -1,9 +1,9 @@
 -- Where a run ends, the text may be cut.
-use Rattle.std.proofs.Common.{◌≡◌, ℕ, ◌+◌, ◌-◌, ◌<◌, ◌≤◌, ◌⊎◌, Bool, true, false, List, ◌++◌, length, get_or, drop, arith, inl, inr, sym, ◌∙◌, get_or-drop, add-zero, length-drop, length-take, get_or-take, refl, ap}
+use Rattle.std.proofs.Common.{◌≡◌, ℕ, ◌+◌, ◌-◌, ◌<◌, ◌≤◌, ◌⊎◌, Bool, true, false, List, ◌++◌, length, get_or, drop, arith, inl, inr, sym, ◌∙◌, get_or-drop, add-zero, length-drop, length-take, get_or-take, refl, ap, length-append}
 use Rattle.std.specs.Prelude.{encode_utf8, slice_range, ◌||◌, ◌==◌}
 use Rattle.std.specs.Char.{len_utf8}
 use Rattle.std.specs.Str.{IsUtf8, IsCharBoundary}
-use Rattle.std.proofs.lemmas.Str.{IsCharBoundary-after_ascii, IsUtf8-drop, IsCharBoundary-past_char, drop_past_char, byte_from_char, char_from_byte}
+use Rattle.std.proofs.lemmas.Str.{IsCharBoundary-after_ascii, IsUtf8-drop, IsCharBoundary-past_char, drop_past_char, byte_from_char, char_from_byte, length-encode, len_utf8_bounds}
 use Rattle.std.proofs.lemmas.Bool.{cases_lt, false≢true}
 use Rattle.std.proofs.lemmas.List.{get_or_past}
 use Rattle.std.proofs.lemmas.Bool.Decides.{nat_tests}
@@ -62,6 +62,11 @@ blank_line_ascii c h = grind arith
 pub crlf_first : (text : List ℕ) (i : ℕ) → is_crlf text i ≡ true → get_or text i 0 ≡ 13
 crlf_first text i h = grind arith
 
+pub char_within : (text : List ℕ) (i c j : ℕ) → CharAt text i c j → i < length text
+char_within text i c j (inl a) = read_within text i (omega (arith, crlf_first text i a.0))
+char_within text i c j (inr a) =
+    omega (arith, length-drop i text, ap length a.2, length-append (encode_utf8 c) (drop j text), length-encode c, (len_utf8_bounds c).0)
+
 pub gap_ascii : (text : List ℕ) (i : ℕ) → is_ws_or_newline text i ≡ true → get_or text i 0 < 128
 gap_ascii text i h = elim (or_cases _ _ h) [ inl a ↦ blank_line_ascii _ a | inr b ↦ let e = crlf_first text i b in omega arith ]
 
@@ -97,34 +102,42 @@ past_keylike c h = grind arith
 past_quote : (c : ℕ) → 128 ≤ c → (c == 34 || c == 39) ≡ false
 past_quote c h = grind arith
 
-past_ascii : (c : ℕ) → 128 ≤ c → begins_token c ≡ false
+pub past_ascii : (c : ℕ) → 128 ≤ c → begins_token c ≡ false
 past_ascii c h = neither _ _ (neither _ _ (past_alone c h) (past_keylike c h)) (past_quote c h)
 
--- What an ASCII test says of the byte, it says of the character, but for a line end of two bytes.
+-- A character is its first byte, or both are past ASCII, but for a line end of two bytes.
+char_byte : (text : List ℕ) (i c j : ℕ) → is_crlf text i ≡ false → CharAt text i c j → (c ≡ get_or text i 0) ⊎ ((128 ≤ c) × (128 ≤ get_or text i 0))
+char_byte text i c j f (inl h) = absurd (false≢true (sym f ∙ h.0))
+char_byte text i c j f (inr h) =
+    let first : get_or (drop i text) 0 0 ≡ get_or text i 0 = rw (get_or-drop, add-zero) refl in
+    let ascii : c < 128 → c ≡ get_or text i 0 = λ low. sym (byte_from_char (drop i text) (drop j text) c h.2 low) ∙ first in
+    elim (cases_lt c 128) [
+      | inl low ↦ inl (ascii low)
+      | inr high ↦ inr (high, elim (cases_lt (get_or text i 0) 128) [
+        | inl low ↦ absurd (omega (arith, first, char_from_byte (drop i text) (drop j text) c h.2 (omega arith) (omega (arith, length-drop i text, char_within text i c j (inr h)))))
+        | inr past ↦ past
+      ])
+    ]
+
+-- So a test that says one thing of all past ASCII says of the byte what it says of the character.
+char_same : (p : ℕ → Bool) (text : List ℕ) (i c j : ℕ) → ((d : ℕ) → 128 ≤ d → p d ≡ p 128) → is_crlf text i ≡ false → CharAt text i c j → p c ≡ p (get_or text i 0)
+char_same p text i c j past f h = elim (char_byte text i c j f h) [ inl e ↦ ap p e | inr high ↦ past c high.0 ∙ sym (past (get_or text i 0) high.1) ]
+
 pub char_fails : (p : ℕ → Bool) (text : List ℕ) (i c j : ℕ) → ((d : ℕ) → 128 ≤ d → p d ≡ false) → p 10 ≡ false → p (get_or text i 0) ≡ false → CharAt text i c j → p c ≡ false
 char_fails p text i c j past ten b (inl h) = rw h.1 ten
-char_fails p text i c j past ten b (inr h) =
-    let first : get_or (drop i text) 0 0 ≡ get_or text i 0 = rw (get_or-drop, add-zero) refl in
-    elim (cases_lt c 128) [
-      | inl low ↦ let e : get_or (drop i text) 0 0 ≡ c = byte_from_char (drop i text) (drop j text) c h.2 low in rw (sym first ∙ e) at b
-      | inr high ↦ past c high
-    ]
+char_fails p text i c j past ten b (inr h) = char_same p text i c j (λ d l. past d l ∙ sym (past 128 (omega arith))) h.0 (inr h) ∙ b
+
+-- what does not pass past ASCII, nor at a carriage return, does not pass at the first byte of a character that does not
+pub char_shut : (p : ℕ → Bool) (text : List ℕ) (i c j : ℕ) → ((d : ℕ) → 128 ≤ d → p d ≡ p 128) → p 13 ≡ false → CharAt text i c j → p c ≡ false → p (get_or text i 0) ≡ false
+char_shut p text i c j past t (inl h) n = rw (crlf_first text i h.0) t
+char_shut p text i c j past t (inr h) n = sym (char_same p text i c j past h.0 (inr h)) ∙ n
 
 -- where no byte begins a token, no character does
 pub begins_none : (text : List ℕ) (i c j : ℕ) → is_crlf text i ≡ false → i < length text → begins_token (get_or text i 0) ≡ false → CharAt text i c j → begins_token c ≡ false
-begins_none text i c j f l b (inl h) = absurd (false≢true (sym f ∙ h.0))
-begins_none text i c j f l b (inr h) =
-    let first : get_or (drop i text) 0 0 ≡ get_or text i 0 = rw (get_or-drop, add-zero) refl in
-    elim (cases_lt c 128) [
-      | inl low ↦ let e : get_or (drop i text) 0 0 ≡ c = byte_from_char (drop i text) (drop j text) c h.2 low in rw (sym first ∙ e) at b
-      | inr high ↦ past_ascii c high
-    ]
+begins_none text i c j f l b h = char_same begins_token text i c j past_ascii f h ∙ b
 
 pub neither_line : (text : List ℕ) (i c j : ℕ) → NoLineEnd text i → get_or text i 0 < 128 → i < length text → CharAt text i c j → c ≡ get_or text i 0
-neither_line text i c j n low l (inl h) = absurd (false≢true (sym n.1 ∙ h.0))
-neither_line text i c j n low l (inr h) =
-    let first : get_or (drop i text) 0 0 ≡ get_or text i 0 = rw (get_or-drop, add-zero) refl in
-    char_from_byte (drop i text) (drop j text) c h.2 (omega arith) (omega (arith, length-drop i text)) ∙ first
+neither_line text i c j n low l h = elim (char_byte text i c j n.1 h) [ inl e ↦ e | inr high ↦ absurd (omega (arith, high.1)) ]
 
 pub equal_ascii : (q : ℕ) → q < 128 → (c : ℕ) → (c == q) ≡ true → c < 128
 equal_ascii q l c h = grind (arith, nat_tests)
