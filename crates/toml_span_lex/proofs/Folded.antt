@@ -5,12 +5,11 @@ use Rattle.std.specs.Char.{len_utf8}
 use Rattle.std.specs.Str.{IsUtf8, chars}
 use Rattle.std.proofs.lemmas.Str.{chars_past_char, encode_ascii, encodes-chars, byte_from_char, IsUtf8-past_char}
 use Rattle.std.proofs.Math.Utf8.{encodes}
-use Rattle.std.proofs.lemmas.Bool.{false≢true}
+use Rattle.std.proofs.lemmas.Bool.{false≢true, eqb-true, and_parts}
 use Rattle.std.proofs.lemmas.Bool.Decides.{nat_tests}
 use Rattle.toml_span_lex.specs.Text.{is_crlf, CharAt, folded_from, folded}
 use Rattle.toml_span_lex.proofs.Runs.{read_within, crlf_first}
 use Rattle.toml_span_lex.proofs.Unique.{is_false}
-use Rattle.toml_span_lex.proofs.PieceLemmas.{same_byte}
 
 pub second : (text : List ℕ) (i : ℕ) → is_crlf text i ≡ true → get_or text (i + 1) 0 ≡ 10
 second text i h = grind (arith, nat_tests)
@@ -47,19 +46,15 @@ not_after : (j : ℕ) (t : Bool) (cs : List ℕ) → (t && slice_index cs 0 == 1
 not_after j t [] h = refl
 not_after j t (c ∷ cs) h = rw h refl
 
-and_both : (a b : Bool) → (a && b) ≡ true → (a ≡ true) × (b ≡ true)
-and_both true b h = (refl, h)
-and_both false b h = absurd (false≢true h)
-
 crlf_from : (text : List ℕ) (i : ℕ) → get_or text i 0 ≡ 13 → get_or text (i + 1) 0 ≡ 10 → is_crlf text i ≡ true
 crlf_from text i a b = rw (a, b) refl
 
 apart : (text : List ℕ) (i c j : ℕ) → IsUtf8 (drop i text) → is_crlf text i ≡ false → j ≡ i + len_utf8 c → drop i text ≡ encode_utf8 c ++ drop j text → (c == 13 && slice_index (chars (drop j text)) 0 == 10) ≡ false
 apart text i c j u f e d =
     is_false _ (λ y.
-    let parts = and_both _ _ y in
-    let is : c ≡ 13 = same_byte 13 c parts.0 in
-    let feed = first_feed (drop j text) (IsUtf8-past_char (drop i text) (drop j text) c u d) (same_byte 10 _ parts.1) in
+    let parts = and_parts _ _ y in
+    let is : c ≡ 13 = eqb-true c 13 parts.0 in
+    let feed = first_feed (drop j text) (IsUtf8-past_char (drop i text) (drop j text) c u d) (eqb-true _ 10 parts.1) in
     let here : get_or (drop i text) 0 0 ≡ c = byte_from_char (drop i text) (drop j text) c d (omega arith) in
     let len : len_utf8 13 ≡ 1 = refl in
     let one : len_utf8 c ≡ 1 = rw is len in

@@ -1,6 +1,7 @@
 -- Where a token stands, no fault does.
 use Rattle.std.proofs.Common.{◌≡◌, ℕ, ◌⊎◌, true, false, Ok, Err, List, get_or, arith, inl, inr, sym, ◌∙◌, refl}
-use Rattle.std.specs.Prelude.{◌==◌, ◌||◌, not}
+use Rattle.std.specs.Prelude.{◌==◌}
+use Rattle.std.proofs.lemmas.Bool.Decides.{nat_tests}
 use Rattle.std.proofs.lemmas.Bool.{false≢true}
 use Rattle.toml_span_lex.specs.declared.tokens.Error.{Error}
 use Rattle.toml_span_lex.specs.declared.span.Span.{Span}
@@ -10,21 +11,15 @@ use Rattle.toml_span_lex.specs.Strings.{IsNoString}
 use Rattle.toml_span_lex.specs.Tokens.{Lexeme, whitespace, newline, comment, punctuator, keylike, string, begins_token, Stands, IsNoToken}
 use Rattle.toml_span_lex.proofs.OneFault.{stray, string_one}
 use Rattle.toml_span_lex.proofs.OneToken.{tag_of, token_tag, same_token_tag}
-use Rattle.toml_span_lex.proofs.Runs.{unprinted_ascii}
-use Rattle.toml_span_lex.proofs.Tables.{agree_below, agree_at}
-use Rattle.toml_span_lex.proofs.Unique.{or_true, is_false}
+use Rattle.toml_span_lex.proofs.Unique.{or_true}
 
 -- of the characters that no comment holds, the line feed alone begins a token
 pub unprinted_begins : (b : ℕ) → is_printed b ≡ false → (b == 10) ≡ false → begins_token b ≡ false
-unfolding agree_below
-unprinted_begins b shut line =
-    let h = agree_at (λ c. (is_printed c || c == 10) || not (begins_token c)) (λ c. true) 128 refl b (unprinted_ascii b shut) in
-    is_false (begins_token b) (λ t. false≢true (rw (t, shut, line) at h))
+unprinted_begins b shut line = grind (arith, nat_tests)
 
 pub quote_token : (b : ℕ) → (b ≡ 34) ⊎ (b ≡ 39) → tag_of b ≡ 5
 unfolding tag_of
-quote_token b (inl e) = rw e refl
-quote_token b (inr e) = rw e refl
+quote_token b u = grind (arith, nat_tests)
 
 token_begins : (text : List ℕ) (i j : ℕ) (s : Span) (l : Lexeme) → Stands text i j s l → (begins_token (get_or text i 0) ≡ true) ⊎ (is_crlf text i ≡ true)
 token_begins text i j s (whitespace x) h = inl (rw (h.0.1.passes i (omega arith) h.0.0) refl)

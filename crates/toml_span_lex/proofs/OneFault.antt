@@ -23,7 +23,7 @@ use Rattle.toml_span_lex.proofs.EscapeLemmas.{past_escape}
 use Rattle.toml_span_lex.proofs.Hex.{past_hex}
 use Rattle.toml_span_lex.proofs.One.{One, one_is, one_where, one_given, one_either, Choice, one_choice, one_through, ok_same, err_same}
 use Rattle.toml_span_lex.proofs.Runs.{char_shut, past_ascii}
-use Rattle.toml_span_lex.proofs.Unique.{Stop, stop_one, run_unique, gap_unique, line_unique, line_not, line_unprinted, from_unique, or_true, same_true, differs}
+use Rattle.toml_span_lex.proofs.Unique.{Stop, stop_one, run_unique, gap_unique, line_unique, line_not, line_unprinted, from_unique, same_true, differs}
 pub use Rattle.toml_span_lex.proofs.Runs.{char_within}
 
 -- ---- characters
@@ -76,11 +76,8 @@ past_printed c h = grind (arith, nat_tests)
 hex_opens : (b : ℕ) → 0 < hex_len b → opens_escape b ≡ true
 hex_opens b h = grind (arith, nat_tests)
 
-hex_letters : (b : ℕ) → 0 < hex_len b → (b ≡ 120) ⊎ ((b ≡ 117) ⊎ (b ≡ 85))
-hex_letters b h = grind (arith, nat_tests)
-
 some_hex : (b c : ℕ) → simple_escape b ≡ Some c → 0 < hex_len b → ⊥
-some_hex b c e h = elim (hex_letters b h) [ inl x ↦ absurd (let n : None ≡ Some c = rw x at e in cc) | inr (inl x) ↦ absurd (let n : None ≡ Some c = rw x at e in cc) | inr (inr x) ↦ absurd (let n : None ≡ Some c = rw x at e in cc) ]
+some_hex b c e h = grind (arith, nat_tests)
 
 abbrev EscapeReads : ℕ → List ℕ → ℕ → Result (ℕ × ℕ) (Error × ℕ) → Type 0
 EscapeReads start text i = Choice (opens_escape (get_or text i 0))
@@ -149,11 +146,10 @@ escape_opens text i c j (inl h) = rw h.0 refl
 escape_opens text i c j (inr h) = hex_opens (get_or text i 0) h.0
 
 opens_no_gap : (text : List ℕ) (i : ℕ) → opens_escape (get_or text i 0) ≡ true → is_ws_or_newline text i ≡ false
-opens_no_gap text i h = let b = get_or text i 0 in rw (differs opens_escape b 32 h, differs opens_escape b 9 h, differs opens_escape b 10 h, differs opens_escape b 13 h) refl
+opens_no_gap text i h = grind (arith, nat_tests)
 
 line_gap : (text : List ℕ) (i j : ℕ) → LineEnd text i j → is_ws_or_newline text i ≡ true
-line_gap text i j (inl h) = rw h.0 refl
-line_gap text i j (inr h) = rw (h.0, or_true) refl
+line_gap text i j h = grind (arith, nat_tests)
 
 dropped_gap : (text : List ℕ) (i j : ℕ) → IsDropped text i j → is_ws_or_newline text i ≡ true
 dropped_gap text i j (k, l, run, line, gap) =
@@ -295,8 +291,7 @@ stray text i j (errors.Unexpected at c) (e, inr h, n) =
 stray text i j e h = absurd h
 
 quote_begins : (b : ℕ) → (b ≡ 34) ⊎ (b ≡ 39) → begins_token b ≡ false → ⊥
-quote_begins b (inl e) n = false≢true (sym (rw e at n))
-quote_begins b (inr e) n = false≢true (sym (rw e at n))
+quote_begins b u n = grind (arith, nat_tests)
 
 pub fault_unique : (text : List ℕ) (i j k : ℕ) (e f : Error) → IsNoToken text i j e → IsNoToken text i k f → (j ≡ k) × (e ≡ f)
 fault_unique text i j k e f (inl a) (inl b) =

@@ -1,13 +1,14 @@
 -- At most one token begins at a place.
-use Rattle.std.proofs.Common.{◌≡◌, ℕ, true, false, Ok, List, get_or, arith, inl, inr, sym, ◌∙◌, refl, ap}
+use Rattle.std.proofs.Common.{◌≡◌, ℕ, true, Ok, List, get_or, arith, inl, inr, sym, ◌∙◌, refl, ap}
 use Rattle.std.specs.Prelude.{◌==◌, if◌then◌else◌}
+use Rattle.std.proofs.lemmas.Bool.Decides.{nat_tests}
 use Rattle.toml_span_lex.specs.declared.span.Span.{Span}
 use Rattle.toml_span_lex.specs.Bytes.{is_blank, is_keylike, is_printed}
 use Rattle.toml_span_lex.specs.Tokens.{Lexeme, whitespace, newline, comment, punctuator, keylike, string, is_punctuator, Stands}
 use Rattle.toml_span_lex.proofs.Runs.{crlf_first}
 use Rattle.toml_span_lex.proofs.One.{ok_same}
 use Rattle.toml_span_lex.proofs.OneFault.{string_one}
-use Rattle.toml_span_lex.proofs.Unique.{run_unique, line_unique, differs}
+use Rattle.toml_span_lex.proofs.Unique.{run_unique, line_unique}
 
 unfoldable pub tag_of : ℕ → ℕ
 tag_of b =
@@ -30,14 +31,11 @@ token_tag (string src val multi) = 5
 
 sign_tag : (b : ℕ) → is_punctuator b ≡ true → tag_of b ≡ 3
 unfolding tag_of
-sign_tag b h = simp (differs is_punctuator b 32 h, differs is_punctuator b 9 h, differs is_punctuator b 10 h, differs is_punctuator b 13 h, differs is_punctuator b 35 h) (rw h refl)
-
-keylike_no_sign : (b : ℕ) → is_keylike b ≡ true → is_punctuator b ≡ false
-keylike_no_sign b h = simp (differs is_keylike b 61 h, differs is_keylike b 46 h, differs is_keylike b 44 h, differs is_keylike b 58 h, differs is_keylike b 43 h, differs is_keylike b 123 h, differs is_keylike b 125 h, differs is_keylike b 91 h, differs is_keylike b 93 h)
+sign_tag b h = grind (arith, nat_tests)
 
 keylike_tag : (b : ℕ) → is_keylike b ≡ true → tag_of b ≡ 4
 unfolding tag_of
-keylike_tag b h = simp (keylike_no_sign b h, differs is_keylike b 32 h, differs is_keylike b 9 h, differs is_keylike b 10 h, differs is_keylike b 13 h, differs is_keylike b 35 h, differs is_keylike b 34 h, differs is_keylike b 39 h)
+keylike_tag b h = grind (arith, nat_tests)
 
 pub same_token_tag : (text : List ℕ) (i j : ℕ) (span : Span) (l : Lexeme) → Stands text i j span l → token_tag l ≡ tag_of (get_or text i 0)
 unfolding token_tag tag_of

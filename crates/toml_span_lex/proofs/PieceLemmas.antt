@@ -1,11 +1,12 @@
 -- Pieces of a string, and what is kept of them.
-use Rattle.std.proofs.Common.{◌≡◌, ℕ, ◌+◌, ◌-◌, ◌<◌, ◌≤◌, ◌⊎◌, Bool, true, false, Option, Some, None, Result, Ok, Err, IfErr, List, [], ◌∷◌, ◌++◌, length, get_or, take, drop, arith, inl, inr, sym, ◌∙◌, refl, ap, length-append, length-take, length-drop, append_assoc, append-nil, cond, get_or-take, get_or-drop, drop-cons, take-add, drop-drop}
-use Rattle.std.specs.Prelude.{encode_utf8, slice_range, string_bytes, ◌==◌}
+use Rattle.std.proofs.Common.{◌≡◌, ℕ, ◌+◌, ◌-◌, ◌<◌, ◌≤◌, ◌⊎◌, Bool, true, false, Option, Some, None, Result, Ok, Err, IfErr, List, [], ◌∷◌, ◌++◌, length, get_or, take, drop, arith, inl, inr, sym, refl, ap, length-append, length-take, length-drop, append_assoc, append-nil, get_or-take, get_or-drop, drop-cons, take-add, drop-drop}
+use Rattle.std.specs.Prelude.{encode_utf8, slice_range, string_bytes}
 use Rattle.std.specs.Char.{len_utf8, digit_value}
 use Rattle.std.specs.Str.Parse.{digits_value}
-use Rattle.toml_span_lex.proofs.Runs.{read_within, behind, crlf_first, neither}
+use Rattle.toml_span_lex.proofs.Runs.{read_within, behind}
 use Rattle.std.specs.declared.string.String.{String}
-use Rattle.std.proofs.lemmas.Bool.{cases_lt, false≢true}
+use Rattle.std.proofs.lemmas.Bool.{eqb-true}
+use Rattle.std.proofs.lemmas.Grind.{common_steps}
 use Rattle.std.proofs.lemmas.Bool.Decides.{nat_tests}
 use Rattle.std.proofs.lemmas.Str.{length-encode, len_utf8_bounds, len_utf8_ascii}
 use Rattle.std.specs.Str.{IsUtf8}
@@ -31,26 +32,11 @@ pub kept_length : {Z : Type 0} (q : ℕ) (text : List ℕ) (from at : ℕ) (v : 
 kept_length q text from at v None f e = omega (arith, ap length e, length-take (at - from) (drop from text))
 kept_length q text from at v (Some s) f k = omega (arith, k.1)
 
-chosen : (t : Bool) (x : ℕ) (rest : Option ℕ) (c : ℕ) → x < 128 → (rest ≡ Some c → c < 128) → cond t (Some x) rest ≡ Some c → c < 128
-chosen true x rest c l h e = let same : x ≡ c = cc in omega arith
-chosen false x rest c l h e = h e
-
 simple_value : (b c : ℕ) → simple_escape b ≡ Some c → c < 128
-simple_value b c e =
-    chosen (b == 34) 34 _ c (omega arith)
-    (chosen (b == 92) 92 _ c (omega arith)
-    (chosen (b == 98) 8 _ c (omega arith)
-    (chosen (b == 102) 12 _ c (omega arith)
-    (chosen (b == 110) 10 _ c (omega arith)
-    (chosen (b == 114) 13 _ c (omega arith)
-    (chosen (b == 116) 9 _ c (omega arith)
-    (chosen (b == 101) 27 None c (omega arith) (λ n. absurd (cc))))))))) e
+simple_value b c e = grind (arith, nat_tests)
 
 two_hex : (ds : List ℕ) → length ds ≡ 2 → digit_value (get_or ds 0 0) < 16 → digit_value (get_or ds 1 0) < 16 → digits_value 16 ds < 256
-two_hex [] l f g = absurd (omega arith)
-two_hex (x ∷ []) l f g = absurd (omega arith)
-two_hex (x ∷ y ∷ []) l f g = omega arith
-two_hex (x ∷ y ∷ z ∷ ds) l f g = absurd (omega arith)
+two_hex ds l f g = grind (arith, common_steps)
 
 hex_len_cases : (b : ℕ) → 0 < hex_len b → (hex_len b ≡ 2) ⊎ (4 ≤ hex_len b)
 hex_len_cases b h = grind (arith, nat_tests)
@@ -90,35 +76,24 @@ one_byte text i c e l =
     rw (n, drop-cons text i 0) (ap (λ x. x ∷ []) (sym e))
 
 pub line_forward : (text : List ℕ) (i j : ℕ) → LineEnd text i j → i < j
-line_forward text i j (inl h) = omega (arith, h.1)
-line_forward text i j (inr h) = omega (arith, h.1)
+line_forward text i j h = grind (arith, nat_tests)
 
 pub line_feed : (text : List ℕ) (i j : ℕ) → LineEnd text i j → j ≡ i + 1 → 10 ∷ [] ≡ slice_range text i j
 line_feed text i j (inr h) e = absurd (omega (arith, h.1))
 line_feed text i j (inl h) e = rw e (one_byte text i 10 h.0 (read_within text i (omega (arith, h.0))))
 
 pub crlf_shorter : (text : List ℕ) (i j : ℕ) → LineEnd text i j → (j ≡ i + 1 → ⊥) → 1 + i < j
-crlf_shorter text i j (inl h) n = absurd (n h.1)
-crlf_shorter text i j (inr h) n = omega (arith, h.1)
+crlf_shorter text i j h n = grind (arith, nat_tests)
 
 pub crlf_return : (text : List ℕ) (i j : ℕ) → LineEnd text i j → (j ≡ i + 1 → ⊥) → get_or text i 0 ≡ carriage_return
-crlf_return text i j (inl h) n = absurd (n h.1)
-crlf_return text i j (inr h) n = crlf_first text i h.0
+crlf_return text i j h n = grind (arith, nat_tests)
 
 pub dropped_shorter : (text : List ℕ) (i j : ℕ) → IsDropped text (i + 1) j → i < j
 dropped_shorter text i j (k, l, run, line, gap) = let f = line_forward text k l line in omega arith
 
 -- Where white space begins and no line end follows its spaces and tabs, there is one of these at least.
 pub blanks_forward : (text : List ℕ) (i j : ℕ) → i < length text → is_ws_or_newline text i ≡ true → MaximalRun is_blank text i j → NoLineEnd text j → i < j
-blanks_forward text i j l gap run none =
-    elim (cases_lt i j) [
-      | inl lt ↦ lt
-      | inr ge ↦
-          let same : j ≡ i = omega (arith, run.forward) in
-          let blank : is_blank (get_or text i 0) ≡ false = rw same at (run.stops (omega arith)) in
-          let line : NoLineEnd text i = rw same at none in
-          absurd (false≢true (sym (neither _ _ (neither _ _ blank line.0) line.1) ∙ gap))
-    ]
+blanks_forward text i j l gap run none = grind (arith, nat_tests, run.stops, run.forward)
 
 -- a backslash or a carriage return here is a change from every place before it to every place behind it
 pub change_at : (q : ℕ) (text : List ℕ) (from at next : ℕ) → from ≤ at → at < next → ((q ≡ quotation_mark) × (get_or text at 0 ≡ backslash)) ⊎ (get_or text at 0 ≡ carriage_return) → HasChange q text from next
@@ -155,9 +130,6 @@ pub Cut-forward : (q : ℕ) (m : Bool) (text : List ℕ) (i j : ℕ) (ps : List 
 Cut-forward q m text i j [] e = omega arith
 Cut-forward q m text i j (p ∷ ps) c = let f = piece_forward q m text i p.1 p.0 c.0 in let g = Cut-forward q m text p.1 j ps c.1 in omega arith
 
-pub same_byte : (q c : ℕ) → (c == q) ≡ true → c ≡ q
-same_byte q c h = grind (arith, nat_tests)
-
 -- where a string closes
 pub record Closing (q : ℕ) (m : Bool) (text : List ℕ) (at end : ℕ) : Type 0 where
   pub on : at ≤ content_end m end
@@ -175,8 +147,8 @@ closing q true text at end (r, run, long, e) =
       on = omega arith;
       some = omega arith;
       within = omega (arith, run.within);
-      first = same_byte q _ (run.passes (end - 3) (omega arith) (omega arith));
-      last = same_byte q _ (run.passes (end - 1) (omega arith) (omega arith));
+      first = eqb-true _ q (run.passes (end - 3) (omega arith) (omega arith));
+      last = eqb-true _ q (run.passes (end - 1) (omega arith) (omega arith));
     }
 
 pub ends : (q : ℕ) (m : Bool) (text : List ℕ) (from at end : ℕ) → IsUtf8 text → q < 128 → from ≤ at → IsClose q m text at end → Ends text from (content_end m end) end

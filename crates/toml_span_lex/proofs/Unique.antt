@@ -1,7 +1,8 @@
 -- Where runs, line ends and contents begin and end, one place does.
 use Rattle.std.proofs.Common.{◌≡◌, ℕ, ◌+◌, ◌<◌, ◌≤◌, Bool, true, false, List, length, get_or, arith, inl, inr, sym, ◌∙◌, refl}
 use Rattle.std.specs.Prelude.{◌==◌, ◌||◌, not}
-use Rattle.std.proofs.lemmas.Bool.{cases_lt, false≢true, eq-eqb, eqb-true}
+use Rattle.std.proofs.lemmas.Bool.Decides.{nat_tests}
+use Rattle.std.proofs.lemmas.Bool.{cases_lt, false≢true, eq-eqb}
 use Rattle.std.proofs.Math.Bool.{or-true}
 use Rattle.toml_span_lex.specs.Bytes.{MaximalRun, is_printed}
 use Rattle.toml_span_lex.specs.Text.{LineEnd, NoLineEnd}
@@ -22,13 +23,9 @@ is_false false h = refl
 pub same_true : (c q : ℕ) → c ≡ q → (c == q) ≡ true
 same_true = eq-eqb
 
-not_self : (b : Bool) → b ≡ not b → ⊥
-not_self true e = false≢true (sym e)
-not_self false e = false≢true e
-
 -- two bytes that a test tells apart
 pub differs : (p : ℕ → Bool) (b k : ℕ) → p b ≡ not (p k) → (b == k) ≡ false
-differs p b k h = is_false (b == k) (λ e. not_self (p k) (let s : b ≡ k = eqb-true b k e in rw s at h))
+differs p b k h = grind (arith, nat_tests)
 
 -- ---- runs
 
@@ -55,12 +52,10 @@ pub line_unique : (text : List ℕ) (i j k : ℕ) → LineEnd text i j → LineE
 line_unique text i = one_either (one_where one_is) (one_where one_is) (λ j k a b. omega (arith, a.0, crlf_first text i b.0))
 
 pub line_not : (text : List ℕ) (i j : ℕ) → LineEnd text i j → NoLineEnd text i → ⊥
-line_not text i j (inl h) n = false≢true (sym n.0 ∙ same_true (get_or text i 0) 10 h.0)
-line_not text i j (inr h) n = false≢true (sym n.1 ∙ h.0)
+line_not text i j h n = grind (arith, nat_tests)
 
 pub line_unprinted : (text : List ℕ) (i j : ℕ) → LineEnd text i j → is_printed (get_or text i 0) ≡ false
-line_unprinted text i j (inl h) = rw h.0 refl
-line_unprinted text i j (inr h) = rw (crlf_first text i h.0) refl
+line_unprinted text i j h = grind (arith, nat_tests)
 
 pub from_unique : (m : Bool) (text : List ℕ) (i : ℕ) → One (ContentFrom m text i)
 from_unique false text i = one_is
