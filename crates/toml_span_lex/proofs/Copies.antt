@@ -60,16 +60,12 @@ string_change text i j s src v m h n =
     (change.0, omega (arith, change.1, content_from_after m text i h.from h.begins), change.2, change.3)
 
 -- a token whose reading may want memory
-pub record IsCopied (text : List ℕ) (i j : ℕ) (l : Lexeme) : Type 0 where
-  pub source : List ℕ
-  pub value : List ℕ
-  pub multi : Bool
-  pub is : l ≡ string source value multi
-  pub change : HasChange (get_or text i 0) text i j
+abbrev pub IsCopied : List ℕ → ℕ → ℕ → Lexeme → Type 0
+IsCopied text i j l = ((source : List ℕ) × (value : List ℕ) × (multi : Bool) × (l ≡ string source value multi)) × HasChange (get_or text i 0) text i j
 
 by_tag : (text : List ℕ) (i j : ℕ) (s : Span) (l : Lexeme) → token_tag l ≡ 5 → Stands text i j s l → NeedsMemory text i → IsCopied text i j l
 unfolding token_tag
-by_tag text i j s (string src v m) e h n = record { source = src; value = v; multi = m; is = refl; change = string_change text i j s src v m h n }
+by_tag text i j s (string src v m) e h n = ((src, v, m, refl), string_change text i j s src v m h n)
 by_tag text i j s l e h n = absurd (omega arith)
 
 pub copied : (text : List ℕ) (i j : ℕ) (s : Span) (l : Lexeme) → Stands text i j s l → NeedsMemory text i → IsCopied text i j l

@@ -1,5 +1,5 @@
 -- Character by character, the folded text.
-use Rattle.std.proofs.Common.{◌≡◌, ℕ, ◌+◌, ◌<◌, Bool, true, false, List, [], ◌∷◌, ◌++◌, length, get_or, drop, arith, inl, inr, sym, ◌∙◌, refl, ap, get_or-drop, add-zero, drop-cons, add-one}
+use Rattle.std.proofs.Common.{◌≡◌, ℕ, ◌+◌, Bool, true, false, List, [], ◌∷◌, ◌++◌, get_or, drop, arith, inl, inr, sym, ◌∙◌, refl, ap, get_or-drop, add-zero}
 use Rattle.std.specs.Prelude.{◌==◌, ◌&&◌, slice_index, encode_utf8}
 use Rattle.std.specs.Char.{len_utf8}
 use Rattle.std.specs.Str.{IsUtf8, chars}
@@ -7,24 +7,15 @@ use Rattle.std.proofs.lemmas.Str.{chars_past_char, encode_ascii, encodes-chars, 
 use Rattle.std.proofs.Math.Utf8.{encodes}
 use Rattle.std.proofs.lemmas.Bool.{false≢true, eqb-true, and_parts}
 use Rattle.std.proofs.lemmas.Bool.Decides.{nat_tests}
+use Rattle.std.proofs.lemmas.Grind.{common_steps}
 use Rattle.toml_span_lex.specs.Text.{is_crlf, CharAt, folded_from, folded}
-use Rattle.toml_span_lex.proofs.Runs.{read_within, crlf_first}
 use Rattle.toml_span_lex.proofs.Unique.{is_false}
 
 pub second : (text : List ℕ) (i : ℕ) → is_crlf text i ≡ true → get_or text (i + 1) 0 ≡ 10
 second text i h = grind (arith, nat_tests)
 
-next_cons : (text : List ℕ) (i c : ℕ) → 0 < c → get_or text i 0 ≡ c → drop i text ≡ c ∷ drop (i + 1) text
-next_cons text i c z e =
-    let l : i < length text = read_within text i (omega arith) in
-    rw (drop-cons text i 0, e, add-one i) refl
-
 crlf_drop : (text : List ℕ) (i : ℕ) → is_crlf text i ≡ true → drop i text ≡ 13 ∷ 10 ∷ drop (i + 2) text
-crlf_drop text i h =
-    let two : (i + 1) + 1 ≡ i + 2 = omega arith in
-    let a = next_cons text i 13 (omega arith) (crlf_first text i h) in
-    let b = next_cons text (i + 1) 10 (omega arith) (second text i h) in
-    a ∙ ap (λ x. 13 ∷ x) (rw two at b)
+crlf_drop text i h = grind (arith, common_steps, nat_tests)
 
 crlf_chars : (text : List ℕ) (i : ℕ) → IsUtf8 (drop i text) → is_crlf text i ≡ true → chars (drop i text) ≡ 13 ∷ 10 ∷ chars (drop (i + 2) text)
 crlf_chars text i u h =

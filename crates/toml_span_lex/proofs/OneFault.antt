@@ -2,7 +2,7 @@
 use Rattle.std.proofs.Common.{◌≡◌, ℕ, ◌+◌, ◌<◌, ◌≤◌, ◌⊎◌, Bool, true, false, min, Option, Some, None, Result, Ok, Err, List, [], ◌∷◌, ◌++◌, length, get_or, drop, arith, inl, inr, sym, ◌∙◌, refl, ap}
 use Rattle.std.specs.Prelude.{◌==◌, ◌&&◌, not, slice_range}
 use Rattle.std.specs.Char.{IsScalar}
-use Rattle.std.proofs.lemmas.Bool.{cases_lt, false≢true}
+use Rattle.std.proofs.lemmas.Bool.{false≢true}
 use Rattle.std.proofs.lemmas.Bool.Decides.{nat_tests}
 use Rattle.std.proofs.lemmas.List.{get_or_past}
 use Rattle.std.proofs.lemmas.Str.{encode_same}
@@ -148,15 +148,8 @@ escape_opens text i c j (inr h) = hex_opens (get_or text i 0) h.0
 opens_no_gap : (text : List ℕ) (i : ℕ) → opens_escape (get_or text i 0) ≡ true → is_ws_or_newline text i ≡ false
 opens_no_gap text i h = grind (arith, nat_tests)
 
-line_gap : (text : List ℕ) (i j : ℕ) → LineEnd text i j → is_ws_or_newline text i ≡ true
-line_gap text i j h = grind (arith, nat_tests)
-
 dropped_gap : (text : List ℕ) (i j : ℕ) → IsDropped text i j → is_ws_or_newline text i ≡ true
-dropped_gap text i j (k, l, run, line, gap) =
-    elim (cases_lt i k) [
-      | inl f ↦ rw (run.passes i (omega arith) f) refl
-      | inr f ↦ let e : k ≡ i = omega (arith, run.forward) in line_gap text i l (rw e at line)
-    ]
+dropped_gap text i j (k, l, run, line, gap) = grind (arith, nat_tests, run.passes, run.forward)
 
 and_false : (m t : Bool) → (m ≡ true → t ≡ false) → (m && t) ≡ false
 and_false true t h = h refl

@@ -1,9 +1,9 @@
 -- Pieces of a string, and what is kept of them.
-use Rattle.std.proofs.Common.{◌≡◌, ℕ, ◌+◌, ◌-◌, ◌<◌, ◌≤◌, ◌⊎◌, Bool, true, false, Option, Some, None, Result, Ok, Err, IfErr, List, [], ◌∷◌, ◌++◌, length, get_or, take, drop, arith, inl, inr, sym, refl, ap, length-append, length-take, length-drop, append_assoc, append-nil, get_or-take, get_or-drop, drop-cons, take-add, drop-drop}
+use Rattle.std.proofs.Common.{◌≡◌, ℕ, ◌+◌, ◌-◌, ◌<◌, ◌≤◌, ◌⊎◌, Bool, true, false, Option, Some, None, Result, Ok, Err, IfErr, List, [], ◌∷◌, ◌++◌, length, get_or, take, drop, arith, inl, inr, sym, refl, ap, length-append, length-take, length-drop, append_assoc, append-nil, get_or-take, get_or-drop, take-add, drop-drop}
 use Rattle.std.specs.Prelude.{encode_utf8, slice_range, string_bytes}
 use Rattle.std.specs.Char.{len_utf8, digit_value}
 use Rattle.std.specs.Str.Parse.{digits_value}
-use Rattle.toml_span_lex.proofs.Runs.{read_within, behind}
+use Rattle.toml_span_lex.proofs.Runs.{behind}
 use Rattle.std.specs.declared.string.String.{String}
 use Rattle.std.proofs.lemmas.Bool.{eqb-true}
 use Rattle.std.proofs.lemmas.Grind.{common_steps}
@@ -15,7 +15,7 @@ use Rattle.toml_span_lex.specs.Bytes.{quotation_mark, backslash, carriage_return
 use Rattle.toml_span_lex.specs.declared.pieces.Piece.{Piece}
 use Rattle.toml_span_lex.specs.declared.pieces.Piece.TheVariants as pieces
 use Rattle.toml_span_lex.specs.Text.{LineEnd, NoLineEnd}
-use Rattle.toml_span_lex.specs.Escapes.{simple_escape, hex_len, hex_value, is_hex, HexRun, IsHexEscape, IsEscape}
+use Rattle.toml_span_lex.specs.Escapes.{simple_escape, hex_len, hex_value, is_hex, HexRun, IsEscape}
 use Rattle.toml_span_lex.specs.Pieces.{is_ws_or_newline, IsDropped, IsPiece, piece_value, IsClose}
 use Rattle.toml_span_lex.specs.Strings.{Cut, content, content_end, HasChange}
 use Rattle.toml_span_lex.specs.code.Strings.{Kept, Ends}
@@ -55,32 +55,18 @@ two_value text a r =
 two_bytes : (c : ℕ) → c < 256 → len_utf8 c ≤ 2
 two_bytes c h = grind (arith, nat_tests)
 
-len_hex : (text : List ℕ) (i n c j : ℕ) → (n ≡ 2) ⊎ (4 ≤ n) → IsHexEscape text i n c j → length (encode_utf8 c) + i < j + 1
-len_hex text i n c j (inl two) h =
-    let run : HexRun text (i + 1) ((i + 1) + 2) = rw (h.1, two) at h.0 in
-    let small : c < 256 = rw (h.2, two) (two_value text (i + 1) run) in
-    omega (arith, two_bytes c small, length-encode c)
-len_hex text i n c j (inr four) h = omega (arith, h.1, (len_utf8_bounds c).1, length-encode c)
-
-len_escape : (text : List ℕ) (i c j : ℕ) → IsEscape text i c j → length (encode_utf8 c) + i < j + 1
-len_escape text i c j (inl h) = let f : len_utf8 c ≡ 1 = len_utf8_ascii c (simple_value (get_or text i 0) c h.0) in omega (arith, h.2, length-encode c)
-len_escape text i c j (inr h) = len_hex text i (hex_len (get_or text i 0)) c j (hex_len_cases (get_or text i 0) h.0) h.2
-
 -- what an escape stands for is shorter than it
 pub escape_shorter : (text : List ℕ) (i c j : ℕ) → IsEscape text (i + 1) c j → length (encode_utf8 c) + i < j
-escape_shorter text i c j h = let l = len_escape text (i + 1) c j h in omega arith
-
-one_byte : (text : List ℕ) (i c : ℕ) → get_or text i 0 ≡ c → i < length text → c ∷ [] ≡ slice_range text i (i + 1)
-one_byte text i c e l =
-    let n : (i + 1) - i ≡ 1 = omega arith in
-    rw (n, drop-cons text i 0) (ap (λ x. x ∷ []) (sym e))
+escape_shorter text i c j (inl h) = let small = simple_value (get_or text (i + 1) 0) c h.0 in grind (arith, length-encode, len_utf8_ascii)
+escape_shorter text i c j (inr h) =
+    let two : hex_len (get_or text (i + 1) 0) ≡ 2 → c < 256 = λ e. (let run : HexRun text ((i + 1) + 1) (((i + 1) + 1) + 2) = rw (h.2.1, e) at h.2.0 in rw (h.2.2, e) (two_value text ((i + 1) + 1) run)) in
+    grind (arith, nat_tests, length-encode, len_utf8_bounds c, hex_len_cases, h.2.1)
 
 pub line_forward : (text : List ℕ) (i j : ℕ) → LineEnd text i j → i < j
 line_forward text i j h = grind (arith, nat_tests)
 
 pub line_feed : (text : List ℕ) (i j : ℕ) → LineEnd text i j → j ≡ i + 1 → 10 ∷ [] ≡ slice_range text i j
-line_feed text i j (inr h) e = absurd (omega (arith, h.1))
-line_feed text i j (inl h) e = rw e (one_byte text i 10 h.0 (read_within text i (omega (arith, h.0))))
+line_feed text i j h e = grind (arith, common_steps, nat_tests)
 
 pub crlf_shorter : (text : List ℕ) (i j : ℕ) → LineEnd text i j → (j ≡ i + 1 → ⊥) → 1 + i < j
 crlf_shorter text i j h n = grind (arith, nat_tests)
@@ -121,10 +107,7 @@ content-more q m text i j k (x ∷ ps) p c = rw (content-more q m text x.1 j k p
 
 pub piece_forward : (q : ℕ) (m : Bool) (text : List ℕ) (i j : ℕ) (p : Piece) → IsPiece q m text i j p → i < j
 piece_forward q m text i j pieces.Plain h = h.0
-piece_forward q m text i j pieces.Quotes h = h.1
-piece_forward q m text i j pieces.LineEnd h = line_forward text i j h.1
-piece_forward q m text i j (pieces.Escape c) h = let l = escape_shorter text i c j h.2 in omega arith
-piece_forward q m text i j pieces.Dropped h = dropped_shorter text i j h.3
+piece_forward q m text i j p h = grind (arith, nat_tests, escape_shorter)
 
 pub Cut-forward : (q : ℕ) (m : Bool) (text : List ℕ) (i j : ℕ) (ps : List (Piece × ℕ)) → Cut q m text i ps j → i ≤ j
 Cut-forward q m text i j [] e = omega arith
@@ -139,9 +122,7 @@ pub record Closing (q : ℕ) (m : Bool) (text : List ℕ) (at end : ℕ) : Type 
   pub last : get_or text (end - 1) 0 ≡ q
 
 pub closing : (q : ℕ) (m : Bool) (text : List ℕ) (at end : ℕ) → IsClose q m text at end → Closing q m text at end
-closing q false text at end h =
-    let e : at ≡ end - 1 = omega (arith, h.2) in
-    record { on = omega arith; some = omega (arith, h.2); within = omega (arith, h.1, h.2); first = rw e at h.0; last = rw e at h.0 }
+closing q false text at end h = grind (arith, nat_tests)
 closing q true text at end (r, run, long, e) =
     record {
       on = omega arith;

@@ -1,5 +1,5 @@
 -- Where a run ends, the text may be cut.
-use Rattle.std.proofs.Common.{◌≡◌, ℕ, ◌+◌, ◌-◌, ◌<◌, ◌≤◌, ◌⊎◌, Bool, true, false, List, ◌++◌, length, get_or, drop, arith, inl, inr, sym, ◌∙◌, get_or-drop, add-zero, length-drop, length-take, get_or-take, refl, ap, length-append}
+use Rattle.std.proofs.Common.{◌≡◌, ℕ, ◌+◌, ◌-◌, ◌<◌, ◌≤◌, ◌⊎◌, Bool, true, false, List, ◌++◌, length, get_or, drop, arith, inl, inr, sym, ◌∙◌, get_or-drop, add-zero, length-drop, refl, ap}
 use Rattle.std.specs.Prelude.{encode_utf8, slice_range, ◌||◌, ◌==◌}
 use Rattle.std.specs.Char.{len_utf8}
 use Rattle.std.specs.Str.{IsUtf8, IsCharBoundary}
@@ -45,9 +45,7 @@ pub crlf_first : (text : List ℕ) (i : ℕ) → is_crlf text i ≡ true → get
 crlf_first text i h = grind arith
 
 pub char_within : (text : List ℕ) (i c j : ℕ) → CharAt text i c j → i < length text
-char_within text i c j (inl a) = read_within text i (omega (arith, crlf_first text i a.0))
-char_within text i c j (inr a) =
-    omega (arith, length-drop i text, ap length a.2, length-append (encode_utf8 c) (drop j text), length-encode c, (len_utf8_bounds c).0)
+char_within text i c j h = grind (arith, common_steps, nat_tests, length-encode, len_utf8_bounds)
 
 gap_ascii : (text : List ℕ) (i : ℕ) → is_ws_or_newline text i ≡ true → get_or text i 0 < 128
 gap_ascii text i h = grind (arith, nat_tests)
@@ -123,13 +121,4 @@ unprinted_ascii c h = grind (arith, nat_tests)
 -- what holds of the bytes of a part, and of those before it
 pub part_passes : (p : ℕ → Bool) (text part : List ℕ) (from a b : ℕ) → part ≡ slice_range text a b → ((k : ℕ) → from ≤ k → k < a → p (get_or text k 0) ≡ true) → a ≤ b → b ≤ length text
     → ((k : ℕ) → k < length part → p (get_or part k 0) ≡ true) → (k : ℕ) → from ≤ k → k < b → p (get_or text k 0) ≡ true
-part_passes p text part from a b e before f w here k x y =
-    elim (cases_lt k a) [
-      | inl lt ↦ before k x lt
-      | inr ge ↦
-          let n : length part ≡ b - a = rw e (omega (arith, length-take (b - a) (drop a text), length-drop a text)) in
-          let at : a + (k - a) ≡ k = omega arith in
-          let below : k - a < b - a = omega arith in
-          let is : get_or part (k - a) 0 ≡ get_or text k 0 = rw (e, get_or-take (b - a) (drop a text) (k - a) 0 below, get_or-drop, at) refl in
-          rw is at (here (k - a) (omega arith))
-    ]
+part_passes p text part from a b e before f w here k x y = grind (arith, common_steps, before, here (k - a))

@@ -1,8 +1,8 @@
 -- Where runs, line ends and contents begin and end, one place does.
-use Rattle.std.proofs.Common.{◌≡◌, ℕ, ◌+◌, ◌<◌, ◌≤◌, Bool, true, false, List, length, get_or, arith, inl, inr, sym, ◌∙◌, refl}
+use Rattle.std.proofs.Common.{◌≡◌, ℕ, ◌+◌, ◌<◌, ◌≤◌, Bool, true, false, List, length, get_or, arith, refl}
 use Rattle.std.specs.Prelude.{◌==◌, ◌||◌, not}
 use Rattle.std.proofs.lemmas.Bool.Decides.{nat_tests}
-use Rattle.std.proofs.lemmas.Bool.{cases_lt, false≢true, eq-eqb}
+use Rattle.std.proofs.lemmas.Bool.{eq-eqb}
 use Rattle.std.proofs.Math.Bool.{or-true}
 use Rattle.toml_span_lex.specs.Bytes.{MaximalRun, is_printed}
 use Rattle.toml_span_lex.specs.Text.{LineEnd, NoLineEnd}
@@ -33,12 +33,8 @@ differs p b k h = grind (arith, nat_tests)
 abbrev pub Stop : (ℕ → Bool) → ℕ → ℕ → ℕ → Type 0
 Stop p n i j = (i ≤ j) × (j ≤ n) × ((k : ℕ) → i ≤ k → k < j → p k ≡ true) × (j < n → p j ≡ false)
 
-no_further : (p : ℕ → Bool) (n i j k : ℕ) → Stop p n i j → Stop p n i k → j < k → ⊥
-no_further p n i j k a b l = false≢true (sym (a.3 (omega (arith, b.1))) ∙ b.2 j a.0 l)
-
 pub stop_one : (p : ℕ → Bool) (n i : ℕ) → One (Stop p n i)
-stop_one p n i j k a b =
-    elim (cases_lt j k) [ inl l ↦ absurd (no_further p n i j k a b l) | inr g ↦ elim (cases_lt k j) [ inl l ↦ absurd (no_further p n i k j b a l) | inr h ↦ omega arith ] ]
+stop_one p n i j k a b = grind (arith, a.2, a.3, b.2, b.3)
 
 pub run_unique : (p : ℕ → Bool) (text : List ℕ) (i j k : ℕ) → MaximalRun p text i j → MaximalRun p text i k → j ≡ k
 run_unique p text i j k a b = stop_one (λ x. p (get_or text x 0)) (length text) i j k (a.forward, a.within, a.passes, a.stops) (b.forward, b.within, b.passes, b.stops)
