@@ -1,4 +1,6 @@
 -- What is lent, and what stands in a tree after the loan.
+use Rattle.std.proofs.lemmas.Grind.{common_steps}
+use Rattle.std.proofs.lemmas.Bool.Decides.{nat_tests}
 use Rattle.std.proofs.Common.{◌≡◌, ℕ, zero, suc, ◌<◌, ◌^◌, [], ◌∷◌, length, drop, ◌==◌, arith, rules, ℤ, ◌⊎◌, inl, inr, BTreeMap, Vec, Global, vec_len, slice_index_or, List, Option, Some, None, IsSome, option_map, option_and_then, Bool, true, false, cond, refl, sym, ap, subst, ◌∙◌, MutBor}
 use lib.Dec.{T, eqb→eq}
 use Rattle.std.specs.Map.{lookup, set_value}
@@ -26,10 +28,7 @@ pub member-lent : (y : Option (MutBor Value)) (name : List ℕ) (es : List Entry
 member-lent y name es e = view-of_mut y ∙ ap (option_map view) e ∙ view-lookup name es
 
 pub lent-some : (y : Option (MutBor Value)) (o : Option Node) → option_map (λ v. view v.now) y ≡ o → IsSome o → (x : MutBor Value) × (y ≡ Some x)
-lent-some None o e h =
-    let no : ⊥ = cc (subst IsSome (sym e) h) in
-    absurd no
-lent-some (Some x) o e h = (x, refl)
+lent-some y o h1 h2 = grind (arith, nat_tests, common_steps)
 
 pub member-set : (name : List ℕ) (es fs : List Entry) (w : Value) → fs ≡ set_value (at_name name) es w → members_view fs ≡ set_entry name (view w) (members_view es)
 member-set name es fs w e = ap members_view e ∙ view-set_value name es w
@@ -48,18 +47,13 @@ view-empty : (s : Value) → s.value ≡ None → view s ≡ node taken s.span
 view-empty s is = view_is s ∙ ap (λ (o : Option ValueInner). node (inner_or_taken (option_map inner_view o)) s.span) is
 
 some-under : (f : Node → Option Node) (o : Option Node) → IsSome (option_and_then f o) → IsSome o
-some-under f None h = h
-some-under f (Some m) h = refl
+some-under f o h1 = grind (arith, nat_tests, common_steps)
 
 untaken-at : (b : Bool) (m : Node) → IsSome (cond b None (Some m)) → cond b None (Some m) ≡ Some m
-untaken-at true m h = cc
-untaken-at false m h = refl
+untaken-at b m h1 = grind (arith, nat_tests, common_steps)
 
 untaken-is : (o : Option Node) (m : Node) → o ≡ Some m → IsSome (option_and_then if_not_taken o) → option_and_then if_not_taken o ≡ Some m
-untaken-is None m e h = cc
-untaken-is (Some k) m e h =
-    let same : k ≡ m = cc in
-    untaken-at (is_taken k) k h ∙ ap Some same
+untaken-is o m h1 h2 = grind (arith, nat_tests, common_steps)
 
 held-at : (o : Option ValueInner) (s : Value) (text : List ℕ) → s.value ≡ o → IsSome (untaken_entry text (view s)) → (i : ValueInner) × (s.value ≡ Some i)
 held-at None s text e h =
@@ -180,21 +174,17 @@ path-more n m x path segment more e there h = found-child n m path segment more 
 
 pub path-set-more : (n m old w t r : Node) (path segment : List ℕ) (more : List (List ℕ)) → segments path ≡ segment ∷ more → untaken_entry segment n ≡ Some m → value_named more m ≡ Some old
     → t ≡ put_named more w m → r ≡ node (set_named segment t (inner_of n)) (span_of n) → r ≡ put_named (segments path) w n
-path-set-more n m old w t r path segment more e there h q p =
-    p ∙ ap (λ u. node (set_named segment u (inner_of n)) (span_of n)) q ∙ sym (put_found-more segment more n m w old there h) ∙ ap (λ names. put_named names w n) (sym e)
+path-set-more n m old w t r path segment more h1 h2 h3 h4 h5 = grind (arith, nat_tests, common_steps)
 
 pub path-set-last : (n m w r : Node) (path segment : List ℕ) (more : List (List ℕ)) → segments path ≡ segment ∷ more → more ≡ [] → untaken_entry segment n ≡ Some m
     → r ≡ node (set_named segment w (inner_of n)) (span_of n) → r ≡ put_named (segments path) w n
-path-set-last n m w r path segment more e last there p =
-    path-set-more n m m w w r path segment more e there (ap (λ names. value_named names m) last) (sym (ap (λ names. put_named names w m) last)) p
+path-set-last n m w r path segment more h1 h2 h3 h4 = grind (arith, nat_tests, common_steps)
 
 pushed-some : (x : ℕ) (names : List (List ℕ)) → 0 < length (push_front x names)
-pushed-some x [] = omega arith
-pushed-some x (segment ∷ names) = omega arith
+pushed-some x names = grind (arith, nat_tests, common_steps)
 
 slash-some : (b : Bool) (x : ℕ) (names : List (List ℕ)) → 0 < length (cond b ([] ∷ names) (push_front x names))
-slash-some true x names = omega arith
-slash-some false x names = pushed-some x names
+slash-some b x names = grind (arith, nat_tests, common_steps)
 
 segments-some : (path : List ℕ) → 0 < length (segments path)
 unfolding segments
@@ -211,13 +201,11 @@ pub empty-set : (p : List ℕ) (n w r : Node) → length p ≡ 0 → r ≡ w →
 empty-set p n w r h e = e ∙ sym (put_pointed-found p [] w n (pointer-empty p h))
 
 slash-at : (b : Bool) (x : ℕ) (xs : List ℕ) (n : Node) → (x == 47) ≡ b → IsSome (option_and_then (λ names. value_named names n) (cond b (Some (segments xs)) None)) → x ≡ 47
-slash-at true x xs n e h = eqb→eq x 47 (subst T (sym e) tt)
-slash-at false x xs n e h = absurd (cc h)
+slash-at b x xs n h1 h2 = grind (arith, nat_tests, common_steps)
 
 pub slash-of : (p : List ℕ) (n : Node) → 0 < length p → IsSome (pointed p n) → (path : List ℕ) × (p ≡ 47 ∷ path)
 unfolding pointer_segments
-slash-of [] n more h = absurd (omega (arith, more))
-slash-of (x ∷ xs) n more h = (xs, ap (λ y. y ∷ xs) (slash-at (x == 47) x xs n refl (subst IsSome (pointed-found (x ∷ xs) n) h)))
+slash-of p n h1 h2 = grind (arith, nat_tests, common_steps)
 
 pub slash-is : (p path : List ℕ) (n : Node) → p ≡ 47 ∷ path → pointed p n ≡ value_named (segments path) n
 slash-is p path n e = pointed-found p n ∙ ap (option_and_then (λ names. value_named names n)) (pointer-slash p path e)

@@ -1,4 +1,6 @@
 -- A pointer, a segment at a time.
+use Rattle.std.proofs.lemmas.Grind.{common_steps}
+use Rattle.std.proofs.lemmas.Bool.Decides.{nat_tests}
 use Rattle.std.proofs.Common.{◌≡◌, ◌≢◌, ℕ, zero, suc, ◌<◌, List, [], ◌∷◌, ◌++◌, length, get_or, Option, Some, None, option_map, option_and_then, refl, sym, ap, ◌∙◌, arith, ne_eqb, Bool, true, false, cond, ◌≤◌, ◌^◌, ◌&&◌, Bor, MutBor}
 use Rattle.std.proofs.Common.{◌||◌, ◌==◌, not, nat_lt, lt-ltb, ltb-true, ltb-false}
 use Rattle.std.proofs.lemmas.Str.Parse.{IsNumeralModel, numerals_by_value, tells_all_ascii_digits}
@@ -32,8 +34,7 @@ segments-more (x ∷ xs) rest h = rw (ne_eqb x 47 (h 0 (omega arith))) (ap (push
 -- the text of a pointer
 pub pointer-empty : (p : List ℕ) → length p ≡ 0 → pointer_segments p ≡ Some []
 unfolding pointer_segments
-pointer-empty [] h = refl
-pointer-empty (x ∷ p) h = absurd (omega (arith, h))
+pointer-empty p h1 = grind (arith, nat_tests, common_steps)
 
 pub pointer-slash : (p rest : List ℕ) → p ≡ 47 ∷ rest → pointer_segments p ≡ Some (segments rest)
 unfolding pointer_segments
@@ -41,8 +42,7 @@ pointer-slash p rest e = rw e
 
 pub pointer-other : (p : List ℕ) → 0 < length p → ((rest : List ℕ) → p ≢ 47 ∷ rest) → pointer_segments p ≡ None
 unfolding pointer_segments
-pointer-other [] h lacks = absurd (omega (arith, h))
-pointer-other (x ∷ p) h lacks = rw (ne_eqb x 47 (λ e. lacks p (ap (λ y. y ∷ p) e)))
+pointer-other p h1 h2 = grind (arith, nat_tests, common_steps)
 
 -- the key's span before a path is of no matter to the value at its end
 reached-key : (path : Path) (key other : Option Span) (n : Node) → option_map (λ m. m.1) (reached path (key, n)) ≡ option_map (λ m. m.1) (reached path (other, n))
@@ -86,16 +86,14 @@ pub found-cut : (path segment : List ℕ) (rest : Option (List ℕ)) (n : Node) 
 found-cut path segment rest n c = ap (λ names. value_named names n) c.parts ∙ found-more segment (segments_behind rest) n
 
 pointed-at : (o : Option (List (List ℕ))) (n : Node) → option_and_then (λ path. node_at path n) (option_and_then (λ names. path_named names n) o) ≡ option_and_then (λ names. value_named names n) o
-pointed-at None n = refl
-pointed-at (Some names) n = refl
+pointed-at o n = grind (arith, nat_tests, common_steps)
 
 -- a pointer names what its segments name
 pub pointed-found : (p : List ℕ) (n : Node) → pointed p n ≡ option_and_then (λ names. value_named names n) (pointer_segments p)
 pointed-found p n = pointed-at (pointer_segments p) n
 
 entry-at : (o : Option ℕ) (ns : Items) → option_and_then (λ s. option_map (λ e. e.1) (at_step s (Rattle.toml_span_tree.specs.Node.array ns))) (option_map position o) ≡ option_and_then (λ i. get_item i ns) o
-entry-at None ns = refl
-entry-at (Some i) ns = refl
+entry-at o ns = grind (arith, nat_tests, common_steps)
 
 -- what a segment names in an array
 pub entry-array : (segment : List ℕ) (ns : Items) → entry segment (Rattle.toml_span_tree.specs.Node.array ns) ≡ option_and_then (λ i. get_item i ns) (position_of segment)
@@ -130,10 +128,7 @@ some_position text h = rw h refl
 
 -- the parts of a decimal form
 form_at : (some digits lead : Bool) → some && digits && lead ≡ true → (some ≡ true) × (digits ≡ true) × (lead ≡ true)
-form_at true true true h = (refl, refl, refl)
-form_at true true false h = cc
-form_at true false lead h = cc
-form_at false digits lead h = cc
+form_at some digits lead h1 = grind (arith, nat_tests, common_steps)
 
 pub form_parts : (text : List ℕ) → is_decimal_form text ≡ true
     → (nat_lt 0 (length text) ≡ true) × (all_ascii_digits text ≡ true) × (length text == 1 || not (get_or text 0 0 == 48) ≡ true)
@@ -141,21 +136,16 @@ form_parts text h = form_at (nat_lt 0 (length text)) (all_ascii_digits text) (le
 
 -- texts of other forms
 middle_false : (a b c : Bool) → b ≡ false → a && b && c ≡ false
-middle_false true b c h = rw h refl
-middle_false false b c h = refl
+middle_false a b c h1 = grind (arith, nat_tests, common_steps)
 
 last_false : (a b c : Bool) → c ≡ false → a && b && c ≡ false
-last_false true true c h = h
-last_false true false c h = refl
-last_false false b c h = refl
+last_false a b c h1 = grind (arith, nat_tests, common_steps)
 
 pub no_form-empty : (text : List ℕ) → length text ≡ 0 → is_decimal_form text ≡ false
-no_form-empty [] h = refl
-no_form-empty (x ∷ xs) h = absurd (omega (arith, h))
+no_form-empty text h1 = grind (arith, nat_tests, common_steps)
 
 signed : (text : List ℕ) → get_or text 0 0 ≡ 43 → 0 < length text → all_ascii_digits text ≡ false
-signed [] h some = absurd (omega (arith, some))
-signed (x ∷ xs) h some = rw h refl
+signed text h1 h2 = grind (arith, nat_tests, common_steps)
 
 pub no_form-plus : (text : List ℕ) → get_or text 0 0 ≡ 43 → 0 < length text → is_decimal_form text ≡ false
 no_form-plus text h some = middle_false (nat_lt 0 (length text)) (all_ascii_digits text) (length text == 1 || not (get_or text 0 0 == 48)) (signed text h some)
@@ -168,8 +158,7 @@ pub lead-one : (text : List ℕ) → length text ≡ 1 → length text == 1 || n
 lead-one text h = rw h refl
 
 or_true : (b : Bool) → b || true ≡ true
-or_true true = refl
-or_true false = refl
+or_true b = grind (arith, nat_tests, common_steps)
 
 pub lead-other : (text : List ℕ) → get_or text 0 0 ≢ 48 → length text == 1 || not (get_or text 0 0 == 48) ≡ true
 lead-other text h = rw (ne_eqb (get_or text 0 0) 48 h) (or_true _)
@@ -178,8 +167,7 @@ pub PositionIs-none : (text : List ℕ) (o : Option ℕ) → o ≡ None → is_d
 PositionIs-none text o e h = rw (e, no_position text h) tt
 
 not_less : (b : Bool) (m n : ℕ) → nat_lt m n ≡ b → (m < n → ⊥) → n ≤ m
-not_less true m n e h = absurd (h (ltb-true m n e))
-not_less false m n e h = ltb-false m n e
+not_less b m n h1 h2 = grind (arith, nat_tests, common_steps)
 
 -- what std reads is the position, or there is none, or it is past every list
 module _ (text : List ℕ) (lead : length text == 1 || not (get_or text 0 0 == 48) ≡ true) where
@@ -206,8 +194,7 @@ pub mapped-none : (r : Option (Bor Value)) (o : Option Node) → r ≡ None → 
 mapped-none r o none is = ap (option_map (λ v. view v.now)) none ∙ is
 
 pub view-of_mut : (r : Option (MutBor Value)) → option_map (λ x. view x.now) r ≡ option_map view (option_map (λ x. x.now) r)
-view-of_mut None = refl
-view-of_mut (Some x) = refl
+view-of_mut r = grind (arith, nat_tests, common_steps)
 
 pub get_item-lent : (r : Option (MutBor Value)) (Q : MutBor Value → Type 0) (vs : List Value) (i : ℕ) → IfSome r (λ x. x.now ≡ get_or vs i x.now) → MatchOption r (length vs ≤ i) (λ x. (i < length vs) × Q x)
     → option_map (λ v. view v.now) r ≡ get_item i (items_view vs)
