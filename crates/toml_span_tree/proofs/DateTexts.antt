@@ -1,19 +1,19 @@
 -- A date text is put together of a date, a time and an offset, and what is put together so is one.
 use Rattle.std.proofs.lemmas.Grind.{common_steps}
 use Rattle.std.proofs.lemmas.Bool.Decides.{nat_tests}
-use Rattle.std.proofs.Common.{◌≡◌, ◌<◌, ℕ, ◌+◌, ◌-◌, ◌⊎◌, inl, inr, Bool, true, false, List, [], ◌∷◌, ◌++◌, length, take, drop, ap, subst, sym, refl, ◌∙◌, arith, append-nil, drop-cons, length-append}
+use Rattle.std.proofs.Common.{◌≡◌, ◌<◌, ℕ, ◌+◌, ◌⊎◌, inl, inr, Bool, true, List, [], ◌∷◌, ◌++◌, length, take, drop, ap, subst, sym, refl, ◌∙◌, arith, append-nil, drop-cons}
 use Rattle.std.specs.Prelude.{◌||◌, slice_index}
-use Rattle.std.proofs.lemmas.Bool.{and_parts, and_from, cases_lt}
-use Rattle.std.proofs.lemmas.List.{get_or_past, take-append-drop}
-use Rattle.std.proofs.Math.Seq.{take-append_seam, drop-append_seam, drop-append-add, get_or-append_seam}
+use Rattle.std.proofs.lemmas.Bool.{and_parts, and_from}
+use Rattle.std.proofs.lemmas.List.{take-append-drop}
+use Rattle.std.proofs.Math.Seq.{take-append_seam, drop-append-add, get_or-append_seam}
 use Rattle.std.proofs.lemmas.Bool.{eqb-true}
-use Rattle.toml_span_tree.specs.Date.{is_full_date, is_partial_time, is_utc, is_time_numoffset, is_time_offset, is_time_with, is_time, is_time_delim, is_date_time, is_date_text, IsDateTime, IsDateOrTime}
+use Rattle.toml_span_tree.specs.Date.{is_full_date, is_partial_time, is_time_offset, is_time_with, is_time, is_time_delim, is_date_time, is_date_text, IsDateTime, IsDateOrTime}
 
 or_cases : (a b : Bool) → a || b ≡ true → (a ≡ true) ⊎ (b ≡ true)
 or_cases a b h1 = grind (arith, nat_tests, common_steps)
 
 or_left : (a b : Bool) → a ≡ true → a || b ≡ true
-or_left a b e = ap (λ x. x || b) e
+or_left a b h1 = grind (arith, nat_tests, common_steps)
 
 or_right : (a b : Bool) → b ≡ true → a || b ≡ true
 or_right a b h1 = grind (arith, nat_tests, common_steps)
@@ -64,12 +64,6 @@ unfolding is_full_date
 date_length text h =
     let first = (and_parts _ _ (and_parts _ _ (and_parts _ _ (and_parts _ _ (and_parts _ _ h).0).0).0).0).0 in
     eqb-true (length text) 10 first
-
-utc_length : (text : List ℕ) → is_utc text ≡ true → length text ≡ 1
-utc_length text h = eqb-true (length text) 1 (and_parts _ _ h).0
-
-numoffset_length : (text : List ℕ) → is_time_numoffset text ≡ true → length text ≡ 6
-numoffset_length text h = eqb-true (length text) 6 (and_parts _ _ (and_parts _ _ h).0).0
 
 offset_length : (text : List ℕ) → is_time_offset text ≡ true → (length text ≡ 1) ⊎ (length text ≡ 6)
 unfolding is_time_offset

@@ -2,10 +2,10 @@
 use Rattle.std.proofs.Common.{arith}
 use Rattle.std.proofs.lemmas.Grind.{common_steps}
 use Rattle.std.proofs.lemmas.Bool.Decides.{nat_tests}
-use Rattle.std.proofs.Common.{◌≡◌, ◌≢◌, ◌↔◌, ℕ, List, [], ◌∷◌, cond, Bool, true, false, not, ◌&&◌, ◌==◌, Option, Some, None, option_map, option_and_then, refl, sym, ap, subst, ◌∙◌, true≢false, eq-eqb}
+use Rattle.std.proofs.Common.{◌≡◌, ◌↔◌, ℕ, List, [], ◌∷◌, cond, Bool, true, false, not, ◌&&◌, Option, Some, None, option_map, option_and_then, refl, sym, ap, subst, ◌∙◌, true≢false}
 use Rattle.std.specs.Str.{bytes_eq}
 use Rattle.std.proofs.lemmas.Slice.Eq.{bytes_eq-Decides}
-use Rattle.toml_span_tree.specs.Node.{Node, node, Inner, taken, scalar, array, table}
+use Rattle.toml_span_tree.specs.Node.{Node, Inner, taken, scalar, array, table}
 use Rattle.toml_span_tree.specs.Value.{inner_of, is_taken, holds_nothing}
 use Rattle.toml_span_tree.specs.Path.{Step, key, position, Path, at_step, child, node_at, set_at_step}
 use Rattle.toml_span_tree.specs.Pointer.{position_of, step_named, if_not_taken, pointed, put_pointed, pointer_segments, positions_apart, segments_apart, paths_part, part_where, pointers_part, NamesPath, IsPointed}
@@ -20,10 +20,6 @@ found_child o names m h1 = grind (arith, nat_tests, common_steps)
 
 pub found-first : (segment : List ℕ) (names : List (List ℕ)) (n m : Node) → value_named (segment ∷ names) n ≡ Some m → (c : Node) × (untaken_entry segment n ≡ Some c) × (value_named names c ≡ Some m)
 found-first segment names n m h = found_child (untaken_entry segment n) names m (sym (found-more segment names n) ∙ h)
-
--- a change keeps what kind a table or an array is
-kind_kept : (s : Step) (i : Inner) (w : Node) → holds_nothing (set_at_step s w i) ≡ holds_nothing i
-kind_kept s i w = grind (arith, nat_tests, common_steps)
 
 named_kept : (o : Option Step) (i : Inner) (w : Node) → holds_nothing (set_where_named o w i) ≡ holds_nothing i
 named_kept o i w = grind (arith, nat_tests, common_steps)
@@ -45,14 +41,11 @@ entry_set_at (Some s) segment i c w is h =
 pub entry-set : (segment : List ℕ) (i : Inner) (c w : Node) → entry segment i ≡ Some c → entry segment (set_named segment w i) ≡ Some w
 entry-set segment i c w h = entry_set_at (step_named segment i) segment i c w refl h
 
-untaken_of : (o : Option Node) (c : Node) → option_and_then if_not_taken o ≡ Some c → (o ≡ Some c) × (is_taken c ≡ false)
-untaken_of o c h1 = grind (arith, nat_tests, common_steps)
-
 pub untaken_entry-of : (segment : List ℕ) (n c : Node) → untaken_entry segment n ≡ Some c → (entry segment (inner_of n) ≡ Some c) × (is_taken c ≡ false)
-untaken_entry-of segment n c h = untaken_of (entry segment (inner_of n)) c h
+untaken_entry-of segment n c h1 = grind (arith, nat_tests, common_steps)
 
 untaken : (c : Node) → is_taken c ≡ false → if_not_taken c ≡ Some c
-untaken c h = ap (λ b. cond b None (Some c)) h
+untaken c h1 = grind (arith, nat_tests, common_steps)
 
 -- what was put is not taken, where the new value is not
 put_found-untaken : (names : List (List ℕ)) (n m w : Node) → is_taken w ≡ false → value_named names n ≡ Some m → is_taken n ≡ false → is_taken (put_named names w n) ≡ false
@@ -92,9 +85,6 @@ bytes_apart a c h = bytes_apart_at (bytes_eq c a) a c refl h
 
 apart_bytes : (a b : Bool) → not a && b ≡ true → (a ≡ false) × (b ≡ true)
 apart_bytes a b h1 = grind (arith, nat_tests, common_steps)
-
-positions_differ : (k j : ℕ) → not (k == j) ≡ true → j ≢ k
-positions_differ k j h e = let same : (k == j) ≡ true = eq-eqb k j (sym e) in absurd (true≢false (sym h ∙ ap not same))
 
 array_apart : (o p : Option ℕ) (s t : Step) → positions_apart o p ≡ true → option_map position o ≡ Some s → option_map position p ≡ Some t → StepsApart t s
 array_apart o p s t h1 h2 h3 = grind (arith, nat_tests, common_steps)
@@ -152,12 +142,8 @@ found-apart (segment ∷ names) (other ∷ others) n m w there apart =
     ∙ found_apart_at (bytes_eq segment other) segment other names others n first.0 m w refl apart first.1 first.2 (λ h. found-apart names others first.0 m w first.2 h)
     ∙ sym (found-more other others n)
 
--- the same of pointers
-pointed_at : (o : Option (List (List ℕ))) (p : List ℕ) (n m : Node) → pointer_segments p ≡ o → option_and_then (λ names. value_named names n) o ≡ Some m → (names : List (List ℕ)) × (pointer_segments p ≡ Some names) × (value_named names n ≡ Some m)
-pointed_at o p n m h1 h2 = grind (arith, nat_tests, common_steps)
-
 pub pointed-names : (p : List ℕ) (n m : Node) → pointed p n ≡ Some m → (names : List (List ℕ)) × (pointer_segments p ≡ Some names) × (value_named names n ≡ Some m)
-pointed-names p n m h = pointed_at (pointer_segments p) p n m refl (sym (pointed-found p n) ∙ h)
+pointed-names p n m h1 = grind (arith, nat_tests, common_steps)
 
 pub pointed-put : (p : List ℕ) (n m w : Node) → is_taken w ≡ false → pointed p n ≡ Some m → pointed p (put_pointed p w n) ≡ Some w
 pointed-put p n m w h there =

@@ -2,7 +2,7 @@
 use Rattle.std.proofs.Common.{arith}
 use Rattle.std.proofs.lemmas.Grind.{common_steps}
 use Rattle.std.proofs.lemmas.Bool.Decides.{nat_tests}
-use Rattle.std.proofs.Common.{◌≡◌, ℕ, zero, suc, List, [], ◌∷◌, cond, Bool, true, false, Option, Some, None, Result, Ok, Err, option_map, option_and_then, refl, sym, ap, subst, ◌∙◌}
+use Rattle.std.proofs.Common.{◌≡◌, ℕ, zero, suc, List, [], ◌∷◌, cond, Bool, false, Option, Some, None, Result, Ok, Err, option_map, option_and_then, refl, sym, ap, ◌∙◌}
 use Rattle.std.specs.Cow.{cow_str_bytes}
 use Rattle.std.specs.Str.{bytes_eq}
 use Rattle.std.specs.Map.{set_value}
@@ -14,11 +14,11 @@ use Rattle.toml_span_tree.specs.declared.value.Value.{Value}
 use Rattle.toml_span_tree.specs.declared.value.ValueInner.{ValueInner}
 use Rattle.toml_span_tree.specs.Node.{Node, node, Inner, table, Items, no_items, item, Members, no_members, member, entry_at, get_member, get_item}
 use Rattle.toml_span_tree.specs.Value.{view, inner_view, items_view, members_view, inner_of, span_of, is_taken}
-use Rattle.toml_span_tree.specs.Path.{Step, Path, child, node_at, put, put_where, set_at_step, set_entry, set_element}
-use Rattle.toml_span_tree.specs.Pointer.{step_named, if_not_taken, untaken_child, path_named, put_where_named, segments, pointer_segments, pointed, put_pointed}
-use Rattle.toml_span_tree.specs.code.Pointer.{entry, untaken_entry, value_named, put_named, set_named, set_where_named, segments_behind, SplitAtSlash, Exchanged}
+use Rattle.toml_span_tree.specs.Path.{set_entry, set_element}
+use Rattle.toml_span_tree.specs.Pointer.{if_not_taken, segments, pointer_segments, pointed, put_pointed}
+use Rattle.toml_span_tree.specs.code.Pointer.{entry, untaken_entry, value_named, put_named, set_named, segments_behind, SplitAtSlash, Exchanged}
 use Rattle.toml_span_tree.proofs.Values.{Entry, view_is, at_name}
-use Rattle.toml_span_tree.proofs.Pointers.{found-cut, pointed-found}
+use Rattle.toml_span_tree.proofs.Pointers.{found-cut}
 
 pub view-made : (i : ValueInner) (span : Span) → view (record { value = Some i; span = span }) ≡ node (inner_view i) span
 view-made i span = view_is (record { value = Some i; span = span })
@@ -59,7 +59,7 @@ exchanged-in r new names o m after changed same h1 h2 h3 h4 = grind (arith, nat_
 
 -- where nothing is named
 pub exchanged-none : (new : Value) (names : List (List ℕ)) (o : Option Node) (same : Type 0) → o ≡ None → same → (new ≡ new) × (option_and_then (value_named names) (option_and_then if_not_taken o) ≡ None) × same
-exchanged-none new names o same is kept = (refl, ap (λ o. option_and_then (value_named names) (option_and_then if_not_taken o)) is, kept)
+exchanged-none new names o same h1 h2 = grind (arith, nat_tests, common_steps)
 
 -- the same exchange, where what is changed is told in other words
 pub exchanged-as : (r : Result Value Value) (new : Value) (names : List (List ℕ)) (o p : Option Node) (changed told : Node → Type 0) (same kept : Type 0)
@@ -68,32 +68,14 @@ exchanged-as r new names o p changed told same kept h1 h2 h3 h4 = grind (arith, 
 
 -- a value itself
 untaken : (b : Bool) (n : Node) → b ≡ false → cond b None (Some n) ≡ Some n
-untaken b n h = ap (λ b. cond b None (Some n)) h
+untaken b n h1 = grind (arith, nat_tests, common_steps)
 
 pub if_not_taken-false : (n : Node) → is_taken n ≡ false → if_not_taken n ≡ Some n
-if_not_taken-false n h = untaken (is_taken n) n h
-
--- an exchange below n, a segment at a time
-put_more_path : (s : Step) (n m w old : Node) (o : Option Path) → child s n ≡ Some m → option_and_then (λ path. node_at path m) o ≡ Some old
-    → put_where_named (option_map (λ path. s ∷ path) o) w n ≡ node (set_at_step s (put_where_named o w m) (inner_of n)) (span_of n)
-put_more_path s n m w old o h1 h2 = grind (arith, nat_tests, common_steps)
-
-put_more_taken : (s : Step) (n m k w old : Node) (names : List (List ℕ)) (b : Bool) → child s n ≡ Some k → cond b None (Some k) ≡ Some m → value_named names m ≡ Some old
-    → put_where_named (option_and_then (λ m. option_map (λ path. s ∷ path) (path_named names m)) (cond b None (Some k))) w n ≡ node (set_at_step s (put_named names w m) (inner_of n)) (span_of n)
-put_more_taken s n m k w old names b h1 h2 h3 = grind (arith, nat_tests, common_steps)
-
-put_more_child : (s : Step) (n m w old : Node) (names : List (List ℕ)) (o : Option Node) → child s n ≡ o → option_and_then if_not_taken o ≡ Some m → value_named names m ≡ Some old
-    → put_where_named (option_and_then (λ m. option_map (λ path. s ∷ path) (path_named names m)) (option_and_then if_not_taken o)) w n ≡ node (set_at_step s (put_named names w m) (inner_of n)) (span_of n)
-put_more_child s n m w old names o h1 h2 h3 = grind (arith, nat_tests, common_steps)
-
-put_more_step : (n m w old : Node) (names : List (List ℕ)) (o : Option Step) → option_and_then if_not_taken (option_and_then (λ s. child s n) o) ≡ Some m → value_named names m ≡ Some old
-    → put_where_named (option_and_then (λ s. option_and_then (λ m. option_map (λ path. s ∷ path) (path_named names m)) (untaken_child n s)) o) w n
-    ≡ node (set_where_named o (put_named names w m) (inner_of n)) (span_of n)
-put_more_step n m w old names o h1 h2 = grind (arith, nat_tests, common_steps)
+if_not_taken-false n h1 = grind (arith, nat_tests, common_steps)
 
 pub put_found-more : (segment : List ℕ) (names : List (List ℕ)) (n m w old : Node) → untaken_entry segment n ≡ Some m → value_named names m ≡ Some old
     → put_named (segment ∷ names) w n ≡ node (set_named segment (put_named names w m) (inner_of n)) (span_of n)
-put_found-more segment names n m w old leads there = put_more_step n m w old names (step_named segment (inner_of n)) leads there
+put_found-more segment names n m w old h1 h2 = grind (arith, nat_tests, common_steps)
 
 -- an exchange in what n holds is one in n
 pub exchanged-cut : (r : Result Value Value) (new : Value) (path segment : List ℕ) (rest : Option (List ℕ)) (i j : Inner) (span : Span) → SplitAtSlash path segment rest
@@ -115,7 +97,7 @@ exchanged-cut (Err back) new path segment rest i j span cut h = (
 
 -- an exchange at what a pointer names
 pub put_pointed-found : (p : List ℕ) (names : List (List ℕ)) (w n : Node) → pointer_segments p ≡ Some names → put_pointed p w n ≡ put_named names w n
-put_pointed-found p names w n h = ap (λ o. put_where_named (option_and_then (λ names. path_named names n) o) w n) h
+put_pointed-found p names w n h1 = grind (arith, nat_tests, common_steps)
 
 pub exchanged-done : (r : Result Value Value) (new : Value) (p : List ℕ) (names : List (List ℕ)) (n after : Node) → pointer_segments p ≡ Some names
     → Exchanged r new names (Some n) (λ w. after ≡ w) (after ≡ n) → IfOk r (λ old. (pointed p n ≡ Some (view old)) × (after ≡ put_pointed p (view new) n))
@@ -131,5 +113,3 @@ pub exchanged-table : (r : Result Value Value) (new : Value) (names : List (List
     → Exchanged r new names (option_and_then if_not_taken (entry segment i)) (λ w. j ≡ set_named segment w i) (j ≡ i)
 exchanged-table r new names segment ms ns i j h1 h2 h3 = grind (arith, nat_tests, common_steps)
 
-pub ok_map : (r : Result Value Value) (P Q : Value → Type 0) → ((x : Value) → P x → Q x) → IfOk r P → IfOk r Q
-ok_map r P Q h1 h2 = grind (arith, nat_tests, common_steps)
