@@ -1,5 +1,5 @@
 -- Character by character, the folded text.
-use Rattle.std.proofs.Common.{◌≡◌, ℕ, ◌+◌, Bool, true, false, List, [], ◌∷◌, ◌++◌, get_or, drop, arith, inl, inr, sym, ◌∙◌, refl, ap, get_or-drop, add-zero}
+use Rattle.std.proofs.Common.{◌≡◌, ℕ, ◌+◌, Bool, true, false, List, ◌∷◌, ◌++◌, get_or, drop, arith, inl, inr, sym, ◌∙◌, refl, ap, get_or-drop, add-zero}
 use Rattle.std.specs.Prelude.{◌==◌, ◌&&◌, slice_index, encode_utf8}
 use Rattle.std.specs.Char.{len_utf8}
 use Rattle.std.specs.Str.{IsUtf8, chars}
@@ -27,15 +27,13 @@ crlf_chars text i u h =
 
 -- the first character of a text, where it is a line feed, is its first byte
 feed_byte : (cs bs : List ℕ) → encodes cs ≡ bs → slice_index cs 0 ≡ 10 → get_or bs 0 0 ≡ 10
-feed_byte [] bs e h = absurd (omega arith)
-feed_byte (c ∷ cs) bs e h = byte_from_char bs (encodes cs) c (sym e) (omega arith) ∙ h
+feed_byte cs bs e h = grind (arith, nat_tests, common_steps)
 
 first_feed : (bs : List ℕ) → IsUtf8 bs → slice_index (chars bs) 0 ≡ 10 → get_or bs 0 0 ≡ 10
 first_feed bs u h = feed_byte (chars bs) bs (encodes-chars bs u) h
 
 not_after : (j : ℕ) (t : Bool) (cs : List ℕ) → (t && slice_index cs 0 == 10) ≡ false → folded_from j t cs ≡ folded_from j false cs
-not_after j t [] h = refl
-not_after j t (c ∷ cs) h = rw h refl
+not_after j t cs h = grind (arith, nat_tests, common_steps)
 
 crlf_from : (text : List ℕ) (i : ℕ) → get_or text i 0 ≡ 13 → get_or text (i + 1) 0 ≡ 10 → is_crlf text i ≡ true
 crlf_from text i a b = rw (a, b) refl

@@ -1,4 +1,5 @@
 -- At a place of a string one piece, its close or one fault stands.
+use Rattle.std.proofs.lemmas.Grind.{common_steps}
 use Rattle.std.proofs.Common.{◌≡◌, ℕ, ◌+◌, ◌<◌, ◌≤◌, ◌⊎◌, Bool, true, false, min, Option, Some, None, Result, Ok, Err, List, [], ◌∷◌, ◌++◌, length, get_or, drop, arith, inl, inr, sym, ◌∙◌, refl, ap}
 use Rattle.std.specs.Prelude.{◌==◌, ◌&&◌, not, slice_range}
 use Rattle.std.specs.Char.{IsScalar}
@@ -23,7 +24,7 @@ use Rattle.toml_span_lex.proofs.EscapeLemmas.{past_escape}
 use Rattle.toml_span_lex.proofs.Hex.{past_hex}
 use Rattle.toml_span_lex.proofs.One.{One, one_is, one_where, one_given, one_either, Choice, one_choice, one_through, ok_same, err_same}
 use Rattle.toml_span_lex.proofs.Runs.{char_shut, past_ascii}
-use Rattle.toml_span_lex.proofs.Unique.{Stop, stop_one, run_unique, gap_unique, line_unique, line_not, line_unprinted, from_unique, same_true, differs}
+use Rattle.toml_span_lex.proofs.Unique.{Stop, stop_one, run_unique, gap_unique, line_unique, line_not, line_unprinted, from_unique, differs}
 pub use Rattle.toml_span_lex.proofs.Runs.{char_within}
 
 -- ---- characters
@@ -142,8 +143,7 @@ module _ (q : ℕ) (m : Bool) (start : ℕ) (text : List ℕ) (i : ℕ) where
 -- ---- pieces by their first bytes
 
 escape_opens : (text : List ℕ) (i c j : ℕ) → IsEscape text i c j → opens_escape (get_or text i 0) ≡ true
-escape_opens text i c j (inl h) = rw h.0 refl
-escape_opens text i c j (inr h) = hex_opens (get_or text i 0) h.0
+escape_opens text i c j h = grind (arith, nat_tests, common_steps)
 
 opens_no_gap : (text : List ℕ) (i : ℕ) → opens_escape (get_or text i 0) ≡ true → is_ws_or_newline text i ≡ false
 opens_no_gap text i h = grind (arith, nat_tests)
@@ -152,12 +152,10 @@ dropped_gap : (text : List ℕ) (i j : ℕ) → IsDropped text i j → is_ws_or_
 dropped_gap text i j (k, l, run, line, gap) = grind (arith, nat_tests, run.passes, run.forward)
 
 and_false : (m t : Bool) → (m ≡ true → t ≡ false) → (m && t) ≡ false
-and_false true t h = h refl
-and_false false t h = refl
+and_false m t h = grind (arith, nat_tests, common_steps)
 
 close_quoted : (q : ℕ) (m : Bool) (start : ℕ) (text : List ℕ) (i j : ℕ) → IsClose q m text i j → ((get_or text i 0 == q) ≡ true) × Quoted q m start text i (Ok (None, j))
-close_quoted q false start text i j h = (same_true (get_or text i 0) q h.0, inr (refl, rw h.2 refl))
-close_quoted q true start text i j (r, run, long, e) = (run.passes i (omega arith) (omega arith), inl (refl, (r, run, inr (long, rw e refl))))
+close_quoted q m start text i j h = grind (arith, nat_tests, common_steps)
 
 module _ (q : ℕ) (m : Bool) (start : ℕ) (text : List ℕ) (i : ℕ) (u : (q ≡ 34) ⊎ (q ≡ 39)) where
   quote_printed : is_printed q ≡ true

@@ -1,11 +1,10 @@
 -- Pieces of a string, and what is kept of them.
-use Rattle.std.proofs.Common.{◌≡◌, ℕ, ◌+◌, ◌-◌, ◌<◌, ◌≤◌, ◌⊎◌, Bool, true, false, Option, Some, None, Result, Ok, Err, IfErr, List, [], ◌∷◌, ◌++◌, length, get_or, take, drop, arith, inl, inr, sym, refl, ap, length-append, length-take, length-drop, append_assoc, append-nil, get_or-take, get_or-drop, take-add, drop-drop}
+use Rattle.std.proofs.Common.{◌≡◌, ℕ, ◌+◌, ◌-◌, ◌<◌, ◌≤◌, ◌⊎◌, Bool, true, Option, Some, Result, IfErr, List, [], ◌∷◌, ◌++◌, length, get_or, take, drop, arith, inl, inr, sym, refl, length-append, length-take, length-drop, append_assoc, append-nil, get_or-take, get_or-drop, take-add, drop-drop}
 use Rattle.std.specs.Prelude.{encode_utf8, slice_range, string_bytes}
-use Rattle.std.specs.Char.{len_utf8, digit_value}
+use Rattle.std.specs.Char.{digit_value}
 use Rattle.std.specs.Str.Parse.{digits_value}
 use Rattle.toml_span_lex.proofs.Runs.{behind}
 use Rattle.std.specs.declared.string.String.{String}
-use Rattle.std.proofs.lemmas.Bool.{eqb-true}
 use Rattle.std.proofs.lemmas.Grind.{common_steps}
 use Rattle.std.proofs.lemmas.Bool.Decides.{nat_tests}
 use Rattle.std.proofs.lemmas.Str.{length-encode, len_utf8_bounds, len_utf8_ascii}
@@ -13,7 +12,6 @@ use Rattle.std.specs.Str.{IsUtf8}
 use Rattle.std.proofs.lemmas.Str.{IsCharBoundary-before_ascii}
 use Rattle.toml_span_lex.specs.Bytes.{quotation_mark, backslash, carriage_return, is_blank, MaximalRun}
 use Rattle.toml_span_lex.specs.declared.pieces.Piece.{Piece}
-use Rattle.toml_span_lex.specs.declared.pieces.Piece.TheVariants as pieces
 use Rattle.toml_span_lex.specs.Text.{LineEnd, NoLineEnd}
 use Rattle.toml_span_lex.specs.Escapes.{simple_escape, hex_len, hex_value, is_hex, HexRun, IsEscape}
 use Rattle.toml_span_lex.specs.Pieces.{is_ws_or_newline, IsDropped, IsPiece, piece_value, IsClose}
@@ -29,8 +27,7 @@ slice_join text i j k f g =
 
 -- a kept content is no longer than the text
 pub kept_length : {Z : Type 0} (q : ℕ) (text : List ℕ) (from at : ℕ) (v : List ℕ) (kept : Option (String Z)) → from ≤ at → Kept q text from at v kept → length v + from ≤ at
-kept_length q text from at v None f e = omega (arith, ap length e, length-take (at - from) (drop from text))
-kept_length q text from at v (Some s) f k = omega (arith, k.1)
+kept_length q text from at v kept f e = grind (arith, nat_tests, common_steps)
 
 simple_value : (b c : ℕ) → simple_escape b ≡ Some c → c < 128
 simple_value b c e = grind (arith, nat_tests)
@@ -51,9 +48,6 @@ two_value text a r =
     two_hex (take 2 (drop a text)) (omega (arith, length-take 2 (drop a text), length-drop a text, r.within))
     (rw (get_or-take, get_or-drop) (hex_digit (get_or text (a + 0) 0) (r.digits (a + 0) (omega arith) (omega arith))))
     (rw (get_or-take, get_or-drop) (hex_digit (get_or text (a + 1) 0) (r.digits (a + 1) (omega arith) (omega arith))))
-
-two_bytes : (c : ℕ) → c < 256 → len_utf8 c ≤ 2
-two_bytes c h = grind (arith, nat_tests)
 
 -- what an escape stands for is shorter than it
 pub escape_shorter : (text : List ℕ) (i c j : ℕ) → IsEscape text (i + 1) c j → length (encode_utf8 c) + i < j
@@ -89,8 +83,7 @@ pub HasChange-more : (q : ℕ) (text : List ℕ) (from at next : ℕ) → at ≤
 HasChange-more q text from at next on (k, f, below, is) = (k, f, omega arith, is)
 
 pub change_more : {A E : Type 0} (q : ℕ) (text : List ℕ) (from at next : ℕ) (r : Result A E) → at ≤ next → IfErr r (λ e. HasChange q text from at) → IfErr r (λ e. HasChange q text from next)
-change_more q text from at next (Ok x) on h = h
-change_more q text from at next (Err e) on h = HasChange-more q text from at next on h
+change_more q text from at next r on h = grind (arith, nat_tests, common_steps)
 
 -- a piece that is shorter than its text goes into a text of its own
 pub kept_own : {Z : Type 0} (q : ℕ) (text : List ℕ) (from at next : ℕ) (v w : List ℕ) (kept : Option (String Z)) (s : String Z) → from ≤ at → Kept q text from at v kept → HasChange q text from next → length w + at < next → string_bytes s ≡ v ++ w → Kept q text from next (v ++ w) (Some s)
@@ -106,8 +99,7 @@ content-more q m text i j k [] p e = rw e (append-nil _)
 content-more q m text i j k (x ∷ ps) p c = rw (content-more q m text x.1 j k ps p c.1) (sym (append_assoc (piece_value text i x.1 x.0) (content text x.1 ps) (piece_value text j k p)))
 
 pub piece_forward : (q : ℕ) (m : Bool) (text : List ℕ) (i j : ℕ) (p : Piece) → IsPiece q m text i j p → i < j
-piece_forward q m text i j pieces.Plain h = h.0
-piece_forward q m text i j p h = grind (arith, nat_tests, escape_shorter)
+piece_forward q m text i j p h = grind (arith, nat_tests, common_steps)
 
 pub Cut-forward : (q : ℕ) (m : Bool) (text : List ℕ) (i j : ℕ) (ps : List (Piece × ℕ)) → Cut q m text i ps j → i ≤ j
 Cut-forward q m text i j [] e = omega arith
@@ -122,15 +114,7 @@ pub record Closing (q : ℕ) (m : Bool) (text : List ℕ) (at end : ℕ) : Type 
   pub last : get_or text (end - 1) 0 ≡ q
 
 pub closing : (q : ℕ) (m : Bool) (text : List ℕ) (at end : ℕ) → IsClose q m text at end → Closing q m text at end
-closing q false text at end h = grind (arith, nat_tests)
-closing q true text at end (r, run, long, e) =
-    record {
-      on = omega arith;
-      some = omega arith;
-      within = omega (arith, run.within);
-      first = eqb-true _ q (run.passes (end - 3) (omega arith) (omega arith));
-      last = eqb-true _ q (run.passes (end - 1) (omega arith) (omega arith));
-    }
+closing q m text at end h = grind (arith, nat_tests, common_steps)
 
 pub ends : (q : ℕ) (m : Bool) (text : List ℕ) (from at end : ℕ) → IsUtf8 text → q < 128 → from ≤ at → IsClose q m text at end → Ends text from (content_end m end) end
 ends q m text from at end u a f h =

@@ -94,8 +94,7 @@ char_same : (p : ℕ → Bool) (text : List ℕ) (i c j : ℕ) → ((d : ℕ) �
 char_same p text i c j past f h = elim (char_byte text i c j f h) [ inl e ↦ ap p e | inr high ↦ past c high.0 ∙ sym (past (get_or text i 0) high.1) ]
 
 pub char_fails : (p : ℕ → Bool) (text : List ℕ) (i c j : ℕ) → ((d : ℕ) → 128 ≤ d → p d ≡ false) → p 10 ≡ false → p (get_or text i 0) ≡ false → CharAt text i c j → p c ≡ false
-char_fails p text i c j past ten b (inl h) = rw h.1 ten
-char_fails p text i c j past ten b (inr h) = char_same p text i c j (λ d l. past d l ∙ sym (past 128 (omega arith))) h.0 (inr h) ∙ b
+char_fails p text i c j past ten b h = grind (arith, nat_tests, common_steps)
 
 -- what does not pass past ASCII, nor at a carriage return, does not pass at the first byte of a character that does not
 pub char_shut : (p : ℕ → Bool) (text : List ℕ) (i c j : ℕ) → ((d : ℕ) → 128 ≤ d → p d ≡ p 128) → p 13 ≡ false → CharAt text i c j → p c ≡ false → p (get_or text i 0) ≡ false

@@ -1,5 +1,7 @@
 -- Names as lists of bytes: their equality and their order.
-use Rattle.std.proofs.Common.{◌≡◌, ℕ, ◌⊎◌, Bool, true, false, List, inl, inr, sym, ◌∙◌, refl, ap, arith}
+use Rattle.std.proofs.lemmas.Grind.{common_steps}
+use Rattle.std.proofs.lemmas.Bool.Decides.{nat_tests}
+use Rattle.std.proofs.Common.{◌≡◌, ℕ, ◌⊎◌, Bool, true, false, List, inl, inr, sym, ◌∙◌, ap, arith}
 use Rattle.std.specs.Prelude.{nat_eq}
 use Rattle.std.specs.Ordering.{nat_cmp, is_eq}
 use Rattle.std.specs.declared.cmp.Ordering.{Ordering}
@@ -7,8 +9,7 @@ use Rattle.std.specs.declared.cmp.Ordering.TheVariants.{Equal}
 use Rattle.std.specs.Cmp.Lexicographic.{pointwise, slice_cmp, same_text, other_text, texts_ties}
 
 either : (b : Bool) → (b ≡ true) ⊎ (b ≡ false)
-either true = inl refl
-either false = inr refl
+either b = grind (arith, nat_tests, common_steps)
 
 pub equal_text : (xs ys : List ℕ) → pointwise nat_eq xs ys ≡ true → xs ≡ ys
 equal_text xs ys e = same_text xs ys (sym e)

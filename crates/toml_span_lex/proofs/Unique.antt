@@ -1,5 +1,6 @@
 -- Where runs, line ends and contents begin and end, one place does.
-use Rattle.std.proofs.Common.{◌≡◌, ℕ, ◌+◌, ◌<◌, ◌≤◌, Bool, true, false, List, length, get_or, arith, refl}
+use Rattle.std.proofs.lemmas.Grind.{common_steps}
+use Rattle.std.proofs.Common.{◌≡◌, ℕ, ◌<◌, ◌≤◌, Bool, true, false, List, length, get_or, arith}
 use Rattle.std.specs.Prelude.{◌==◌, ◌||◌, not}
 use Rattle.std.proofs.lemmas.Bool.Decides.{nat_tests}
 use Rattle.std.proofs.lemmas.Bool.{eq-eqb}
@@ -17,8 +18,7 @@ pub or_true : (b : Bool) → (b || true) ≡ true
 or_true = or-true
 
 pub is_false : (b : Bool) → (b ≡ true → ⊥) → b ≡ false
-is_false true h = absurd (h refl)
-is_false false h = refl
+is_false b h = grind (arith, nat_tests, common_steps)
 
 pub same_true : (c q : ℕ) → c ≡ q → (c == q) ≡ true
 same_true = eq-eqb
@@ -54,5 +54,4 @@ pub line_unprinted : (text : List ℕ) (i j : ℕ) → LineEnd text i j → is_p
 line_unprinted text i j h = grind (arith, nat_tests)
 
 pub from_unique : (m : Bool) (text : List ℕ) (i : ℕ) → One (ContentFrom m text i)
-from_unique false text i = one_is
-from_unique true text i = one_either (line_unique text (i + 3)) (one_where one_is) (λ j k a b. line_not text (i + 3) j a b.0)
+from_unique m text i = grind (arith, nat_tests, common_steps)

@@ -1,8 +1,9 @@
 -- Where tokens and faults end: within the text, and not between the two bytes of a line end.
+use Rattle.std.proofs.lemmas.Grind.{common_steps}
 use Rattle.std.proofs.Common.{◌≡◌, ℕ, ◌+◌, ◌-◌, ◌<◌, ◌≤◌, ◌⊎◌, Bool, true, false, List, ◌++◌, length, get_or, drop, arith, inl, inr, refl, ap, get_or-drop, length-append, length-drop}
 use Rattle.std.specs.Prelude.{◌==◌, encode_utf8}
 use Rattle.std.specs.Char.{len_utf8}
-use Rattle.std.proofs.lemmas.Bool.{cases_lt, lt-ltb, le-ltb}
+use Rattle.std.proofs.lemmas.Bool.{cases_lt}
 use Rattle.std.proofs.lemmas.List.{get_or_past}
 use Rattle.std.proofs.lemmas.Str.{length-encode, len_utf8_ascii, len_utf8_bounds}
 use Rattle.std.proofs.Math.Bool.{and-false}
@@ -16,7 +17,6 @@ use Rattle.toml_span_lex.specs.Escapes.{hex_len, is_hex, IsHexFault, IsEscapeFau
 use Rattle.toml_span_lex.specs.Pieces.{IsContentFault}
 use Rattle.toml_span_lex.specs.Tokens.{Lexeme, whitespace, newline, comment, punctuator, keylike, string, is_punctuator, Stands, IsNoToken}
 use Rattle.toml_span_lex.proofs.Copies.{content_fits}
-use Rattle.toml_span_lex.proofs.Folded.{second}
 use Rattle.toml_span_lex.proofs.MadeStrings.{content_from_after}
 use Rattle.toml_span_lex.proofs.OneFault.{stray}
 use Rattle.toml_span_lex.proofs.PieceLemmas.{Cut-forward, closing}
@@ -36,26 +36,16 @@ at_the_end : (text : List ℕ) (i j : ℕ) → i ≤ j → j ≡ length text →
 at_the_end text i j l e = (l, omega arith, λ k at. (let past : get_or text (k + 1) 0 ≡ 0 = get_or_past text (k + 1) 0 (omega arith) in rw (past, and-false) refl))
 
 behind_run : (p : ℕ → Bool) (text : List ℕ) (i j : ℕ) → p 13 ≡ false → i < j → j ≤ length text → ((k : ℕ) → i ≤ k → k < j → p (get_or text k 0) ≡ true) → Ends text (i + 1) j
-behind_run p text i j shut f w passes =
-    further text (i + 1) ((j - 1) + 1) j (omega arith) (behind_byte text (j - 1) j (omega arith) (omega arith) (differs p (get_or text (j - 1) 0) 13 (rw shut (passes (j - 1) (omega arith) (omega arith)))))
+behind_run p text i j shut f w passes = grind (arith, nat_tests, common_steps)
 
 line_ends : (text : List ℕ) (i j : ℕ) → LineEnd text i j → Ends text (i + 1) j
-line_ends text i j (inl h) = behind_byte text i j h.1 (read_within text i (omega (arith, h.0))) (rw h.0 refl)
-line_ends text i j (inr h) =
-    let feed = second text i h.0 in further text (i + 1) ((i + 1) + 1) j (omega arith) (behind_byte text (i + 1) j (omega (arith, h.1)) (read_within text (i + 1) (omega arith)) (rw feed refl))
+line_ends text i j h = grind (arith, nat_tests, common_steps)
 
 -- ---- characters
 
 last_high : (c : ℕ) (rest : List ℕ) → 128 ≤ c → 128 ≤ get_or (encode_utf8 c ++ rest) (len_utf8 c - 1) 0
 unfolding lib.Utf8.encode
-last_high c rest h =
-    elim (cases_lt c 2048) [
-      | inl a ↦ rw (le-ltb c 128 h, lt-ltb c 2048 a) (omega arith)
-      | inr a ↦ elim (cases_lt c 65536) [
-        | inl b ↦ rw (le-ltb c 128 h, le-ltb c 2048 a, lt-ltb c 65536 b) (omega arith)
-        | inr b ↦ rw (le-ltb c 128 h, le-ltb c 2048 a, le-ltb c 65536 b) (omega arith)
-      ]
-    ]
+last_high c rest h = grind (arith, nat_tests, common_steps)
 
 high_byte : (b : ℕ) → 128 ≤ b → (b == 13) ≡ false
 high_byte b h = grind (arith, nat_tests)
@@ -82,8 +72,7 @@ after_char text i c j h = (char_ends text i c j h).2
 -- ---- tokens
 
 quote_no_return : (b : ℕ) → (b ≡ 34) ⊎ (b ≡ 39) → (b == 13) ≡ false
-quote_no_return b (inl e) = rw e refl
-quote_no_return b (inr e) = rw e refl
+quote_no_return b h = grind (arith, nat_tests, common_steps)
 
 sign_some : (c : ℕ) → is_punctuator c ≡ true → 0 < c
 sign_some c h = grind (arith, nat_tests)
