@@ -10,17 +10,17 @@ use Rattle.std.proofs.lemmas.Bool.{eqb-true}
 use Rattle.toml_span_tree.specs.Date.{is_full_date, is_partial_time, is_time_offset, is_time_with, is_time, is_time_delim, is_date_time, is_date_text, IsDateTime, IsDateOrTime}
 
 or_cases : (a b : Bool) → a || b ≡ true → (a ≡ true) ⊎ (b ≡ true)
-or_cases a b h1 = grind (arith, nat_tests, common_steps)
+or_cases a b e = grind (arith, nat_tests, common_steps)
 
 or_left : (a b : Bool) → a ≡ true → a || b ≡ true
-or_left a b h1 = grind (arith, nat_tests, common_steps)
+or_left a b e = grind (arith, nat_tests, common_steps)
 
 or_right : (a b : Bool) → b ≡ true → a || b ≡ true
-or_right a b h1 = grind (arith, nat_tests, common_steps)
+or_right a b e = grind (arith, nat_tests, common_steps)
 
 -- a text that has a delimiter at ten has more than ten bytes
 delimiter_within : (text : List ℕ) → is_time_delim (slice_index text 10) ≡ true → 10 < length text
-delimiter_within text h1 = grind (arith, nat_tests, common_steps)
+delimiter_within text e = grind (arith, nat_tests, common_steps)
 
 abbrev TimeParts : List ℕ → Type 0
 TimeParts text =
@@ -28,7 +28,7 @@ TimeParts text =
     × ((offset ≡ []) ⊎ (is_time_offset offset ≡ true))
 
 parts_with : (n : ℕ) (text : List ℕ) → is_time_with n text ≡ true → TimeParts text
-parts_with n text h1 = grind (arith, nat_tests, common_steps)
+parts_with n text h = grind (arith, nat_tests, common_steps)
 
 time_parts : (text : List ℕ) → is_time text ≡ true → TimeParts text
 unfolding is_time
@@ -67,11 +67,11 @@ date_length text h =
 
 offset_length : (text : List ℕ) → is_time_offset text ≡ true → (length text ≡ 1) ⊎ (length text ≡ 6)
 unfolding is_time_offset
-offset_length text h1 = grind (arith, nat_tests, common_steps)
+offset_length text h = grind (arith, nat_tests, common_steps)
 
 time_with : (n : ℕ) (time offset : List ℕ) → length offset ≡ n → is_time_offset offset ≡ true → is_partial_time time ≡ true
     → is_time_with n (time ++ offset) ≡ true
-time_with n time offset h1 h2 h3 = grind (arith, nat_tests, common_steps)
+time_with n time offset len o p = grind (arith, nat_tests, common_steps)
 
 time_of_parts : (time offset : List ℕ) → is_partial_time time ≡ true → (offset ≡ []) ⊎ (is_time_offset offset ≡ true) → is_time (time ++ offset) ≡ true
 unfolding is_time

@@ -27,7 +27,7 @@ pub member-lent : (y : Option (MutBor Value)) (name : List ℕ) (es : List Entry
 member-lent y name es e = view-of_mut y ∙ ap (option_map view) e ∙ view-lookup name es
 
 pub lent-some : (y : Option (MutBor Value)) (o : Option Node) → option_map (λ v. view v.now) y ≡ o → IsSome o → (x : MutBor Value) × (y ≡ Some x)
-lent-some y o h1 h2 = grind (arith, nat_tests, common_steps)
+lent-some y o e h = grind (arith, nat_tests, common_steps)
 
 pub member-set : (name : List ℕ) (es fs : List Entry) (w : Value) → fs ≡ set_value (at_name name) es w → members_view fs ≡ set_entry name (view w) (members_view es)
 member-set name es fs w e = ap members_view e ∙ view-set_value name es w
@@ -46,10 +46,10 @@ view-empty : (s : Value) → s.value ≡ None → view s ≡ node taken s.span
 view-empty s is = view_is s ∙ ap (λ (o : Option ValueInner). node (inner_or_taken (option_map inner_view o)) s.span) is
 
 some-under : (f : Node → Option Node) (o : Option Node) → IsSome (option_and_then f o) → IsSome o
-some-under f o h1 = grind (arith, nat_tests, common_steps)
+some-under f o h = grind (arith, nat_tests, common_steps)
 
 untaken-is : (o : Option Node) (m : Node) → o ≡ Some m → IsSome (option_and_then if_not_taken o) → option_and_then if_not_taken o ≡ Some m
-untaken-is o m h1 h2 = grind (arith, nat_tests, common_steps)
+untaken-is o m e h = grind (arith, nat_tests, common_steps)
 
 held-at : (o : Option ValueInner) (s : Value) (text : List ℕ) → s.value ≡ o → IsSome (untaken_entry text (view s)) → (i : ValueInner) × (s.value ≡ Some i)
 held-at None s text e h =
@@ -87,7 +87,7 @@ view-Datetime : (d : DateText) → inner_view (Datetime d) ≡ scalar (Scalar.da
 view-Datetime d = search (rules, the_lemmas)
 
 no-entry : (i : ValueInner) (x : Scalar) (text : List ℕ) → inner_view i ≡ scalar x → IsSome (entry text (inner_view i)) → ⊥
-no-entry i x text h1 h2 = grind (arith, nat_tests, common_steps)
+no-entry i x text e h = grind (arith, nat_tests, common_steps)
 
 -- what is a table, and what is an array
 kind-at : (i : ValueInner) (o : ValueInner-F ValueInner Value) (text : List ℕ) → i ≡ roll-ValueInner o → IsSome (entry text (inner_view i)) → IsTable i ⊎ IsArray i
@@ -137,10 +137,10 @@ pub array-asks : (i : ValueInner) (v : Vec Value Global) (text : List ℕ) → i
 array-asks i v text e h = at-position (position_of text) v.items (subst IsSome (array-entry i v text e) h)
 
 pub in-vec : (v : Vec Value Global) (p : ℕ) → p < length v.items → p < vec_len v
-in-vec v p h1 = grind (arith, nat_tests, common_steps)
+in-vec v p h = grind (arith, nat_tests, common_steps)
 
 pub in-machine : (v : Vec Value Global) (p : ℕ) → p < length v.items → p < 2 ^ 64
-in-machine v p h1 = grind (arith, nat_tests, common_steps)
+in-machine v p h = grind (arith, nat_tests, common_steps)
 
 pub array-is : (i : ValueInner) (v : Vec Value Global) (text : List ℕ) (p : ℕ) (x : Value) → i ≡ Array v → position_of text ≡ Some p → p < length v.items → x ≡ slice_index_or v.items p x → entry text (inner_view i) ≡ Some (view x)
 array-is i v text p x e at less is =
@@ -154,7 +154,7 @@ array-set i v text p w n e at q =
 
 -- the first segment, and the others
 pub path-asks : (n : Node) (path segment : List ℕ) (more : List (List ℕ)) → segments path ≡ segment ∷ more → IsSome (value_named (segments path) n) → IsSome (untaken_entry segment n)
-path-asks n path segment more h1 h2 = grind (arith, nat_tests, common_steps)
+path-asks n path segment more e h = grind (arith, nat_tests, common_steps)
 
 found-child : (n m : Node) (path segment : List ℕ) (more : List (List ℕ)) → segments path ≡ segment ∷ more → untaken_entry segment n ≡ Some m → value_named (segments path) n ≡ value_named more m
 found-child n m path segment more e there = ap (λ names. value_named names n) e ∙ found-more segment more n ∙ ap (option_and_then (value_named more)) there
@@ -163,18 +163,18 @@ pub path-goes : (n m : Node) (path segment : List ℕ) (more : List (List ℕ)) 
 path-goes n m path segment more e there h = subst IsSome (found-child n m path segment more e there) h
 
 pub path-last : (n m : Node) (path segment : List ℕ) (more : List (List ℕ)) → segments path ≡ segment ∷ more → more ≡ [] → untaken_entry segment n ≡ Some m → value_named (segments path) n ≡ Some m
-path-last n m path segment more h1 h2 h3 = grind (arith, nat_tests, common_steps)
+path-last n m path segment more e last there = grind (arith, nat_tests, common_steps)
 
 pub path-more : (n m x : Node) (path segment : List ℕ) (more : List (List ℕ)) → segments path ≡ segment ∷ more → untaken_entry segment n ≡ Some m → value_named more m ≡ Some x → value_named (segments path) n ≡ Some x
 path-more n m x path segment more e there h = found-child n m path segment more e there ∙ h
 
 pub path-set-more : (n m old w t r : Node) (path segment : List ℕ) (more : List (List ℕ)) → segments path ≡ segment ∷ more → untaken_entry segment n ≡ Some m → value_named more m ≡ Some old
     → t ≡ put_named more w m → r ≡ node (set_named segment t (inner_of n)) (span_of n) → r ≡ put_named (segments path) w n
-path-set-more n m old w t r path segment more h1 h2 h3 h4 h5 = grind (arith, nat_tests, common_steps)
+path-set-more n m old w t r path segment more e there h q p = grind (arith, nat_tests, common_steps)
 
 pub path-set-last : (n m w r : Node) (path segment : List ℕ) (more : List (List ℕ)) → segments path ≡ segment ∷ more → more ≡ [] → untaken_entry segment n ≡ Some m
     → r ≡ node (set_named segment w (inner_of n)) (span_of n) → r ≡ put_named (segments path) w n
-path-set-last n m w r path segment more h1 h2 h3 h4 = grind (arith, nat_tests, common_steps)
+path-set-last n m w r path segment more e last there p = grind (arith, nat_tests, common_steps)
 
 slash-some : (b : Bool) (x : ℕ) (names : List (List ℕ)) → 0 < length (cond b ([] ∷ names) (push_front x names))
 slash-some b x names = grind (arith, nat_tests, common_steps)
@@ -195,7 +195,7 @@ empty-set p n w r h e = e ∙ sym (put_pointed-found p [] w n (pointer-empty p h
 
 pub slash-of : (p : List ℕ) (n : Node) → 0 < length p → IsSome (pointed p n) → (path : List ℕ) × (p ≡ 47 ∷ path)
 unfolding pointer_segments
-slash-of p n h1 h2 = grind (arith, nat_tests, common_steps)
+slash-of p n more h = grind (arith, nat_tests, common_steps)
 
 pub slash-is : (p path : List ℕ) (n : Node) → p ≡ 47 ∷ path → pointed p n ≡ value_named (segments path) n
 slash-is p path n e = pointed-found p n ∙ ap (option_and_then (λ names. value_named names n)) (pointer-slash p path e)

@@ -18,7 +18,7 @@ Found = Option Span × Node
 -- at the place of the change
 entry_set_at : (b : Bool) (name other : List ℕ) (span : Span) (n w : Node) (ms rest : Members) (e : Found) → bytes_eq name other ≡ b → cond b (Some (Some span, n)) (entry_at name ms) ≡ Some e
     → (entry_at name ms ≡ Some e → entry_at name rest ≡ Some (e.0, w)) → entry_at name (cond b (member other span w ms) (member other span n rest)) ≡ Some (e.0, w)
-entry_set_at b name other span n w ms rest e h1 h2 h3 = grind (arith, nat_tests, common_steps)
+entry_set_at b name other span n w ms rest e is there ih = grind (arith, nat_tests, common_steps)
 
 pub entry_at-set : (name : List ℕ) (ms : Members) (e : Found) (w : Node) → entry_at name ms ≡ Some e → entry_at name (set_entry name w ms) ≡ Some (e.0, w)
 entry_at-set name no_members e w h = cc

@@ -16,7 +16,7 @@ use Rattle.toml_span_tree.proofs.Puts.{put_found-more, put_pointed-found}
 
 -- the path that a value is found by
 found_child : (o : Option Node) (names : List (List ℕ)) (m : Node) → option_and_then (value_named names) o ≡ Some m → (c : Node) × (o ≡ Some c) × (value_named names c ≡ Some m)
-found_child o names m h1 = grind (arith, nat_tests, common_steps)
+found_child o names m h = grind (arith, nat_tests, common_steps)
 
 pub found-first : (segment : List ℕ) (names : List (List ℕ)) (n m : Node) → value_named (segment ∷ names) n ≡ Some m → (c : Node) × (untaken_entry segment n ≡ Some c) × (value_named names c ≡ Some m)
 found-first segment names n m h = found_child (untaken_entry segment n) names m (sym (found-more segment names n) ∙ h)
@@ -42,10 +42,10 @@ pub entry-set : (segment : List ℕ) (i : Inner) (c w : Node) → entry segment 
 entry-set segment i c w h = entry_set_at (step_named segment i) segment i c w refl h
 
 pub untaken_entry-of : (segment : List ℕ) (n c : Node) → untaken_entry segment n ≡ Some c → (entry segment (inner_of n) ≡ Some c) × (is_taken c ≡ false)
-untaken_entry-of segment n c h1 = grind (arith, nat_tests, common_steps)
+untaken_entry-of segment n c h = grind (arith, nat_tests, common_steps)
 
 untaken : (c : Node) → is_taken c ≡ false → if_not_taken c ≡ Some c
-untaken c h1 = grind (arith, nat_tests, common_steps)
+untaken c h = grind (arith, nat_tests, common_steps)
 
 -- what was put is not taken, where the new value is not
 put_found-untaken : (names : List (List ℕ)) (n m w : Node) → is_taken w ≡ false → value_named names n ≡ Some m → is_taken n ≡ false → is_taken (put_named names w n) ≡ false
@@ -84,10 +84,10 @@ bytes_apart : (a c : List ℕ) → bytes_eq a c ≡ false → bytes_eq c a ≡ f
 bytes_apart a c h = bytes_apart_at (bytes_eq c a) a c refl h
 
 apart_bytes : (a b : Bool) → not a && b ≡ true → (a ≡ false) × (b ≡ true)
-apart_bytes a b h1 = grind (arith, nat_tests, common_steps)
+apart_bytes a b h = grind (arith, nat_tests, common_steps)
 
 array_apart : (o p : Option ℕ) (s t : Step) → positions_apart o p ≡ true → option_map position o ≡ Some s → option_map position p ≡ Some t → StepsApart t s
-array_apart o p s t h1 h2 h3 = grind (arith, nat_tests, common_steps)
+array_apart o p s t apart is it = grind (arith, nat_tests, common_steps)
 
 steps_apart : (i : Inner) (segment other : List ℕ) (s t : Step) → segments_apart segment other ≡ true → step_named segment i ≡ Some s → step_named other i ≡ Some t → StepsApart t s
 steps_apart taken segment other s t apart is it = cc
@@ -143,7 +143,7 @@ found-apart (segment ∷ names) (other ∷ others) n m w there apart =
     ∙ sym (found-more other others n)
 
 pub pointed-names : (p : List ℕ) (n m : Node) → pointed p n ≡ Some m → (names : List (List ℕ)) × (pointer_segments p ≡ Some names) × (value_named names n ≡ Some m)
-pointed-names p n m h1 = grind (arith, nat_tests, common_steps)
+pointed-names p n m h = grind (arith, nat_tests, common_steps)
 
 pub pointed-put : (p : List ℕ) (n m w : Node) → is_taken w ≡ false → pointed p n ≡ Some m → pointed p (put_pointed p w n) ≡ Some w
 pointed-put p n m w h there =
@@ -167,14 +167,14 @@ pointed-apart p q n m w there apart =
 
 -- a pointer names what its segments name step by step
 step_names : (s : Step) (segment : List ℕ) (names : List (List ℕ)) (path : Path) (i : Inner) → step_named segment i ≡ Some s → NamesPath names path → NamesPath (segment ∷ names) (s ∷ path)
-step_names s segment names path i h1 h2 = grind (arith, nat_tests, common_steps)
+step_names s segment names path i is h = grind (arith, nat_tests, common_steps)
 
 step_of : (o : Option Step) (segment : List ℕ) (i : Inner) (c : Node) → step_named segment i ≡ o → option_and_then (λ s. option_map (λ e. e.1) (at_step s i)) o ≡ Some c
     → (s : Step) × (step_named segment i ≡ Some s) × (option_map (λ e. e.1) (at_step s i) ≡ Some c)
-step_of o segment i c h1 h2 = grind (arith, nat_tests, common_steps)
+step_of o segment i c is h = grind (arith, nat_tests, common_steps)
 
 not_first : (path : Path) (c m : Node) → node_at path c ≡ Some m → is_taken c ≡ false → (is_taken m ≡ true → path ≡ []) → is_taken m ≡ false
-not_first path c m h1 h2 h3 = grind (arith, nat_tests, common_steps)
+not_first path c m there whole h = grind (arith, nat_tests, common_steps)
 
 pub found-path : (names : List (List ℕ)) (n m : Node) → value_named names n ≡ Some m → (path : Path) × NamesPath names path × (node_at path n ≡ Some m) × (is_taken m ≡ true → path ≡ [])
 found-path [] n m h = ([], tt, h, λ _. refl)
@@ -194,13 +194,13 @@ found-path (segment ∷ names) n m h =
 -- and the other way
 step_leads : (s : Step) (segment : List ℕ) (names : List (List ℕ)) (path : Path) (i : Inner) (c : Node) → NamesPath (segment ∷ names) (s ∷ path) → option_map (λ e. e.1) (at_step s i) ≡ Some c
     → (step_named segment i ≡ Some s) × NamesPath names path
-step_leads s segment names path i c h1 h2 = grind (arith, nat_tests, common_steps)
+step_leads s segment names path i c h leads = grind (arith, nat_tests, common_steps)
 
 first_of_path : (o : Option Node) (path : Path) (m : Node) → option_and_then (node_at path) o ≡ Some m → (c : Node) × (o ≡ Some c) × (node_at path c ≡ Some m)
-first_of_path o path m h1 = grind (arith, nat_tests, common_steps)
+first_of_path o path m h = grind (arith, nat_tests, common_steps)
 
 below_nothing : (s : Step) (path : Path) (c m : Node) → node_at (s ∷ path) c ≡ Some m → is_taken c ≡ false
-below_nothing s path c m h1 = grind (arith, nat_tests, common_steps)
+below_nothing s path c m h = grind (arith, nat_tests, common_steps)
 
 last_whole : (s : Step) (path : Path) (c m : Node) → node_at path c ≡ Some m → (is_taken m ≡ true → s ∷ path ≡ []) → is_taken c ≡ false
 last_whole s [] c m there h = by (is_taken m) refl
@@ -216,7 +216,7 @@ last_whole s [] c m there h = by (is_taken m) refl
 last_whole s (t ∷ path) c m there h = below_nothing t path c m there
 
 after : (s : Step) (path : Path) (m : Node) → (is_taken m ≡ true → s ∷ path ≡ []) → is_taken m ≡ true → path ≡ []
-after s path m h1 h2 = grind (arith, nat_tests, common_steps)
+after s path m h is = grind (arith, nat_tests, common_steps)
 
 pub path-found : (names : List (List ℕ)) (path : Path) (n m : Node) → NamesPath names path → node_at path n ≡ Some m → (is_taken m ≡ true → path ≡ []) → value_named names n ≡ Some m
 path-found [] [] n m h there whole = there

@@ -34,15 +34,15 @@ segments-more (x ∷ xs) rest h = rw (ne_eqb x 47 (h 0 (omega arith))) (ap (push
 -- the text of a pointer
 pub pointer-empty : (p : List ℕ) → length p ≡ 0 → pointer_segments p ≡ Some []
 unfolding pointer_segments
-pointer-empty p h1 = grind (arith, nat_tests, common_steps)
+pointer-empty p h = grind (arith, nat_tests, common_steps)
 
 pub pointer-slash : (p rest : List ℕ) → p ≡ 47 ∷ rest → pointer_segments p ≡ Some (segments rest)
 unfolding pointer_segments
-pointer-slash p rest h1 = grind (arith, nat_tests, common_steps)
+pointer-slash p rest e = grind (arith, nat_tests, common_steps)
 
 pub pointer-other : (p : List ℕ) → 0 < length p → ((rest : List ℕ) → p ≢ 47 ∷ rest) → pointer_segments p ≡ None
 unfolding pointer_segments
-pointer-other p h1 h2 = grind (arith, nat_tests, common_steps)
+pointer-other p h lacks = grind (arith, nat_tests, common_steps)
 
 -- the key's span before a path is of no matter to the value at its end
 reached-key : (path : Path) (key other : Option Span) (n : Node) → option_map (λ m. m.1) (reached path (key, n)) ≡ option_map (λ m. m.1) (reached path (other, n))
@@ -114,37 +114,37 @@ numerals = numerals_by_value _ tells_all_ascii_digits
 
 pub no_position : (text : List ℕ) → is_decimal_form text ≡ false → position_of text ≡ None
 unfolding position_of
-no_position text h1 = grind (arith, nat_tests, common_steps)
+no_position text h = grind (arith, nat_tests, common_steps)
 
 pub some_position : (text : List ℕ) → is_decimal_form text ≡ true → position_of text ≡ Some (digits_value 10 text)
 unfolding position_of
-some_position text h1 = grind (arith, nat_tests, common_steps)
+some_position text h = grind (arith, nat_tests, common_steps)
 
 pub form_parts : (text : List ℕ) → is_decimal_form text ≡ true
     → (nat_lt 0 (length text) ≡ true) × (all_ascii_digits text ≡ true) × (length text == 1 || not (get_or text 0 0 == 48) ≡ true)
-form_parts text h1 = grind (arith, nat_tests, common_steps)
+form_parts text h = grind (arith, nat_tests, common_steps)
 
 pub no_form-empty : (text : List ℕ) → length text ≡ 0 → is_decimal_form text ≡ false
-no_form-empty text h1 = grind (arith, nat_tests, common_steps)
+no_form-empty text h = grind (arith, nat_tests, common_steps)
 
 pub no_form-plus : (text : List ℕ) → get_or text 0 0 ≡ 43 → 0 < length text → is_decimal_form text ≡ false
-no_form-plus text h1 h2 = grind (arith, nat_tests, common_steps)
+no_form-plus text h some = grind (arith, nat_tests, common_steps)
 
 pub no_form-zero : (text : List ℕ) → get_or text 0 0 ≡ 48 → 1 < length text → is_decimal_form text ≡ false
-no_form-zero text h1 h2 = grind (arith, nat_tests, common_steps)
+no_form-zero text h more = grind (arith, nat_tests, common_steps)
 
 -- no zero leads, unless it is alone
 pub lead-one : (text : List ℕ) → length text ≡ 1 → length text == 1 || not (get_or text 0 0 == 48) ≡ true
-lead-one text h1 = grind (arith, nat_tests, common_steps)
+lead-one text h = grind (arith, nat_tests, common_steps)
 
 pub lead-other : (text : List ℕ) → get_or text 0 0 ≢ 48 → length text == 1 || not (get_or text 0 0 == 48) ≡ true
-lead-other text h1 = grind (arith, nat_tests, common_steps)
+lead-other text h = grind (arith, nat_tests, common_steps)
 
 pub PositionIs-none : (text : List ℕ) (o : Option ℕ) → o ≡ None → is_decimal_form text ≡ false → PositionIs o (position_of text)
 PositionIs-none text o e h = rw (e, no_position text h) tt
 
 not_less : (b : Bool) (m n : ℕ) → nat_lt m n ≡ b → (m < n → ⊥) → n ≤ m
-not_less b m n h1 h2 = grind (arith, nat_tests, common_steps)
+not_less b m n e h = grind (arith, nat_tests, common_steps)
 
 -- what std reads is the position, or there is none, or it is past every list
 module _ (text : List ℕ) (lead : length text == 1 || not (get_or text 0 0 == 48) ≡ true) where
@@ -168,7 +168,7 @@ get_item-got None vs i h = sym (get_item-past vs i h.3)
 get_item-got (Some x) vs i h = ap (λ v. Some (view v)) h.1 ∙ sym (get_item-within vs i x.now h.3.0)
 
 pub mapped-none : (r : Option (Bor Value)) (o : Option Node) → r ≡ None → None ≡ o → option_map (λ v. view v.now) r ≡ o
-mapped-none r o h1 h2 = grind (arith, nat_tests, common_steps)
+mapped-none r o h is = grind (arith, nat_tests, common_steps)
 
 pub view-of_mut : (r : Option (MutBor Value)) → option_map (λ x. view x.now) r ≡ option_map view (option_map (λ x. x.now) r)
 view-of_mut r = grind (arith, nat_tests, common_steps)

@@ -14,7 +14,7 @@ abbrev NoLeadingZero : List ℕ → Type 0
 NoLeadingZero text = length text == 1 || not (get_or text 0 0 == 48) ≡ true
 
 alone : (text : List ℕ) → NoLeadingZero text → get_or text 0 0 ≡ 48 → length text ≡ 1
-alone text h1 h2 = grind (arith, nat_tests, common_steps)
+alone text h e = grind (arith, nat_tests, common_steps)
 
 decimal_at : (b : Bool) (segment : List ℕ) (i : ℕ) → i < 2 ^ 64 → is_decimal_form segment ≡ b → position_of segment ≡ Some i → segment ≡ decimal i
 decimal_at true segment i small is h =

@@ -25,7 +25,7 @@ view-made i span = view_is (record { value = Some i; span = span })
 
 -- what is written through `get_mut`
 cond_members : (b c : Bool) (xs ys : List Entry) (ms ns : Members) → b ≡ c → members_view xs ≡ ms → members_view ys ≡ ns → members_view (cond b xs ys) ≡ cond c ms ns
-cond_members b c xs ys ms ns h1 h2 h3 = grind (arith, nat_tests, common_steps)
+cond_members b c xs ys ms ns same p q = grind (arith, nat_tests, common_steps)
 
 pub view-set_value : (name : List ℕ) (es : List Entry) (w : Value) → members_view (set_value (at_name name) es w) ≡ set_entry name (view w) (members_view es)
 view-set_value name [] w = refl
@@ -41,7 +41,7 @@ view-set (v ∷ vs) (suc i) w = ap (item (view v)) (view-set vs i w)
 -- what stands there, written again, changes nothing
 same_entry_at : (b : Bool) (other : List ℕ) (key : Span) (n m : Node) (ms rest : Members) (o : Option (Option Span × Node))
     → option_map (λ e. e.1) (cond b (Some (Some key, n)) o) ≡ Some m → (option_map (λ e. e.1) o ≡ Some m → rest ≡ ms) → cond b (member other key m ms) (member other key n rest) ≡ member other key n ms
-same_entry_at b other key n m ms rest o h1 h2 = grind (arith, nat_tests, common_steps)
+same_entry_at b other key n m ms rest o h ih = grind (arith, nat_tests, common_steps)
 
 pub set_entry-same : (name : List ℕ) (ms : Members) (m : Node) → get_member name ms ≡ Some m → set_entry name m ms ≡ ms
 set_entry-same name no_members m h = refl
@@ -55,27 +55,27 @@ set_element-same (suc i) (item n ns) m h = ap (item n) (set_element-same i ns m 
 -- an exchange at or below m, seen from where m stands
 pub exchanged-in : (r : Result Value Value) (new : Value) (names : List (List ℕ)) (o : Option Node) (m after : Node) (changed : Node → Type 0) (same : Type 0)
     → o ≡ Some m → changed after → (after ≡ m → same) → Exchanged r new names (if_not_taken m) (λ w. after ≡ w) (after ≡ m) → Exchanged r new names (option_and_then if_not_taken o) changed same
-exchanged-in r new names o m after changed same h1 h2 h3 h4 = grind (arith, nat_tests, common_steps)
+exchanged-in r new names o m after changed same is made kept h = grind (arith, nat_tests, common_steps)
 
 -- where nothing is named
 pub exchanged-none : (new : Value) (names : List (List ℕ)) (o : Option Node) (same : Type 0) → o ≡ None → same → (new ≡ new) × (option_and_then (value_named names) (option_and_then if_not_taken o) ≡ None) × same
-exchanged-none new names o same h1 h2 = grind (arith, nat_tests, common_steps)
+exchanged-none new names o same is kept = grind (arith, nat_tests, common_steps)
 
 -- the same exchange, where what is changed is told in other words
 pub exchanged-as : (r : Result Value Value) (new : Value) (names : List (List ℕ)) (o p : Option Node) (changed told : Node → Type 0) (same kept : Type 0)
     → o ≡ p → ((w : Node) → changed w → told w) → (same → kept) → Exchanged r new names o changed same → Exchanged r new names p told kept
-exchanged-as r new names o p changed told same kept h1 h2 h3 h4 = grind (arith, nat_tests, common_steps)
+exchanged-as r new names o p changed told same kept is f g h = grind (arith, nat_tests, common_steps)
 
 -- a value itself
 untaken : (b : Bool) (n : Node) → b ≡ false → cond b None (Some n) ≡ Some n
-untaken b n h1 = grind (arith, nat_tests, common_steps)
+untaken b n h = grind (arith, nat_tests, common_steps)
 
 pub if_not_taken-false : (n : Node) → is_taken n ≡ false → if_not_taken n ≡ Some n
-if_not_taken-false n h1 = grind (arith, nat_tests, common_steps)
+if_not_taken-false n h = grind (arith, nat_tests, common_steps)
 
 pub put_found-more : (segment : List ℕ) (names : List (List ℕ)) (n m w old : Node) → untaken_entry segment n ≡ Some m → value_named names m ≡ Some old
     → put_named (segment ∷ names) w n ≡ node (set_named segment (put_named names w m) (inner_of n)) (span_of n)
-put_found-more segment names n m w old h1 h2 = grind (arith, nat_tests, common_steps)
+put_found-more segment names n m w old leads there = grind (arith, nat_tests, common_steps)
 
 -- an exchange in what n holds is one in n
 pub exchanged-cut : (r : Result Value Value) (new : Value) (path segment : List ℕ) (rest : Option (List ℕ)) (i j : Inner) (span : Span) → SplitAtSlash path segment rest
@@ -97,19 +97,19 @@ exchanged-cut (Err back) new path segment rest i j span cut h = (
 
 -- an exchange at what a pointer names
 pub put_pointed-found : (p : List ℕ) (names : List (List ℕ)) (w n : Node) → pointer_segments p ≡ Some names → put_pointed p w n ≡ put_named names w n
-put_pointed-found p names w n h1 = grind (arith, nat_tests, common_steps)
+put_pointed-found p names w n h = grind (arith, nat_tests, common_steps)
 
 pub exchanged-done : (r : Result Value Value) (new : Value) (p : List ℕ) (names : List (List ℕ)) (n after : Node) → pointer_segments p ≡ Some names
     → Exchanged r new names (Some n) (λ w. after ≡ w) (after ≡ n) → IfOk r (λ old. (pointed p n ≡ Some (view old)) × (after ≡ put_pointed p (view new) n))
-exchanged-done r new p names n after h1 h2 = grind (arith, nat_tests, common_steps)
+exchanged-done r new p names n after is h = grind (arith, nat_tests, common_steps)
 
 pub exchanged-refused : (r : Result Value Value) (new : Value) (p : List ℕ) (names : List (List ℕ)) (n after : Node) → pointer_segments p ≡ Some names
     → Exchanged r new names (Some n) (λ w. after ≡ w) (after ≡ n) → IfErr r (λ back. (back ≡ new) × (pointed p n ≡ None) × (after ≡ n))
-exchanged-refused r new p names n after h1 h2 = grind (arith, nat_tests, common_steps)
+exchanged-refused r new p names n after is h = grind (arith, nat_tests, common_steps)
 
 -- an exchange in a table that is held
 pub exchanged-table : (r : Result Value Value) (new : Value) (names : List (List ℕ)) (segment : List ℕ) (ms ns : Members) (i j : Inner) → i ≡ table ms → j ≡ table ns
     → Exchanged r new names (option_and_then if_not_taken (get_member segment ms)) (λ w. ns ≡ set_entry segment w ms) (ns ≡ ms)
     → Exchanged r new names (option_and_then if_not_taken (entry segment i)) (λ w. j ≡ set_named segment w i) (j ≡ i)
-exchanged-table r new names segment ms ns i j h1 h2 h3 = grind (arith, nat_tests, common_steps)
+exchanged-table r new names segment ms ns i j was is h = grind (arith, nat_tests, common_steps)
 

@@ -34,7 +34,7 @@ at_name name = is_at (λ k. slice_cmp nat_cmp name (cow_str_bytes k.name))
 
 found_or : (b c : Bool) (v : Value) (key : Option Span) (rest : Option Value) (d : Option (Option Span × Node)) → b ≡ c → option_map view rest ≡ option_map (λ e. e.1) d
     → option_map view (cond b (Some v) rest) ≡ option_map (λ e. e.1) (cond c (Some (key, view v)) d)
-found_or b c v key rest d h1 h2 = grind (arith, nat_tests, common_steps)
+found_or b c v key rest d same e = grind (arith, nat_tests, common_steps)
 
 -- a look-up by name finds what the members have at that name
 pub view-lookup : (name : List ℕ) (es : List Entry) → option_map view (lookup (at_name name) es) ≡ get_member name (members_view es)
@@ -44,7 +44,7 @@ view-lookup name (e ∷ es) = found_or (at_name name e.0) (bytes_eq name (cow_st
 -- the same, with the span of the key
 found_entry : (b c : Bool) (e : Entry) (rest : Option Entry) (d : Option (Option Span × Node)) → b ≡ c → option_map (λ e. (Some e.0.span, view e.1)) rest ≡ d
     → option_map {U = Option Span × Node} (λ e. (Some e.0.span, view e.1)) (cond b (Some e) rest) ≡ cond c (Some (Some e.0.span, view e.1)) d
-found_entry b c e rest d h1 h2 = grind (arith, nat_tests, common_steps)
+found_entry b c e rest d same is = grind (arith, nat_tests, common_steps)
 
 pub entry_at-lookup : (name : List ℕ) (es : List Entry) → option_map (λ e. (Some e.0.span, view e.1)) (lookup_entry (at_name name) es) ≡ entry_at name (members_view es)
 entry_at-lookup name [] = refl
