@@ -1,5 +1,5 @@
 -- How long a value is, and which strings need a text of their own.
-use Rattle.std.proofs.Common.{◌≡◌, ℕ, ◌+◌, ◌-◌, ◌<◌, ◌≤◌, ◌⊎◌, Bool, List, [], ◌∷◌, length, get_or, drop, arith, sym, ◌∙◌, refl, ap, length-append, length-take}
+use Rattle.std.proofs.Common.{◌≡◌, ℕ, ◌+◌, ◌-◌, ◌<◌, ◌≤◌, ◌⊎◌, Bool, Some, None, Ok, List, [], ◌∷◌, length, get_or, drop, arith, sym, ◌∙◌, refl, ap, length-append, length-take}
 use Rattle.std.specs.Prelude.{slice_range}
 use Rattle.toml_span_lex.specs.declared.pieces.Piece.{Piece}
 use Rattle.toml_span_lex.specs.declared.pieces.Piece.TheVariants as pieces
@@ -8,10 +8,12 @@ use Rattle.toml_span_lex.specs.Pieces.{IsPiece, piece_value, IsClose}
 use Rattle.toml_span_lex.specs.Strings.{Cut, content, HasChange, IsContent, IsString, NeedsMemory}
 use Rattle.toml_span_lex.specs.Tokens.{Lexeme, string, Stands}
 use Rattle.toml_span_lex.proofs.MadeStrings.{content_from_after}
-use Rattle.toml_span_lex.proofs.OneToken.{token_tag, same_token_tag, from_unique}
+use Rattle.toml_span_lex.proofs.OneToken.{token_tag, same_token_tag}
+use Rattle.toml_span_lex.proofs.OneFault.{piece_one, ends}
 use Rattle.toml_span_lex.proofs.NoFault.{quote_token}
 use Rattle.toml_span_lex.proofs.PieceLemmas.{escape_shorter, dropped_shorter, line_forward, Cut-forward, HasChange-more, closing}
-use Rattle.toml_span_lex.proofs.Unique.{piece_unique, no_close}
+use Rattle.toml_span_lex.proofs.Unique.{from_unique}
+use Rattle.toml_span_lex.proofs.One.{ok_same}
 
 -- ---- the length of a value
 
@@ -41,10 +43,10 @@ content_fits q m text v from to end h =
 -- whatever the content is cut into, it is no longer than the whole content
 cut_within : (q : ℕ) (m : Bool) (text : List ℕ) (i a b x : ℕ) (ps rs : List (Piece × ℕ)) → (q ≡ 34) ⊎ (q ≡ 39) → Cut q m text i ps a → IsClose q m text a x → Cut q m text i rs b → b ≤ a
 cut_within q m text i a b x ps [] u c f d = let l = Cut-forward q m text i a ps c in omega arith
-cut_within q m text i a b x [] (r ∷ rs) u c f d = absurd (no_close q m text i x r.1 r.0 u (rw (sym c) at f) d.0)
-cut_within q m text i a b x (p ∷ ps) (r ∷ rs) u c f d =
-    let one = piece_unique q m text i p.1 r.1 p.0 r.0 u c.0 d.0 in
-    cut_within q m text p.1 a b x ps rs u c.1 f (rw (sym one.0) at d.1)
+cut_within q m text i a b x [] ((p, j) ∷ rs) u c f d = absurd (ends p j (Ok (None, x)) tt (piece_one q m 0 text i u (Ok (None, x)) (Ok (Some p, j)) (rw (sym c) at f) d.0))
+cut_within q m text i a b x ((p, j) ∷ ps) ((r, k) ∷ rs) u c f d =
+    let next : j ≡ k = ap (λ y. y.1) (ok_same (piece_one q m 0 text i u (Ok (Some p, j)) (Ok (Some r, k)) c.0 d.0)) in
+    cut_within q m text j a b x ps rs u c.1 f (rw (sym next) at d.1)
 
 string_change : (text : List ℕ) (i j : ℕ) (s : Span) (src v : List ℕ) (m : Bool) → IsString text i j s src v m → NeedsMemory text i → HasChange (get_or text i 0) text i j
 string_change text i j s src v m h n =
@@ -58,16 +60,12 @@ string_change text i j s src v m h n =
     (change.0, omega (arith, change.1, content_from_after m text i h.from h.begins), change.2, change.3)
 
 -- a token whose reading may want memory
-pub record IsCopied (text : List ℕ) (i j : ℕ) (l : Lexeme) : Type 0 where
-  pub source : List ℕ
-  pub value : List ℕ
-  pub multi : Bool
-  pub is : l ≡ string source value multi
-  pub change : HasChange (get_or text i 0) text i j
+abbrev pub IsCopied : List ℕ → ℕ → ℕ → Lexeme → Type 0
+IsCopied text i j l = ((source : List ℕ) × (value : List ℕ) × (multi : Bool) × (l ≡ string source value multi)) × HasChange (get_or text i 0) text i j
 
 by_tag : (text : List ℕ) (i j : ℕ) (s : Span) (l : Lexeme) → token_tag l ≡ 5 → Stands text i j s l → NeedsMemory text i → IsCopied text i j l
 unfolding token_tag
-by_tag text i j s (string src v m) e h n = record { source = src; value = v; multi = m; is = refl; change = string_change text i j s src v m h n }
+by_tag text i j s (string src v m) e h n = ((src, v, m, refl), string_change text i j s src v m h n)
 by_tag text i j s l e h n = absurd (omega arith)
 
 pub copied : (text : List ℕ) (i j : ℕ) (s : Span) (l : Lexeme) → Stands text i j s l → NeedsMemory text i → IsCopied text i j l

@@ -1,31 +1,21 @@
 -- Character by character, the folded text.
-use Rattle.std.proofs.Common.{◌≡◌, ℕ, ◌+◌, ◌<◌, Bool, true, false, List, [], ◌∷◌, ◌++◌, length, get_or, drop, arith, inl, inr, sym, ◌∙◌, refl, ap, get_or-drop, add-zero, drop-cons, add-one}
+use Rattle.std.proofs.Common.{◌≡◌, ℕ, ◌+◌, Bool, true, false, List, ◌∷◌, ◌++◌, get_or, drop, arith, inl, inr, sym, ◌∙◌, refl, ap, get_or-drop, add-zero}
 use Rattle.std.specs.Prelude.{◌==◌, ◌&&◌, slice_index, encode_utf8}
 use Rattle.std.specs.Char.{len_utf8}
 use Rattle.std.specs.Str.{IsUtf8, chars}
 use Rattle.std.proofs.lemmas.Str.{chars_past_char, encode_ascii, encodes-chars, byte_from_char, IsUtf8-past_char}
 use Rattle.std.proofs.Math.Utf8.{encodes}
-use Rattle.std.proofs.lemmas.Bool.{false≢true}
+use Rattle.std.proofs.lemmas.Bool.{false≢true, eqb-true, and_parts}
 use Rattle.std.proofs.lemmas.Bool.Decides.{nat_tests}
+use Rattle.std.proofs.lemmas.Grind.{common_steps}
 use Rattle.toml_span_lex.specs.Text.{is_crlf, CharAt, folded_from, folded}
-use Rattle.toml_span_lex.proofs.Runs.{read_within, crlf_first}
 use Rattle.toml_span_lex.proofs.Unique.{is_false}
-use Rattle.toml_span_lex.proofs.PieceLemmas.{same_byte}
 
 pub second : (text : List ℕ) (i : ℕ) → is_crlf text i ≡ true → get_or text (i + 1) 0 ≡ 10
 second text i h = grind (arith, nat_tests)
 
-next_cons : (text : List ℕ) (i c : ℕ) → 0 < c → get_or text i 0 ≡ c → drop i text ≡ c ∷ drop (i + 1) text
-next_cons text i c z e =
-    let l : i < length text = read_within text i (omega arith) in
-    rw (drop-cons text i 0, e, add-one i) refl
-
 crlf_drop : (text : List ℕ) (i : ℕ) → is_crlf text i ≡ true → drop i text ≡ 13 ∷ 10 ∷ drop (i + 2) text
-crlf_drop text i h =
-    let two : (i + 1) + 1 ≡ i + 2 = omega arith in
-    let a = next_cons text i 13 (omega arith) (crlf_first text i h) in
-    let b = next_cons text (i + 1) 10 (omega arith) (second text i h) in
-    a ∙ ap (λ x. 13 ∷ x) (rw two at b)
+crlf_drop text i h = grind (arith, common_steps, nat_tests)
 
 crlf_chars : (text : List ℕ) (i : ℕ) → IsUtf8 (drop i text) → is_crlf text i ≡ true → chars (drop i text) ≡ 13 ∷ 10 ∷ chars (drop (i + 2) text)
 crlf_chars text i u h =
@@ -37,19 +27,13 @@ crlf_chars text i u h =
 
 -- the first character of a text, where it is a line feed, is its first byte
 feed_byte : (cs bs : List ℕ) → encodes cs ≡ bs → slice_index cs 0 ≡ 10 → get_or bs 0 0 ≡ 10
-feed_byte [] bs e h = absurd (omega arith)
-feed_byte (c ∷ cs) bs e h = byte_from_char bs (encodes cs) c (sym e) (omega arith) ∙ h
+feed_byte cs bs e h = grind (arith, nat_tests, common_steps)
 
 first_feed : (bs : List ℕ) → IsUtf8 bs → slice_index (chars bs) 0 ≡ 10 → get_or bs 0 0 ≡ 10
 first_feed bs u h = feed_byte (chars bs) bs (encodes-chars bs u) h
 
 not_after : (j : ℕ) (t : Bool) (cs : List ℕ) → (t && slice_index cs 0 == 10) ≡ false → folded_from j t cs ≡ folded_from j false cs
-not_after j t [] h = refl
-not_after j t (c ∷ cs) h = rw h refl
-
-and_both : (a b : Bool) → (a && b) ≡ true → (a ≡ true) × (b ≡ true)
-and_both true b h = (refl, h)
-and_both false b h = absurd (false≢true h)
+not_after j t cs h = grind (arith, nat_tests, common_steps)
 
 crlf_from : (text : List ℕ) (i : ℕ) → get_or text i 0 ≡ 13 → get_or text (i + 1) 0 ≡ 10 → is_crlf text i ≡ true
 crlf_from text i a b = rw (a, b) refl
@@ -57,9 +41,9 @@ crlf_from text i a b = rw (a, b) refl
 apart : (text : List ℕ) (i c j : ℕ) → IsUtf8 (drop i text) → is_crlf text i ≡ false → j ≡ i + len_utf8 c → drop i text ≡ encode_utf8 c ++ drop j text → (c == 13 && slice_index (chars (drop j text)) 0 == 10) ≡ false
 apart text i c j u f e d =
     is_false _ (λ y.
-    let parts = and_both _ _ y in
-    let is : c ≡ 13 = same_byte 13 c parts.0 in
-    let feed = first_feed (drop j text) (IsUtf8-past_char (drop i text) (drop j text) c u d) (same_byte 10 _ parts.1) in
+    let parts = and_parts _ _ y in
+    let is : c ≡ 13 = eqb-true c 13 parts.0 in
+    let feed = first_feed (drop j text) (IsUtf8-past_char (drop i text) (drop j text) c u d) (eqb-true _ 10 parts.1) in
     let here : get_or (drop i text) 0 0 ≡ c = byte_from_char (drop i text) (drop j text) c d (omega arith) in
     let len : len_utf8 13 ≡ 1 = refl in
     let one : len_utf8 c ≡ 1 = rw is len in

@@ -1,3 +1,4 @@
+pub mod One
 pub mod Tables
 pub mod Runs
 pub mod Hex
@@ -9,7 +10,6 @@ pub mod OneToken
 pub mod Folded
 pub mod NoFault
 pub mod OneFault
-pub mod Unfolded
 pub mod Copies
 pub mod Within
 pub mod Texts

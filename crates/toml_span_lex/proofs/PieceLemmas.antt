@@ -1,20 +1,19 @@
 -- Pieces of a string, and what is kept of them.
-use Rattle.std.proofs.Common.{◌≡◌, ℕ, ◌+◌, ◌-◌, ◌<◌, ◌≤◌, ◌⊎◌, Bool, true, false, Option, Some, None, Result, Ok, Err, IfErr, List, [], ◌∷◌, ◌++◌, length, get_or, take, drop, arith, inl, inr, sym, ◌∙◌, refl, ap, length-append, length-take, length-drop, append_assoc, append-nil, cond, get_or-take, get_or-drop, drop-cons, take-add, drop-drop}
-use Rattle.std.specs.Prelude.{encode_utf8, slice_range, string_bytes, ◌==◌}
-use Rattle.std.specs.Char.{len_utf8, digit_value}
+use Rattle.std.proofs.Common.{◌≡◌, ℕ, ◌+◌, ◌-◌, ◌<◌, ◌≤◌, ◌⊎◌, Bool, true, Option, Some, Result, IfErr, List, [], ◌∷◌, ◌++◌, length, get_or, take, drop, arith, inl, inr, sym, refl, length-append, length-take, length-drop, append_assoc, append-nil, get_or-take, get_or-drop, take-add, drop-drop}
+use Rattle.std.specs.Prelude.{encode_utf8, slice_range, string_bytes}
+use Rattle.std.specs.Char.{digit_value}
 use Rattle.std.specs.Str.Parse.{digits_value}
-use Rattle.toml_span_lex.proofs.Runs.{read_within, behind, crlf_first, neither}
+use Rattle.toml_span_lex.proofs.Runs.{behind}
 use Rattle.std.specs.declared.string.String.{String}
-use Rattle.std.proofs.lemmas.Bool.{cases_lt, false≢true}
+use Rattle.std.proofs.lemmas.Grind.{common_steps}
 use Rattle.std.proofs.lemmas.Bool.Decides.{nat_tests}
 use Rattle.std.proofs.lemmas.Str.{length-encode, len_utf8_bounds, len_utf8_ascii}
 use Rattle.std.specs.Str.{IsUtf8}
 use Rattle.std.proofs.lemmas.Str.{IsCharBoundary-before_ascii}
 use Rattle.toml_span_lex.specs.Bytes.{quotation_mark, backslash, carriage_return, is_blank, MaximalRun}
 use Rattle.toml_span_lex.specs.declared.pieces.Piece.{Piece}
-use Rattle.toml_span_lex.specs.declared.pieces.Piece.TheVariants as pieces
 use Rattle.toml_span_lex.specs.Text.{LineEnd, NoLineEnd}
-use Rattle.toml_span_lex.specs.Escapes.{simple_escape, hex_len, hex_value, is_hex, HexRun, IsHexEscape, IsEscape}
+use Rattle.toml_span_lex.specs.Escapes.{simple_escape, hex_len, hex_value, is_hex, HexRun, IsEscape}
 use Rattle.toml_span_lex.specs.Pieces.{is_ws_or_newline, IsDropped, IsPiece, piece_value, IsClose}
 use Rattle.toml_span_lex.specs.Strings.{Cut, content, content_end, HasChange}
 use Rattle.toml_span_lex.specs.code.Strings.{Kept, Ends}
@@ -28,29 +27,13 @@ slice_join text i j k f g =
 
 -- a kept content is no longer than the text
 pub kept_length : {Z : Type 0} (q : ℕ) (text : List ℕ) (from at : ℕ) (v : List ℕ) (kept : Option (String Z)) → from ≤ at → Kept q text from at v kept → length v + from ≤ at
-kept_length q text from at v None f e = omega (arith, ap length e, length-take (at - from) (drop from text))
-kept_length q text from at v (Some s) f k = omega (arith, k.1)
-
-chosen : (t : Bool) (x : ℕ) (rest : Option ℕ) (c : ℕ) → x < 128 → (rest ≡ Some c → c < 128) → cond t (Some x) rest ≡ Some c → c < 128
-chosen true x rest c l h e = let same : x ≡ c = cc in omega arith
-chosen false x rest c l h e = h e
+kept_length q text from at v kept f e = grind (arith, nat_tests, common_steps)
 
 simple_value : (b c : ℕ) → simple_escape b ≡ Some c → c < 128
-simple_value b c e =
-    chosen (b == 34) 34 _ c (omega arith)
-    (chosen (b == 92) 92 _ c (omega arith)
-    (chosen (b == 98) 8 _ c (omega arith)
-    (chosen (b == 102) 12 _ c (omega arith)
-    (chosen (b == 110) 10 _ c (omega arith)
-    (chosen (b == 114) 13 _ c (omega arith)
-    (chosen (b == 116) 9 _ c (omega arith)
-    (chosen (b == 101) 27 None c (omega arith) (λ n. absurd (cc))))))))) e
+simple_value b c e = grind (arith, nat_tests)
 
 two_hex : (ds : List ℕ) → length ds ≡ 2 → digit_value (get_or ds 0 0) < 16 → digit_value (get_or ds 1 0) < 16 → digits_value 16 ds < 256
-two_hex [] l f g = absurd (omega arith)
-two_hex (x ∷ []) l f g = absurd (omega arith)
-two_hex (x ∷ y ∷ []) l f g = omega arith
-two_hex (x ∷ y ∷ z ∷ ds) l f g = absurd (omega arith)
+two_hex ds l f g = grind (arith, common_steps)
 
 hex_len_cases : (b : ℕ) → 0 < hex_len b → (hex_len b ≡ 2) ⊎ (4 ≤ hex_len b)
 hex_len_cases b h = grind (arith, nat_tests)
@@ -66,59 +49,31 @@ two_value text a r =
     (rw (get_or-take, get_or-drop) (hex_digit (get_or text (a + 0) 0) (r.digits (a + 0) (omega arith) (omega arith))))
     (rw (get_or-take, get_or-drop) (hex_digit (get_or text (a + 1) 0) (r.digits (a + 1) (omega arith) (omega arith))))
 
-two_bytes : (c : ℕ) → c < 256 → len_utf8 c ≤ 2
-two_bytes c h = grind (arith, nat_tests)
-
-len_hex : (text : List ℕ) (i n c j : ℕ) → (n ≡ 2) ⊎ (4 ≤ n) → IsHexEscape text i n c j → length (encode_utf8 c) + i < j + 1
-len_hex text i n c j (inl two) h =
-    let run : HexRun text (i + 1) ((i + 1) + 2) = rw (h.1, two) at h.0 in
-    let small : c < 256 = rw (h.2, two) (two_value text (i + 1) run) in
-    omega (arith, two_bytes c small, length-encode c)
-len_hex text i n c j (inr four) h = omega (arith, h.1, (len_utf8_bounds c).1, length-encode c)
-
-len_escape : (text : List ℕ) (i c j : ℕ) → IsEscape text i c j → length (encode_utf8 c) + i < j + 1
-len_escape text i c j (inl h) = let f : len_utf8 c ≡ 1 = len_utf8_ascii c (simple_value (get_or text i 0) c h.0) in omega (arith, h.2, length-encode c)
-len_escape text i c j (inr h) = len_hex text i (hex_len (get_or text i 0)) c j (hex_len_cases (get_or text i 0) h.0) h.2
-
 -- what an escape stands for is shorter than it
 pub escape_shorter : (text : List ℕ) (i c j : ℕ) → IsEscape text (i + 1) c j → length (encode_utf8 c) + i < j
-escape_shorter text i c j h = let l = len_escape text (i + 1) c j h in omega arith
-
-one_byte : (text : List ℕ) (i c : ℕ) → get_or text i 0 ≡ c → i < length text → c ∷ [] ≡ slice_range text i (i + 1)
-one_byte text i c e l =
-    let n : (i + 1) - i ≡ 1 = omega arith in
-    rw (n, drop-cons text i 0) (ap (λ x. x ∷ []) (sym e))
+escape_shorter text i c j (inl h) = let small = simple_value (get_or text (i + 1) 0) c h.0 in grind (arith, length-encode, len_utf8_ascii)
+escape_shorter text i c j (inr h) =
+    let two : hex_len (get_or text (i + 1) 0) ≡ 2 → c < 256 = λ e. (let run : HexRun text ((i + 1) + 1) (((i + 1) + 1) + 2) = rw (h.2.1, e) at h.2.0 in rw (h.2.2, e) (two_value text ((i + 1) + 1) run)) in
+    grind (arith, nat_tests, length-encode, len_utf8_bounds c, hex_len_cases, h.2.1)
 
 pub line_forward : (text : List ℕ) (i j : ℕ) → LineEnd text i j → i < j
-line_forward text i j (inl h) = omega (arith, h.1)
-line_forward text i j (inr h) = omega (arith, h.1)
+line_forward text i j h = grind (arith, nat_tests)
 
 pub line_feed : (text : List ℕ) (i j : ℕ) → LineEnd text i j → j ≡ i + 1 → 10 ∷ [] ≡ slice_range text i j
-line_feed text i j (inr h) e = absurd (omega (arith, h.1))
-line_feed text i j (inl h) e = rw e (one_byte text i 10 h.0 (read_within text i (omega (arith, h.0))))
+line_feed text i j h e = grind (arith, common_steps, nat_tests)
 
 pub crlf_shorter : (text : List ℕ) (i j : ℕ) → LineEnd text i j → (j ≡ i + 1 → ⊥) → 1 + i < j
-crlf_shorter text i j (inl h) n = absurd (n h.1)
-crlf_shorter text i j (inr h) n = omega (arith, h.1)
+crlf_shorter text i j h n = grind (arith, nat_tests)
 
 pub crlf_return : (text : List ℕ) (i j : ℕ) → LineEnd text i j → (j ≡ i + 1 → ⊥) → get_or text i 0 ≡ carriage_return
-crlf_return text i j (inl h) n = absurd (n h.1)
-crlf_return text i j (inr h) n = crlf_first text i h.0
+crlf_return text i j h n = grind (arith, nat_tests)
 
 pub dropped_shorter : (text : List ℕ) (i j : ℕ) → IsDropped text (i + 1) j → i < j
 dropped_shorter text i j (k, l, run, line, gap) = let f = line_forward text k l line in omega arith
 
 -- Where white space begins and no line end follows its spaces and tabs, there is one of these at least.
 pub blanks_forward : (text : List ℕ) (i j : ℕ) → i < length text → is_ws_or_newline text i ≡ true → MaximalRun is_blank text i j → NoLineEnd text j → i < j
-blanks_forward text i j l gap run none =
-    elim (cases_lt i j) [
-      | inl lt ↦ lt
-      | inr ge ↦
-          let same : j ≡ i = omega (arith, run.forward) in
-          let blank : is_blank (get_or text i 0) ≡ false = rw same at (run.stops (omega arith)) in
-          let line : NoLineEnd text i = rw same at none in
-          absurd (false≢true (sym (neither _ _ (neither _ _ blank line.0) line.1) ∙ gap))
-    ]
+blanks_forward text i j l gap run none = grind (arith, nat_tests, run.stops, run.forward)
 
 -- a backslash or a carriage return here is a change from every place before it to every place behind it
 pub change_at : (q : ℕ) (text : List ℕ) (from at next : ℕ) → from ≤ at → at < next → ((q ≡ quotation_mark) × (get_or text at 0 ≡ backslash)) ⊎ (get_or text at 0 ≡ carriage_return) → HasChange q text from next
@@ -128,8 +83,7 @@ pub HasChange-more : (q : ℕ) (text : List ℕ) (from at next : ℕ) → at ≤
 HasChange-more q text from at next on (k, f, below, is) = (k, f, omega arith, is)
 
 pub change_more : {A E : Type 0} (q : ℕ) (text : List ℕ) (from at next : ℕ) (r : Result A E) → at ≤ next → IfErr r (λ e. HasChange q text from at) → IfErr r (λ e. HasChange q text from next)
-change_more q text from at next (Ok x) on h = h
-change_more q text from at next (Err e) on h = HasChange-more q text from at next on h
+change_more q text from at next r on h = grind (arith, nat_tests, common_steps)
 
 -- a piece that is shorter than its text goes into a text of its own
 pub kept_own : {Z : Type 0} (q : ℕ) (text : List ℕ) (from at next : ℕ) (v w : List ℕ) (kept : Option (String Z)) (s : String Z) → from ≤ at → Kept q text from at v kept → HasChange q text from next → length w + at < next → string_bytes s ≡ v ++ w → Kept q text from next (v ++ w) (Some s)
@@ -145,18 +99,11 @@ content-more q m text i j k [] p e = rw e (append-nil _)
 content-more q m text i j k (x ∷ ps) p c = rw (content-more q m text x.1 j k ps p c.1) (sym (append_assoc (piece_value text i x.1 x.0) (content text x.1 ps) (piece_value text j k p)))
 
 pub piece_forward : (q : ℕ) (m : Bool) (text : List ℕ) (i j : ℕ) (p : Piece) → IsPiece q m text i j p → i < j
-piece_forward q m text i j pieces.Plain h = h.0
-piece_forward q m text i j pieces.Quotes h = h.1
-piece_forward q m text i j pieces.LineEnd h = line_forward text i j h.1
-piece_forward q m text i j (pieces.Escape c) h = let l = escape_shorter text i c j h.2 in omega arith
-piece_forward q m text i j pieces.Dropped h = dropped_shorter text i j h.3
+piece_forward q m text i j p h = grind (arith, nat_tests, common_steps)
 
 pub Cut-forward : (q : ℕ) (m : Bool) (text : List ℕ) (i j : ℕ) (ps : List (Piece × ℕ)) → Cut q m text i ps j → i ≤ j
 Cut-forward q m text i j [] e = omega arith
 Cut-forward q m text i j (p ∷ ps) c = let f = piece_forward q m text i p.1 p.0 c.0 in let g = Cut-forward q m text p.1 j ps c.1 in omega arith
-
-pub same_byte : (q c : ℕ) → (c == q) ≡ true → c ≡ q
-same_byte q c h = grind (arith, nat_tests)
 
 -- where a string closes
 pub record Closing (q : ℕ) (m : Bool) (text : List ℕ) (at end : ℕ) : Type 0 where
@@ -167,17 +114,7 @@ pub record Closing (q : ℕ) (m : Bool) (text : List ℕ) (at end : ℕ) : Type 
   pub last : get_or text (end - 1) 0 ≡ q
 
 pub closing : (q : ℕ) (m : Bool) (text : List ℕ) (at end : ℕ) → IsClose q m text at end → Closing q m text at end
-closing q false text at end h =
-    let e : at ≡ end - 1 = omega (arith, h.2) in
-    record { on = omega arith; some = omega (arith, h.2); within = omega (arith, h.1, h.2); first = rw e at h.0; last = rw e at h.0 }
-closing q true text at end (r, run, long, e) =
-    record {
-      on = omega arith;
-      some = omega arith;
-      within = omega (arith, run.within);
-      first = same_byte q _ (run.passes (end - 3) (omega arith) (omega arith));
-      last = same_byte q _ (run.passes (end - 1) (omega arith) (omega arith));
-    }
+closing q m text at end h = grind (arith, nat_tests, common_steps)
 
 pub ends : (q : ℕ) (m : Bool) (text : List ℕ) (from at end : ℕ) → IsUtf8 text → q < 128 → from ≤ at → IsClose q m text at end → Ends text from (content_end m end) end
 ends q m text from at end u a f h =

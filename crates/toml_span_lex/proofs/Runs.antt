@@ -1,43 +1,39 @@
 -- Where a run ends, the text may be cut.
-use Rattle.std.proofs.Common.{◌≡◌, ℕ, ◌+◌, ◌-◌, ◌<◌, ◌≤◌, ◌⊎◌, Bool, true, false, List, ◌++◌, length, get_or, drop, arith, inl, inr, sym, ◌∙◌, get_or-drop, add-zero, length-drop, length-take, get_or-take, refl, ap}
+use Rattle.std.proofs.Common.{◌≡◌, ℕ, ◌+◌, ◌-◌, ◌<◌, ◌≤◌, ◌⊎◌, Bool, true, false, List, ◌++◌, length, get_or, drop, arith, inl, inr, sym, ◌∙◌, get_or-drop, add-zero, length-drop, refl, ap}
 use Rattle.std.specs.Prelude.{encode_utf8, slice_range, ◌||◌, ◌==◌}
 use Rattle.std.specs.Char.{len_utf8}
 use Rattle.std.specs.Str.{IsUtf8, IsCharBoundary}
-use Rattle.std.proofs.lemmas.Str.{IsCharBoundary-after_ascii, IsUtf8-drop, IsCharBoundary-past_char, drop_past_char, byte_from_char, char_from_byte}
+use Rattle.std.proofs.lemmas.Str.{IsCharBoundary-after_ascii, IsUtf8-drop, IsCharBoundary-past_char, drop_past_char, byte_from_char, char_from_byte, length-encode, len_utf8_bounds}
 use Rattle.std.proofs.lemmas.Bool.{cases_lt, false≢true}
-use Rattle.std.proofs.lemmas.List.{get_or_past}
+use Rattle.std.proofs.lemmas.Grind.{common_steps}
 use Rattle.std.proofs.lemmas.Bool.Decides.{nat_tests}
 use Rattle.toml_span_lex.specs.Bytes.{MaximalRun, is_blank, is_keylike, is_printed}
 use Rattle.toml_span_lex.specs.Text.{is_crlf, CharAt, NoLineEnd}
 use Rattle.toml_span_lex.specs.Pieces.{is_ws_or_newline, is_plain}
-use Rattle.toml_span_lex.specs.Tokens.{begins_token, begins_alone}
+use Rattle.toml_span_lex.specs.Tokens.{begins_token}
 
 -- a byte that is not 0 stands within the text
 pub read_within : (text : List ℕ) (i : ℕ) → 0 < get_or text i 0 → i < length text
-read_within text i h = elim (cases_lt i (length text)) [ inl lt ↦ lt | inr ge ↦ let z : get_or text i 0 ≡ 0 = get_or_past text i 0 ge in absurd (omega arith) ]
+read_within text i h = grind (arith, common_steps)
 
 -- behind an ASCII byte
 pub behind : (text : List ℕ) (i j : ℕ) → j ≡ i + 1 → IsUtf8 text → i < length text → get_or text i 0 < 128 → IsCharBoundary text j
 behind text i j e u l a = rw e (IsCharBoundary-after_ascii text i u l a)
 
--- a run of ASCII
-pub boundary_after : (p : ℕ → Bool) (text : List ℕ) (i j : ℕ) → ((c : ℕ) → p c ≡ true → c < 128) → IsUtf8 text → IsCharBoundary text i → i ≤ j → j ≤ length text → ((k : ℕ) → i ≤ k → k < j → p (get_or text k 0) ≡ true) → IsCharBoundary text j
-boundary_after p text i j ascii u b f w passes =
+-- behind places of ASCII bytes
+boundary_behind : (text : List ℕ) (i j : ℕ) → IsUtf8 text → IsCharBoundary text i → i ≤ j → j ≤ length text → ((k : ℕ) → i ≤ k → k < j → get_or text k 0 < 128) → IsCharBoundary text j
+boundary_behind text i j u b f w low =
     elim (cases_lt i j) [
-      | inl lt ↦ behind text (j - 1) j (omega arith) u (omega arith) (ascii _ (passes (j - 1) (omega arith) (omega arith)))
+      | inl lt ↦ behind text (j - 1) j (omega arith) u (omega arith) (low (j - 1) (omega arith) (omega arith))
       | inr ge ↦ let e : i ≡ j = omega arith in rw e at b
     ]
 
+pub boundary_after : (p : ℕ → Bool) (text : List ℕ) (i j : ℕ) → ((c : ℕ) → p c ≡ true → c < 128) → IsUtf8 text → IsCharBoundary text i → i ≤ j → j ≤ length text → ((k : ℕ) → i ≤ k → k < j → p (get_or text k 0) ≡ true) → IsCharBoundary text j
+boundary_after p text i j ascii u b f w passes = boundary_behind text i j u b f w (λ k x y. ascii _ (passes k x y))
+
 -- a run whose first byte passes has that byte at least
 pub run_forward : (p : ℕ → Bool) (text : List ℕ) (i j : ℕ) → i < length text → p (get_or text i 0) ≡ true → MaximalRun p text i j → i < j
-run_forward p text i j l h run =
-    elim (cases_lt i j) [
-      | inl lt ↦ lt
-      | inr ge ↦
-          let same : j ≡ i = omega (arith, run.forward) in
-          let stops : p (get_or text i 0) ≡ false = rw same at (run.stops (omega arith)) in
-          absurd (false≢true (sym stops ∙ h))
-    ]
+run_forward p text i j l h run = grind (arith, run.stops, run.forward)
 
 pub blank_ascii : (c : ℕ) → is_blank c ≡ true → c < 128
 blank_ascii c h = grind arith
@@ -45,35 +41,23 @@ blank_ascii c h = grind arith
 pub keylike_ascii : (c : ℕ) → is_keylike c ≡ true → c < 128
 keylike_ascii c h = grind arith
 
--- behind a carriage return with a line feed
-pub behind_crlf : (text : List ℕ) (i j : ℕ) → j ≡ i + 2 → IsUtf8 text → is_crlf text i ≡ true → IsCharBoundary text j
-behind_crlf text i j e u h =
-    let nl : get_or text (i + 1) 0 ≡ 10 = grind arith in
-    let l : i + 1 < length text = read_within text (i + 1) (omega arith) in
-    behind text (i + 1) j (omega arith) u l (omega arith)
-
-or_cases : (a b : Bool) → (a || b) ≡ true → (a ≡ true) ⊎ (b ≡ true)
-or_cases true b h = inl refl
-or_cases false b h = inr h
-
-blank_line_ascii : (c : ℕ) → (is_blank c || c == 10) ≡ true → c < 128
-blank_line_ascii c h = grind arith
-
 pub crlf_first : (text : List ℕ) (i : ℕ) → is_crlf text i ≡ true → get_or text i 0 ≡ 13
 crlf_first text i h = grind arith
 
-pub gap_ascii : (text : List ℕ) (i : ℕ) → is_ws_or_newline text i ≡ true → get_or text i 0 < 128
-gap_ascii text i h = elim (or_cases _ _ h) [ inl a ↦ blank_line_ascii _ a | inr b ↦ let e = crlf_first text i b in omega arith ]
+pub char_within : (text : List ℕ) (i c j : ℕ) → CharAt text i c j → i < length text
+char_within text i c j h = grind (arith, common_steps, nat_tests, length-encode, len_utf8_bounds)
 
+gap_ascii : (text : List ℕ) (i : ℕ) → is_ws_or_newline text i ≡ true → get_or text i 0 < 128
+gap_ascii text i h = grind (arith, nat_tests)
+
+-- behind a carriage return with a line feed
 pub behind_line : (text : List ℕ) (i : ℕ) → IsUtf8 text → is_crlf text i ≡ true → IsCharBoundary text (i + 2)
-behind_line text i u h = behind_crlf text i (i + 2) refl u h
+behind_line text i u h =
+    let nl : get_or text (i + 1) 0 ≡ 10 = grind arith in
+    behind text (i + 1) (i + 2) (omega arith) u (read_within text (i + 1) (omega arith)) (omega arith)
 
 pub boundary_gap : (text : List ℕ) (i j : ℕ) → IsUtf8 text → IsCharBoundary text i → i ≤ j → j ≤ length text → ((k : ℕ) → i ≤ k → k < j → is_ws_or_newline text k ≡ true) → IsCharBoundary text j
-boundary_gap text i j u b f w passes =
-    elim (cases_lt i j) [
-      | inl lt ↦ behind text (j - 1) j (omega arith) u (omega arith) (gap_ascii text _ (passes (j - 1) (omega arith) (omega arith)))
-      | inr ge ↦ let e : i ≡ j = omega arith in rw e at b
-    ]
+boundary_gap text i j u b f w passes = boundary_behind text i j u b f w (λ k x y. gap_ascii text k (passes k x y))
 
 -- a character that was decoded
 pub char_found : (text rest : List ℕ) (i w c : ℕ) → is_crlf text i ≡ false → w ≡ len_utf8 c → drop i text ≡ encode_utf8 c ++ rest → CharAt text i c (i + w)
@@ -88,43 +72,41 @@ char_boundary text rest i w c u b e d =
 pub neither : (a b : Bool) → a ≡ false → b ≡ false → (a || b) ≡ false
 neither a b h k = rw h k
 
-past_alone : (c : ℕ) → 128 ≤ c → begins_alone c ≡ false
-past_alone c h = grind arith
+pub past_ascii : (c : ℕ) → 128 ≤ c → begins_token c ≡ false
+past_ascii c h = grind (arith, nat_tests)
 
-past_keylike : (c : ℕ) → 128 ≤ c → is_keylike c ≡ false
-past_keylike c h = grind arith
-
-past_quote : (c : ℕ) → 128 ≤ c → (c == 34 || c == 39) ≡ false
-past_quote c h = grind arith
-
-past_ascii : (c : ℕ) → 128 ≤ c → begins_token c ≡ false
-past_ascii c h = neither _ _ (neither _ _ (past_alone c h) (past_keylike c h)) (past_quote c h)
-
--- What an ASCII test says of the byte, it says of the character, but for a line end of two bytes.
-pub char_fails : (p : ℕ → Bool) (text : List ℕ) (i c j : ℕ) → ((d : ℕ) → 128 ≤ d → p d ≡ false) → p 10 ≡ false → p (get_or text i 0) ≡ false → CharAt text i c j → p c ≡ false
-char_fails p text i c j past ten b (inl h) = rw h.1 ten
-char_fails p text i c j past ten b (inr h) =
+-- A character is its first byte, or both are past ASCII, but for a line end of two bytes.
+char_byte : (text : List ℕ) (i c j : ℕ) → is_crlf text i ≡ false → CharAt text i c j → (c ≡ get_or text i 0) ⊎ ((128 ≤ c) × (128 ≤ get_or text i 0))
+char_byte text i c j f (inl h) = absurd (false≢true (sym f ∙ h.0))
+char_byte text i c j f (inr h) =
     let first : get_or (drop i text) 0 0 ≡ get_or text i 0 = rw (get_or-drop, add-zero) refl in
+    let ascii : c < 128 → c ≡ get_or text i 0 = λ low. sym (byte_from_char (drop i text) (drop j text) c h.2 low) ∙ first in
     elim (cases_lt c 128) [
-      | inl low ↦ let e : get_or (drop i text) 0 0 ≡ c = byte_from_char (drop i text) (drop j text) c h.2 low in rw (sym first ∙ e) at b
-      | inr high ↦ past c high
+      | inl low ↦ inl (ascii low)
+      | inr high ↦ inr (high, elim (cases_lt (get_or text i 0) 128) [
+        | inl low ↦ absurd (omega (arith, first, char_from_byte (drop i text) (drop j text) c h.2 (omega arith) (omega (arith, length-drop i text, char_within text i c j (inr h)))))
+        | inr past ↦ past
+      ])
     ]
+
+-- So a test that says one thing of all past ASCII says of the byte what it says of the character.
+char_same : (p : ℕ → Bool) (text : List ℕ) (i c j : ℕ) → ((d : ℕ) → 128 ≤ d → p d ≡ p 128) → is_crlf text i ≡ false → CharAt text i c j → p c ≡ p (get_or text i 0)
+char_same p text i c j past f h = elim (char_byte text i c j f h) [ inl e ↦ ap p e | inr high ↦ past c high.0 ∙ sym (past (get_or text i 0) high.1) ]
+
+pub char_fails : (p : ℕ → Bool) (text : List ℕ) (i c j : ℕ) → ((d : ℕ) → 128 ≤ d → p d ≡ false) → p 10 ≡ false → p (get_or text i 0) ≡ false → CharAt text i c j → p c ≡ false
+char_fails p text i c j past ten b h = grind (arith, nat_tests, common_steps)
+
+-- what does not pass past ASCII, nor at a carriage return, does not pass at the first byte of a character that does not
+pub char_shut : (p : ℕ → Bool) (text : List ℕ) (i c j : ℕ) → ((d : ℕ) → 128 ≤ d → p d ≡ p 128) → p 13 ≡ false → CharAt text i c j → p c ≡ false → p (get_or text i 0) ≡ false
+char_shut p text i c j past t (inl h) n = rw (crlf_first text i h.0) t
+char_shut p text i c j past t (inr h) n = sym (char_same p text i c j past h.0 (inr h)) ∙ n
 
 -- where no byte begins a token, no character does
 pub begins_none : (text : List ℕ) (i c j : ℕ) → is_crlf text i ≡ false → i < length text → begins_token (get_or text i 0) ≡ false → CharAt text i c j → begins_token c ≡ false
-begins_none text i c j f l b (inl h) = absurd (false≢true (sym f ∙ h.0))
-begins_none text i c j f l b (inr h) =
-    let first : get_or (drop i text) 0 0 ≡ get_or text i 0 = rw (get_or-drop, add-zero) refl in
-    elim (cases_lt c 128) [
-      | inl low ↦ let e : get_or (drop i text) 0 0 ≡ c = byte_from_char (drop i text) (drop j text) c h.2 low in rw (sym first ∙ e) at b
-      | inr high ↦ past_ascii c high
-    ]
+begins_none text i c j f l b h = char_same begins_token text i c j past_ascii f h ∙ b
 
 pub neither_line : (text : List ℕ) (i c j : ℕ) → NoLineEnd text i → get_or text i 0 < 128 → i < length text → CharAt text i c j → c ≡ get_or text i 0
-neither_line text i c j n low l (inl h) = absurd (false≢true (sym n.1 ∙ h.0))
-neither_line text i c j n low l (inr h) =
-    let first : get_or (drop i text) 0 0 ≡ get_or text i 0 = rw (get_or-drop, add-zero) refl in
-    char_from_byte (drop i text) (drop j text) c h.2 (omega arith) (omega (arith, length-drop i text)) ∙ first
+neither_line text i c j n low l h = elim (char_byte text i c j n.1 h) [ inl e ↦ e | inr high ↦ absurd (omega (arith, high.1)) ]
 
 pub equal_ascii : (q : ℕ) → q < 128 → (c : ℕ) → (c == q) ≡ true → c < 128
 equal_ascii q l c h = grind (arith, nat_tests)
@@ -138,13 +120,4 @@ unprinted_ascii c h = grind (arith, nat_tests)
 -- what holds of the bytes of a part, and of those before it
 pub part_passes : (p : ℕ → Bool) (text part : List ℕ) (from a b : ℕ) → part ≡ slice_range text a b → ((k : ℕ) → from ≤ k → k < a → p (get_or text k 0) ≡ true) → a ≤ b → b ≤ length text
     → ((k : ℕ) → k < length part → p (get_or part k 0) ≡ true) → (k : ℕ) → from ≤ k → k < b → p (get_or text k 0) ≡ true
-part_passes p text part from a b e before f w here k x y =
-    elim (cases_lt k a) [
-      | inl lt ↦ before k x lt
-      | inr ge ↦
-          let n : length part ≡ b - a = rw e (omega (arith, length-take (b - a) (drop a text), length-drop a text)) in
-          let at : a + (k - a) ≡ k = omega arith in
-          let below : k - a < b - a = omega arith in
-          let is : get_or part (k - a) 0 ≡ get_or text k 0 = rw (e, get_or-take (b - a) (drop a text) (k - a) 0 below, get_or-drop, at) refl in
-          rw is at (here (k - a) (omega arith))
-    ]
+part_passes p text part from a b e before f w here k x y = grind (arith, common_steps, before, here (k - a))

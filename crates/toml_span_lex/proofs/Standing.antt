@@ -1,21 +1,19 @@
 -- What a walk finds, stands.
-use Rattle.std.proofs.Common.{ℕ, List, Result, Ok, Err, inl, inr, refl}
+use Rattle.std.proofs.Common.{arith}
+use Rattle.std.proofs.lemmas.Grind.{common_steps}
+use Rattle.std.proofs.lemmas.Bool.Decides.{nat_tests}
+use Rattle.std.proofs.Common.{ℕ, List, Result, Ok, Err, inl, inr}
 use Rattle.toml_span_lex.specs.declared.tokens.Token.{Token}
 use Rattle.toml_span_lex.specs.declared.tokens.Error.{Error}
 use Rattle.toml_span_lex.specs.Strings.{opens_multi}
 use Rattle.toml_span_lex.specs.code.Strings.{ScanGives}
-use Rattle.toml_span_lex.specs.Tokens.{Lexeme, whitespace, newline, comment, punctuator, keylike, string, lexeme, IsToken, Stands}
+use Rattle.toml_span_lex.specs.Tokens.{Lexeme, string, lexeme, IsToken, Stands}
 use Rattle.toml_span_lex.specs.code.Tokens.{Finds}
 use Rattle.toml_span_lex.specs.Laws.{SomethingStands}
 
 -- a token that is no string, with its span
 pub token_stands : (text : List ℕ) (i j : ℕ) (l : Lexeme) → IsToken text i j l → Stands text i j (record { start = i; end = j }) l
-token_stands text i j (whitespace x) h = (h, refl)
-token_stands text i j newline h = (h, refl)
-token_stands text i j (comment x) h = (h, refl)
-token_stands text i j (punctuator c) h = (h, refl)
-token_stands text i j (keylike x) h = (h, refl)
-token_stands text i j (string src v m) h = absurd h
+token_stands text i j l h = grind (arith, nat_tests, common_steps)
 
 pub found_stands : (text : List ℕ) (i : ℕ) (r : Result (Token × ℕ) (Error × ℕ)) → Finds text i r → SomethingStands text i
 found_stands text i (Ok (token, j)) h = inr (inl (j, _, lexeme token, token_stands text i j (lexeme token) h))

@@ -1,15 +1,15 @@
 -- Names as lists of bytes: their equality and their order.
-use Rattle.std.proofs.Common.{◌≡◌, ℕ, ◌⊎◌, Bool, true, false, List, inl, inr, sym, ◌∙◌, refl, ap}
+use Rattle.std.proofs.lemmas.Grind.{common_steps}
+use Rattle.std.proofs.lemmas.Bool.Decides.{nat_tests}
+use Rattle.std.proofs.Common.{◌≡◌, ℕ, ◌⊎◌, Bool, true, false, List, inl, inr, sym, ◌∙◌, ap, arith}
 use Rattle.std.specs.Prelude.{nat_eq}
 use Rattle.std.specs.Ordering.{nat_cmp, is_eq}
 use Rattle.std.specs.declared.cmp.Ordering.{Ordering}
-use Rattle.std.specs.declared.cmp.Ordering.TheVariants.{Less, Equal, Greater}
+use Rattle.std.specs.declared.cmp.Ordering.TheVariants.{Equal}
 use Rattle.std.specs.Cmp.Lexicographic.{pointwise, slice_cmp, same_text, other_text, texts_ties}
-use Rattle.std.proofs.lemmas.Bool.{false≢true}
 
 either : (b : Bool) → (b ≡ true) ⊎ (b ≡ false)
-either true = inl refl
-either false = inr refl
+either b = grind (arith, nat_tests, common_steps)
 
 pub equal_text : (xs ys : List ℕ) → pointwise nat_eq xs ys ≡ true → xs ≡ ys
 equal_text xs ys e = same_text xs ys (sym e)
@@ -18,9 +18,7 @@ pub text_equal : (xs ys : List ℕ) → xs ≡ ys → pointwise nat_eq xs ys ≡
 text_equal xs ys e = elim (either (pointwise nat_eq xs ys)) [ inl t ↦ t | inr f ↦ absurd (other_text xs ys (sym f) e) ]
 
 is_equal : (o : Ordering) → is_eq o ≡ true → o ≡ Equal
-is_equal Less e = absurd (false≢true e)
-is_equal Equal e = refl
-is_equal Greater e = absurd (false≢true e)
+is_equal o e = grind arith
 
 pub tie_equal : (xs ys : List ℕ) → slice_cmp nat_cmp xs ys ≡ Equal → pointwise nat_eq xs ys ≡ true
 tie_equal xs ys e = texts_ties xs ys ∙ ap is_eq e

@@ -1,29 +1,26 @@
 -- A date text is put together of a date, a time and an offset, and what is put together so is one.
-use Rattle.std.proofs.Common.{◌≡◌, ◌<◌, ℕ, ◌+◌, ◌-◌, ◌⊎◌, inl, inr, Bool, true, false, List, [], ◌∷◌, ◌++◌, length, take, drop, ap, subst, sym, refl, ◌∙◌, arith, append-nil, drop-cons, length-append}
+use Rattle.std.proofs.lemmas.Grind.{common_steps}
+use Rattle.std.proofs.lemmas.Bool.Decides.{nat_tests}
+use Rattle.std.proofs.Common.{◌≡◌, ◌<◌, ℕ, ◌+◌, ◌⊎◌, inl, inr, Bool, true, List, [], ◌∷◌, ◌++◌, length, take, drop, ap, subst, sym, refl, ◌∙◌, arith, append-nil, drop-cons}
 use Rattle.std.specs.Prelude.{◌||◌, slice_index}
-use Rattle.std.proofs.lemmas.Bool.{and_parts, and_from, cases_lt}
-use Rattle.std.proofs.lemmas.List.{get_or_past, take-append-drop}
-use Rattle.std.proofs.Math.Seq.{take-append_seam, drop-append_seam, drop-append-add, get_or-append_seam}
+use Rattle.std.proofs.lemmas.Bool.{and_parts, and_from}
+use Rattle.std.proofs.lemmas.List.{take-append-drop}
+use Rattle.std.proofs.Math.Seq.{take-append_seam, drop-append-add, get_or-append_seam}
 use Rattle.std.proofs.lemmas.Bool.{eqb-true}
-use Rattle.toml_span_tree.specs.Date.{is_full_date, is_partial_time, is_utc, is_time_numoffset, is_time_offset, is_time_with, is_time, is_time_delim, is_date_time, is_date_text, IsDateTime, IsDateOrTime}
+use Rattle.toml_span_tree.specs.Date.{is_full_date, is_partial_time, is_time_offset, is_time_with, is_time, is_time_delim, is_date_time, is_date_text, IsDateTime, IsDateOrTime}
 
 or_cases : (a b : Bool) → a || b ≡ true → (a ≡ true) ⊎ (b ≡ true)
-or_cases true b e = inl refl
-or_cases false b e = inr e
+or_cases a b e = grind (arith, nat_tests, common_steps)
 
 or_left : (a b : Bool) → a ≡ true → a || b ≡ true
-or_left a b e = ap (λ x. x || b) e
+or_left a b e = grind (arith, nat_tests, common_steps)
 
 or_right : (a b : Bool) → b ≡ true → a || b ≡ true
-or_right true b e = refl
-or_right false b e = e
+or_right a b e = grind (arith, nat_tests, common_steps)
 
 -- a text that has a delimiter at ten has more than ten bytes
 delimiter_within : (text : List ℕ) → is_time_delim (slice_index text 10) ≡ true → 10 < length text
-delimiter_within text e = elim (cases_lt 10 (length text)) [
-  | inl within ↦ within
-  | inr short ↦ let none : is_time_delim (slice_index text 10) ≡ false = ap is_time_delim (get_or_past text 10 0 short) in absurd (cc)
-]
+delimiter_within text e = grind (arith, nat_tests, common_steps)
 
 abbrev TimeParts : List ℕ → Type 0
 TimeParts text =
@@ -31,10 +28,7 @@ TimeParts text =
     × ((offset ≡ []) ⊎ (is_time_offset offset ≡ true))
 
 parts_with : (n : ℕ) (text : List ℕ) → is_time_with n text ≡ true → TimeParts text
-parts_with n text h =
-    let both = and_parts _ _ h in
-    let cut = length text - n in
-    (take cut text, drop cut text, sym (take-append-drop cut text), both.1, inr both.0)
+parts_with n text h = grind (arith, nat_tests, common_steps)
 
 time_parts : (text : List ℕ) → is_time text ≡ true → TimeParts text
 unfolding is_time
@@ -71,25 +65,13 @@ date_length text h =
     let first = (and_parts _ _ (and_parts _ _ (and_parts _ _ (and_parts _ _ (and_parts _ _ h).0).0).0).0).0 in
     eqb-true (length text) 10 first
 
-utc_length : (text : List ℕ) → is_utc text ≡ true → length text ≡ 1
-utc_length text h = eqb-true (length text) 1 (and_parts _ _ h).0
-
-numoffset_length : (text : List ℕ) → is_time_numoffset text ≡ true → length text ≡ 6
-numoffset_length text h = eqb-true (length text) 6 (and_parts _ _ (and_parts _ _ h).0).0
-
 offset_length : (text : List ℕ) → is_time_offset text ≡ true → (length text ≡ 1) ⊎ (length text ≡ 6)
 unfolding is_time_offset
-offset_length text h = elim (or_cases (is_utc text) (is_time_numoffset text) h) [
-  | inl utc ↦ inl (utc_length text utc)
-  | inr numeric ↦ inr (numoffset_length text numeric)
-]
+offset_length text h = grind (arith, nat_tests, common_steps)
 
 time_with : (n : ℕ) (time offset : List ℕ) → length offset ≡ n → is_time_offset offset ≡ true → is_partial_time time ≡ true
     → is_time_with n (time ++ offset) ≡ true
-time_with n time offset len o p =
-    let sum = length-append time offset in
-    let cut : length (time ++ offset) - n ≡ length time = omega arith in
-    rw (cut, drop-append_seam time offset, take-append_seam time offset) (and_from _ _ o p)
+time_with n time offset len o p = grind (arith, nat_tests, common_steps)
 
 time_of_parts : (time offset : List ℕ) → is_partial_time time ≡ true → (offset ≡ []) ⊎ (is_time_offset offset ≡ true) → is_time (time ++ offset) ≡ true
 unfolding is_time

@@ -1,6 +1,7 @@
 -- What is lent, and what stands in a tree after the loan.
-use Rattle.std.proofs.Common.{◌≡◌, ℕ, zero, suc, ◌<◌, ◌^◌, [], ◌∷◌, length, drop, ◌==◌, arith, rules, ℤ, ◌⊎◌, inl, inr, BTreeMap, Vec, Global, vec_len, slice_index_or, List, Option, Some, None, IsSome, option_map, option_and_then, Bool, true, false, cond, refl, sym, ap, subst, ◌∙◌, MutBor}
-use lib.Dec.{T, eqb→eq}
+use Rattle.std.proofs.lemmas.Grind.{common_steps}
+use Rattle.std.proofs.lemmas.Bool.Decides.{nat_tests}
+use Rattle.std.proofs.Common.{◌≡◌, ℕ, zero, suc, ◌<◌, ◌^◌, [], ◌∷◌, length, drop, ◌==◌, arith, rules, ℤ, ◌⊎◌, inl, inr, BTreeMap, Vec, Global, vec_len, slice_index_or, List, Option, Some, None, IsSome, option_map, option_and_then, Bool, cond, refl, sym, ap, subst, ◌∙◌, MutBor}
 use Rattle.std.specs.Map.{lookup, set_value}
 use Rattle.toml_span_tree.specs.declared.value.Value.{Value}
 use Rattle.toml_span_tree.specs.declared.value.ValueInner.{ValueInner, String, Integer, Float, Boolean, Datetime, Array, Table, the_lemmas}
@@ -10,7 +11,7 @@ use Rattle.toml_span_lex.specs.declared.key.Key.{Key}
 use Rattle.std.specs.Vec.{with_item}
 use Rattle.toml_span_tree.specs.code.Lending.{IsTable, IsArray}
 use Rattle.toml_span_tree.specs.Node.{Node, node, Scalar, taken, scalar, array, table, get_member, get_item}
-use Rattle.toml_span_tree.specs.Value.{view, inner_view, items_view, members_view, inner_of, span_of, is_taken, inner_or_taken, float_value, date_bytes}
+use Rattle.toml_span_tree.specs.Value.{view, inner_view, items_view, members_view, inner_of, span_of, inner_or_taken, float_value, date_bytes}
 use Rattle.std.specs.Cow.{cow_str_bytes}
 use Rattle.std.specs.declared.borrow.CowStr.{CowStr}
 use Rattle.toml_span_tree.specs.declared.date.DateText.{DateText}
@@ -20,16 +21,13 @@ use Rattle.toml_span_tree.specs.code.Pointer.{SplitAtSlash, segments_behind, val
 use Rattle.toml_span_tree.specs.Path.{position, set_entry}
 use Rattle.toml_span_tree.proofs.Values.{Entry, view_is, inner_view-Array, inner_view-Table, at_name, view-lookup}
 use Rattle.toml_span_tree.proofs.Pointers.{pointed-found, pointer-empty, pointer-slash, found-more, view-of_mut, entry-array, get_item-within}
-use Rattle.toml_span_tree.proofs.Puts.{put_found-more, put_pointed-found, view-set_value, view-set, view-made}
+use Rattle.toml_span_tree.proofs.Puts.{put_pointed-found, view-set_value, view-set, view-made}
 
 pub member-lent : (y : Option (MutBor Value)) (name : List ℕ) (es : List Entry) → option_map (λ x. x.now) y ≡ lookup (at_name name) es → option_map (λ v. view v.now) y ≡ get_member name (members_view es)
 member-lent y name es e = view-of_mut y ∙ ap (option_map view) e ∙ view-lookup name es
 
 pub lent-some : (y : Option (MutBor Value)) (o : Option Node) → option_map (λ v. view v.now) y ≡ o → IsSome o → (x : MutBor Value) × (y ≡ Some x)
-lent-some None o e h =
-    let no : ⊥ = cc (subst IsSome (sym e) h) in
-    absurd no
-lent-some (Some x) o e h = (x, refl)
+lent-some y o e h = grind (arith, nat_tests, common_steps)
 
 pub member-set : (name : List ℕ) (es fs : List Entry) (w : Value) → fs ≡ set_value (at_name name) es w → members_view fs ≡ set_entry name (view w) (members_view es)
 member-set name es fs w e = ap members_view e ∙ view-set_value name es w
@@ -48,18 +46,10 @@ view-empty : (s : Value) → s.value ≡ None → view s ≡ node taken s.span
 view-empty s is = view_is s ∙ ap (λ (o : Option ValueInner). node (inner_or_taken (option_map inner_view o)) s.span) is
 
 some-under : (f : Node → Option Node) (o : Option Node) → IsSome (option_and_then f o) → IsSome o
-some-under f None h = h
-some-under f (Some m) h = refl
-
-untaken-at : (b : Bool) (m : Node) → IsSome (cond b None (Some m)) → cond b None (Some m) ≡ Some m
-untaken-at true m h = cc
-untaken-at false m h = refl
+some-under f o h = grind (arith, nat_tests, common_steps)
 
 untaken-is : (o : Option Node) (m : Node) → o ≡ Some m → IsSome (option_and_then if_not_taken o) → option_and_then if_not_taken o ≡ Some m
-untaken-is None m e h = cc
-untaken-is (Some k) m e h =
-    let same : k ≡ m = cc in
-    untaken-at (is_taken k) k h ∙ ap Some same
+untaken-is o m e h = grind (arith, nat_tests, common_steps)
 
 held-at : (o : Option ValueInner) (s : Value) (text : List ℕ) → s.value ≡ o → IsSome (untaken_entry text (view s)) → (i : ValueInner) × (s.value ≡ Some i)
 held-at None s text e h =
@@ -97,7 +87,7 @@ view-Datetime : (d : DateText) → inner_view (Datetime d) ≡ scalar (Scalar.da
 view-Datetime d = search (rules, the_lemmas)
 
 no-entry : (i : ValueInner) (x : Scalar) (text : List ℕ) → inner_view i ≡ scalar x → IsSome (entry text (inner_view i)) → ⊥
-no-entry i x text e h = cc (subst (λ n. IsSome (entry text n)) e h)
+no-entry i x text e h = grind (arith, nat_tests, common_steps)
 
 -- what is a table, and what is an array
 kind-at : (i : ValueInner) (o : ValueInner-F ValueInner Value) (text : List ℕ) → i ≡ roll-ValueInner o → IsSome (entry text (inner_view i)) → IsTable i ⊎ IsArray i
@@ -147,10 +137,10 @@ pub array-asks : (i : ValueInner) (v : Vec Value Global) (text : List ℕ) → i
 array-asks i v text e h = at-position (position_of text) v.items (subst IsSome (array-entry i v text e) h)
 
 pub in-vec : (v : Vec Value Global) (p : ℕ) → p < length v.items → p < vec_len v
-in-vec v p h = let small = v.small in let ok = v.ok in omega (arith, small, ok.0, ok.1, h)
+in-vec v p h = grind (arith, nat_tests, common_steps)
 
 pub in-machine : (v : Vec Value Global) (p : ℕ) → p < length v.items → p < 2 ^ 64
-in-machine v p h = let small = v.small in let ok = v.ok in omega (arith, small, ok.0, ok.1, h)
+in-machine v p h = grind (arith, nat_tests, common_steps)
 
 pub array-is : (i : ValueInner) (v : Vec Value Global) (text : List ℕ) (p : ℕ) (x : Value) → i ≡ Array v → position_of text ≡ Some p → p < length v.items → x ≡ slice_index_or v.items p x → entry text (inner_view i) ≡ Some (view x)
 array-is i v text p x e at less is =
@@ -164,7 +154,7 @@ array-set i v text p w n e at q =
 
 -- the first segment, and the others
 pub path-asks : (n : Node) (path segment : List ℕ) (more : List (List ℕ)) → segments path ≡ segment ∷ more → IsSome (value_named (segments path) n) → IsSome (untaken_entry segment n)
-path-asks n path segment more e h = some-under (value_named more) (untaken_entry segment n) (subst IsSome (ap (λ names. value_named names n) e ∙ found-more segment more n) h)
+path-asks n path segment more e h = grind (arith, nat_tests, common_steps)
 
 found-child : (n m : Node) (path segment : List ℕ) (more : List (List ℕ)) → segments path ≡ segment ∷ more → untaken_entry segment n ≡ Some m → value_named (segments path) n ≡ value_named more m
 found-child n m path segment more e there = ap (λ names. value_named names n) e ∙ found-more segment more n ∙ ap (option_and_then (value_named more)) there
@@ -173,28 +163,21 @@ pub path-goes : (n m : Node) (path segment : List ℕ) (more : List (List ℕ)) 
 path-goes n m path segment more e there h = subst IsSome (found-child n m path segment more e there) h
 
 pub path-last : (n m : Node) (path segment : List ℕ) (more : List (List ℕ)) → segments path ≡ segment ∷ more → more ≡ [] → untaken_entry segment n ≡ Some m → value_named (segments path) n ≡ Some m
-path-last n m path segment more e last there = found-child n m path segment more e there ∙ ap (λ names. value_named names m) last
+path-last n m path segment more e last there = grind (arith, nat_tests, common_steps)
 
 pub path-more : (n m x : Node) (path segment : List ℕ) (more : List (List ℕ)) → segments path ≡ segment ∷ more → untaken_entry segment n ≡ Some m → value_named more m ≡ Some x → value_named (segments path) n ≡ Some x
 path-more n m x path segment more e there h = found-child n m path segment more e there ∙ h
 
 pub path-set-more : (n m old w t r : Node) (path segment : List ℕ) (more : List (List ℕ)) → segments path ≡ segment ∷ more → untaken_entry segment n ≡ Some m → value_named more m ≡ Some old
     → t ≡ put_named more w m → r ≡ node (set_named segment t (inner_of n)) (span_of n) → r ≡ put_named (segments path) w n
-path-set-more n m old w t r path segment more e there h q p =
-    p ∙ ap (λ u. node (set_named segment u (inner_of n)) (span_of n)) q ∙ sym (put_found-more segment more n m w old there h) ∙ ap (λ names. put_named names w n) (sym e)
+path-set-more n m old w t r path segment more e there h q p = grind (arith, nat_tests, common_steps)
 
 pub path-set-last : (n m w r : Node) (path segment : List ℕ) (more : List (List ℕ)) → segments path ≡ segment ∷ more → more ≡ [] → untaken_entry segment n ≡ Some m
     → r ≡ node (set_named segment w (inner_of n)) (span_of n) → r ≡ put_named (segments path) w n
-path-set-last n m w r path segment more e last there p =
-    path-set-more n m m w w r path segment more e there (ap (λ names. value_named names m) last) (sym (ap (λ names. put_named names w m) last)) p
-
-pushed-some : (x : ℕ) (names : List (List ℕ)) → 0 < length (push_front x names)
-pushed-some x [] = omega arith
-pushed-some x (segment ∷ names) = omega arith
+path-set-last n m w r path segment more e last there p = grind (arith, nat_tests, common_steps)
 
 slash-some : (b : Bool) (x : ℕ) (names : List (List ℕ)) → 0 < length (cond b ([] ∷ names) (push_front x names))
-slash-some true x names = omega arith
-slash-some false x names = pushed-some x names
+slash-some b x names = grind (arith, nat_tests, common_steps)
 
 segments-some : (path : List ℕ) → 0 < length (segments path)
 unfolding segments
@@ -210,14 +193,9 @@ empty-is p n h = pointed-found p n ∙ ap (option_and_then (λ names. value_name
 pub empty-set : (p : List ℕ) (n w r : Node) → length p ≡ 0 → r ≡ w → r ≡ put_pointed p w n
 empty-set p n w r h e = e ∙ sym (put_pointed-found p [] w n (pointer-empty p h))
 
-slash-at : (b : Bool) (x : ℕ) (xs : List ℕ) (n : Node) → (x == 47) ≡ b → IsSome (option_and_then (λ names. value_named names n) (cond b (Some (segments xs)) None)) → x ≡ 47
-slash-at true x xs n e h = eqb→eq x 47 (subst T (sym e) tt)
-slash-at false x xs n e h = absurd (cc h)
-
 pub slash-of : (p : List ℕ) (n : Node) → 0 < length p → IsSome (pointed p n) → (path : List ℕ) × (p ≡ 47 ∷ path)
 unfolding pointer_segments
-slash-of [] n more h = absurd (omega (arith, more))
-slash-of (x ∷ xs) n more h = (xs, ap (λ y. y ∷ xs) (slash-at (x == 47) x xs n refl (subst IsSome (pointed-found (x ∷ xs) n) h)))
+slash-of p n more h = grind (arith, nat_tests, common_steps)
 
 pub slash-is : (p path : List ℕ) (n : Node) → p ≡ 47 ∷ path → pointed p n ≡ value_named (segments path) n
 slash-is p path n e = pointed-found p n ∙ ap (option_and_then (λ names. value_named names n)) (pointer-slash p path e)

@@ -1,4 +1,7 @@
 -- What stands where after a change at a path.
+use Rattle.std.proofs.Common.{arith}
+use Rattle.std.proofs.lemmas.Grind.{common_steps}
+use Rattle.std.proofs.lemmas.Bool.Decides.{nat_tests}
 use Rattle.std.proofs.Common.{◌≡◌, ◌≢◌, ℕ, zero, suc, List, [], ◌∷◌, cond, Bool, true, false, Option, Some, None, option_map, option_and_then, ◌⊎◌, inl, inr, ⊎_elim, refl, sym, ap, ◌∙◌}
 use Rattle.std.proofs.lemmas.Bool.{cases_eq}
 use Rattle.std.specs.Prelude.{⊤}
@@ -15,10 +18,7 @@ Found = Option Span × Node
 -- at the place of the change
 entry_set_at : (b : Bool) (name other : List ℕ) (span : Span) (n w : Node) (ms rest : Members) (e : Found) → bytes_eq name other ≡ b → cond b (Some (Some span, n)) (entry_at name ms) ≡ Some e
     → (entry_at name ms ≡ Some e → entry_at name rest ≡ Some (e.0, w)) → entry_at name (cond b (member other span w ms) (member other span n rest)) ≡ Some (e.0, w)
-entry_set_at true name other span n w ms rest e is there ih =
-    let same : (Some span, n) ≡ e = cc in
-    rw is (ap (λ (e : Found). Some (e.0, w)) same)
-entry_set_at false name other span n w ms rest e is there ih = rw is (ih there)
+entry_set_at b name other span n w ms rest e is there ih = grind (arith, nat_tests, common_steps)
 
 pub entry_at-set : (name : List ℕ) (ms : Members) (e : Found) (w : Node) → entry_at name ms ≡ Some e → entry_at name (set_entry name w ms) ≡ Some (e.0, w)
 entry_at-set name no_members e w h = cc
@@ -122,12 +122,7 @@ same_or_apart (position j) (key name) = inr tt
 same_or_apart (position j) (position i) = ⊎_elim (λ e. inl (ap position e)) (λ e. inr e) (cases_eq j i)
 
 shape_of-set : (s : Step) (i : Inner) (w : Node) → shape_of (set_at_step s w i) ≡ shape_of i
-shape_of-set s taken w = refl
-shape_of-set s (scalar x) w = refl
-shape_of-set (key name) (array ns) w = refl
-shape_of-set (position i) (array ns) w = refl
-shape_of-set (key name) (table ms) w = refl
-shape_of-set (position i) (table ms) w = refl
+shape_of-set s i w = grind (arith, nat_tests, common_steps)
 
 -- what a path that does not begin with the change's shows
 abbrev pub Shown : Path → Found → Option Place

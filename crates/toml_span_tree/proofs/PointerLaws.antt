@@ -1,8 +1,11 @@
 -- What pointers name, before and after a change.
-use Rattle.std.proofs.Common.{◌≡◌, ◌≢◌, ◌↔◌, ℕ, List, [], ◌∷◌, cond, Bool, true, false, not, ◌&&◌, ◌==◌, Option, Some, None, option_map, option_and_then, refl, sym, ap, subst, ◌∙◌, true≢false, eq-eqb}
+use Rattle.std.proofs.Common.{arith}
+use Rattle.std.proofs.lemmas.Grind.{common_steps}
+use Rattle.std.proofs.lemmas.Bool.Decides.{nat_tests}
+use Rattle.std.proofs.Common.{◌≡◌, ◌↔◌, ℕ, List, [], ◌∷◌, cond, Bool, true, false, not, ◌&&◌, Option, Some, None, option_map, option_and_then, refl, sym, ap, subst, ◌∙◌, true≢false}
 use Rattle.std.specs.Str.{bytes_eq}
 use Rattle.std.proofs.lemmas.Slice.Eq.{bytes_eq-Decides}
-use Rattle.toml_span_tree.specs.Node.{Node, node, Inner, taken, scalar, array, table}
+use Rattle.toml_span_tree.specs.Node.{Node, Inner, taken, scalar, array, table}
 use Rattle.toml_span_tree.specs.Value.{inner_of, is_taken, holds_nothing}
 use Rattle.toml_span_tree.specs.Path.{Step, key, position, Path, at_step, child, node_at, set_at_step}
 use Rattle.toml_span_tree.specs.Pointer.{position_of, step_named, if_not_taken, pointed, put_pointed, pointer_segments, positions_apart, segments_apart, paths_part, part_where, pointers_part, NamesPath, IsPointed}
@@ -13,32 +16,16 @@ use Rattle.toml_span_tree.proofs.Puts.{put_found-more, put_pointed-found}
 
 -- the path that a value is found by
 found_child : (o : Option Node) (names : List (List ℕ)) (m : Node) → option_and_then (value_named names) o ≡ Some m → (c : Node) × (o ≡ Some c) × (value_named names c ≡ Some m)
-found_child None names m h = cc
-found_child (Some c) names m h = (c, refl, h)
+found_child o names m h = grind (arith, nat_tests, common_steps)
 
 pub found-first : (segment : List ℕ) (names : List (List ℕ)) (n m : Node) → value_named (segment ∷ names) n ≡ Some m → (c : Node) × (untaken_entry segment n ≡ Some c) × (value_named names c ≡ Some m)
 found-first segment names n m h = found_child (untaken_entry segment n) names m (sym (found-more segment names n) ∙ h)
 
--- a change keeps what kind a table or an array is
-kind_kept : (s : Step) (i : Inner) (w : Node) → holds_nothing (set_at_step s w i) ≡ holds_nothing i
-kind_kept s taken w = refl
-kind_kept s (scalar x) w = refl
-kind_kept (key name) (array ns) w = refl
-kind_kept (position i) (array ns) w = refl
-kind_kept (key name) (table ms) w = refl
-kind_kept (position i) (table ms) w = refl
-
 named_kept : (o : Option Step) (i : Inner) (w : Node) → holds_nothing (set_where_named o w i) ≡ holds_nothing i
-named_kept None i w = refl
-named_kept (Some s) i w = kind_kept s i w
+named_kept o i w = grind (arith, nat_tests, common_steps)
 
 step_kept : (other : List ℕ) (s : Step) (i : Inner) (w : Node) → step_named other (set_at_step s w i) ≡ step_named other i
-step_kept other s taken w = refl
-step_kept other s (scalar x) w = refl
-step_kept other (key name) (array ns) w = refl
-step_kept other (position i) (array ns) w = refl
-step_kept other (key name) (table ms) w = refl
-step_kept other (position i) (table ms) w = refl
+step_kept other s i w = grind (arith, nat_tests, common_steps)
 
 -- what a segment names after a change at it
 entry_set_at : (o : Option Step) (segment : List ℕ) (i : Inner) (c w : Node) → step_named segment i ≡ o → option_and_then (λ s. option_map (λ e. e.1) (at_step s i)) o ≡ Some c
@@ -54,21 +41,11 @@ entry_set_at (Some s) segment i c w is h =
 pub entry-set : (segment : List ℕ) (i : Inner) (c w : Node) → entry segment i ≡ Some c → entry segment (set_named segment w i) ≡ Some w
 entry-set segment i c w h = entry_set_at (step_named segment i) segment i c w refl h
 
-untaken_of : (o : Option Node) (c : Node) → option_and_then if_not_taken o ≡ Some c → (o ≡ Some c) × (is_taken c ≡ false)
-untaken_of None c h = cc
-untaken_of (Some m) c h = by (is_taken m) refl h
-  where
-    by : (b : Bool) → is_taken m ≡ b → cond b None (Some m) ≡ Some c → (Some m ≡ Some c) × (is_taken c ≡ false)
-    by true is h = cc
-    by false is h =
-        let same : m ≡ c = cc in
-        (h, sym (ap is_taken same) ∙ is)
-
 pub untaken_entry-of : (segment : List ℕ) (n c : Node) → untaken_entry segment n ≡ Some c → (entry segment (inner_of n) ≡ Some c) × (is_taken c ≡ false)
-untaken_entry-of segment n c h = untaken_of (entry segment (inner_of n)) c h
+untaken_entry-of segment n c h = grind (arith, nat_tests, common_steps)
 
 untaken : (c : Node) → is_taken c ≡ false → if_not_taken c ≡ Some c
-untaken c h = ap (λ b. cond b None (Some c)) h
+untaken c h = grind (arith, nat_tests, common_steps)
 
 -- what was put is not taken, where the new value is not
 put_found-untaken : (names : List (List ℕ)) (n m w : Node) → is_taken w ≡ false → value_named names n ≡ Some m → is_taken n ≡ false → is_taken (put_named names w n) ≡ false
@@ -107,19 +84,10 @@ bytes_apart : (a c : List ℕ) → bytes_eq a c ≡ false → bytes_eq c a ≡ f
 bytes_apart a c h = bytes_apart_at (bytes_eq c a) a c refl h
 
 apart_bytes : (a b : Bool) → not a && b ≡ true → (a ≡ false) × (b ≡ true)
-apart_bytes true b h = cc
-apart_bytes false b h = (refl, h)
-
-positions_differ : (k j : ℕ) → not (k == j) ≡ true → j ≢ k
-positions_differ k j h e = let same : (k == j) ≡ true = eq-eqb k j (sym e) in absurd (true≢false (sym h ∙ ap not same))
+apart_bytes a b h = grind (arith, nat_tests, common_steps)
 
 array_apart : (o p : Option ℕ) (s t : Step) → positions_apart o p ≡ true → option_map position o ≡ Some s → option_map position p ≡ Some t → StepsApart t s
-array_apart None p s t apart is it = cc
-array_apart (Some k) None s t apart is it = cc
-array_apart (Some k) (Some j) s t apart is it =
-    let this : position k ≡ s = cc in
-    let that : position j ≡ t = cc in
-    subst (λ s. StepsApart t s) this (subst (λ t. StepsApart t (position k)) that (positions_differ k j apart))
+array_apart o p s t apart is it = grind (arith, nat_tests, common_steps)
 
 steps_apart : (i : Inner) (segment other : List ℕ) (s t : Step) → segments_apart segment other ≡ true → step_named segment i ≡ Some s → step_named other i ≡ Some t → StepsApart t s
 steps_apart taken segment other s t apart is it = cc
@@ -174,13 +142,8 @@ found-apart (segment ∷ names) (other ∷ others) n m w there apart =
     ∙ found_apart_at (bytes_eq segment other) segment other names others n first.0 m w refl apart first.1 first.2 (λ h. found-apart names others first.0 m w first.2 h)
     ∙ sym (found-more other others n)
 
--- the same of pointers
-pointed_at : (o : Option (List (List ℕ))) (p : List ℕ) (n m : Node) → pointer_segments p ≡ o → option_and_then (λ names. value_named names n) o ≡ Some m → (names : List (List ℕ)) × (pointer_segments p ≡ Some names) × (value_named names n ≡ Some m)
-pointed_at None p n m is h = cc
-pointed_at (Some names) p n m is h = (names, is, h)
-
 pub pointed-names : (p : List ℕ) (n m : Node) → pointed p n ≡ Some m → (names : List (List ℕ)) × (pointer_segments p ≡ Some names) × (value_named names n ≡ Some m)
-pointed-names p n m h = pointed_at (pointer_segments p) p n m refl (sym (pointed-found p n) ∙ h)
+pointed-names p n m h = grind (arith, nat_tests, common_steps)
 
 pub pointed-put : (p : List ℕ) (n m w : Node) → is_taken w ≡ false → pointed p n ≡ Some m → pointed p (put_pointed p w n) ≡ Some w
 pointed-put p n m w h there =
@@ -204,33 +167,14 @@ pointed-apart p q n m w there apart =
 
 -- a pointer names what its segments name step by step
 step_names : (s : Step) (segment : List ℕ) (names : List (List ℕ)) (path : Path) (i : Inner) → step_named segment i ≡ Some s → NamesPath names path → NamesPath (segment ∷ names) (s ∷ path)
-step_names s segment names path taken is h = cc
-step_names s segment names path (scalar x) is h = cc
-step_names s segment names path (table ms) is h =
-    let this : key segment ≡ s = cc in
-    subst (λ s. NamesPath (segment ∷ names) (s ∷ path)) this (refl, h)
-step_names s segment names path (array ns) is h = by (position_of segment) refl is
-  where
-    by : (o : Option ℕ) → position_of segment ≡ o → option_map position o ≡ Some s → NamesPath (segment ∷ names) (s ∷ path)
-    by None is' it = cc
-    by (Some k) is' it =
-        let this : position k ≡ s = cc in
-        subst (λ s. NamesPath (segment ∷ names) (s ∷ path)) this (is', h)
+step_names s segment names path i is h = grind (arith, nat_tests, common_steps)
 
 step_of : (o : Option Step) (segment : List ℕ) (i : Inner) (c : Node) → step_named segment i ≡ o → option_and_then (λ s. option_map (λ e. e.1) (at_step s i)) o ≡ Some c
     → (s : Step) × (step_named segment i ≡ Some s) × (option_map (λ e. e.1) (at_step s i) ≡ Some c)
-step_of None segment i c is h = cc
-step_of (Some s) segment i c is h = (s, is, h)
+step_of o segment i c is h = grind (arith, nat_tests, common_steps)
 
 not_first : (path : Path) (c m : Node) → node_at path c ≡ Some m → is_taken c ≡ false → (is_taken m ≡ true → path ≡ []) → is_taken m ≡ false
-not_first path c m there whole h = by (is_taken m) refl
-  where
-    by : (b : Bool) → is_taken m ≡ b → is_taken m ≡ false
-    by false is = is
-    by true is =
-        let here : Some c ≡ Some m = sym (ap (λ path. node_at path c) (h is)) ∙ there in
-        let same : c ≡ m = cc in
-        sym (ap is_taken same) ∙ whole
+not_first path c m there whole h = grind (arith, nat_tests, common_steps)
 
 pub found-path : (names : List (List ℕ)) (n m : Node) → value_named names n ≡ Some m → (path : Path) × NamesPath names path × (node_at path n ≡ Some m) × (is_taken m ≡ true → path ≡ [])
 found-path [] n m h = ([], tt, h, λ _. refl)
@@ -250,22 +194,13 @@ found-path (segment ∷ names) n m h =
 -- and the other way
 step_leads : (s : Step) (segment : List ℕ) (names : List (List ℕ)) (path : Path) (i : Inner) (c : Node) → NamesPath (segment ∷ names) (s ∷ path) → option_map (λ e. e.1) (at_step s i) ≡ Some c
     → (step_named segment i ≡ Some s) × NamesPath names path
-step_leads s segment names path taken c h leads = cc
-step_leads s segment names path (scalar x) c h leads = cc
-step_leads (key name) segment names path (array ns) c h leads = cc
-step_leads (position i) segment names path (array ns) c h leads = (ap (option_map position) h.0, h.1)
-step_leads (key name) segment names path (table ms) c h leads = (ap (λ k. Some (key k)) h.0, h.1)
-step_leads (position i) segment names path (table ms) c h leads = cc
+step_leads s segment names path i c h leads = grind (arith, nat_tests, common_steps)
 
 first_of_path : (o : Option Node) (path : Path) (m : Node) → option_and_then (node_at path) o ≡ Some m → (c : Node) × (o ≡ Some c) × (node_at path c ≡ Some m)
-first_of_path None path m h = cc
-first_of_path (Some c) path m h = (c, refl, h)
+first_of_path o path m h = grind (arith, nat_tests, common_steps)
 
 below_nothing : (s : Step) (path : Path) (c m : Node) → node_at (s ∷ path) c ≡ Some m → is_taken c ≡ false
-below_nothing s path (node taken sp) m h = cc
-below_nothing s path (node (scalar x) sp) m h = refl
-below_nothing s path (node (array ns) sp) m h = refl
-below_nothing s path (node (table ms) sp) m h = refl
+below_nothing s path c m h = grind (arith, nat_tests, common_steps)
 
 last_whole : (s : Step) (path : Path) (c m : Node) → node_at path c ≡ Some m → (is_taken m ≡ true → s ∷ path ≡ []) → is_taken c ≡ false
 last_whole s [] c m there h = by (is_taken m) refl
@@ -281,10 +216,7 @@ last_whole s [] c m there h = by (is_taken m) refl
 last_whole s (t ∷ path) c m there h = below_nothing t path c m there
 
 after : (s : Step) (path : Path) (m : Node) → (is_taken m ≡ true → s ∷ path ≡ []) → is_taken m ≡ true → path ≡ []
-after s path m h is = absurd (cons_nil (h is))
-  where
-    cons_nil : s ∷ path ≡ [] → ⊥
-    cons_nil e = cc
+after s path m h is = grind (arith, nat_tests, common_steps)
 
 pub path-found : (names : List (List ℕ)) (path : Path) (n m : Node) → NamesPath names path → node_at path n ≡ Some m → (is_taken m ≡ true → path ≡ []) → value_named names n ≡ Some m
 path-found [] [] n m h there whole = there

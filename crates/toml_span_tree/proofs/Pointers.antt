@@ -1,6 +1,8 @@
 -- A pointer, a segment at a time.
-use Rattle.std.proofs.Common.{◌≡◌, ◌≢◌, ℕ, zero, suc, ◌<◌, List, [], ◌∷◌, ◌++◌, length, get_or, Option, Some, None, option_map, option_and_then, refl, sym, ap, ◌∙◌, arith, ne_eqb, Bool, true, false, cond, ◌≤◌, ◌^◌, ◌&&◌, Bor, MutBor}
-use Rattle.std.proofs.Common.{◌||◌, ◌==◌, not, nat_lt, lt-ltb, ltb-true, ltb-false}
+use Rattle.std.proofs.lemmas.Grind.{common_steps}
+use Rattle.std.proofs.lemmas.Bool.Decides.{nat_tests}
+use Rattle.std.proofs.Common.{◌≡◌, ◌≢◌, ℕ, zero, suc, ◌<◌, List, [], ◌∷◌, ◌++◌, length, get_or, Option, Some, None, option_map, option_and_then, refl, sym, ap, ◌∙◌, arith, ne_eqb, Bool, true, false, cond, ◌≤◌, ◌^◌, Bor, MutBor}
+use Rattle.std.proofs.Common.{◌||◌, ◌==◌, not, nat_lt, lt-ltb, ltb-true}
 use Rattle.std.proofs.lemmas.Str.Parse.{IsNumeralModel, numerals_by_value, tells_all_ascii_digits}
 use Rattle.std.specs.Option.{IfSome, MatchOption}
 use Rattle.std.specs.Prelude.{Result, Ok, Err, OkIff}
@@ -12,7 +14,7 @@ use Rattle.toml_span_lex.specs.declared.span.Span.{Span}
 use Rattle.toml_span_tree.specs.declared.value.Value.{Value}
 use Rattle.toml_span_tree.specs.Node.{Node, Items, get_item}
 use Rattle.toml_span_tree.specs.Value.{view, items_view, inner_of}
-use Rattle.toml_span_tree.specs.Path.{Step, position, Path, at_step, child, reached, node_at}
+use Rattle.toml_span_tree.specs.Path.{Step, Path, at_step, child, reached, node_at}
 use Rattle.toml_span_tree.specs.Pointer.{push_front, segments, pointer_segments, step_named, untaken_child, if_not_taken, path_named, pointed, is_decimal_form, position_of}
 use Rattle.toml_span_tree.specs.code.Pointer.{segments_behind, SplitAtSlash, entry, untaken_entry, value_named, PositionIs}
 
@@ -32,17 +34,15 @@ segments-more (x ∷ xs) rest h = rw (ne_eqb x 47 (h 0 (omega arith))) (ap (push
 -- the text of a pointer
 pub pointer-empty : (p : List ℕ) → length p ≡ 0 → pointer_segments p ≡ Some []
 unfolding pointer_segments
-pointer-empty [] h = refl
-pointer-empty (x ∷ p) h = absurd (omega (arith, h))
+pointer-empty p h = grind (arith, nat_tests, common_steps)
 
 pub pointer-slash : (p rest : List ℕ) → p ≡ 47 ∷ rest → pointer_segments p ≡ Some (segments rest)
 unfolding pointer_segments
-pointer-slash p rest e = rw e
+pointer-slash p rest e = grind (arith, nat_tests, common_steps)
 
 pub pointer-other : (p : List ℕ) → 0 < length p → ((rest : List ℕ) → p ≢ 47 ∷ rest) → pointer_segments p ≡ None
 unfolding pointer_segments
-pointer-other [] h lacks = absurd (omega (arith, h))
-pointer-other (x ∷ p) h lacks = rw (ne_eqb x 47 (λ e. lacks p (ap (λ y. y ∷ p) e)))
+pointer-other p h lacks = grind (arith, nat_tests, common_steps)
 
 -- the key's span before a path is of no matter to the value at its end
 reached-key : (path : Path) (key other : Option Span) (n : Node) → option_map (λ m. m.1) (reached path (key, n)) ≡ option_map (λ m. m.1) (reached path (other, n))
@@ -85,21 +85,13 @@ found-more segment names n = found-step n names (step_named segment (inner_of n)
 pub found-cut : (path segment : List ℕ) (rest : Option (List ℕ)) (n : Node) → SplitAtSlash path segment rest → value_named (segments path) n ≡ option_and_then (value_named (segments_behind rest)) (untaken_entry segment n)
 found-cut path segment rest n c = ap (λ names. value_named names n) c.parts ∙ found-more segment (segments_behind rest) n
 
-pointed-at : (o : Option (List (List ℕ))) (n : Node) → option_and_then (λ path. node_at path n) (option_and_then (λ names. path_named names n) o) ≡ option_and_then (λ names. value_named names n) o
-pointed-at None n = refl
-pointed-at (Some names) n = refl
-
 -- a pointer names what its segments name
 pub pointed-found : (p : List ℕ) (n : Node) → pointed p n ≡ option_and_then (λ names. value_named names n) (pointer_segments p)
-pointed-found p n = pointed-at (pointer_segments p) n
-
-entry-at : (o : Option ℕ) (ns : Items) → option_and_then (λ s. option_map (λ e. e.1) (at_step s (Rattle.toml_span_tree.specs.Node.array ns))) (option_map position o) ≡ option_and_then (λ i. get_item i ns) o
-entry-at None ns = refl
-entry-at (Some i) ns = refl
+pointed-found p n = grind (arith, nat_tests, common_steps)
 
 -- what a segment names in an array
 pub entry-array : (segment : List ℕ) (ns : Items) → entry segment (Rattle.toml_span_tree.specs.Node.array ns) ≡ option_and_then (λ i. get_item i ns) (position_of segment)
-entry-array segment ns = entry-at (position_of segment) ns
+entry-array segment ns = grind (arith, nat_tests, common_steps)
 
 pub get_item-within : (vs : List Value) (i : ℕ) (d : Value) → i < length vs → get_item i (items_view vs) ≡ Some (view (get_or vs i d))
 get_item-within [] i d h = absurd (omega arith)
@@ -122,64 +114,37 @@ numerals = numerals_by_value _ tells_all_ascii_digits
 
 pub no_position : (text : List ℕ) → is_decimal_form text ≡ false → position_of text ≡ None
 unfolding position_of
-no_position text h = rw h refl
+no_position text h = grind (arith, nat_tests, common_steps)
 
 pub some_position : (text : List ℕ) → is_decimal_form text ≡ true → position_of text ≡ Some (digits_value 10 text)
 unfolding position_of
-some_position text h = rw h refl
-
--- the parts of a decimal form
-form_at : (some digits lead : Bool) → some && digits && lead ≡ true → (some ≡ true) × (digits ≡ true) × (lead ≡ true)
-form_at true true true h = (refl, refl, refl)
-form_at true true false h = cc
-form_at true false lead h = cc
-form_at false digits lead h = cc
+some_position text h = grind (arith, nat_tests, common_steps)
 
 pub form_parts : (text : List ℕ) → is_decimal_form text ≡ true
     → (nat_lt 0 (length text) ≡ true) × (all_ascii_digits text ≡ true) × (length text == 1 || not (get_or text 0 0 == 48) ≡ true)
-form_parts text h = form_at (nat_lt 0 (length text)) (all_ascii_digits text) (length text == 1 || not (get_or text 0 0 == 48)) h
-
--- texts of other forms
-middle_false : (a b c : Bool) → b ≡ false → a && b && c ≡ false
-middle_false true b c h = rw h refl
-middle_false false b c h = refl
-
-last_false : (a b c : Bool) → c ≡ false → a && b && c ≡ false
-last_false true true c h = h
-last_false true false c h = refl
-last_false false b c h = refl
+form_parts text h = grind (arith, nat_tests, common_steps)
 
 pub no_form-empty : (text : List ℕ) → length text ≡ 0 → is_decimal_form text ≡ false
-no_form-empty [] h = refl
-no_form-empty (x ∷ xs) h = absurd (omega (arith, h))
-
-signed : (text : List ℕ) → get_or text 0 0 ≡ 43 → 0 < length text → all_ascii_digits text ≡ false
-signed [] h some = absurd (omega (arith, some))
-signed (x ∷ xs) h some = rw h refl
+no_form-empty text h = grind (arith, nat_tests, common_steps)
 
 pub no_form-plus : (text : List ℕ) → get_or text 0 0 ≡ 43 → 0 < length text → is_decimal_form text ≡ false
-no_form-plus text h some = middle_false (nat_lt 0 (length text)) (all_ascii_digits text) (length text == 1 || not (get_or text 0 0 == 48)) (signed text h some)
+no_form-plus text h some = grind (arith, nat_tests, common_steps)
 
 pub no_form-zero : (text : List ℕ) → get_or text 0 0 ≡ 48 → 1 < length text → is_decimal_form text ≡ false
-no_form-zero text h more = last_false (nat_lt 0 (length text)) (all_ascii_digits text) (length text == 1 || not (get_or text 0 0 == 48)) (rw (ne_eqb (length text) 1 (λ e. omega (arith, e, more)), h) refl)
+no_form-zero text h more = grind (arith, nat_tests, common_steps)
 
 -- no zero leads, unless it is alone
 pub lead-one : (text : List ℕ) → length text ≡ 1 → length text == 1 || not (get_or text 0 0 == 48) ≡ true
-lead-one text h = rw h refl
-
-or_true : (b : Bool) → b || true ≡ true
-or_true true = refl
-or_true false = refl
+lead-one text h = grind (arith, nat_tests, common_steps)
 
 pub lead-other : (text : List ℕ) → get_or text 0 0 ≢ 48 → length text == 1 || not (get_or text 0 0 == 48) ≡ true
-lead-other text h = rw (ne_eqb (get_or text 0 0) 48 h) (or_true _)
+lead-other text h = grind (arith, nat_tests, common_steps)
 
 pub PositionIs-none : (text : List ℕ) (o : Option ℕ) → o ≡ None → is_decimal_form text ≡ false → PositionIs o (position_of text)
 PositionIs-none text o e h = rw (e, no_position text h) tt
 
 not_less : (b : Bool) (m n : ℕ) → nat_lt m n ≡ b → (m < n → ⊥) → n ≤ m
-not_less true m n e h = absurd (h (ltb-true m n e))
-not_less false m n e h = ltb-false m n e
+not_less b m n e h = grind (arith, nat_tests, common_steps)
 
 -- what std reads is the position, or there is none, or it is past every list
 module _ (text : List ℕ) (lead : length text == 1 || not (get_or text 0 0 == 48) ≡ true) where
@@ -203,11 +168,10 @@ get_item-got None vs i h = sym (get_item-past vs i h.3)
 get_item-got (Some x) vs i h = ap (λ v. Some (view v)) h.1 ∙ sym (get_item-within vs i x.now h.3.0)
 
 pub mapped-none : (r : Option (Bor Value)) (o : Option Node) → r ≡ None → None ≡ o → option_map (λ v. view v.now) r ≡ o
-mapped-none r o none is = ap (option_map (λ v. view v.now)) none ∙ is
+mapped-none r o h is = grind (arith, nat_tests, common_steps)
 
 pub view-of_mut : (r : Option (MutBor Value)) → option_map (λ x. view x.now) r ≡ option_map view (option_map (λ x. x.now) r)
-view-of_mut None = refl
-view-of_mut (Some x) = refl
+view-of_mut r = grind (arith, nat_tests, common_steps)
 
 pub get_item-lent : (r : Option (MutBor Value)) (Q : MutBor Value → Type 0) (vs : List Value) (i : ℕ) → IfSome r (λ x. x.now ≡ get_or vs i x.now) → MatchOption r (length vs ≤ i) (λ x. (i < length vs) × Q x)
     → option_map (λ v. view v.now) r ≡ get_item i (items_view vs)

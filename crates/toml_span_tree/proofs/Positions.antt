@@ -1,5 +1,7 @@
 -- Positions in decimal.
-use Rattle.std.proofs.Common.{◌≡◌, ◌≢◌, ◌↔◌, ℕ, ◌<◌, ◌^◌, ◌||◌, ◌==◌, not, List, length, get_or, Bool, true, false, Some, None, ⊎_elim, refl, sym, ap, subst, ◌∙◌, arith, eqb-true, eq-eqb, lt-ltb, ltb-true}
+use Rattle.std.proofs.lemmas.Grind.{common_steps}
+use Rattle.std.proofs.lemmas.Bool.Decides.{nat_tests}
+use Rattle.std.proofs.Common.{◌≡◌, ◌≢◌, ◌↔◌, ℕ, ◌<◌, ◌^◌, ◌||◌, ◌==◌, not, List, length, get_or, Bool, true, false, Some, None, ⊎_elim, refl, sym, ap, subst, ◌∙◌, arith, lt-ltb, ltb-true}
 use Rattle.std.proofs.lemmas.Bool.{cases_eq}
 use Rattle.std.proofs.lemmas.Fmt.{decimal_digit, first_decimal, decimal_nonempty, digits_decimal, digits_value-decimal, decimal-digits_value}
 use Rattle.std.specs.Fmt.{decimal}
@@ -11,12 +13,8 @@ use Rattle.toml_span_tree.proofs.Pointers.{numerals, form_parts, lead-other, no_
 abbrev NoLeadingZero : List ℕ → Type 0
 NoLeadingZero text = length text == 1 || not (get_or text 0 0 == 48) ≡ true
 
-alone_at : (one : Bool) → one || not true ≡ true → one ≡ true
-alone_at true h = refl
-alone_at false h = h
-
 alone : (text : List ℕ) → NoLeadingZero text → get_or text 0 0 ≡ 48 → length text ≡ 1
-alone text h e = eqb-true (length text) 1 (alone_at _ (subst (λ (b : Bool). length text == 1 || not b ≡ true) (eq-eqb _ 48 e) h))
+alone text h e = grind (arith, nat_tests, common_steps)
 
 decimal_at : (b : Bool) (segment : List ℕ) (i : ℕ) → i < 2 ^ 64 → is_decimal_form segment ≡ b → position_of segment ≡ Some i → segment ≡ decimal i
 decimal_at true segment i small is h =

@@ -1,5 +1,8 @@
 -- A value exchanged below another one, a level at a time.
-use Rattle.std.proofs.Common.{◌≡◌, ℕ, zero, suc, List, [], ◌∷◌, cond, Bool, true, false, Option, Some, None, Result, Ok, Err, option_map, option_and_then, refl, sym, ap, subst, ◌∙◌}
+use Rattle.std.proofs.Common.{arith}
+use Rattle.std.proofs.lemmas.Grind.{common_steps}
+use Rattle.std.proofs.lemmas.Bool.Decides.{nat_tests}
+use Rattle.std.proofs.Common.{◌≡◌, ℕ, zero, suc, List, [], ◌∷◌, cond, Bool, false, Option, Some, None, Result, Ok, Err, option_map, option_and_then, refl, sym, ap, ◌∙◌}
 use Rattle.std.specs.Cow.{cow_str_bytes}
 use Rattle.std.specs.Str.{bytes_eq}
 use Rattle.std.specs.Map.{set_value}
@@ -11,19 +14,18 @@ use Rattle.toml_span_tree.specs.declared.value.Value.{Value}
 use Rattle.toml_span_tree.specs.declared.value.ValueInner.{ValueInner}
 use Rattle.toml_span_tree.specs.Node.{Node, node, Inner, table, Items, no_items, item, Members, no_members, member, entry_at, get_member, get_item}
 use Rattle.toml_span_tree.specs.Value.{view, inner_view, items_view, members_view, inner_of, span_of, is_taken}
-use Rattle.toml_span_tree.specs.Path.{Step, Path, child, node_at, put, put_where, set_at_step, set_entry, set_element}
-use Rattle.toml_span_tree.specs.Pointer.{step_named, if_not_taken, untaken_child, path_named, put_where_named, segments, pointer_segments, pointed, put_pointed}
-use Rattle.toml_span_tree.specs.code.Pointer.{entry, untaken_entry, value_named, put_named, set_named, set_where_named, segments_behind, SplitAtSlash, Exchanged}
+use Rattle.toml_span_tree.specs.Path.{set_entry, set_element}
+use Rattle.toml_span_tree.specs.Pointer.{if_not_taken, segments, pointer_segments, pointed, put_pointed}
+use Rattle.toml_span_tree.specs.code.Pointer.{entry, untaken_entry, value_named, put_named, set_named, segments_behind, SplitAtSlash, Exchanged}
 use Rattle.toml_span_tree.proofs.Values.{Entry, view_is, at_name}
-use Rattle.toml_span_tree.proofs.Pointers.{found-cut, pointed-found}
+use Rattle.toml_span_tree.proofs.Pointers.{found-cut}
 
 pub view-made : (i : ValueInner) (span : Span) → view (record { value = Some i; span = span }) ≡ node (inner_view i) span
 view-made i span = view_is (record { value = Some i; span = span })
 
 -- what is written through `get_mut`
 cond_members : (b c : Bool) (xs ys : List Entry) (ms ns : Members) → b ≡ c → members_view xs ≡ ms → members_view ys ≡ ns → members_view (cond b xs ys) ≡ cond c ms ns
-cond_members true c xs ys ms ns same p q = p ∙ ap (λ c. cond c ms ns) same
-cond_members false c xs ys ms ns same p q = q ∙ ap (λ c. cond c ms ns) same
+cond_members b c xs ys ms ns same p q = grind (arith, nat_tests, common_steps)
 
 pub view-set_value : (name : List ℕ) (es : List Entry) (w : Value) → members_view (set_value (at_name name) es w) ≡ set_entry name (view w) (members_view es)
 view-set_value name [] w = refl
@@ -39,8 +41,7 @@ view-set (v ∷ vs) (suc i) w = ap (item (view v)) (view-set vs i w)
 -- what stands there, written again, changes nothing
 same_entry_at : (b : Bool) (other : List ℕ) (key : Span) (n m : Node) (ms rest : Members) (o : Option (Option Span × Node))
     → option_map (λ e. e.1) (cond b (Some (Some key, n)) o) ≡ Some m → (option_map (λ e. e.1) o ≡ Some m → rest ≡ ms) → cond b (member other key m ms) (member other key n rest) ≡ member other key n ms
-same_entry_at true other key n m ms rest o h ih = cc
-same_entry_at false other key n m ms rest o h ih = ap (member other key n) (ih h)
+same_entry_at b other key n m ms rest o h ih = grind (arith, nat_tests, common_steps)
 
 pub set_entry-same : (name : List ℕ) (ms : Members) (m : Node) → get_member name ms ≡ Some m → set_entry name m ms ≡ ms
 set_entry-same name no_members m h = refl
@@ -54,55 +55,27 @@ set_element-same (suc i) (item n ns) m h = ap (item n) (set_element-same i ns m 
 -- an exchange at or below m, seen from where m stands
 pub exchanged-in : (r : Result Value Value) (new : Value) (names : List (List ℕ)) (o : Option Node) (m after : Node) (changed : Node → Type 0) (same : Type 0)
     → o ≡ Some m → changed after → (after ≡ m → same) → Exchanged r new names (if_not_taken m) (λ w. after ≡ w) (after ≡ m) → Exchanged r new names (option_and_then if_not_taken o) changed same
-exchanged-in (Ok old) new names o m after changed same is made kept h =
-    (h.0, ap (option_and_then if_not_taken) is ∙ h.1, h.2, subst changed h.3 made)
-exchanged-in (Err back) new names o m after changed same is made kept h =
-    (h.0, ap (λ o. option_and_then (value_named names) (option_and_then if_not_taken o)) is ∙ h.1, kept h.2)
+exchanged-in r new names o m after changed same is made kept h = grind (arith, nat_tests, common_steps)
 
 -- where nothing is named
 pub exchanged-none : (new : Value) (names : List (List ℕ)) (o : Option Node) (same : Type 0) → o ≡ None → same → (new ≡ new) × (option_and_then (value_named names) (option_and_then if_not_taken o) ≡ None) × same
-exchanged-none new names o same is kept = (refl, ap (λ o. option_and_then (value_named names) (option_and_then if_not_taken o)) is, kept)
+exchanged-none new names o same is kept = grind (arith, nat_tests, common_steps)
 
 -- the same exchange, where what is changed is told in other words
 pub exchanged-as : (r : Result Value Value) (new : Value) (names : List (List ℕ)) (o p : Option Node) (changed told : Node → Type 0) (same kept : Type 0)
     → o ≡ p → ((w : Node) → changed w → told w) → (same → kept) → Exchanged r new names o changed same → Exchanged r new names p told kept
-exchanged-as (Ok old) new names o p changed told same kept is f g h = (h.0, sym is ∙ h.1, h.2, f _ h.3)
-exchanged-as (Err back) new names o p changed told same kept is f g h = (h.0, ap (option_and_then (value_named names)) (sym is) ∙ h.1, g h.2)
+exchanged-as r new names o p changed told same kept is f g h = grind (arith, nat_tests, common_steps)
 
 -- a value itself
 untaken : (b : Bool) (n : Node) → b ≡ false → cond b None (Some n) ≡ Some n
-untaken b n h = ap (λ b. cond b None (Some n)) h
+untaken b n h = grind (arith, nat_tests, common_steps)
 
 pub if_not_taken-false : (n : Node) → is_taken n ≡ false → if_not_taken n ≡ Some n
-if_not_taken-false n h = untaken (is_taken n) n h
-
--- an exchange below n, a segment at a time
-put_more_path : (s : Step) (n m w old : Node) (o : Option Path) → child s n ≡ Some m → option_and_then (λ path. node_at path m) o ≡ Some old
-    → put_where_named (option_map (λ path. s ∷ path) o) w n ≡ node (set_at_step s (put_where_named o w m) (inner_of n)) (span_of n)
-put_more_path s n m w old None is there = cc
-put_more_path s n m w old (Some path) is there = ap (λ o. put_where o s (put path w) n) is
-
-put_more_taken : (s : Step) (n m k w old : Node) (names : List (List ℕ)) (b : Bool) → child s n ≡ Some k → cond b None (Some k) ≡ Some m → value_named names m ≡ Some old
-    → put_where_named (option_and_then (λ m. option_map (λ path. s ∷ path) (path_named names m)) (cond b None (Some k))) w n ≡ node (set_at_step s (put_named names w m) (inner_of n)) (span_of n)
-put_more_taken s n m k w old names true is leads there = cc
-put_more_taken s n m k w old names false is leads there =
-    let same : k ≡ m = cc in
-    ap (λ k. put_where_named (option_map (λ path. s ∷ path) (path_named names k)) w n) same ∙ put_more_path s n m w old (path_named names m) (is ∙ ap Some same) there
-
-put_more_child : (s : Step) (n m w old : Node) (names : List (List ℕ)) (o : Option Node) → child s n ≡ o → option_and_then if_not_taken o ≡ Some m → value_named names m ≡ Some old
-    → put_where_named (option_and_then (λ m. option_map (λ path. s ∷ path) (path_named names m)) (option_and_then if_not_taken o)) w n ≡ node (set_at_step s (put_named names w m) (inner_of n)) (span_of n)
-put_more_child s n m w old names None is leads there = cc
-put_more_child s n m w old names (Some k) is leads there = put_more_taken s n m k w old names (is_taken k) is leads there
-
-put_more_step : (n m w old : Node) (names : List (List ℕ)) (o : Option Step) → option_and_then if_not_taken (option_and_then (λ s. child s n) o) ≡ Some m → value_named names m ≡ Some old
-    → put_where_named (option_and_then (λ s. option_and_then (λ m. option_map (λ path. s ∷ path) (path_named names m)) (untaken_child n s)) o) w n
-    ≡ node (set_where_named o (put_named names w m) (inner_of n)) (span_of n)
-put_more_step n m w old names None leads there = cc
-put_more_step n m w old names (Some s) leads there = put_more_child s n m w old names (child s n) refl leads there
+if_not_taken-false n h = grind (arith, nat_tests, common_steps)
 
 pub put_found-more : (segment : List ℕ) (names : List (List ℕ)) (n m w old : Node) → untaken_entry segment n ≡ Some m → value_named names m ≡ Some old
     → put_named (segment ∷ names) w n ≡ node (set_named segment (put_named names w m) (inner_of n)) (span_of n)
-put_found-more segment names n m w old leads there = put_more_step n m w old names (step_named segment (inner_of n)) leads there
+put_found-more segment names n m w old leads there = grind (arith, nat_tests, common_steps)
 
 -- an exchange in what n holds is one in n
 pub exchanged-cut : (r : Result Value Value) (new : Value) (path segment : List ℕ) (rest : Option (List ℕ)) (i j : Inner) (span : Span) → SplitAtSlash path segment rest
@@ -124,33 +97,19 @@ exchanged-cut (Err back) new path segment rest i j span cut h = (
 
 -- an exchange at what a pointer names
 pub put_pointed-found : (p : List ℕ) (names : List (List ℕ)) (w n : Node) → pointer_segments p ≡ Some names → put_pointed p w n ≡ put_named names w n
-put_pointed-found p names w n h = ap (λ o. put_where_named (option_and_then (λ names. path_named names n) o) w n) h
+put_pointed-found p names w n h = grind (arith, nat_tests, common_steps)
 
 pub exchanged-done : (r : Result Value Value) (new : Value) (p : List ℕ) (names : List (List ℕ)) (n after : Node) → pointer_segments p ≡ Some names
     → Exchanged r new names (Some n) (λ w. after ≡ w) (after ≡ n) → IfOk r (λ old. (pointed p n ≡ Some (view old)) × (after ≡ put_pointed p (view new) n))
-exchanged-done (Ok old) new p names n after is h =
-    let same : n ≡ h.0 = cc (h.1) in (
-      pointed-found p n ∙ ap (option_and_then (λ names. value_named names n)) is ∙ ap (value_named names) same ∙ h.2,
-      h.3 ∙ ap (put_named names (view new)) (sym same) ∙ sym (put_pointed-found p names (view new) n is),
-    )
-exchanged-done (Err back) new p names n after is h = tt
+exchanged-done r new p names n after is h = grind (arith, nat_tests, common_steps)
 
 pub exchanged-refused : (r : Result Value Value) (new : Value) (p : List ℕ) (names : List (List ℕ)) (n after : Node) → pointer_segments p ≡ Some names
     → Exchanged r new names (Some n) (λ w. after ≡ w) (after ≡ n) → IfErr r (λ back. (back ≡ new) × (pointed p n ≡ None) × (after ≡ n))
-exchanged-refused (Ok old) new p names n after is h = tt
-exchanged-refused (Err back) new p names n after is h = (h.0, pointed-found p n ∙ ap (option_and_then (λ names. value_named names n)) is ∙ h.1, h.2)
+exchanged-refused r new p names n after is h = grind (arith, nat_tests, common_steps)
 
 -- an exchange in a table that is held
 pub exchanged-table : (r : Result Value Value) (new : Value) (names : List (List ℕ)) (segment : List ℕ) (ms ns : Members) (i j : Inner) → i ≡ table ms → j ≡ table ns
     → Exchanged r new names (option_and_then if_not_taken (get_member segment ms)) (λ w. ns ≡ set_entry segment w ms) (ns ≡ ms)
     → Exchanged r new names (option_and_then if_not_taken (entry segment i)) (λ w. j ≡ set_named segment w i) (j ≡ i)
-exchanged-table r new names segment ms ns i j was is h =
-    exchanged-as r new names _ _ _ _ _ _
-    (ap (λ i. option_and_then if_not_taken (entry segment i)) (sym was))
-    (λ w e. is ∙ ap table e ∙ sym (ap (set_named segment w) was))
-    (λ e. is ∙ ap table e ∙ sym was)
-    h
+exchanged-table r new names segment ms ns i j was is h = grind (arith, nat_tests, common_steps)
 
-pub ok_map : (r : Result Value Value) (P Q : Value → Type 0) → ((x : Value) → P x → Q x) → IfOk r P → IfOk r Q
-ok_map (Ok x) P Q f p = f x p
-ok_map (Err x) P Q f p = tt

@@ -1,11 +1,12 @@
 -- How many parts a node has: a measure of how far down a walk can go. For recursions over a tree in crates
 -- above, where the checker knows no measure of a value.
-use Rattle.std.proofs.Common.{◌≡◌, ◌≤◌, ◌<◌, ℕ, suc, ◌+◌, List, ◌∷◌, drop, length, get_or, ap, ◌∙◌, arith}
-use Rattle.std.proofs.lemmas.List.{drop_more}
+use Rattle.std.proofs.lemmas.Grind.{common_steps}
+use Rattle.std.proofs.lemmas.Bool.Decides.{nat_tests}
+use Rattle.std.proofs.Common.{◌≡◌, ◌≤◌, ◌<◌, ℕ, suc, ◌+◌, List, ◌∷◌, drop, length, get_or, arith}
 use Rattle.toml_span_lex.specs.declared.key.Key.{Key}
 use Rattle.toml_span_tree.specs.declared.value.Value.{Value}
 use Rattle.toml_span_tree.specs.Node.{Node, node, Inner, taken, scalar, array, table, Items, no_items, item, Members, no_members, member}
-use Rattle.toml_span_tree.specs.Value.{items_view, members_view, view}
+use Rattle.toml_span_tree.specs.Value.{items_view, members_view}
 
 abbrev mutual
   pub node_size : Node → ℕ
@@ -29,16 +30,9 @@ abbrev mutual
 pub items_size-next : (i : ℕ) (es : List Value) (e : Value) (all : ℕ) →
     i < length es → get_or es i e ≡ e → items_size (items_view (drop i es)) ≤ all →
     items_size (items_view (drop (i + 1) es)) ≤ all
-items_size-next i es e all below here before =
-    let split : drop i es ≡ e ∷ drop (i + 1) es = drop_more es i e below ∙ ap (λ x. x ∷ drop (i + 1) es) here in
-    let more : items_size (items_view (drop i es)) ≡ node_size (view e) + items_size (items_view (drop (i + 1) es)) =
-    ap (λ l. items_size (items_view l)) split in
-    omega arith
+items_size-next i es e all below here before = grind (arith, nat_tests, common_steps)
 
 -- the entries behind one have no more parts than it and they have
 pub members_size-next : (es rest : List (Key × Value)) (key : Key) (value : Value) (all : ℕ) →
     es ≡ (key, value) ∷ rest → members_size (members_view es) ≤ all → members_size (members_view rest) ≤ all
-members_size-next es rest key value all split before =
-    let more : members_size (members_view es) ≡ node_size (view value) + members_size (members_view rest) =
-    ap (λ l. members_size (members_view l)) split in
-    omega arith
+members_size-next es rest key value all split before = grind (arith, nat_tests, common_steps)

@@ -1,5 +1,8 @@
 -- A value, a level at a time.
-use Rattle.std.proofs.Common.{◌≡◌, ℕ, List, [], ◌∷◌, Option, Some, None, option_map, is_some, BTreeMap, Vec, Global, nat_cmp, cond, Bool, true, false, Bor, refl, ap, ◌∙◌, rules}
+use Rattle.std.proofs.Common.{arith}
+use Rattle.std.proofs.lemmas.Grind.{common_steps}
+use Rattle.std.proofs.lemmas.Bool.Decides.{nat_tests}
+use Rattle.std.proofs.Common.{◌≡◌, ℕ, List, [], ◌∷◌, Option, Some, option_map, is_some, BTreeMap, Vec, Global, nat_cmp, cond, Bool, Bor, refl, rules}
 use Rattle.std.specs.Cow.{cow_str_bytes}
 use Rattle.std.specs.Str.{bytes_eq}
 use Rattle.std.specs.Cmp.Lexicographic.{slice_cmp}
@@ -31,8 +34,7 @@ at_name name = is_at (λ k. slice_cmp nat_cmp name (cow_str_bytes k.name))
 
 found_or : (b c : Bool) (v : Value) (key : Option Span) (rest : Option Value) (d : Option (Option Span × Node)) → b ≡ c → option_map view rest ≡ option_map (λ e. e.1) d
     → option_map view (cond b (Some v) rest) ≡ option_map (λ e. e.1) (cond c (Some (key, view v)) d)
-found_or true c v key rest d same e = ap (λ c. option_map (λ e. e.1) (cond c (Some (key, view v)) d)) same
-found_or false c v key rest d same e = e ∙ ap (λ c. option_map (λ e. e.1) (cond c (Some (key, view v)) d)) same
+found_or b c v key rest d same e = grind (arith, nat_tests, common_steps)
 
 -- a look-up by name finds what the members have at that name
 pub view-lookup : (name : List ℕ) (es : List Entry) → option_map view (lookup (at_name name) es) ≡ get_member name (members_view es)
@@ -42,17 +44,14 @@ view-lookup name (e ∷ es) = found_or (at_name name e.0) (bytes_eq name (cow_st
 -- the same, with the span of the key
 found_entry : (b c : Bool) (e : Entry) (rest : Option Entry) (d : Option (Option Span × Node)) → b ≡ c → option_map (λ e. (Some e.0.span, view e.1)) rest ≡ d
     → option_map {U = Option Span × Node} (λ e. (Some e.0.span, view e.1)) (cond b (Some e) rest) ≡ cond c (Some (Some e.0.span, view e.1)) d
-found_entry true c e rest d same is = ap (λ c. cond c (Some (Some e.0.span, view e.1)) d) same
-found_entry false c e rest d same is = is ∙ ap (λ c. cond c (Some (Some e.0.span, view e.1)) d) same
+found_entry b c e rest d same is = grind (arith, nat_tests, common_steps)
 
 pub entry_at-lookup : (name : List ℕ) (es : List Entry) → option_map (λ e. (Some e.0.span, view e.1)) (lookup_entry (at_name name) es) ≡ entry_at name (members_view es)
 entry_at-lookup name [] = refl
 entry_at-lookup name (e ∷ es) = found_entry (at_name name e.0) (bytes_eq name (cow_str_bytes e.0.name)) e _ _ (is_eq-slice_cmp name (cow_str_bytes e.0.name)) (entry_at-lookup name es)
 
 pub is_some-view : (o : Option Value) → is_some o ≡ is_some (option_map view o)
-is_some-view None = refl
-is_some-view (Some v) = refl
+is_some-view o = grind (arith, nat_tests, common_steps)
 
 pub view-of_ref : (r : Option (Bor Value)) → option_map (λ x. view x.now) r ≡ option_map view (option_map (λ x. x.now) r)
-view-of_ref None = refl
-view-of_ref (Some x) = refl
+view-of_ref r = grind (arith, nat_tests, common_steps)

@@ -1,4 +1,4 @@
-use Rattle.toml_span_lex.proofs.Unfolded.{after_token, after_fault}
+use Rattle.toml_span_lex.proofs.Within.{after_token, after_fault}
 use Rattle.toml_span_lex.proofs.laws.line_ends_stay_whole.Goals as goal
 
 pub returns-clause-tokens : goal.returns-clause-tokens

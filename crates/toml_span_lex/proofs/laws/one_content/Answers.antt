@@ -1,4 +1,4 @@
-use Rattle.toml_span_lex.proofs.Unique.{content_unique}
+use Rattle.toml_span_lex.proofs.OneFault.{content_unique}
 use Rattle.toml_span_lex.proofs.laws.one_content.Goals as goal
 
 pub returns : goal.returns

@@ -1,6 +1,6 @@
 use Rattle.std.proofs.Common.{arith, refl, inr}
 use Rattle.std.proofs.lemmas.Str.{IsCharBoundary-start}
-use Rattle.toml_span_lex.proofs.Unfolded.{after_char}
+use Rattle.toml_span_lex.proofs.Within.{after_char}
 use Rattle.toml_span_lex.proofs.tokenizer.first_place.Goals as goal
 
 pub char_at-c-requires-clause-boundary : goal.char_at-c-requires-clause-boundary

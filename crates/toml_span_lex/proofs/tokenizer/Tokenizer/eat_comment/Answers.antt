@@ -2,7 +2,7 @@ use Rattle.std.proofs.Common.{arith, rules, refl, ◌≡◌, ◌<◌, length, ge
 use Rattle.toml_span_lex.specs.Bytes.{hash, is_printed}
 use Rattle.toml_span_lex.proofs.Runs.{neither_line, unprinted_ascii}
 use Rattle.toml_span_lex.proofs.NoFault.{unprinted_begins}
-use Rattle.toml_span_lex.proofs.Unfolded.{after_char, comment_forward}
+use Rattle.toml_span_lex.proofs.Within.{after_char, comment_forward}
 use Rattle.toml_span_lex.proofs.tokenizer.Tokenizer.eat_comment.Goals as goal
 
 pub invariant_of-self-in-None : goal.invariant_of-self-in-None

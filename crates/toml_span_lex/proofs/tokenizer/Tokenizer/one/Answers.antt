@@ -1,4 +1,4 @@
-use Rattle.toml_span_lex.proofs.Unfolded.{after_char}
+use Rattle.toml_span_lex.proofs.Within.{after_char}
 use Rattle.toml_span_lex.proofs.tokenizer.Tokenizer.one.Goals as goal
 
 pub invariant_of-self : goal.invariant_of-self

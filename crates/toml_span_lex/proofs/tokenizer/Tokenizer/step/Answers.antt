@@ -2,7 +2,7 @@ use Rattle.std.proofs.Common.{inl, inr, refl}
 use Rattle.toml_span_lex.specs.Tokens.{lexeme}
 use Rattle.toml_span_lex.proofs.MadeStrings.{string_stands}
 use Rattle.toml_span_lex.proofs.Standing.{token_stands}
-use Rattle.toml_span_lex.proofs.Unfolded.{after_token, after_fault}
+use Rattle.toml_span_lex.proofs.Within.{after_token, after_fault}
 use Rattle.toml_span_lex.proofs.tokenizer.Tokenizer.step.Goals as goal
 
 pub invariant_of-self : goal.invariant_of-self
