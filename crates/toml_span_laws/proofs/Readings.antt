@@ -5,30 +5,12 @@ use Rattle.toml_span_lex.specs.declared.tokens.Error.{Error}
 use Rattle.toml_span_lex.specs.Laws.{SomethingStands}
 use Rattle.toml_span_lex.specs.Tokens.{Lexeme, Stands, IsNoToken}
 use Rattle.toml_span_lex.proofs.NoFault.{token_or_fault}
+pub use Rattle.toml_span_lex.proofs.One.{One, one_is, one_where, one_given, one_either}
 use Rattle.toml_span_lex.proofs.OneFault.{fault_unique}
 use Rattle.toml_span_lex.proofs.OneToken.{token_unique}
 use Rattle.toml_span_lex.proofs.Within.{token_within, fault_within}
 use Rattle.toml_span_read.specs.declared.fault.Fault.{Fault}
 use Rattle.toml_span_read.specs.Read.{Reading, after, Standing, token, text_end, no_token, StandsAt, choice, Turn, on, done, Loop, ends, stops, goes_on}
-
--- of one thing alone this holds
-abbrev pub One : {T : Type 0} → (T → Type 0) → Type 0
-One {T = T} m = (r s : T) → m r → m s → r ≡ s
-
-pub one_is : {T : Type 0} {a : T} → One (λ r. r ≡ a)
-one_is r s h g = h ∙ sym g
-
-pub one_where : {T P : Type 0} {m : T → Type 0} → One m → One (λ r. P × m r)
-one_where one r s h g = one r s h.1 g.1
-
-pub one_given : {T B : Type 0} {P : B → Type 0} {next : B → T → Type 0} → One P → ((b : B) → One (next b)) → One (λ r. (b : B) × P b × next b r)
-one_given unique one r s (a, h, g) (b, k, l) = let e : b ≡ a = unique b a k h in one a r s g (rw e at l)
-
-pub one_either : {T : Type 0} {this that : T → Type 0} → One this → One that → ((r s : T) → this r → that s → ⊥) → One (λ r. this r ⊎ that r)
-one_either one other apart r s (inl h) (inl g) = one r s h g
-one_either one other apart r s (inl h) (inr g) = absurd (apart r s h g)
-one_either one other apart r s (inr h) (inl g) = absurd (apart s r g h)
-one_either one other apart r s (inr h) (inr g) = other r s h g
 
 pub one_after : {A B : Type 0} {m : Reading A} {f : A → Reading B} → One m → ((a : A) → One (f a)) → One (after m f)
 one_after one each =
