@@ -26,7 +26,7 @@ use Rattle.toml_span.specs.code.Growing.{Placed, Remaining}
 use Rattle.toml_span.proofs.Absolute.{section_at-is, grown-is}
 use Rattle.toml_span.proofs.Grafts.{told-followed, put_all-followed}
 use Rattle.toml_span.proofs.Judged.{first-met}
-use Rattle.toml_span.proofs.Nodes.{cells-fresh, counts-fresh, sound-fresh}
+use Rattle.toml_span.proofs.Nodes.{cells-fresh, counts-fresh, scope-fresh}
 use Rattle.toml_span.proofs.Shown.{shown-flat}
 
 pub remaining-first : (all rest : List Block) (root : Branch) → rest ≡ all → AreSections all → IsFresh root → Remaining all rest root
@@ -37,7 +37,7 @@ remaining-first all rest root same headers fresh = record {
   telling = rw (cells-fresh root fresh, same) refl;
   putting = rw (cells-fresh root fresh, same) refl;
   counting = counts-fresh root fresh;
-  scope = (sound-fresh root fresh, fresh.no_entries);
+  scope = scope-fresh root fresh;
 }
 
 pub placed-block : (s : Section) (parts : List Key) (root new : Branch) (r : Result (Unit {0}) Halt) → parts ≡ s.header.items

@@ -25,7 +25,7 @@ use Rattle.toml_span.specs.code.Relative.{pair_at}
 use Rattle.toml_span.specs.code.Tree.{marks, cells, counts, plain, IsScope, IsFresh}
 use Rattle.toml_span.proofs.Absolute.{pair_at-is}
 use Rattle.toml_span.proofs.Grafts.{told-followed, put_all-followed}
-use Rattle.toml_span.proofs.Nodes.{cells-fresh, sound-fresh}
+use Rattle.toml_span.proofs.Nodes.{cells-fresh, scope-fresh}
 use Rattle.toml_span.proofs.Shown.{put_all-shown, shown-plain, key_values-no_header}
 
 -- no item is left
@@ -123,9 +123,6 @@ placing-none n first rest all none inv =
 
 -- ---- inline tables
 
-pub fresh-scope : (n : Branch) → IsFresh n → IsScope n
-fresh-scope n h = (sound-fresh n h, h.no_entries)
-
 map-plain : {A : Type 0} (f : A → Place) (o : Option A) → option_map (λ m. plain (f m)) o ≡ option_map plain (option_map f o)
 map-plain f None = refl
 map-plain f (Some m) = refl
@@ -140,7 +137,7 @@ shows-plain i es st is h s p =
 pub table-gives : (old new : Branch) (es : List KeyValue) (table : BTreeMap Key Value) → IsFresh old → Places old new (Ok tt) (key_value_claims es []) (counts old)
     → Finishes (out-Branch new).tables (out-Branch new).values (Ok table) → ScopeGives (Ok table) (λ t. inner_view (Table t)) (key_value_claims es [])
 table-gives old new es table fresh placed finished =
-    let h = placed (fresh-scope old fresh) in
+    let h = placed (scope-fresh old fresh) in
     let whole = finished new refl refl h.1.2.0 in (
       ap (λ f. clash_met f (key_value_claims es [])) (sym (cells-fresh old fresh)) ∙ h.0,
       (shows-plain (inner_view (Table table)) es (cells new) (h.1.0 ∙ ap (λ f. put_all f (key_value_claims es [])) (cells-fresh old fresh)) whole.0, whole.1),
@@ -149,5 +146,5 @@ table-gives old new es table fresh placed finished =
 pub table-err : {A : Type 0} (old new : Branch) (es : List KeyValue) (seen : A → tree.Inner) (q : Result A Halt) (e : Halt) → IsFresh old → q ≡ Err e
     → Places old new (Err e) (key_value_claims es []) (counts old) → ScopeGives q seen (key_value_claims es [])
 table-err old new es seen q (Clash c) fresh same placed =
-    rw same (ap (λ f. clash_met f (key_value_claims es [])) (sym (cells-fresh old fresh)) ∙ placed (fresh-scope old fresh))
+    rw same (ap (λ f. clash_met f (key_value_claims es [])) (sym (cells-fresh old fresh)) ∙ placed (scope-fresh old fresh))
 table-err old new es seen q (Memory e) fresh same placed = rw same tt

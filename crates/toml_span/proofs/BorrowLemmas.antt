@@ -23,7 +23,7 @@ use Rattle.toml_span.specs.Borrowed.{Standing, table_name, Held, key_standing, h
 use Rattle.toml_span.specs.code.Borrowed.{node_step, nodes_standing, inner_held, array_standing, table_standing, standing, boxes_standing, entries_of}
 use Rattle.toml_span.specs.code.Tree.{is_named}
 use Rattle.toml_span.proofs.KeyMaps.{cases_ordering}
-use Rattle.toml_span.proofs.Placed.{roll-out}
+use Rattle.toml_span.proofs.Nodes.{roll-out}
 
 -- ---- a level at a time
 

@@ -8,7 +8,6 @@ use Rattle.std.specs.Global.{Box}
 use Rattle.std.specs.Map.{lookup, lookup_entry}
 use Rattle.std.specs.Result.{IsErrAnd}
 use Rattle.std.specs.declared.borrow.CowStr.{CowStr}
-use Rattle.std.proofs.lemmas.Option.{none-some}
 use Rattle.toml_span_lex.specs.declared.key.Key.{Key}
 use Rattle.toml_span_lex.specs.declared.span.Span.{Span}
 use Rattle.toml_span_tree.specs.declared.date.DateText.{DateText}
@@ -26,8 +25,6 @@ use Rattle.toml_span_read.specs.Keys.{SimpleKey}
 use Rattle.toml_span_read.proofs.BorrowLemmas.{all_append, all_front, all_behind, written_is, assignment_written_is}
 use Rattle.toml_span_read.proofs.EarlierTree.{key_cmp}
 use Rattle.toml_span.specs.declared.claims.Halt.{Halt}
-use Rattle.toml_span.specs.declared.claims.Mark.{Mark}
-use Rattle.toml_span.specs.declared.claims.Sort.TheVariants.{Assigned}
 use Rattle.toml_span.specs.declared.branch.Branch.{Branch}
 use Rattle.toml_span.specs.declared.branch.Branch.TheOpen.{Branch-F}
 use Rattle.toml_span.specs.declared.branch.Branch.TheViews.{roll-Branch, out-Branch}
@@ -35,7 +32,6 @@ use Rattle.toml_span.specs.Borrowed.{string as string_standing, Held, held, key_
 use Rattle.toml_span.specs.code.Borrowed.{inner_held, standing, entries_of, array_standing, table_standing, IsFrom, AreFrom, Keeps}
 use Rattle.toml_span_read.specs.Grammar.{SpellsDocument}
 use Rattle.toml_span_read.specs.Data.{block}
-use Rattle.toml_span.specs.code.Machine.{Gives, met}
 use Rattle.toml_span.specs.Parsing.{IsBorrowedTree}
 use Rattle.toml_span.specs.code.Tree.{is_named, entries}
 use Rattle.toml_span.proofs.BorrowLemmas.{held_is, made_table, made_array, of_node, node_of, insert_new, box_found, box_insert}
@@ -49,11 +45,6 @@ ok_map (Err e) P Q f h = tt
 pub err_ok : {A E : Type 0} (r : Result A E) (Q : E → Type 0) (P : A → Type 0) → IsErrAnd r Q → IfOk r P
 err_ok (Ok x) Q P h = absurd h
 err_ok (Err e) Q P h = tt
-
--- two values that are assigned to one name clash
-pub assigned_twice : (r : Result (Unit {0}) Halt) (a b : Mark) (name : List ℕ) (Q : Unit {0} → Type 0) (P : Type 0) → a.sort ≡ Assigned → b.sort ≡ Assigned → Gives r (met (a ∷ []) b name) Q → OnOk r P
-assigned_twice (Ok x) a b name Q P d e h = let clash = rw (d, e) at h.0 in absurd (none-some _ (sym clash))
-assigned_twice (Err e) a b name Q P d f h = tt
 
 -- ---- what was read
 

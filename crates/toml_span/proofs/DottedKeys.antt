@@ -1,5 +1,5 @@
 -- A dotted key, part by part.
-use Rattle.std.proofs.Common.{◌≡◌, ℕ, List, [], ◌∷◌, Some, None, option_map, Result, Ok, Err, refl, sym, ap, ◌∙◌, subst, inl, inr}
+use Rattle.std.proofs.Common.{◌≡◌, ℕ, List, [], ◌∷◌, Some, None, Result, Err, refl, sym, ap, ◌∙◌, subst, inl, inr}
 use Rattle.std.proofs.lemmas.Option.{none-some}
 use Rattle.toml_span_tree.specs.Path.{Path, key}
 use Rattle.toml_span_read.specs.Data.{ParsedValue as Read, parsed_span}
@@ -10,33 +10,24 @@ use Rattle.toml_span.specs.declared.claims.Mark.{Mark}
 use Rattle.toml_span.specs.declared.claims.Sort.TheVariants.{ArrayOfTables, Dotted}
 use Rattle.toml_span.specs.declared.branch.Branch.{Branch}
 use Rattle.toml_span.specs.Claims.{claimed, dotted, pair_mark, table_claim}
-use Rattle.toml_span.specs.Clashes.{blame, meeting, named, or_else}
+use Rattle.toml_span.specs.Clashes.{blame}
 use Rattle.toml_span.specs.code.Machine.{Gives, met}
 use Rattle.toml_span.specs.code.Placing.{Passes, Places, Reaches}
 use Rattle.toml_span.specs.code.Relative.{pair_at, through_pair}
-use Rattle.toml_span.specs.code.Tree.{is_array_sort, is_entry_sort, child, closed, closed_marks, counts, entries, marks, IsChild, IsFresh, IsHeld, IsNamed, IsScope, IsTableOrArray, Sound}
-use Rattle.toml_span.proofs.Claimed.{Marked, counts-marked, named-fresh, named-remember, reaches-claim-err, reaches-claimed, scope-marked, sound-shape}
+use Rattle.toml_span.specs.code.Tree.{is_array_sort, is_entry_sort, child, closed, closed_marks, counts, entries, marks, IsChild, IsFresh, IsHeld, IsNamed, IsScope, Sound}
+use Rattle.toml_span.proofs.Claimed.{Marked, counts-marked, named-fresh, named-remember, reaches-claim-err, reaches-claimed, scope-marked}
 use Rattle.toml_span.proofs.Grafts.{graft-itself}
-use Rattle.toml_span.proofs.Placed.{SetsChild, gives-map, places-beside, places-found, places-new, places-new-err, unclosed}
+use Rattle.toml_span.proofs.Nodes.{Sets}
+use Rattle.toml_span.proofs.Placed.{gives-map, not-array, places-beside, places-found, places-new, unclosed}
 
 abbrev dotted_mark : SimpleKey → Read → Mark
 dotted_mark k v = pair_mark Dotted k.span (parsed_span v)
 
 -- ---- through a node
 
--- a dotted key clashes with an array of tables
-clashes-array : (ms : List Mark) (c m : Mark) (name : List ℕ) → ms ≡ c ∷ [] → c.sort ≡ ArrayOfTables → m.sort ≡ Dotted → met ms m name ≡ None → ⊥
-clashes-array ms c m name only array sort h =
-    let key : blame c.sort m.sort ≡ Some DuplicateKey = ap (λ s. blame s m.sort) array ∙ ap (blame ArrayOfTables) sort in
-    none-some _ (sym h ∙ ap (λ l. met l m name) only ∙ ap (λ b. option_map (named name) (or_else (option_map (meeting c m) b) None)) key)
-
--- so a node that it passes through is a table
+-- a branch that a dotted key passes through is a table
 pub table-dotted : (n : Branch) (m : Mark) (name : List ℕ) → m.sort ≡ Dotted → met (marks n) m name ≡ None → Sound n → entries n ≡ []
-table-dotted n m name sort h before = go (entries n) (sound-shape n before)
-  where
-    go : (xs : List Branch) → IsTableOrArray n xs → xs ≡ []
-    go [] shape = refl
-    go (x ∷ xs) shape = absurd (clashes-array (marks n) shape.claim m name shape.only shape.array sort h)
+table-dotted n m name sort h before = not-array n m name (λ is. let clash : blame ArrayOfTables m.sort ≡ Some DuplicateKey = ap (blame ArrayOfTables) sort in absurd (none-some _ (sym is ∙ clash))) h before
 
 table-marked : (n mid : Branch) (m : Mark) (name : List ℕ) → m.sort ≡ Dotted → met (marks n) m name ≡ None → Marked m n mid → IsChild n → IsScope mid × IsNamed (marks mid)
 table-marked n mid m name sort h marked before = (
@@ -68,36 +59,19 @@ passes-dotted-err n new k inner last v m q e P d same is h =
 -- ---- below a name
 
 pub pair-found : (n new x w : Branch) (k : SimpleKey) (inner : List SimpleKey) (last : SimpleKey) (v : Read) (r : Result (Unit {0}) Halt)
-    → child k.name n ≡ Some x → SetsChild k.name w n new → Passes x w r (through_pair k inner last v) (counts x) → Places n new r (pair_at (k ∷ inner) last v) (counts n)
+    → child k.name n ≡ Some x → Sets (key k.name) (Some w, closed k.name n) n new → Passes x w r (through_pair k inner last v) (counts x) → Places n new r (pair_at (k ∷ inner) last v) (counts n)
 unfolding pair_at
 pair-found n new x w k inner last v r found sets h =
     subst (Places n new r (pair_at (k ∷ inner) last v)) (graft-itself (key k.name) (counts n))
     (places-found n new x w k.name r (λ f. through_pair k inner last v) (λ f. f) found sets h)
 
--- where no value of the name clashes with the key there is none
-free-dotted : (n : Branch) (k : SimpleKey) (v : Read) (m : Mark) → m ≡ dotted_mark k v → met (closed_marks (closed k.name n)) m k.name ≡ None → closed k.name n ≡ None
-free-dotted n k v m same h = unclosed (closed k.name n) m k.name h (ap (λ m. is_entry_sort m.sort) same, tt)
-
-pair-new : (n new x w : Branch) (k : SimpleKey) (inner : List SimpleKey) (last : SimpleKey) (v : Read) (m : Mark)
-    → child k.name n ≡ None → m ≡ dotted_mark k v → met (closed_marks (closed k.name n)) m k.name ≡ None → IsFresh x → SetsChild k.name w n new
-    → Passes x w (Ok tt) (through_pair k inner last v) (counts x) → Places n new (Ok tt) (pair_at (k ∷ inner) last v) (counts n)
-unfolding pair_at
-pair-new n new x w k inner last v m missing same free fresh sets h =
-    subst (Places n new (Ok tt) (pair_at (k ∷ inner) last v)) (graft-itself (key k.name) (counts n))
-    (places-new n new x w k.name (λ f. through_pair k inner last v) (λ f. f) missing (free-dotted n k v m same free) fresh sets h)
-
-pair-new-err : (n new x w : Branch) (k : SimpleKey) (inner : List SimpleKey) (last : SimpleKey) (v : Read) (m : Mark) (r q : Result (Unit {0}) Halt) (e : Halt) (d : Path → ℕ)
-    → child k.name n ≡ None → m ≡ dotted_mark k v → met (closed_marks (closed k.name n)) m k.name ≡ None → IsFresh x → r ≡ Err e → q ≡ Err e
-    → Passes x w r (through_pair k inner last v) (counts x) → Places n new q (pair_at (k ∷ inner) last v) d
-unfolding pair_at
-pair-new-err n new x w k inner last v m r q e d missing same free fresh was is h =
-    places-new-err n new x w k.name r q e (λ f. through_pair k inner last v) (counts x) d missing (free-dotted n k v m same free) fresh was is h
-
 pub pair-fresh : (n new x w : Branch) (k : SimpleKey) (inner : List SimpleKey) (last : SimpleKey) (v : Read) (m : Mark) (r : Result (Unit {0}) Halt)
-    → child k.name n ≡ None → m ≡ dotted_mark k v → met (closed_marks (closed k.name n)) m k.name ≡ None → IsFresh x → SetsChild k.name w n new
+    → child k.name n ≡ None → m ≡ dotted_mark k v → met (closed_marks (closed k.name n)) m k.name ≡ None → IsFresh x → Sets (key k.name) (Some w, closed k.name n) n new
     → Passes x w r (through_pair k inner last v) (counts x) → Places n new r (pair_at (k ∷ inner) last v) (counts n)
-pair-fresh n new x w k inner last v m (Ok u) missing same free fresh sets h = pair-new n new x w k inner last v m missing same free fresh sets h
-pair-fresh n new x w k inner last v m (Err e) missing same free fresh sets h = pair-new-err n new x w k inner last v m (Err e) (Err e) e (counts n) missing same free fresh refl refl h
+unfolding pair_at
+pair-fresh n new x w k inner last v m r missing same free fresh sets h =
+    subst (Places n new r (pair_at (k ∷ inner) last v)) (graft-itself (key k.name) (counts n))
+    (places-new n new x w k.name r (λ f. through_pair k inner last v) (λ f. f) missing (unclosed (closed k.name n) m k.name free (ap (λ m. is_entry_sort m.sort) same)) fresh sets h)
 
 pub pair-beside : (n new : Branch) (k : SimpleKey) (inner : List SimpleKey) (last : SimpleKey) (v : Read) (m : Mark) (q : Result (Unit {0}) Halt) (e : Halt) (P : Unit {0} → Type 0) (d : Path → ℕ)
     → child k.name n ≡ None → m ≡ dotted_mark k v → q ≡ Err e → Gives (Err e) (met (closed_marks (closed k.name n)) m k.name) P → Places n new q (pair_at (k ∷ inner) last v) d

@@ -35,7 +35,7 @@ use Rattle.toml_span.specs.code.Marks.{first_by_header, deciding}
 use Rattle.toml_span.specs.code.Placing.{Becomes, BecomesEntry, EachBecomes, Finishes, NamesAscend, ShowsBelow, Table, Array, place_shown}
 use Rattle.toml_span.specs.Ordered.{IsOrdered, HoldsOrdered, AreOrdered}
 use Rattle.toml_span.specs.code.Tree.{is_named, marks, entries, child, item, closed, cells, cell_at, closed_cell, or_closed, or_nothing, plain, is_array_sort, is_entry_sort, NoArray, IsNamed, IsEntry, IsArray, IsTableOrArray, Sound}
-use Rattle.toml_span.proofs.Claimed.{sound-shape, sound-named, sound-entries, sound-ordered, sound-below, sound-inside}
+use Rattle.toml_span.proofs.Nodes.{good-child, good-entry, good-value, sound-good, sound-shape}
 use Rattle.toml_span.proofs.KeyMaps.{cases_ordering}
 use Rattle.toml_span.proofs.Ordered.{members-ordered}
 
@@ -259,7 +259,7 @@ finished tables left old new name none h = rw none at (h.stands name)
 
 -- a branch at a name, and its name among the values
 node-named : (n : Branch) → Sound n → (name : List ℕ) (c : Branch) → child name n ≡ Some c → (closed name n ≡ None) × IsNamed (marks c) × Sound c
-node-named n good name c is = let named = sound-named n good name c is in (named.0, named.1, sound-below n good name c is)
+node-named n good name c is = good-child n name c (sound-good n good (key name)) is
 
 -- a finished table shows below it what the branch's cells show
 finished-shows : (t : Table) (left : List (Key × Box Branch)) (n : Branch) → left ≡ [] → Filled (out-Branch n).tables.entries left (out-Branch n).values.entries t.entries → Sound n → entries n ≡ []
@@ -285,7 +285,7 @@ finished-ordered : (t : Table) (left : List (Key × Box Branch)) (n : Branch) �
     → HoldsOrdered (inner_view (table_inner t))
 finished-ordered t left n none h ascend good =
     rw (inner_view-Table t) (members-ordered t.entries ascend
-    (λ name e is. name-ordered _ _ _ e (finished _ _ _ _ name none h) (node-named n good name) (sound-ordered n good name) is))
+    (λ name e is. name-ordered _ _ _ e (finished _ _ _ _ name none h) (node-named n good name) (λ f is. good-value n name f (sound-good n good (key name)) is) is))
 
 -- where there are none
 pub filled-none : (tables : List (Key × Box Branch)) (values : List (Key × Value)) → tables ≡ [] → Filled tables [] values values
@@ -358,12 +358,12 @@ array-shows : (n : Branch) (a : Array) → EachBecomes (entries n) (Ok a) → So
 unfolding cell_at
 array-shows n a made good arr (key name) p = rw (inner_view-Array a, arr.no_tables, arr.no_values)
 array-shows n a made good arr (position i) p =
-    let shown = elements-show (entries n) a.items made (λ j c is. ((sound-entries n good j c is).1, sound-inside n good j c is)) i p in
+    let shown = elements-show (entries n) a.items made (λ j c is. let g = good-entry n j c (sound-good n good (position j)) is in (g.1, g.2)) i p in
     rw (inner_view-Array a) shown
 
 -- and so is the array
 array-ordered : (n : Branch) (a : Array) → EachBecomes (entries n) (Ok a) → Sound n → HoldsOrdered (inner_view (array_inner a))
-array-ordered n a made good = rw (inner_view-Array a) (elements-ordered (entries n) a.items made (sound-inside n good))
+array-ordered n a made good = rw (inner_view-Array a) (elements-ordered (entries n) a.items made (λ j c is. (good-entry n j c (sound-good n good (position j)) is).2))
 
 -- a branch with entries becomes an array
 pub became-array : (n : Branch) (a : Array) (spans : Span × Span) (v : Value) → IfSome (deciding (marks n)) (λ m. spans ≡ (m.key, m.extent)) → view v ≡ tree.node (inner_view (array_inner a)) spans.1

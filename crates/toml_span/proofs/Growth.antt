@@ -1,5 +1,5 @@
 -- What sections make, one after another.
-use Rattle.std.proofs.Common.{◌≡◌, ℕ, List, [], ◌∷◌, ◌++◌, map, length, false, Option, Some, None, Ok, Err, refl, sym, ap, subst, append_assoc, append-nil, ◌<◌, get_or, inr}
+use Rattle.std.proofs.Common.{◌≡◌, ℕ, List, [], ◌∷◌, ◌++◌, map, length, false, Option, Some, None, Ok, Err, refl, sym, subst, append_assoc, append-nil, ◌<◌, get_or, inr}
 use Rattle.std.specs.Prelude.{IfSome, IfNone, is_some}
 use Rattle.std.specs.BTreeMap.{BTreeMap}
 use Rattle.std.proofs.lemmas.Bool.{false≢true}

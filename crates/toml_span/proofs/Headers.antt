@@ -1,5 +1,5 @@
 -- A section is placed: its header part by part, and its assignments at the end.
-use Rattle.std.proofs.Common.{◌≡◌, ◌<◌, ◌≤◌, ◌-◌, Global, Vec, drop, get_or, map, take, take_all, ℕ, zero, suc, Bool, false, true, if◌then◌else◌, List, [], ◌∷◌, length, Option, Some, None, option_map, Result, Ok, Err, refl, sym, ap, ◌∙◌, subst, inl, inr, arith}
+use Rattle.std.proofs.Common.{◌≡◌, ◌<◌, ◌≤◌, ◌-◌, Global, Vec, drop, get_or, map, take, take_all, ℕ, zero, suc, Bool, false, true, if◌then◌else◌, List, [], ◌∷◌, length, Option, Some, None, Result, Err, refl, sym, ap, ◌∙◌, subst, inl, inr, arith}
 use Rattle.std.specs.Prelude.{vec_len, ◌==◌}
 use Rattle.std.specs.Vec.{with_item}
 use Rattle.std.proofs.Math.ListN.{length-set}
@@ -8,64 +8,33 @@ use Rattle.std.proofs.lemmas.Option.{none-some}
 use Rattle.toml_span_tree.specs.Path.{Path, key}
 use Rattle.toml_span_lex.specs.declared.key.Key.{Key}
 use Rattle.toml_span_read.specs.Keys.{SimpleKey, simple_key}
-use Rattle.toml_span.specs.declared.claims.Blame.{Blame}
-use Rattle.toml_span.specs.declared.claims.Blame.TheVariants as blames
 use Rattle.toml_span.specs.declared.claims.Halt.{Halt}
-use Rattle.toml_span.specs.declared.claims.Meeting.{Meeting}
 use Rattle.toml_span.specs.declared.claims.Mark.{Mark}
 use Rattle.toml_span.specs.declared.claims.Sort.{Sort}
-use Rattle.toml_span.specs.declared.claims.Sort.TheVariants.{ArrayOfTables, Assigned, Dotted, TableElement, Passed, StandardTable}
+use Rattle.toml_span.specs.declared.claims.Sort.TheVariants.{ArrayOfTables, Passed, StandardTable}
 use Rattle.toml_span.specs.declared.branch.Branch.{Branch}
 use Rattle.toml_span.specs.declared.branch.Branch.TheViews.{out-Branch, roll-Branch}
 use Rattle.toml_span.specs.declared.branch.Branch.TheOpen.{Branch-F}
 use Rattle.toml_span.specs.declared.claims.Head.{Head}
 use Rattle.toml_span.specs.Claims.{Claims, array_claims, claimed, header_mark, table_claim}
-use Rattle.toml_span.specs.Clashes.{NamedClash, blame, meeting, named, or_else}
+use Rattle.toml_span.specs.Clashes.{blame}
 use Rattle.toml_span.specs.code.Machine.{Gives, met}
-use Rattle.toml_span.specs.code.Marks.{partner, remember}
+use Rattle.toml_span.specs.code.Marks.{remember}
 use Rattle.toml_span.specs.code.Placing.{Opening, Opens, Passes, Places, Reaches}
 use Rattle.toml_span.specs.code.Relative.{adding, ending, entered, grown, grown_below, grown_here, grown_through, one_more, opening, part_sort, passing, section_at, through, under}
 use Rattle.toml_span.specs.code.Tree.{IsChild, IsFresh, IsHeld, IsNamed, IsOpen, IsScope, IsTableOrArray, NoArray, Sound, child, closed, closed_marks, counts, entries, is_array_sort, is_entry_sort, item, marks}
 use Rattle.toml_span.proofs.Absolute.{grown-through, section_at-through}
-use Rattle.toml_span.proofs.Claimed.{Marked, counts-marked, named-fresh, named-remember, reaches-claim-err, reaches-claimed, scope-marked, sound-shape}
+use Rattle.toml_span.proofs.Claimed.{Marked, counts-marked, named-fresh, named-remember, reaches-claim-err, reaches-claimed, scope-marked}
 use Rattle.toml_span.proofs.Entries.{PutsEntry, item-at, open-array, puts-set, reaches-entry}
 use Rattle.toml_span.proofs.Grafts.{fun_ext}
-use Rattle.toml_span.proofs.Nodes.{counts-here, counts-missing}
-use Rattle.toml_span.proofs.Placed.{SetsChild, gives-map, out-roll, places-beside, places-found, places-new, places-new-err, roll-out, unclosed}
+use Rattle.toml_span.proofs.Nodes.{Sets, counts-here, counts-missing, out-roll, roll-out, sound-shape}
+use Rattle.toml_span.proofs.Placed.{gives-map, met-first, named-clashes, not-array, places-beside, places-found, places-new, unclosed}
 
 length-none : {A : Type 0} (xs : List A) → length xs ≡ 0 → xs ≡ []
 length-none [] h = refl
 length-none (x ∷ xs) h = absurd (omega (arith, h))
 
 -- ---- what clashes
-
-free-first : (o : Option Blame) (f : Blame → Meeting) (g : Meeting → NamedClash) (p : Option Meeting) → option_map g (or_else (option_map f o) p) ≡ None → o ≡ None
-free-first None f g p h = refl
-free-first (Some b) f g p h = absurd (none-some (g (f b)) (sym h))
-
--- what clashes with none does not clash with the first one
-met-first : (x m : Mark) (ms : List Mark) (name : List ℕ) → met (x ∷ ms) m name ≡ None → blame x.sort m.sort ≡ None
-met-first x m ms name h = free-first (blame x.sort m.sort) (meeting x m) (named name) (partner ms m) h
-
--- a section claims no array
-section-table : (n : Branch) (m : Mark) (name : List ℕ) → m.sort ≡ StandardTable → Sound n → met (marks n) m name ≡ None → entries n ≡ []
-section-table n m name is h free = go (entries n) (sound-shape n h)
-  where
-    go : (xs : List Branch) → IsTableOrArray n xs → xs ≡ []
-    go [] shape = refl
-    go (x ∷ xs) array =
-        let known : met (array.claim ∷ []) m name ≡ None = ap (λ l. met l m name) (sym array.only) ∙ free in
-        let clash : blame ArrayOfTables StandardTable ≡ None = ap (λ s. blame s StandardTable) (sym array.array) ∙ ap (blame array.claim.sort) (sym is) ∙ met-first array.claim m [] name known in
-        absurd (none-some blames.DuplicateTable (sym clash))
-
--- every claim on a table at a name clashes with that of an array
-table-clashes : (s : Sort) → is_array_sort s ≡ false → is_entry_sort s ≡ false → blame s ArrayOfTables ≡ None → ⊥
-table-clashes Passed array entry h = none-some blames.RedefineAsArray (sym h)
-table-clashes StandardTable array entry h = none-some blames.DuplicateTable (sym h)
-table-clashes ArrayOfTables array entry h = true≢false array
-table-clashes TableElement array entry h = true≢false entry
-table-clashes Dotted array entry h = none-some blames.DuplicateKey (sym h)
-table-clashes Assigned array entry h = none-some blames.DuplicateKey (sym h)
 
 -- so what is claimed as an array is fresh
 array-fresh : (n : Branch) (m : Mark) (name : List ℕ) → m.sort ≡ ArrayOfTables → entries n ≡ [] → IsChild n → met (marks n) m name ≡ None → IsFresh n
@@ -77,7 +46,7 @@ array-fresh n m name is none h free =
   where
     go : (ms : List Mark) → IsNamed ms → NoArray ms → met ms m name ≡ None → ⊥
     go [] claims tables free = claims
-    go (x ∷ ms) claims tables free = table-clashes x.sort tables.0 claims.0 (ap (blame x.sort) (sym is) ∙ met-first x m ms name free)
+    go (x ∷ ms) claims tables free = (named-clashes x.sort claims.0).2 tables.0 (ap (blame x.sort) (sym is) ∙ met-first x m ms name free)
 
 -- ---- a table is claimed, and assignments are placed below it
 
@@ -94,7 +63,7 @@ opened A k m old mid new r cs d free h scope placed =
 opens-scope : (sort : Sort) (n : Branch) (m : Mark) (name : List ℕ) → m.sort ≡ sort → Opens sort n → met (marks n) m name ≡ None → IsScope n
 opens-scope sort n m name is h free =
     elim h.1 [
-      | inl section ↦ (h.0, section-table n m name (is ∙ section) h.0 free)
+      | inl section ↦ (h.0, not-array n m name (λ none. absurd (none-some _ (sym none ∙ ap (blame ArrayOfTables) (is ∙ section)))) free h.0)
       | inr entry ↦ (h.0, entry.1)
     ]
 
@@ -252,12 +221,12 @@ module _ (h : Head) (k : SimpleKey) where
         → child k.name n ≡ None → q ≡ Err e → Gives (Err e) (met (closed_marks (closed k.name n)) (header_mark h (part_sort h rest) k.span) k.name) P
         → Places n new q (section_at (counts n) h (k ∷ rest) tail) d
     section-beside rest n new q e P d missing same clash =
-        subst (λ l. Places n new q l d) (sym (section_at-through (counts n) h k rest tail ∙ ap (under (key k.name)) (through-first rest (λ p. counts n (key k.name ∷ p)) (ap (λ f. f []) (counts-missing n k.name missing)))))
+        subst (λ l. Places n new q l d) (sym (section_at-through (counts n) h k rest tail ∙ ap (under (key k.name)) (through-first rest (λ p. counts n (key k.name ∷ p)) (ap (λ f. f []) (counts-missing n (key k.name) missing)))))
         (places-beside n new k.name q e (table_claim [] k (header_mark h (part_sort h rest) k.span)) (behind_first (λ p. counts n (key k.name ∷ p)) rest) P d missing refl same clash)
 
     -- where nothing clashes no value stands there
     pub section-free : (rest : List SimpleKey) (n : Branch) → met (closed_marks (closed k.name n)) (header_mark h (part_sort h rest) k.span) k.name ≡ None → closed k.name n ≡ None
-    section-free rest n free = unclosed (closed k.name n) (header_mark h (part_sort h rest) k.span) k.name free (named rest, tt)
+    section-free rest n free = unclosed (closed k.name n) (header_mark h (part_sort h rest) k.span) k.name free (named rest)
       where
         ends : (b : Bool) → is_entry_sort (if b then ArrayOfTables else StandardTable) ≡ false
         ends true = refl
@@ -267,30 +236,18 @@ module _ (h : Head) (k : SimpleKey) where
         named [] = ends h.array
         named (l ∷ more) = refl
 
-    pub section-found : (rest : List SimpleKey) (n new x w : Branch) (r : Result (Unit {0}) Halt) → child k.name n ≡ Some x → SetsChild k.name w n new
+    pub section-found : (rest : List SimpleKey) (n new x w : Branch) (r : Result (Unit {0}) Halt) → child k.name n ≡ Some x → Sets (key k.name) (Some w, closed k.name n) n new
         → Passes x w r (through (counts x) h k rest tail) (grown_through (counts x) h rest)
         → Places n new r (section_at (counts n) h (k ∷ rest) tail) (grown (counts n) h (k ∷ rest))
     section-found rest n new x w r found sets placed =
         rw (section_at-through, grown-through) (places-found n new x w k.name r (λ f. through f h k rest tail) (λ f. grown_through f h rest) found sets placed)
 
-    section-new : (rest : List SimpleKey) (n new x w : Branch) → child k.name n ≡ None → closed k.name n ≡ None → IsFresh x → SetsChild k.name w n new
-        → Passes x w (Ok tt) (through (counts x) h k rest tail) (grown_through (counts x) h rest)
-        → Places n new (Ok tt) (section_at (counts n) h (k ∷ rest) tail) (grown (counts n) h (k ∷ rest))
-    section-new rest n new x w missing free fresh sets placed =
-        rw (section_at-through, grown-through)
-        (places-new n new x w k.name (λ f. through f h k rest tail) (λ f. grown_through f h rest) missing free fresh sets placed)
-
-    section-new-err : (rest : List SimpleKey) (n new x w : Branch) (r q : Result (Unit {0}) Halt) (e : Halt) (d : Path → ℕ) → child k.name n ≡ None → closed k.name n ≡ None → IsFresh x
-        → r ≡ Err e → q ≡ Err e → Passes x w r (through (counts x) h k rest tail) (grown_through (counts x) h rest)
-        → Places n new q (section_at (counts n) h (k ∷ rest) tail) d
-    section-new-err rest n new x w r q e d missing free fresh is same placed =
-        rw section_at-through (places-new-err n new x w k.name r q e (λ f. through f h k rest tail) (grown_through (counts x) h rest) d missing free fresh is same placed)
-
-    pub section-fresh : (rest : List SimpleKey) (n new x w : Branch) (r : Result (Unit {0}) Halt) → child k.name n ≡ None → closed k.name n ≡ None → IsFresh x → SetsChild k.name w n new
+    pub section-fresh : (rest : List SimpleKey) (n new x w : Branch) (r : Result (Unit {0}) Halt) → child k.name n ≡ None → closed k.name n ≡ None → IsFresh x → Sets (key k.name) (Some w, closed k.name n) n new
         → Passes x w r (through (counts x) h k rest tail) (grown_through (counts x) h rest)
         → Places n new r (section_at (counts n) h (k ∷ rest) tail) (grown (counts n) h (k ∷ rest))
-    section-fresh rest n new x w (Ok u) missing free fresh sets placed = section-new rest n new x w missing free fresh sets placed
-    section-fresh rest n new x w (Err e) missing free fresh sets placed = section-new-err rest n new x w (Err e) (Err e) e (grown (counts n) h (k ∷ rest)) missing free fresh refl refl placed
+    section-fresh rest n new x w r missing free fresh sets placed =
+        rw (section_at-through, grown-through)
+        (places-new n new x w k.name r (λ f. through f h k rest tail) (λ f. grown_through f h rest) missing free fresh sets placed)
 
 -- ---- lists of the code
 

@@ -3,7 +3,7 @@ use Rattle.std.proofs.lemmas.List.{nil_from_length}
 use Rattle.toml_span.specs.declared.branch.Branch.{Branch}
 use Rattle.toml_span.specs.declared.branch.Branch.TheOpen.{Branch-F}
 use Rattle.toml_span.specs.declared.branch.Branch.TheViews.{out-Branch, roll-Branch}
-use Rattle.toml_span.proofs.Placed.{out-roll}
+use Rattle.toml_span.proofs.Nodes.{out-roll}
 use Rattle.toml_span.proofs.BorrowLemmas.{box_first, entry_first, element_push, insert_title, of_node, made_table, made_array}
 use Rattle.toml_span.proofs.Finishing.{no_entries, some_entries, never-empty, entries-more, filled-more, filled-none, filled-finishes, became-table, became-array}
 use Rattle.toml_span.proofs.branch.+finish.Goals as goal

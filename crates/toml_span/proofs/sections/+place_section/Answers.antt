@@ -13,7 +13,7 @@ use Rattle.toml_span.specs.declared.branch.Branch.TheViews.{out-Branch}
 use Rattle.toml_span.specs.Claims.{key_value_claims, header_mark}
 use Rattle.toml_span.specs.code.Tree.{entries}
 use Rattle.toml_span.proofs.Claimed.{marked-roll}
-use Rattle.toml_span.proofs.Placed.{roll-out}
+use Rattle.toml_span.proofs.Nodes.{roll-out}
 use Rattle.toml_span.proofs.Headers.{descended, descended-err, no-latest, parts-below, parts-front, parts-none, parts-some, pass-again, pass-end, pass-lent, pass-vec, section-beside, section-end, section-found, section-free, section-fresh}
 use Rattle.toml_span.proofs.Borrowing.{front_from, keeps_entered, keeps_entry, keeps_marked, keeps_new, keeps_same}
 use Rattle.toml_span.proofs.Placed.{err-of, sets-new}
