@@ -28,11 +28,6 @@ use Rattle.toml_span.proofs.Grafts.{told-followed, put_all-followed}
 use Rattle.toml_span.proofs.Nodes.{cells-fresh, scope-fresh}
 use Rattle.toml_span.proofs.Shown.{put_all-shown, shown-plain, key_values-no_header}
 
--- no item is left
-pub none-left : {A : Type 0} (xs : List A) (n : ℕ) → n ≡ length xs → n ≡ 0 → xs ≡ []
-none-left [] n is none = refl
-none-left (x ∷ xs) n is none = absurd (omega (arith, is, none))
-
 -- ---- one assignment
 
 -- the value's span

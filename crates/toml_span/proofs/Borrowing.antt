@@ -211,20 +211,8 @@ module _ (text : List ℕ) (ps : List SimpleKey) where
       let made : inner_held (inners.String s) v.span ≡ (true, string_standing s v.span ∷ []) = search (rules, tree_lemmas) in
       from_held x (true, string_standing s v.span ∷ []) (held_by x i (inners.String s) v.span kept is ∙ made) (right.0, tt)
 
-  plain_right : (x : Value) (i inner : ValueInner) (span : Span) → (x.value ≡ Some i) × (x.span ≡ span) → i ≡ inner → inner_held inner span ≡ (true, []) → AreBorrowedRight text ps (value_standing x)
+  pub plain_right : (x : Value) (i inner : ValueInner) (span : Span) → (x.value ≡ Some i) × (x.span ≡ span) → i ≡ inner → inner_held inner span ≡ (true, []) → AreBorrowedRight text ps (value_standing x)
   plain_right x i inner span kept is made = from_held x (true, []) (held_by x i inner span kept is ∙ made) tt
-
-  pub integer_right : (x : Value) (i : ValueInner) (n : ℤ) (span : Span) → (x.value ≡ Some i) × (x.span ≡ span) → i ≡ inners.Integer n → AreBorrowedRight text ps (value_standing x)
-  integer_right x i n span kept is = plain_right x i (inners.Integer n) span kept is (search (rules, tree_lemmas))
-
-  pub float_right : (x : Value) (i : ValueInner) (f : FloatText) (span : Span) → (x.value ≡ Some i) × (x.span ≡ span) → i ≡ inners.Float f → AreBorrowedRight text ps (value_standing x)
-  float_right x i f span kept is = plain_right x i (inners.Float f) span kept is (search (rules, tree_lemmas))
-
-  pub boolean_right : (x : Value) (i : ValueInner) (b : Bool) (span : Span) → (x.value ≡ Some i) × (x.span ≡ span) → i ≡ inners.Boolean b → AreBorrowedRight text ps (value_standing x)
-  boolean_right x i b span kept is = plain_right x i (inners.Boolean b) span kept is (search (rules, tree_lemmas))
-
-  pub datetime_right : (x : Value) (i : ValueInner) (d : DateText) (span : Span) → (x.value ≡ Some i) × (x.span ≡ span) → i ≡ inners.Datetime d → AreBorrowedRight text ps (value_standing x)
-  datetime_right x i d span kept is = plain_right x i (inners.Datetime d) span kept is (search (rules, tree_lemmas))
 
   pub array_from : (v : Val) (vs : Vec Val Global) → v.kind ≡ kinds.Array vs → AreFrom text ps (written v) → AreFrom text ps (joined (map written vs.items))
   array_from v vs kind h =

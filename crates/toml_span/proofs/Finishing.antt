@@ -341,13 +341,6 @@ elements-ordered [] (v ∷ vs) made good = absurd made
 elements-ordered (n ∷ ns) [] made good = absurd made
 elements-ordered (n ∷ ns) (v ∷ vs) made good = ((made.0.1 (good 0 n refl)).2, elements-ordered ns vs made.1 (λ i c is. good (suc i) c is))
 
--- whether there are entries
-pub no_entries : (n : Branch) → true ≡ (vec_len (out-Branch n).entries == 0) → entries n ≡ []
-no_entries n h = let v = (out-Branch n).entries in nil_from_length v.items (omega (arith, v.ok.0, eqb-true (vec_len v) 0 (sym h)))
-
-pub some_entries : (n : Branch) → false ≡ (vec_len (out-Branch n).entries == 0) → entries n ≡ [] → ⊥
-some_entries n h none = let v = (out-Branch n).entries in eqb-false (vec_len v) 0 (sym h) (omega (arith, v.ok.0, ap length none))
-
 -- a sound branch with entries is an array of tables
 array-of : (n : Branch) (ns : List Branch) → entries n ≡ ns → (ns ≡ [] → ⊥) → IsTableOrArray n ns → IsArray n
 array-of n [] is some h = absurd (some refl)

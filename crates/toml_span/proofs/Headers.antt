@@ -4,6 +4,7 @@ use Rattle.std.specs.Prelude.{vec_len, ◌==◌}
 use Rattle.std.specs.Vec.{with_item}
 use Rattle.std.proofs.Math.ListN.{length-set}
 use Rattle.std.proofs.lemmas.Bool.{eqb-false, eqb-true, true≢false}
+use Rattle.std.proofs.lemmas.List.{nil_from_length}
 use Rattle.std.proofs.lemmas.Option.{none-some}
 use Rattle.toml_span_tree.specs.Path.{Path, key}
 use Rattle.toml_span_lex.specs.declared.key.Key.{Key}
@@ -29,10 +30,6 @@ use Rattle.toml_span.proofs.Entries.{PutsEntry, item-at, open-array, puts-set, r
 use Rattle.toml_span.proofs.Grafts.{fun_ext}
 use Rattle.toml_span.proofs.Nodes.{Sets, counts-here, counts-missing, out-roll, roll-out, sound-shape}
 use Rattle.toml_span.proofs.Placed.{gives-map, met-first, named-clashes, not-array, places-beside, places-found, places-new, unclosed}
-
-length-none : {A : Type 0} (xs : List A) → length xs ≡ 0 → xs ≡ []
-length-none [] h = refl
-length-none (x ∷ xs) h = absurd (omega (arith, h))
 
 -- ---- what clashes
 
@@ -163,7 +160,7 @@ module _ (h : Head) (k : SimpleKey) where
         opens (x ∷ xs) is sure = open-array old 0 x (ap (item 0) is) sure
 
         counts-some : (n : Branch) → (entries n ≡ [] → ⊥) → counts n [] ≡ 0 → ⊥
-        counts-some n some zeros = some (length-none (entries n) (sym (counts-here n) ∙ zeros))
+        counts-some n some zeros = some (nil_from_length (entries n) (sym (counts-here n) ∙ zeros))
 
     -- ---- the inner parts of a header
 
@@ -251,14 +248,8 @@ module _ (h : Head) (k : SimpleKey) where
 
 -- ---- lists of the code
 
-pub no-entries : (n : Branch) → (vec_len (out-Branch n).entries == 0) ≡ true → entries n ≡ []
-no-entries n h = length-none (entries n) (omega (arith, eqb-true (vec_len (out-Branch n).entries) 0 h, (out-Branch n).entries.ok.0))
-
-pub some-entries : (n : Branch) → (vec_len (out-Branch n).entries == 0) ≡ false → entries n ≡ [] → ⊥
-some-entries n h none = eqb-false (vec_len (out-Branch n).entries) 0 h (omega (arith, ap length none, (out-Branch n).entries.ok.0))
-
 pub no-latest : (n : Branch) → (0 < vec_len (out-Branch n).entries → ⊥) → entries n ≡ []
-no-latest n none = length-none (entries n) (grind (arith, (out-Branch n).entries.ok.0, none))
+no-latest n none = nil_from_length (entries n) (grind (arith, (out-Branch n).entries.ok.0, none))
 
 pub parts-none : (xs : List Key) → (length xs == 0) ≡ true → map simple_key xs ≡ []
 parts-none [] h = refl

@@ -1,8 +1,10 @@
 -- What stands at a step of a branch: what the branch keeps there, and what always holds of it.
-use Rattle.std.proofs.Common.{rules, ◌≡◌, ℕ, Bool, true, false, cond, List, [], ◌∷◌, length, Option, Some, None, option_map, refl, sym, ap, ◌∙◌, subst}
-use Rattle.std.specs.Prelude.{⊤}
+use Rattle.std.proofs.Common.{rules, ◌≡◌, ℕ, Bool, true, false, cond, List, [], ◌∷◌, length, Option, Some, None, option_map, refl, sym, ap, ◌∙◌, subst, arith}
+use Rattle.std.specs.Prelude.{⊤, vec_len, ◌==◌}
 use Rattle.std.specs.Box.{box_value}
 use Rattle.std.specs.Map.{lookup, lookup_entry}
+use Rattle.std.proofs.lemmas.Bool.{eqb-false, eqb-true}
+use Rattle.std.proofs.lemmas.List.{nil_from_length}
 use Rattle.std.proofs.lemmas.Option.{none-some}
 use Rattle.toml_span_lex.specs.declared.key.Key.{Key}
 use Rattle.toml_span_tree.specs.Path.{Path, Step, key, position}
@@ -78,6 +80,13 @@ counts-missing n s h = counts-slot n s (None, (slot s n).1) (λ i. (h i, (slot s
 pub counts-here : (n : Branch) → counts n [] ≡ length (entries n)
 unfolding count_at
 counts-here n = refl
+
+-- whether there are entries
+pub no-entries : (n : Branch) → (vec_len (out-Branch n).entries == 0) ≡ true → entries n ≡ []
+no-entries n h = nil_from_length (entries n) (omega (arith, eqb-true (vec_len (out-Branch n).entries) 0 h, (out-Branch n).entries.ok.0))
+
+pub some-entries : (n : Branch) → (vec_len (out-Branch n).entries == 0) ≡ false → entries n ≡ [] → ⊥
+some-entries n h none = eqb-false (vec_len (out-Branch n).entries) 0 h (omega (arith, ap length none, (out-Branch n).entries.ok.0))
 
 -- ---- what always holds
 

@@ -13,7 +13,8 @@ use Rattle.toml_span.specs.Claims.{claims}
 use Rattle.toml_span.specs.Flat.{flat, Shows}
 use Rattle.toml_span.specs.Ordered.{HasOneEach, ItemsHaveOneEach, MembersHaveOneEach}
 use Rattle.toml_span.proofs.EachClaim.{flat-decides}
-use Rattle.toml_span.proofs.Grafts.{same_step-eq, same_step-self}
+use Rattle.toml_span.proofs.Grafts.{same_step-self}
+use Rattle.toml_span.proofs.Ordered.{same-name}
 use Rattle.toml_span.proofs.WholeTree.{is_held, IsHeldAt, claims-held}
 
 -- ---- what no path finds taken is whole
@@ -33,18 +34,11 @@ reached-key (s ∷ p) at n = refl
 abbrev IsFilled : Node → Type 0
 IsFilled n = (p : Path) (m : Node) → node_at p n ≡ Some m → is_taken m ≡ false
 
-same-key : (a b : List ℕ) → bytes_eq a b ≡ true → a ≡ b
-same-key a b h = ap name (same_step-eq (key a) (key b) h)
-  where
-    name : Step → List ℕ
-    name (key k) = k
-    name (position i) = []
-
 -- the other entries
 rest-filled : (name : List ℕ) (at : Span) (n : Node) (ms : Members) → entry_at name ms ≡ None → ((k : List ℕ) → IsFilledBelow (entry_at k (member name at n ms)))
     → (k : List ℕ) → IsFilledBelow (entry_at k ms)
 rest-filled name at n ms once h k p m is = elim (cases_Bool (bytes_eq k name)) [
-  | inl same ↦ absurd (none-some m (sym (ap (λ j. option_map (λ r. r.1) (option_and_then (reached p) (entry_at j ms))) (same-key k name same) ∙ ap (λ o. option_map (λ r. r.1) (option_and_then (reached p) o)) once) ∙ is))
+  | inl same ↦ absurd (none-some m (sym (ap (λ j. option_map (λ r. r.1) (option_and_then (reached p) (entry_at j ms))) (same-name k name same) ∙ ap (λ o. option_map (λ r. r.1) (option_and_then (reached p) o)) once) ∙ is))
   | inr off ↦ h k p m (ap (λ b. option_map (λ r. r.1) (option_and_then (reached p) (cond b (Some (Some at, n)) (entry_at k ms)))) off ∙ is)
 ]
 

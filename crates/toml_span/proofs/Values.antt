@@ -19,7 +19,7 @@ use Rattle.toml_span_tree.proofs.Values.{inner_view-Array, inner_view-Table}
 use Rattle.toml_span_read.specs.Data.{ParsedValue as Read, parsed, ParsedInner, scalar, array, inline, ParsedItems, no_items, item, no_pairs, onto, pairs_onto, view as view_read, kind_view, key_value}
 use Rattle.toml_span_read.specs.declared.value.Assignment.{Assignment}
 use Rattle.toml_span_read.specs.declared.value.Val.{Val}
-use Rattle.toml_span_read.specs.declared.value.ValKind.{the_lemmas as read_lemmas}
+use Rattle.toml_span_read.specs.declared.value.ValKind.{ValKind}
 use Rattle.toml_span_read.specs.declared.value.ValKind.TheVariants as kinds
 use Rattle.toml_span_read.proofs.Views.{view_is, kind_view-Array, kind_view-Inline}
 use Rattle.toml_span.specs.declared.claims.Halt.{Halt}
@@ -295,45 +295,11 @@ scalar-shows : (x : Scalar) → ShowsPlain (tree.scalar x) nothing
 scalar-shows x (key k) p = refl
 scalar-shows x (position i) p = refl
 
-scalar-gives : (v : Val) (inner : ValueInner) (x : Value) (s : Scalar) → kind_view v.kind ≡ scalar s → inner_view inner ≡ tree.scalar s → view x ≡ tree.node (inner_view inner) v.span
+pub scalar-gives : (v : Val) (inner i : ValueInner) (kind : ValKind) (x : Value) (s : Scalar) → v.kind ≡ kind → inner ≡ i → kind_view kind ≡ scalar s → inner_view i ≡ tree.scalar s → view x ≡ tree.node (inner_view inner) v.span
     → ValueGives (Ok x) (view_read v)
 unfolding clash_met show_all inner_claims
-scalar-gives v inner x s kind is seen = value-gives v (scalar s) (tree.scalar s) x kind (seen ∙ ap (λ i. tree.node i v.span) is) refl refl (scalar-shows s) tt
-
-pub string-gives : (v : Val) (inner : ValueInner) (x : Value) (s : CowStr Global) → v.kind ≡ kinds.String s → inner ≡ inners.String s → view x ≡ tree.node (inner_view inner) v.span
-    → ValueGives (Ok x) (view_read v)
-string-gives v inner x s kind is seen =
-    let read : kind_view (kinds.String s) ≡ scalar (text (cow_str_bytes s)) = search (rules, read_lemmas) in
-    let made : inner_view (inners.String s) ≡ tree.scalar (text (cow_str_bytes s)) = search (rules, tree_lemmas) in
-    scalar-gives v inner x (text (cow_str_bytes s)) (ap kind_view kind ∙ read) (ap inner_view is ∙ made) seen
-
-pub integer-gives : (v : Val) (inner : ValueInner) (x : Value) (n : ℤ) → v.kind ≡ kinds.Integer n → inner ≡ inners.Integer n → view x ≡ tree.node (inner_view inner) v.span
-    → ValueGives (Ok x) (view_read v)
-integer-gives v inner x n kind is seen =
-    let read : kind_view (kinds.Integer n) ≡ scalar (integer n) = search (rules, read_lemmas) in
-    let made : inner_view (inners.Integer n) ≡ tree.scalar (integer n) = search (rules, tree_lemmas) in
-    scalar-gives v inner x (integer n) (ap kind_view kind ∙ read) (ap inner_view is ∙ made) seen
-
-pub float-gives : (v : Val) (inner : ValueInner) (x : Value) (f : FloatText) → v.kind ≡ kinds.Float f → inner ≡ inners.Float f → view x ≡ tree.node (inner_view inner) v.span
-    → ValueGives (Ok x) (view_read v)
-float-gives v inner x f kind is seen =
-    let read : kind_view (kinds.Float f) ≡ scalar (float (float_value f)) = search (rules, read_lemmas) in
-    let made : inner_view (inners.Float f) ≡ tree.scalar (float (float_value f)) = search (rules, tree_lemmas) in
-    scalar-gives v inner x (float (float_value f)) (ap kind_view kind ∙ read) (ap inner_view is ∙ made) seen
-
-pub boolean-gives : (v : Val) (inner : ValueInner) (x : Value) (b : Bool) → v.kind ≡ kinds.Boolean b → inner ≡ inners.Boolean b → view x ≡ tree.node (inner_view inner) v.span
-    → ValueGives (Ok x) (view_read v)
-boolean-gives v inner x b kind is seen =
-    let read : kind_view (kinds.Boolean b) ≡ scalar (boolean b) = search (rules, read_lemmas) in
-    let made : inner_view (inners.Boolean b) ≡ tree.scalar (boolean b) = search (rules, tree_lemmas) in
-    scalar-gives v inner x (boolean b) (ap kind_view kind ∙ read) (ap inner_view is ∙ made) seen
-
-pub datetime-gives : (v : Val) (inner : ValueInner) (x : Value) (d : DateText) → v.kind ≡ kinds.Datetime d → inner ≡ inners.Datetime d → view x ≡ tree.node (inner_view inner) v.span
-    → ValueGives (Ok x) (view_read v)
-datetime-gives v inner x d kind is seen =
-    let read : kind_view (kinds.Datetime d) ≡ scalar (datetime (date_bytes d)) = search (rules, read_lemmas) in
-    let made : inner_view (inners.Datetime d) ≡ tree.scalar (datetime (date_bytes d)) = search (rules, tree_lemmas) in
-    scalar-gives v inner x (datetime (date_bytes d)) (ap kind_view kind ∙ read) (ap inner_view is ∙ made) seen
+scalar-gives v inner i kind x s is made read seen shown =
+    value-gives v (scalar s) (tree.scalar s) x (ap kind_view is ∙ read) (shown ∙ ap (λ i. tree.node (inner_view i) v.span) made ∙ ap (λ i. tree.node i v.span) seen) refl refl (scalar-shows s) tt
 
 -- what is claimed in a scope that is all there is
 scope-told : (cs : Claims) → clash_met nothing (scope cs no_claims) ≡ clash_met nothing cs
