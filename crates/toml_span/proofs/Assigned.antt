@@ -3,7 +3,6 @@ use Rattle.std.proofs.Common.{◌≡◌, ℕ, cond, List, [], ◌∷◌, Option,
 use Rattle.std.specs.BTreeMap.{insert_entry}
 use Rattle.std.specs.Map.{lookup_entry}
 use Rattle.std.specs.Str.{bytes_eq}
-use Rattle.std.proofs.lemmas.Map.Text.{is_eq-slice_cmp}
 use Rattle.toml_span_read.proofs.EarlierTree.{key_cmp}
 use Rattle.std.proofs.lemmas.Option.{none-some}
 use Rattle.toml_span_lex.specs.declared.key.Key.{Key}
@@ -146,9 +145,7 @@ pub sets-value : (n : Branch) (b : Branch-F Branch) (k : Key) (x : Value) → cl
 sets-value n b k x free claims added tables written = sets-roll (key (simple_key k).name) (child (simple_key k).name n, Some (k, x)) n b claims at
   where
     closed_now : (name : List ℕ) → closed_in name b.values ≡ cond (bytes_eq (simple_key k).name name) (Some (k, x)) (closed name n)
-    closed_now name =
-        ap (lookup_entry (is_named name)) written ∙ holds-insert k x (out-Branch n).values.entries free name
-        ∙ ap (λ c. cond c (Some (k, x)) (closed name n)) (is_eq-slice_cmp (simple_key k).name name)
+    closed_now name = ap (lookup_entry (is_named name)) written ∙ holds-insert k x (out-Branch n).values.entries free name
 
     at : (t : Step) → slot_in t b ≡ cond (same_step (key (simple_key k).name) t) (child (simple_key k).name n, Some (k, x)) (slot t n)
     at (key name) =

@@ -1,5 +1,5 @@
 -- Assignments placed one after another, and inline tables.
-use Rattle.std.proofs.Common.{◌≡◌, ℕ, List, [], ◌∷◌, ◌==◌, true, map, length, vec_len, Option, Some, None, option_map, Result, Ok, Err, BTreeMap, refl, sym, ap, ◌∙◌, subst, arith}
+use Rattle.std.proofs.Common.{◌≡◌, List, [], ◌∷◌, ◌==◌, true, map, vec_len, Option, Some, None, option_map, Result, Ok, Err, BTreeMap, refl, sym, ap, ◌∙◌, subst, arith}
 use Rattle.std.proofs.lemmas.Bool.{eqb-true}
 use Rattle.std.proofs.lemmas.List.{nil_from_length}
 use Rattle.toml_span_lex.specs.declared.key.Key.{Key}

@@ -1,5 +1,5 @@
 -- What is placed into the tree borrows as it was read.
-use Rattle.std.proofs.Common.{◌≡◌, ℕ, ◌-◌, ◌<◌, ◌≤◌, Bool, true, false, List, [], ◌∷◌, ◌++◌, map, length, take, drop, set, zero, ℤ, get_or, take_all, suc, Some, None, Result, Ok, Err, inl, inr, refl, sym, ap, ◌∙◌, subst, rules, arith, Global, Vec, BTreeMap, OnOk}
+use Rattle.std.proofs.Common.{◌≡◌, ℕ, ◌-◌, ◌<◌, ◌≤◌, Bool, true, false, List, [], ◌∷◌, ◌++◌, map, length, take, drop, set, zero, get_or, take_all, suc, Some, None, Result, Ok, Err, inl, inr, refl, sym, ap, ◌∙◌, subst, rules, arith, Global, Vec, BTreeMap, OnOk}
 use Rattle.std.specs.Prelude.{IfOk}
 use Rattle.std.specs.BTreeMap.{insert_entry}
 use Rattle.std.specs.Box.{box_value}
@@ -10,8 +10,6 @@ use Rattle.std.specs.Result.{IsErrAnd}
 use Rattle.std.specs.declared.borrow.CowStr.{CowStr}
 use Rattle.toml_span_lex.specs.declared.key.Key.{Key}
 use Rattle.toml_span_lex.specs.declared.span.Span.{Span}
-use Rattle.toml_span_tree.specs.declared.date.DateText.{DateText}
-use Rattle.toml_span_tree.specs.declared.float.FloatText.{FloatText}
 use Rattle.toml_span_tree.specs.declared.value.Value.{Value}
 use Rattle.toml_span_tree.specs.declared.value.ValueInner.{ValueInner, the_lemmas as tree_lemmas}
 use Rattle.toml_span_tree.specs.declared.value.ValueInner.TheVariants as inners

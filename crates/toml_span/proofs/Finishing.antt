@@ -1,5 +1,5 @@
 -- What the branches have become.
-use Rattle.std.proofs.Common.{◌≡◌, ℕ, zero, suc, List, [], ◌∷◌, ◌++◌, Option, Some, None, option_map, option_and_then, true, false, cond, Ok, Less, is_eq, nat_cmp, inl, inr, refl, sym, ap, subst, ◌∙◌, ◌==◌, append_assoc, arith, length, vec_len}
+use Rattle.std.proofs.Common.{◌≡◌, ℕ, zero, suc, List, [], ◌∷◌, ◌++◌, Option, Some, None, option_map, option_and_then, false, cond, Ok, Less, is_eq, nat_cmp, inl, inr, refl, sym, ap, subst, ◌∙◌, append_assoc}
 use Rattle.std.specs.Prelude.{IfSome}
 use Rattle.std.specs.BTreeMap.{BTreeMap, insert_entry}
 use Rattle.std.specs.Box.{box_value}
@@ -9,8 +9,7 @@ use Rattle.std.specs.Global.{Box}
 use Rattle.std.specs.List.{AllZip, AllByRecursion}
 use Rattle.std.specs.List.Sorted.{IsStrictlySortedBy}
 use Rattle.std.specs.Map.{keys_of, lookup, lookup_entry}
-use Rattle.std.proofs.lemmas.Bool.{cases_Bool, eqb-false, eqb-true, false≢true}
-use Rattle.std.proofs.lemmas.List.{nil_from_length}
+use Rattle.std.proofs.lemmas.Bool.{cases_Bool, false≢true}
 use Rattle.std.proofs.lemmas.Map.Keys.{sorted_head, sorted_tail}
 use Rattle.std.proofs.lemmas.Option.{none-some, same_Some}
 use Rattle.toml_span_lex.specs.declared.key.Key.{Key}
@@ -36,7 +35,7 @@ use Rattle.toml_span.specs.code.Placing.{Becomes, BecomesEntry, EachBecomes, Fin
 use Rattle.toml_span.specs.Ordered.{IsOrdered, HoldsOrdered, AreOrdered}
 use Rattle.toml_span.specs.code.Tree.{is_named, marks, entries, child, item, closed, cells, cell_at, closed_cell, or_closed, or_nothing, plain, is_array_sort, is_entry_sort, NoArray, IsNamed, IsEntry, IsArray, IsTableOrArray, Sound}
 use Rattle.toml_span.proofs.Nodes.{good-child, good-entry, good-value, sound-good, sound-shape}
-use Rattle.toml_span.proofs.KeyMaps.{cases_ordering}
+use Rattle.toml_span.proofs.KeyMaps.{found-insert}
 use Rattle.toml_span.proofs.Ordered.{members-ordered}
 
 -- ---- values and branches by name
@@ -64,40 +63,6 @@ pub record EntriesFilled (all left : List Branch) (made : List Value) : Type 0 w
 
 -- ---- one more is finished
 
--- a value put under a name that is missing stands there
-entry-put : (name : List ℕ) (k : Key) (v : Value) (es : List (Key × Value)) → is_named name k ≡ true → lookup_entry (is_named name) es ≡ None
-    → lookup_entry (is_named name) (insert_entry key_cmp es k v) ≡ Some (k, v)
-entry-put name k v [] here none = rw here
-entry-put name k v (e ∷ es) here none =
-    elim (cases_Bool (is_named name e.0)) [
-      | inl there ↦ absurd (none-some e (sym none ∙ rw there))
-      | inr apart ↦ elim (cases_ordering (key_cmp k e.0)) [
-        | inl less ↦ rw (less, here)
-        | inr other ↦ elim other [
-          | inl tie ↦
-              let same : cow_str_bytes k.name ≡ cow_str_bytes e.0.name = same_name (cow_str_bytes k.name) (cow_str_bytes e.0.name) (ap is_eq tie) in
-              absurd (false≢true (sym apart ∙ ap (λ l. is_eq (slice_cmp nat_cmp name l)) (sym same) ∙ here))
-          | inr more ↦ rw (more, apart) (entry-put name k v es here (rw apart at none))
-        ]
-      ]
-    ]
-
--- the other names keep what they have
-entry-others : (name : List ℕ) (k : Key) (v : Value) (es : List (Key × Value)) → is_named name k ≡ false
-    → lookup_entry (is_named name) (insert_entry key_cmp es k v) ≡ lookup_entry (is_named name) es
-entry-others name k v [] off = rw off
-entry-others name k v (e ∷ es) off =
-    elim (cases_ordering (key_cmp k e.0)) [
-      | inl less ↦ rw (less, off)
-      | inr other ↦ elim other [
-        | inl tie ↦
-            let same : cow_str_bytes k.name ≡ cow_str_bytes e.0.name = same_name (cow_str_bytes k.name) (cow_str_bytes e.0.name) (ap is_eq tie) in
-            let apart : is_named name e.0 ≡ false = ap (λ l. is_eq (slice_cmp nat_cmp name l)) (sym same) ∙ off in
-            rw (tie, apart)
-        | inr more ↦ rw more (ap (cond (is_named name e.0) (Some e)) (entry-others name k v es off))
-      ]
-    ]
-
 -- behind a key all are greater
 none-behind : {X : Type 0} (k : Key) (es : List (Key × X)) → AllByRecursion (λ q. key_cmp k q ≡ Less) (keys_of es) → lookup (is_named (cow_str_bytes k.name)) es ≡ None
 none-behind k [] h = refl
@@ -110,12 +75,14 @@ finished-one : (name : List ℕ) (tables : Option (Box Branch)) (k made : Key) (
     → StandsSoFar tables (lookup (is_named name) left) old (lookup_entry (is_named name) (insert_entry key_cmp new made v))
 finished-one name tables k made b left old new v named become behind h =
     let same : is_named name made ≡ is_named name k = ap (λ l. is_eq (slice_cmp nat_cmp name l)) named in
+    let found = found-insert made v name new in
     elim (cases_Bool (is_named name k)) [
       | inl here ↦
           let at : StandsSoFar tables (Some b) old (lookup_entry (is_named name) new) = rw here at h in
           let none : lookup (is_named name) left ≡ None = ap (λ l. lookup (is_named l) left) (same_name name (cow_str_bytes k.name) here) ∙ none-behind k left behind in
-          rw (none, at.0) (λ missing. ((made, v), entry-put name made v new (same ∙ here) (at.1 ∙ missing), become))
-      | inr off ↦ rw (entry-others name made v new (same ∙ off)) (rw off at h)
+          let free = ap (λ l. lookup_entry (is_named l) new) (sym (same_name name (cow_str_bytes made.name) (same ∙ here))) ∙ at.1 in
+          rw (none, at.0) (λ missing. ((made, v), found.1 ∙ ap (λ c. cond c (Some (found.0, v)) (lookup_entry (is_named name) new)) (same ∙ here) ∙ ap (λ k. Some (k, v)) (found.2 (free ∙ missing)), become))
+      | inr off ↦ rw (found.1 ∙ ap (λ c. cond c (Some (found.0, v)) (lookup_entry (is_named name) new)) (same ∙ off)) (rw off at h)
     ]
 
 -- one branch more is finished

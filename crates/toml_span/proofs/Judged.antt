@@ -1,17 +1,14 @@
 -- What is told is the first clash.
-use Rattle.std.proofs.Common.{◌≡◌, ℕ, true, cond, List, [], ◌∷◌, ◌++◌, Option, Some, None, option_map, refl, sym, ap, ◌∙◌, inl, inr}
-use Rattle.std.specs.Prelude.{nat_eq}
+use Rattle.std.proofs.Common.{◌≡◌, ℕ, true, List, [], ◌∷◌, ◌++◌, Option, Some, None, option_map, refl, sym, ap, ◌∙◌, inl, inr}
 use Rattle.std.specs.List.{list_any}
-use Rattle.std.proofs.lemmas.Bool.{cases_Bool, eqb-true, false≢true}
-use Rattle.toml_span.specs.declared.claims.Sort.{Sort}
-use Rattle.toml_span.specs.declared.claims.Sort.TheVariants.{Passed, StandardTable, ArrayOfTables, TableElement, Dotted, Assigned}
+use Rattle.std.proofs.lemmas.Bool.{cases_Bool, false≢true}
 use Rattle.toml_span.specs.declared.claims.Blame.{Blame}
 use Rattle.toml_span.specs.declared.claims.Mark.{Mark}
 use Rattle.toml_span.specs.declared.claims.Meeting.{Meeting}
 use Rattle.toml_span.specs.Paths.{same_path}
 use Rattle.toml_span.specs.Claims.{Claim, Claims, no_claims, claimed, scope}
 use Rattle.toml_span.specs.Clashes.{NamedClash, named, blame, meeting, meets, or_else, clash, clash_among, clash_behind, first_clash}
-use Rattle.toml_span.specs.code.Marks.{partner, sort_number, same_sort, remember}
+use Rattle.toml_span.specs.code.Marks.{partner, same_sort, remember}
 use Rattle.toml_span.specs.code.Machine.{State, nothing, change, with_claim, show_all, met, clash_met}
 use Rattle.toml_span.proofs.Claimed.{remember-cases, same_sort-eq}
 use Rattle.toml_span.proofs.Grafts.{or_else-assoc, or_else-none}

@@ -7,7 +7,6 @@ use Rattle.std.specs.Global.{Box}
 use Rattle.std.specs.Map.{lookup}
 use Rattle.std.specs.Result.{IsErrAnd}
 use Rattle.std.specs.Str.{bytes_eq}
-use Rattle.std.proofs.lemmas.Map.Text.{is_eq-slice_cmp}
 use Rattle.std.proofs.lemmas.Bool.{false≢true}
 use Rattle.std.proofs.lemmas.Slice.Eq.{bytes_eq-Decides}
 use Rattle.std.proofs.lemmas.Option.{none-some}
@@ -25,7 +24,7 @@ use Rattle.toml_span.specs.declared.claims.Halt.TheVariants.{Memory, Clash}
 use Rattle.toml_span.specs.declared.branch.Branch.{Branch}
 use Rattle.toml_span.specs.declared.branch.Branch.TheOpen.{Branch-F}
 use Rattle.toml_span.specs.declared.branch.Branch.TheViews.{roll-Branch, out-Branch}
-use Rattle.toml_span_read.proofs.EarlierTree.{key_cmp, same}
+use Rattle.toml_span_read.proofs.EarlierTree.{key_cmp}
 use Rattle.toml_span.specs.Claims.{Claim, Claims, claimed, followed, pair_mark}
 use Rattle.toml_span.specs.Clashes.{NamedClash, blame, meeting, named, or_else}
 use Rattle.toml_span.specs.code.Machine.{Gives, change, with_claim, met, clash_met, clash_told, put_all, graft}
@@ -115,8 +114,7 @@ sets-new n b k name w is claims added values written = sets-roll (key k) (Some (
     named_now : (l : List ℕ) → child_in l b.tables ≡ cond (bytes_eq k l) (Some (box_value w)) (child l n)
     named_now l =
         ap (λ es. option_map box_value (lookup (is_named l) es)) written ∙ ap (option_map box_value) (puts-insert name w (out-Branch n).tables.entries l)
-        ∙ put (same (cow_str_bytes name.name) l) (lookup (is_named l) (out-Branch n).tables.entries)
-        ∙ ap (λ c. cond c (Some (box_value w)) (child l n)) (ap (λ q. same q l) is ∙ is_eq-slice_cmp k l)
+        ∙ put (bytes_eq (cow_str_bytes name.name) l) (lookup (is_named l) (out-Branch n).tables.entries) ∙ ap (λ q. cond (bytes_eq q l) (Some (box_value w)) (child l n)) is
 
     at : (t : Step) → slot_in t b ≡ cond (same_step (key k) t) (Some (box_value w), closed k n) (slot t n)
     at (key l) = let rest : closed_in l b.values ≡ cond (bytes_eq k l) (closed k n) (closed l n) = ap (closed_in l) values ∙ cond-same k l (λ l. closed l n) in (λ i. (named_now l i, rest i)) ∙ cond-slot (bytes_eq k l) (Some (box_value w), closed k n) (slot (key l) n)

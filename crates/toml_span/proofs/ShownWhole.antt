@@ -6,7 +6,7 @@ use Rattle.std.proofs.lemmas.Bool.{cases_Bool, and_from}
 use Rattle.std.proofs.lemmas.Option.{none-some, same_Some}
 use Rattle.toml_span_lex.specs.declared.span.Span.{Span}
 use Rattle.toml_span_tree.specs.Node.{Node, node, Inner, taken, scalar, array, table, Items, no_items, item, Members, no_members, member, entry_at, element_at}
-use Rattle.toml_span_tree.specs.Path.{Path, Step, key, position, Place, shape_of, reached, place_of, node_at}
+use Rattle.toml_span_tree.specs.Path.{Path, key, position, Place, shape_of, reached, place_of, node_at}
 use Rattle.toml_span_tree.specs.Value.{inner_of, holds_nothing, is_taken, is_whole, all_whole, all_members_whole}
 use Rattle.toml_span_read.specs.Data.{Block}
 use Rattle.toml_span.specs.Claims.{claims}

@@ -1,19 +1,15 @@
 -- What finished values show, and which clashes are told in them.
-use Rattle.std.proofs.Common.{◌≡◌, ℕ, zero, suc, ◌+◌, ◌<◌, ◌≤◌, ℤ, Bool, false, List, [], ◌∷◌, ◌++◌, map, Some, None, option_map, Result, Ok, Err, BTreeMap, Vec, Global, refl, sym, ap, ◌∙◌, append_assoc, append-nil, arith, rules}
+use Rattle.std.proofs.Common.{◌≡◌, ℕ, zero, suc, ◌+◌, ◌<◌, ◌≤◌, false, List, [], ◌∷◌, ◌++◌, map, Some, None, option_map, Result, Ok, Err, BTreeMap, Vec, Global, refl, sym, ap, ◌∙◌, append_assoc, append-nil, arith}
 use Rattle.std.specs.Prelude.{⊤, option_and_then}
-use Rattle.std.specs.Cow.{cow_str_bytes}
-use Rattle.std.specs.declared.borrow.CowStr.{CowStr}
 use Rattle.std.proofs.lemmas.Bool.{ne_eqb}
 use Rattle.std.proofs.lemmas.List.{map-append}
 use Rattle.toml_span_lex.specs.declared.key.Key.{Key}
 use Rattle.toml_span_tree.specs.Node as tree
 use Rattle.toml_span_tree.specs.Node.{Scalar, text, integer, float, boolean, datetime, element_at}
 use Rattle.toml_span_tree.specs.Path.{Path, Step, key, position, reached, Shape, shape_of as tree_shape, place_of as tree_place}
-use Rattle.toml_span_tree.specs.Value.{view, inner_view, items_view, float_value, date_bytes}
-use Rattle.toml_span_tree.specs.declared.date.DateText.{DateText}
-use Rattle.toml_span_tree.specs.declared.float.FloatText.{FloatText}
+use Rattle.toml_span_tree.specs.Value.{view, inner_view, items_view}
 use Rattle.toml_span_tree.specs.declared.value.Value.{Value}
-use Rattle.toml_span_tree.specs.declared.value.ValueInner.{ValueInner, the_lemmas as tree_lemmas}
+use Rattle.toml_span_tree.specs.declared.value.ValueInner.{ValueInner}
 use Rattle.toml_span_tree.specs.declared.value.ValueInner.TheVariants as inners
 use Rattle.toml_span_tree.proofs.Values.{inner_view-Array, inner_view-Table}
 use Rattle.toml_span_read.specs.Data.{ParsedValue as Read, parsed, ParsedInner, scalar, array, inline, ParsedItems, no_items, item, no_pairs, onto, pairs_onto, view as view_read, kind_view, key_value}
