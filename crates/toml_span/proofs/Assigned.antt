@@ -24,14 +24,14 @@ use Rattle.toml_span.specs.Clashes.{blame, or_else}
 use Rattle.toml_span.specs.code.Machine.{Cell, State, nothing, change, with_claim, Gives, met, clash_met, show_all, put_all, graft}
 use Rattle.toml_span.specs.code.Placing.{Places, IsFinished, ValueGives}
 use Rattle.toml_span.specs.code.Relative.{pair_at}
-use Rattle.toml_span.specs.code.Tree.{is_named, plain, child_in, marks, entries, child, closed, closed_in, closed_cell, held_marks, item, cells, cell_at, counts, value_cell, IsNamed, IsScope}
+use Rattle.toml_span.specs.code.Tree.{is_named, child_in, marks, entries, child, closed, closed_in, closed_cell, held_marks, item, cells, cell_at, counts, value_cell, value_shows, IsNamed, IsScope}
 use Rattle.toml_span.proofs.Grafts.{fun_ext, graft-itself, told-under, put_all-under}
 use Rattle.toml_span.proofs.Nodes.{Sets, cells-found, cells-missing, cells-sets, counts-missing, counts-named, scope-named, sets-roll, slot, slot_in}
 use Rattle.toml_span.proofs.Placed.{assigned_twice, cond-same, cond-slot, gives-err, held-child, met-first, named-clashes, places-refused}
 use Rattle.toml_span.proofs.Closed.{marks-found}
 use Rattle.toml_span.proofs.KeyMaps.{holds-insert}
 use Rattle.toml_span.proofs.Shown.{show_all-marks}
-use Rattle.toml_span.proofs.Values.{put_all-value, show_all-here, show_all-local, told-value, value_below}
+use Rattle.toml_span.proofs.Values.{put_all-value, told-value, value-shown}
 
 -- ---- where it clashes
 
@@ -92,13 +92,18 @@ value-cells k x v h = fun_ext at ∙ sym (put_all-value (change nothing [] (with
     st : State
     st = change nothing [] (with_claim (assigned [] (simple_key k) v))
 
+    own : (p : Path) → (value_cell k.span (view x) p).marks ≡ (st p).marks
+    own [] = ap (λ y. pair_mark Assigned k.span y.span ∷ []) (h.0 (Some k.span))
+    own (s ∷ q) = refl
+
+    shows : (p : Path) → (value_cell k.span (view x) p).shown ≡ value_shows (Some k.span) (view x) p
+    shows [] = refl
+    shows (s ∷ q) = refl
+
     at : (p : Path) → value_cell k.span (view x) p ≡ show_all st (value_claims v []) p
-    at [] =
-        cell-is (value_cell k.span (view x) []) (st []) (ap (λ y. pair_mark Assigned k.span y.span ∷ []) (h.0 (Some k.span))) (ap (λ y. Some (plain y)) (h.0 (Some k.span)))
-        ∙ sym (show_all-here st (value_claims v []) (value_below v []))
-    at (s ∷ q) =
-        cell-is (value_cell k.span (view x) (s ∷ q)) (show_all nothing (value_claims v []) (s ∷ q)) (sym (show_all-marks nothing (value_claims v []) (s ∷ q))) (h.1 s q)
-        ∙ show_all-local nothing st (value_claims v []) (s ∷ q) refl
+    at p =
+        cell-is (value_cell k.span (view x) p) (show_all st (value_claims v []) p) (own p ∙ sym (show_all-marks st (value_claims v []) p))
+        (shows p ∙ sym (value-shown v x (Some k.span) (with_claim (assigned [] (simple_key k) v)) h refl p))
 
 -- ---- a value of a new name
 

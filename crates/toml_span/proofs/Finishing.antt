@@ -1,5 +1,5 @@
 -- What the branches have become.
-use Rattle.std.proofs.Common.{◌≡◌, ℕ, zero, suc, List, [], ◌∷◌, ◌++◌, Option, Some, None, option_map, option_and_then, false, cond, Ok, Less, is_eq, nat_cmp, inl, inr, refl, sym, ap, subst, ◌∙◌, append_assoc}
+use Rattle.std.proofs.Common.{◌≡◌, ℕ, zero, suc, List, [], ◌∷◌, Option, Some, None, option_map, option_and_then, false, cond, Ok, Less, is_eq, nat_cmp, inl, inr, refl, sym, ap, subst, ◌∙◌}
 use Rattle.std.specs.Prelude.{IfSome}
 use Rattle.std.specs.BTreeMap.{BTreeMap, insert_entry}
 use Rattle.std.specs.Box.{box_value}
@@ -36,6 +36,7 @@ use Rattle.toml_span.specs.Ordered.{IsOrdered, HoldsOrdered, AreOrdered}
 use Rattle.toml_span.specs.code.Tree.{is_named, marks, entries, child, item, closed, cells, cell_at, closed_cell, or_closed, or_nothing, plain, is_array_sort, is_entry_sort, NoArray, IsNamed, IsEntry, IsArray, IsTableOrArray, Sound}
 use Rattle.toml_span.proofs.Nodes.{good-child, good-entry, good-value, sound-good, sound-shape}
 use Rattle.toml_span.proofs.KeyMaps.{found-insert}
+use Rattle.toml_span.proofs.Values.{Made}
 use Rattle.toml_span.proofs.Ordered.{members-ordered}
 
 -- ---- values and branches by name
@@ -56,10 +57,8 @@ pub record Filled (tables left : List (Key × Box Branch)) (old new : List (Key 
   pub stands : (name : List ℕ) → StandsSoFar (lookup (is_named name) tables) (lookup (is_named name) left) (lookup_entry (is_named name) old) (lookup_entry (is_named name) new)
 
 -- the elements, where all entries but those that are left are finished
-pub record EntriesFilled (all left : List Branch) (made : List Value) : Type 0 where
-  pub done : List Branch
-  pub split : all ≡ done ++ left
-  pub become : AllZip BecomesEntry done made
+abbrev pub EntriesFilled : List Branch → List Branch → List Value → Type 0
+EntriesFilled all left made = Made Branch Value BecomesEntry all left made
 
 -- ---- one more is finished
 
@@ -94,20 +93,6 @@ filled-more tables k made b left old new v named become h = record {
       finished-one name (lookup (is_named name) tables) k made b left (lookup_entry (is_named name) old) new v
       (ap (λ n. cow_str_bytes n) named) become (sorted_head key_cmp k (keys_of left) h.sorted) (h.stands name);
 }
-
--- one entry more is finished
-pub entries-more : (all left : List Branch) (made : List Value) (n : Branch) (v : Value) → EntriesFilled all (n ∷ left) made → BecomesEntry n v → EntriesFilled all left (made ++ (v ∷ []))
-entries-more all left made n v h become = record {
-  done = h.done ++ (n ∷ []);
-  split = h.split ∙ sym (append_assoc h.done (n ∷ []) left);
-  become = push h.done made h.become;
-}
-  where
-    push : (ns : List Branch) (vs : List Value) → AllZip BecomesEntry ns vs → AllZip BecomesEntry (ns ++ (n ∷ [])) (vs ++ (v ∷ []))
-    push [] [] h = (become, tt)
-    push [] (w ∷ vs) h = absurd h
-    push (m ∷ ns) [] h = absurd h
-    push (m ∷ ns) (w ∷ vs) h = (h.0, push ns vs h.1)
 
 -- ---- the deciding mark
 

@@ -5,14 +5,17 @@ use Rattle.toml_span.specs.declared.branch.Branch.TheOpen.{Branch-F}
 use Rattle.toml_span.specs.declared.branch.Branch.TheViews.{out-Branch, roll-Branch}
 use Rattle.toml_span.proofs.Nodes.{no-entries, out-roll, some-entries}
 use Rattle.toml_span.proofs.BorrowLemmas.{box_first, entry_first, element_push, insert_title, of_node, made_table, made_array}
-use Rattle.toml_span.proofs.Finishing.{never-empty, entries-more, filled-more, filled-none, filled-finishes, became-table, became-array}
+use Rattle.toml_span.proofs.Finishing.{never-empty, filled-more, filled-none, filled-finishes, became-table, became-array}
+use Rattle.toml_span_tree.specs.declared.value.Value.{Value}
+use Rattle.toml_span.specs.code.Placing.{BecomesEntry}
+use Rattle.toml_span.proofs.Values.{made-more}
 use Rattle.toml_span.proofs.branch.+finish.Goals as goal
 
 pub into_array-loop-entry-preserved : goal.into_array-loop-entry-preserved
 into_array-loop-entry-preserved t c = record {
   can = tt;
   ends = tt;
-  filled = rw c.in_ok-push.ensures.items (entries-more _ _ _ c.in-Some.entry _ (rw c.in-Some.ensures.steps.0 at c.loop-entry.invariant.filled) (c.in_ok-value.field-0-0, c.in_ok-value.ensures.becomes));
+  filled = made-more Branch Value BecomesEntry _ _ _ _ _ c.in-Some.entry _ c.in-Some.ensures.steps.0 c.loop-entry.invariant.filled (c.in_ok-value.field-0-0, c.in_ok-value.ensures.becomes) c.in_ok-push.ensures.items;
   borrows = λ text ps h.
       let before = c.loop-entry.invariant.borrows text ps h in
       let first = entry_first text ps c.in-Some.entry _ _ c.in-Some.ensures.steps.0 before.0 in

@@ -17,7 +17,9 @@ use Rattle.toml_span.proofs.Placed.{err-of}
 use Rattle.toml_span.proofs.Borrowing as borrowing
 use Rattle.toml_span.proofs.Borrowing.{again_from, assignment_from, first_from}
 use Rattle.toml_span.proofs.Assignments.{inner-none, places-one, val_span, remains-first, placing-more, placing-err, placing-none, table-gives, table-err}
-use Rattle.toml_span.proofs.Values.{elements-first, elements-more, elements-err, elements-none, scalar-gives, array-gives, array-err, inline-gives, inline-err}
+use Rattle.toml_span.proofs.Values.{IsMade, made-more, elements-first, elements-err, elements-none, scalar-gives, array-gives, array-err, inline-gives, inline-err}
+use Rattle.toml_span_read.specs.declared.value.Val.{Val}
+use Rattle.toml_span_tree.specs.declared.value.Value.{Value}
 use Rattle.toml_span.proofs.scopes.+value_of.Goals as goal
 use Rattle.toml_span.proofs.scopes.+value_of.Goals.{value_of-in-String, value_of-in-Integer, value_of-in-Float, value_of-in-Boolean, value_of-in-Datetime, value_of-in-Array+in_ok-array_of-in-Array, value_of-in-Inline+in_ok-table_of-in-Inline}
 
@@ -39,7 +41,7 @@ array_of-loop-element-preserved t c = record {
       let before = c.loop-element.invariant.borrows text ps h in
       let first = first_from text ps written _ _ c.in-Some.element c.in-Some.ensures.steps.0 before.0 in
       (first.1, rw c.in_ok-push.ensures.items (element_push text ps c.in_ok-value_of.field-0 c.loop-element.array.items before.1 (c.in_ok-value_of.ensures.borrows text ps first.0)));
-  finished = elements-more _ _ _ c.in-Some.element c.loop-element.array.items c.push.new.self.items c.in_ok-value_of.field-0 c.in-Some.ensures.steps.0 c.loop-element.invariant.finished c.in_ok-value_of.ensures.gives c.in_ok-push.ensures.items;
+  finished = made-more Val Value IsMade _ _ _ c.loop-element.array.items c.push.new.self.items c.in-Some.element c.in_ok-value_of.field-0 c.in-Some.ensures.steps.0 c.loop-element.invariant.finished c.in_ok-value_of.ensures.gives c.in_ok-push.ensures.items;
 }
 
 pub array_of-returns-in_err-value_of-clause-gives : goal.array_of-returns-in_err-value_of-clause-gives
