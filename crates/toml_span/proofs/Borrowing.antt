@@ -27,12 +27,13 @@ use Rattle.toml_span.specs.declared.branch.Branch.{Branch}
 use Rattle.toml_span.specs.declared.branch.Branch.TheOpen.{Branch-F}
 use Rattle.toml_span.specs.declared.branch.Branch.TheViews.{roll-Branch, out-Branch}
 use Rattle.toml_span.specs.Borrowed.{string as string_standing, Held, held, key_standing, value_standing, IsKeyOf, IsNamedBy, IsBorrowedRight, AreBorrowedRight, keys_of}
-use Rattle.toml_span.specs.code.Borrowed.{inner_held, standing, entries_of, array_standing, table_standing, IsFrom, AreFrom, Keeps}
+use Rattle.toml_span.specs.code.Borrowed.{boxes_standing, inner_held, standing, entries_of, array_standing, table_standing, IsFrom, AreFrom, Keeps}
 use Rattle.toml_span_read.specs.Grammar.{SpellsDocument}
 use Rattle.toml_span_read.specs.Data.{block}
 use Rattle.toml_span.specs.Parsing.{IsBorrowedTree}
 use Rattle.toml_span.specs.code.Tree.{is_named, entries}
-use Rattle.toml_span.proofs.BorrowLemmas.{held_is, made_table, made_array, of_node, node_of, insert_new, box_found, box_insert}
+use Rattle.toml_span.proofs.BorrowLemmas.{held_is, made_table, made_array, of_node, node_of, insert_new, box_insert}
+use Rattle.toml_span.proofs.Placed.{with_tables}
 
 -- ---- results
 
@@ -122,28 +123,16 @@ module _ (text : List ℕ) (ps : List SimpleKey) where
   pub keeps_same : (a n new : Branch) (r : Result (Unit {0}) Halt) → a ≡ n → Keeps text ps a new r → Keeps text ps n new r
   keeps_same a n new r is keep = subst (λ x. Keeps text ps x new r) is keep
 
-  pub keeps_entered : (n : Branch) (b : Branch-F Branch) (k c : Key) (x w : Box Branch) (r : Result (Unit {0}) Halt)
+  pub keeps_child : (n : Branch) (tables made : BTreeMap Key (Box Branch)) (k c : Key) (x : Branch) (w : Box Branch) (r : Result (Unit {0}) Halt)
       → cow_str_bytes c.name ≡ cow_str_bytes k.name → (IsBorrowedStr k.name → IsBorrowedStr c.name) → (IsBorrowedStr c.name → IsBorrowedStr k.name)
-      → lookup (is_named (cow_str_bytes c.name)) (out-Branch n).tables.entries ≡ Some x
-      → b.entries.items ≡ entries n → b.values ≡ (out-Branch n).values → b.tables.entries ≡ insert_entry key_cmp (out-Branch n).tables.entries c w
-      → IsFrom text ps (key_written k) → Keeps text ps (box_value x) (box_value w) r → Keeps text ps n (roll-Branch b) r
-  keeps_entered n b k c x w r same forth back found items values inserted key keep h =
+      → made.entries ≡ insert_entry key_cmp (out-Branch n).tables.entries c w → tables ≡ made → (AreBorrowedRight text ps (boxes_standing (out-Branch n).tables.entries) → AreBorrowedRight text ps (standing x))
+      → IsFrom text ps (key_written k) → Keeps text ps x (box_value w) r → Keeps text ps n (with_tables n tables) r
+  keeps_child n tables made k c x w r same forth back inserted is start key keep h =
       let inside = of_node text ps n h in
-      ok_map r (AreBorrowedRight text ps (standing (box_value w))) (AreBorrowedRight text ps (standing (roll-Branch b)))
-      (λ made. node_of text ps b (rw values inside.0)
-      (rw inserted (box_insert text ps c w (out-Branch n).tables.entries (clone_named k c same forth back key) made inside.1)) (rw items inside.2))
-      (keep (box_found text ps (is_named (cow_str_bytes c.name)) x (out-Branch n).tables.entries found inside.1))
-
-  pub keeps_new : (n : Branch) (b : Branch-F Branch) (k c : Key) (x : Branch) (w : Box Branch) (r : Result (Unit {0}) Halt) → standing x ≡ []
-      → cow_str_bytes c.name ≡ cow_str_bytes k.name → (IsBorrowedStr k.name → IsBorrowedStr c.name) → (IsBorrowedStr c.name → IsBorrowedStr k.name)
-      → b.entries.items ≡ entries n → b.values ≡ (out-Branch n).values → b.tables.entries ≡ insert_entry key_cmp (out-Branch n).tables.entries c w
-      → IsFrom text ps (key_written k) → Keeps text ps x (box_value w) r → Keeps text ps n (roll-Branch b) r
-  keeps_new n b k c x w r bare same forth back items values inserted key keep h =
-      let inside = of_node text ps n h in
-      ok_map r (AreBorrowedRight text ps (standing (box_value w))) (AreBorrowedRight text ps (standing (roll-Branch b)))
-      (λ made. node_of text ps b (rw values inside.0)
-      (rw inserted (box_insert text ps c w (out-Branch n).tables.entries (clone_named k c same forth back key) made inside.1)) (rw items inside.2))
-      (keep (rw bare tt))
+      ok_map r (AreBorrowedRight text ps (standing (box_value w))) (AreBorrowedRight text ps (standing (with_tables n tables)))
+      (λ right. node_of text ps (record { marks = (out-Branch n).marks; values = (out-Branch n).values; tables = tables; entries = (out-Branch n).entries }) inside.0
+      (rw (is, inserted) (box_insert text ps c w (out-Branch n).tables.entries (clone_named k c same forth back key) right inside.1)) inside.2)
+      (keep (start inside.1))
 
   pub keeps_value : (n : Branch) (b : Branch-F Branch) (k : Key) (v : Value) → lookup_entry (is_named (cow_str_bytes k.name)) (out-Branch n).values.entries ≡ None
       → b.tables ≡ (out-Branch n).tables → b.entries.items ≡ entries n → b.values.entries ≡ insert_entry key_cmp (out-Branch n).values.entries k v

@@ -1,7 +1,7 @@
 -- One placing after another, and below a step.
 use Rattle.std.proofs.Common.{◌≡◌, ℕ, Bool, true, false, List, [], ◌∷◌, Option, Some, None, option_map, Result, Ok, Err, OnOk, cond, refl, sym, ap, ◌∙◌, subst, inl, inr}
 use Rattle.std.specs.Box.{box_value}
-use Rattle.std.specs.BTreeMap.{insert_entry}
+use Rattle.std.specs.BTreeMap.{BTreeMap, insert_entry}
 use Rattle.std.specs.Cow.{cow_str_bytes}
 use Rattle.std.specs.Global.{Box}
 use Rattle.std.specs.Map.{lookup}
@@ -101,24 +101,27 @@ pub cond-slot : (b : Bool) (x y : Slot) → (cond b x.0 y.0, cond b x.1 y.1) ≡
 cond-slot true x y = refl
 cond-slot false x y = refl
 
+-- the branch, with other branches by name
+abbrev pub with_tables : Branch → BTreeMap Key (Box Branch) → Branch
+with_tables n tables = roll-Branch (record { marks = (out-Branch n).marks; values = (out-Branch n).values; tables = tables; entries = (out-Branch n).entries })
+
 -- put into the map, which may have the name
-pub sets-new : (n : Branch) (b : Branch-F Branch) (k : List ℕ) (name : Key) (w : Box Branch) → cow_str_bytes name.name ≡ k
-    → b.marks.items ≡ marks n → b.entries.items ≡ entries n → b.values ≡ (out-Branch n).values
-    → b.tables.entries ≡ insert_entry key_cmp (out-Branch n).tables.entries name w → Sets (key k) (Some (box_value w), closed k n) n (roll-Branch b)
-sets-new n b k name w is claims added values written = sets-roll (key k) (Some (box_value w), closed k n) n b claims at
+pub sets-entry : (n : Branch) (tables made : BTreeMap Key (Box Branch)) (k : List ℕ) (name : Key) (w : Box Branch) → cow_str_bytes name.name ≡ k
+    → made.entries ≡ insert_entry key_cmp (out-Branch n).tables.entries name w → tables ≡ made → Sets (key k) (Some (box_value w), closed k n) n (with_tables n tables)
+sets-entry n tables made k name w is written same = sets-roll (key k) (Some (box_value w), closed k n) n (record { marks = (out-Branch n).marks; values = (out-Branch n).values; tables = tables; entries = (out-Branch n).entries }) refl at
   where
     put : (c : Bool) (o : Option (Box Branch)) → option_map box_value (cond c (Some w) o) ≡ cond c (Some (box_value w)) (option_map box_value o)
     put true o = refl
     put false o = refl
 
-    named_now : (l : List ℕ) → child_in l b.tables ≡ cond (bytes_eq k l) (Some (box_value w)) (child l n)
+    named_now : (l : List ℕ) → child_in l tables ≡ cond (bytes_eq k l) (Some (box_value w)) (child l n)
     named_now l =
-        ap (λ es. option_map box_value (lookup (is_named l) es)) written ∙ ap (option_map box_value) (puts-insert name w (out-Branch n).tables.entries l)
+        ap (λ es. option_map box_value (lookup (is_named l) es)) (ap (λ (m : BTreeMap Key (Box Branch)). m.entries) same ∙ written) ∙ ap (option_map box_value) (puts-insert name w (out-Branch n).tables.entries l)
         ∙ put (bytes_eq (cow_str_bytes name.name) l) (lookup (is_named l) (out-Branch n).tables.entries) ∙ ap (λ q. cond (bytes_eq q l) (Some (box_value w)) (child l n)) is
 
-    at : (t : Step) → slot_in t b ≡ cond (same_step (key k) t) (Some (box_value w), closed k n) (slot t n)
-    at (key l) = let rest : closed_in l b.values ≡ cond (bytes_eq k l) (closed k n) (closed l n) = ap (closed_in l) values ∙ cond-same k l (λ l. closed l n) in (λ i. (named_now l i, rest i)) ∙ cond-slot (bytes_eq k l) (Some (box_value w), closed k n) (slot (key l) n)
-    at (position i) = ap (λ ns. (item i ns, None)) added
+    at : (t : Step) → slot_in t (record { marks = (out-Branch n).marks; values = (out-Branch n).values; tables = tables; entries = (out-Branch n).entries }) ≡ cond (same_step (key k) t) (Some (box_value w), closed k n) (slot t n)
+    at (key l) = (λ i. (named_now l i, cond-same k l (λ l. closed l n) i)) ∙ cond-slot (bytes_eq k l) (Some (box_value w), closed k n) (slot (key l) n)
+    at (position i) = refl
 
 -- what is placed in the branch of a name, which may be a fresh one
 places-below : (n new x w : Branch) (k : List ℕ) (r : Result (Unit {0}) Halt) (cs : (Path → ℕ) → Claims) (c : (Path → ℕ) → Path → ℕ)
