@@ -27,8 +27,7 @@ use Rattle.toml_span.specs.code.Relative.{pair_at}
 use Rattle.toml_span.specs.code.Tree.{is_named, child_in, marks, entries, child, closed, closed_in, closed_cell, held_marks, item, cells, cell_at, counts, value_cell, value_shows, IsNamed, IsScope}
 use Rattle.toml_span.proofs.Grafts.{fun_ext, graft-itself, told-under, put_all-under}
 use Rattle.toml_span.proofs.Nodes.{Sets, cells-found, cells-missing, cells-sets, counts-missing, counts-named, scope-named, sets-roll, slot, slot_in}
-use Rattle.toml_span.proofs.Placed.{assigned_twice, cond-same, cond-slot, gives-err, held-child, met-first, named-clashes, places-refused}
-use Rattle.toml_span.proofs.Closed.{marks-found}
+use Rattle.toml_span.proofs.Placed.{assigned_twice, cond-same, cond-slot, gives-err, held-child, marks-found, met-first, named-clashes, places-refused}
 use Rattle.toml_span.proofs.KeyMaps.{holds-insert}
 use Rattle.toml_span.proofs.Shown.{show_all-marks}
 use Rattle.toml_span.proofs.Values.{put_all-value, told-value, value-shown}

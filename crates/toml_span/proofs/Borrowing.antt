@@ -87,15 +87,9 @@ module _ (text : List ℕ) (ps : List SimpleKey) where
       let all : AreFrom text ps (f x ++ joined (map f new)) = rw is at h in
       (all_front From (f x) (joined (map f new)) all, all_behind From (f x) (joined (map f new)) all)
 
-  pub again_from : {A : Type 0} (f : A → List Written) (old new : List A) → new ≡ old → AreFrom text ps (joined (map f old)) → AreFrom text ps (joined (map f new))
-  again_from f old new is h = rw is h
-
   pub section_from : (s : Section) → AreFrom text ps (section_written s) → AreFrom text ps (keys_written s.header.items) × AreFrom text ps (assignments_written s.assignments.items)
   section_from s h =
       (all_front From (keys_written s.header.items) (assignments_written s.assignments.items) h, all_behind From (keys_written s.header.items) (assignments_written s.assignments.items) h)
-
-  pub keys_again : (old new : List Key) → new ≡ old → AreFrom text ps (keys_written old) → AreFrom text ps (keys_written new)
-  keys_again old new is h = rw is h
 
   pub from_key : (key : Key) → IsFrom text ps (key_written key) → (b : Bool) → IsBorrowedRight text ps (key_standing b key)
   from_key key h true = h

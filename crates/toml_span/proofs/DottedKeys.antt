@@ -26,12 +26,9 @@ dotted_mark k v = pair_mark Dotted k.span (parsed_span v)
 -- ---- through a node
 
 -- a branch that a dotted key passes through is a table
-pub table-dotted : (n : Branch) (m : Mark) (name : List ℕ) → m.sort ≡ Dotted → met (marks n) m name ≡ None → Sound n → entries n ≡ []
-table-dotted n m name sort h before = not-array n m name (λ is. let clash : blame ArrayOfTables m.sort ≡ Some DuplicateKey = ap (blame ArrayOfTables) sort in absurd (none-some _ (sym is ∙ clash))) h before
-
 table-marked : (n mid : Branch) (m : Mark) (name : List ℕ) → m.sort ≡ Dotted → met (marks n) m name ≡ None → Marked m n mid → IsChild n → IsScope mid × IsNamed (marks mid)
 table-marked n mid m name sort h marked before = (
-  scope-marked m n mid (ap is_array_sort sort) marked (before.0, table-dotted n m name sort h before.0),
+  scope-marked m n mid (ap is_array_sort sort) marked (before.0, not-array n m name (λ is. let clash : blame ArrayOfTables m.sort ≡ Some DuplicateKey = ap (blame ArrayOfTables) sort in absurd (none-some _ (sym is ∙ clash))) h before.0),
   subst IsNamed (sym marked.claims) (elim before.1 [
     | inl fresh ↦ named-fresh (marks n) m (ap is_entry_sort sort) fresh.no_marks
     | inr held ↦ named-remember (marks n) m (ap is_entry_sort sort) held

@@ -14,11 +14,9 @@ pub mod Absolute
 pub mod Assembly
 pub mod Values
 pub mod Assignments
-pub mod Closed
 pub mod Assigned
 pub mod DottedKeys
 pub mod Entries
-pub mod Named
 pub mod Headers
 pub mod EachClaim
 pub mod WholeTree

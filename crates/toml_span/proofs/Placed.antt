@@ -12,6 +12,7 @@ use Rattle.std.proofs.lemmas.Slice.Eq.{bytes_eq-Decides}
 use Rattle.std.proofs.lemmas.Option.{none-some}
 use Rattle.toml_span_tree.specs.Path.{Path, Step, key, position}
 use Rattle.toml_span_tree.specs.Value.{span_of, view}
+use Rattle.toml_span_tree.proofs.Values.{view_is}
 use Rattle.toml_span_tree.specs.declared.value.Value.{Value}
 use Rattle.toml_span_lex.specs.declared.key.Key.{Key}
 use Rattle.toml_span.specs.declared.claims.Blame.{Blame}
@@ -210,3 +211,18 @@ unclosed (Some e) m name h named = absurd ((named-clashes m.sort named).1 (met-f
 pub assigned_twice : (r : Result (Unit {0}) Halt) (a b : Mark) (name : List ℕ) (Q : Unit {0} → Type 0) (P : Type 0) → a.sort ≡ Assigned → b.sort ≡ Assigned → Gives r (met (a ∷ []) b name) Q → OnOk r P
 assigned_twice (Ok x) a b name Q P d e h = let clash = rw (d, e) at h.0 in absurd (none-some _ (sym clash))
 assigned_twice (Err e) a b name Q P d f h = tt
+
+-- ---- maps by name
+
+-- the claim of a value that stands at a name
+pub marks-found : (o : Option (Key × Value)) (k : Key) (v : Value) (m : Mark) → o ≡ Some (k, v) → m ≡ pair_mark Assigned k.span v.span → closed_marks o ≡ m ∷ []
+marks-found o k v m is mark = ap closed_marks is ∙ ap (λ s. pair_mark Assigned k.span s ∷ []) (ap span_of (view_is v)) ∙ ap (λ x. x ∷ []) (sym mark)
+
+-- what a look-up by a key of the name k says of the branch at k
+pub looked : (k : List ℕ) (name : Key) (m : BTreeMap Key (Box Branch)) (o : Option (Box Branch)) → cow_str_bytes name.name ≡ k
+    → lookup (is_named (cow_str_bytes name.name)) m.entries ≡ o → option_map box_value (lookup (is_named k) m.entries) ≡ option_map box_value o
+looked k name m o same is = ap (λ l. option_map box_value (lookup (is_named l) m.entries)) (sym same) ∙ ap (option_map box_value) is
+
+-- what is told is the same, whatever would have been given
+pub told : {A B : Type 0} (e : Halt) (o : Option NamedClash) (P : A → Type 0) (Q : B → Type 0) → Gives {A = A} (Err e) o P → Gives {A = B} (Err e) o Q
+told e o P Q h = gives-err (Err e) e o o P Q refl (λ t k. k) h

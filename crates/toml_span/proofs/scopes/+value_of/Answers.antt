@@ -15,7 +15,7 @@ use Rattle.toml_span_read.specs.Borrowed.{assignment_written, written}
 use Rattle.toml_span.proofs.BorrowLemmas.{element_push, of_node}
 use Rattle.toml_span.proofs.Placed.{err-of}
 use Rattle.toml_span.proofs.Borrowing as borrowing
-use Rattle.toml_span.proofs.Borrowing.{again_from, assignment_from, first_from}
+use Rattle.toml_span.proofs.Borrowing.{assignment_from, first_from}
 use Rattle.toml_span.proofs.Assignments.{inner-none, places-one, val_span, remains-first, placing-more, placing-err, placing-none, table-gives, table-err}
 use Rattle.toml_span.proofs.Values.{IsMade, made-more, elements-first, elements-err, elements-none, scalar-gives, array-gives, array-err, inline-gives, inline-err}
 use Rattle.toml_span_read.specs.declared.value.Val.{Val}
@@ -29,7 +29,7 @@ pub array_of-loop-element-init : goal.array_of-loop-element-init
 array_of-loop-element-init t c = record {
   can = tt;
   ends = tt;
-  borrows = λ text ps h. (again_from text ps written _ _ c.into_iter-element-iterator.ensures.into_iter_gives.0 h, rw c.in_ok-array.ensures.items tt);
+  borrows = λ text ps h. (rw c.into_iter-element-iterator.ensures.into_iter_gives.0 h, rw c.in_ok-array.ensures.items tt);
   finished = elements-first _ _ _ c.into_iter-element-iterator.ensures.into_iter_gives.0 c.in_ok-array.ensures.items;
 }
 
@@ -70,7 +70,7 @@ pub place_pairs-loop-pair-init : goal.place_pairs-loop-pair-init
 place_pairs-loop-pair-init t c = record {
   can = tt;
   ends = tt;
-  borrows = λ text ps h before. (again_from text ps assignment_written _ _ c.into_iter-pair-iterator.ensures.into_iter_gives.0 h, before);
+  borrows = λ text ps h before. (rw c.into_iter-pair-iterator.ensures.into_iter_gives.0 h, before);
   placing = remains-first _ _ _ c.into_iter-pair-iterator.ensures.into_iter_gives.0;
 }
 
