@@ -39,11 +39,7 @@ sort_at (suc (suc (suc (suc (suc n))))) = Assigned
 sort_at-number : (a : Sort) → sort_at (sort_number a) ≡ a
 unfolding sort_at
 sort_at-number Passed = refl
-sort_at-number StandardTable = refl
-sort_at-number ArrayOfTables = refl
-sort_at-number TableElement = refl
-sort_at-number Dotted = refl
-sort_at-number Assigned = refl
+sort_at-number a = refl
 
 pub same_sort-eq : (a b : Sort) → same_sort a b ≡ true → a ≡ b
 same_sort-eq a b h = sym (sort_at-number a) ∙ ap sort_at (eqb-true (sort_number a) (sort_number b) h) ∙ sort_at-number b

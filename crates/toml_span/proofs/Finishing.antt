@@ -128,21 +128,13 @@ deciding-some x ms = from (first_by_header (x ∷ ms)) refl
 
 -- a branch at a name stands at its key
 named_key : (sort : Sort) (at : Span) → is_entry_sort sort ≡ false → key_span_of sort at ≡ Some at
-named_key Passed at h = refl
-named_key StandardTable at h = refl
-named_key ArrayOfTables at h = refl
 named_key TableElement at h = absurd (false≢true (sym h))
-named_key Dotted at h = refl
-named_key Assigned at h = refl
+named_key sort at h = refl
 
 -- what is no array is a table
 table_shape : (sort : Sort) → is_array_sort sort ≡ false → shape_claimed sort ≡ shape_table
-table_shape Passed h = refl
-table_shape StandardTable h = refl
 table_shape ArrayOfTables h = absurd (false≢true (sym h))
-table_shape TableElement h = refl
-table_shape Dotted h = refl
-table_shape Assigned h = refl
+table_shape sort h = refl
 
 -- the mark that decides on a branch at a name, and on an entry
 named-decides : (ms : List Mark) → IsNamed ms → (m : Mark) × (deciding ms ≡ Some m) × (key_span_of m.sort m.key ≡ Some m.key)

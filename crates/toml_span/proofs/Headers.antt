@@ -1,33 +1,35 @@
--- A section is placed: its header part by part, and its assignments at the end.
+-- A section is placed: its header part by part, and its assignments at the end. A dotted key is placed part by part.
 use Rattle.std.proofs.Common.{◌≡◌, ◌<◌, ◌≤◌, ◌-◌, Global, Vec, drop, get_or, map, take, take_all, ℕ, zero, suc, Bool, false, true, if◌then◌else◌, List, [], ◌∷◌, length, Option, Some, None, Result, Err, refl, sym, ap, ◌∙◌, subst, inl, inr, arith}
 use Rattle.std.specs.Prelude.{vec_len, ◌==◌}
 use Rattle.std.specs.Vec.{with_item}
 use Rattle.std.proofs.Math.ListN.{length-set}
-use Rattle.std.proofs.lemmas.Bool.{eqb-true, true≢false}
-use Rattle.std.proofs.lemmas.List.{nil_from_length}
+use Rattle.std.proofs.lemmas.Bool.{eqb-false}
+use Rattle.std.proofs.lemmas.List.{length-map, nil_from_length}
 use Rattle.std.proofs.lemmas.Option.{none-some}
 use Rattle.toml_span_tree.specs.Path.{Path, key}
 use Rattle.toml_span_lex.specs.declared.key.Key.{Key}
+use Rattle.toml_span_read.specs.Data.{ParsedValue as Read, parsed_span}
 use Rattle.toml_span_read.specs.Keys.{SimpleKey, simple_key}
+use Rattle.toml_span.specs.declared.claims.Blame.TheVariants.{DuplicateKey}
 use Rattle.toml_span.specs.declared.claims.Halt.{Halt}
 use Rattle.toml_span.specs.declared.claims.Mark.{Mark}
 use Rattle.toml_span.specs.declared.claims.Sort.{Sort}
-use Rattle.toml_span.specs.declared.claims.Sort.TheVariants.{ArrayOfTables, Passed, StandardTable}
+use Rattle.toml_span.specs.declared.claims.Sort.TheVariants.{ArrayOfTables, Dotted, Passed, StandardTable}
 use Rattle.toml_span.specs.declared.branch.Branch.{Branch}
 use Rattle.toml_span.specs.declared.branch.Branch.TheViews.{out-Branch, roll-Branch}
 use Rattle.toml_span.specs.declared.branch.Branch.TheOpen.{Branch-F}
 use Rattle.toml_span.specs.declared.claims.Head.{Head}
-use Rattle.toml_span.specs.Claims.{Claims, array_claims, claimed, header_mark, table_claim}
+use Rattle.toml_span.specs.Claims.{Claims, array_claims, claimed, dotted, header_mark, pair_mark, table_claim}
 use Rattle.toml_span.specs.Clashes.{blame}
 use Rattle.toml_span.specs.code.Machine.{Gives, met}
 use Rattle.toml_span.specs.code.Marks.{remember}
 use Rattle.toml_span.specs.code.Placing.{Opening, Opens, Passes, Places, Reaches}
-use Rattle.toml_span.specs.code.Relative.{adding, ending, entered, grown, grown_below, grown_here, grown_through, one_more, opening, part_sort, passing, section_at, through, under}
+use Rattle.toml_span.specs.code.Relative.{adding, ending, entered, grown, grown_below, grown_here, grown_through, one_more, opening, pair_at, part_sort, passing, section_at, through, through_pair, under}
 use Rattle.toml_span.specs.code.Tree.{IsChild, IsFresh, IsHeld, IsNamed, IsOpen, IsScope, IsTableOrArray, NoArray, Sound, child, closed, closed_marks, counts, entries, is_array_sort, is_entry_sort, item, marks}
 use Rattle.toml_span.proofs.Absolute.{grown-through, section_at-through}
 use Rattle.toml_span.proofs.Claimed.{Marked, counts-marked, named-fresh, named-remember, reaches-claim-err, reaches-claimed, scope-marked}
 use Rattle.toml_span.proofs.Entries.{PutsEntry, item-at, open-array, puts-set, reaches-entry}
-use Rattle.toml_span.proofs.Grafts.{fun_ext}
+use Rattle.toml_span.proofs.Grafts.{fun_ext, graft-itself}
 use Rattle.toml_span.proofs.Nodes.{Sets, counts-here, counts-missing, out-roll, roll-out, sound-shape}
 use Rattle.toml_span.proofs.Placed.{gives-map, met-first, named-clashes, not-array, places-beside, places-found, places-new, unclosed}
 
@@ -251,23 +253,8 @@ module _ (h : Head) (k : SimpleKey) where
 pub no-latest : (n : Branch) → (0 < vec_len (out-Branch n).entries → ⊥) → entries n ≡ []
 no-latest n none = nil_from_length (entries n) (grind (arith, (out-Branch n).entries.ok.0, none))
 
-pub parts-none : (xs : List Key) → (length xs == 0) ≡ true → map simple_key xs ≡ []
-parts-none [] h = refl
-parts-none (x ∷ xs) h = absurd (omega (arith, eqb-true (length (x ∷ xs)) 0 h))
-
 pub parts-some : (xs : List Key) → (length xs == 0) ≡ false → map simple_key xs ≡ [] → ⊥
-parts-some [] h none = true≢false h
-parts-some (x ∷ xs) h none = none-some (simple_key x) (sym (ap head none))
-  where
-    head : List SimpleKey → Option SimpleKey
-    head [] = None
-    head (k ∷ ks) = Some k
-
-pub parts-front : (xs : List Key) (first d : Key) → 1 ≤ length xs → first ≡ get_or xs 0 d → map simple_key xs ≡ simple_key first ∷ map simple_key (take (length xs - 1) (drop 1 xs))
-parts-front [] first d some same = absurd (omega arith)
-parts-front (x ∷ xs) first d some same =
-    let all : take (suc (length xs) - 1) xs ≡ xs = take_all _ xs (omega arith) in
-    rw (same, all) refl
+parts-some xs h none = eqb-false (length xs) 0 h (sym (length-map xs simple_key) ∙ ap length none)
 
 pub parts-below : (xs : List Key) → length xs < 1 → map simple_key xs ≡ []
 parts-below [] h = refl
@@ -314,3 +301,57 @@ pass-again h k tail rest n new r some none placed =
 pub pass-lent : (h : Head) (k : SimpleKey) (tail : Claims) (rest : List SimpleKey) (lent n new : Branch) (r : Result (Unit {0}) Halt) → lent ≡ n
     → Passes lent new r (through (counts lent) h k rest tail) (grown_through (counts lent) h rest) → Passes n new r (through (counts n) h k rest tail) (grown_through (counts n) h rest)
 pass-lent h k tail rest lent n new r same placed = subst (λ a. Passes a new r (through (counts a) h k rest tail) (grown_through (counts a) h rest)) same placed
+
+abbrev dotted_mark : SimpleKey → Read → Mark
+dotted_mark k v = pair_mark Dotted k.span (parsed_span v)
+
+-- ---- a dotted key, through a branch
+
+-- a branch that a dotted key passes through is a table
+table-marked : (n mid : Branch) (m : Mark) (name : List ℕ) → m.sort ≡ Dotted → met (marks n) m name ≡ None → Marked m n mid → IsChild n → IsScope mid × IsNamed (marks mid)
+table-marked n mid m name sort h marked before = (
+  scope-marked m n mid (ap is_array_sort sort) marked
+      (before.0, not-array n m name (λ is. let clash : blame ArrayOfTables m.sort ≡ Some DuplicateKey = ap (blame ArrayOfTables) sort in absurd (none-some _ (sym is ∙ clash))) h before.0),
+  held-claimed m n mid (ap is_entry_sort sort) before marked.claims,
+)
+
+pub passes-dotted : (n mid new : Branch) (k : SimpleKey) (inner : List SimpleKey) (last : SimpleKey) (v : Read) (m : Mark) (r : Result (Unit {0}) Halt)
+    → m ≡ dotted_mark k v → met (marks n) m k.name ≡ None → Marked m n mid → Places mid new r (pair_at inner last v) (counts mid)
+    → Passes n new r (through_pair k inner last v) (counts n)
+passes-dotted n mid new k inner last v m r same free marked h =
+    subst (λ m. Passes n new r (claimed (table_claim [] k m) (pair_at inner last v)) (counts n)) same
+    (reaches-claimed IsChild (λ n. IsScope n × IsNamed (marks n)) IsHeld k m n mid new r (pair_at inner last v) (counts n) free marked
+    (table-marked n mid m k.name (ap (λ m. m.sort) same) free marked)
+    (subst (Reaches (λ n. IsScope n × IsNamed (marks n)) IsHeld mid new r (pair_at inner last v)) (counts-marked m n mid marked) held))
+  where
+    held : Reaches (λ n. IsScope n × IsNamed (marks n)) IsHeld mid new r (pair_at inner last v) (counts mid)
+    held before = gives-map r _ _ _ _ refl (λ u g. (g.0, g.1, (g.2.0.0, subst IsNamed (sym g.2.1) before.1))) (h before.0)
+
+pub passes-dotted-err : (n new : Branch) (k : SimpleKey) (inner : List SimpleKey) (last : SimpleKey) (v : Read) (m : Mark) (q : Result (Unit {0}) Halt) (e : Halt) (P : Unit {0} → Type 0) (d : Path → ℕ)
+    → m ≡ dotted_mark k v → q ≡ Err e → Gives (Err e) (met (marks n) m k.name) P → Passes n new q (through_pair k inner last v) d
+passes-dotted-err n new k inner last v m q e P d same is h =
+    subst (λ m. Passes n new q (claimed (table_claim [] k m) (pair_at inner last v)) d) same
+    (reaches-claim-err IsChild IsHeld k m n new q e P (pair_at inner last v) d is h)
+
+-- ---- a dotted key, below a name
+
+pub pair-found : (n new x w : Branch) (k : SimpleKey) (inner : List SimpleKey) (last : SimpleKey) (v : Read) (r : Result (Unit {0}) Halt)
+    → child k.name n ≡ Some x → Sets (key k.name) (Some w, closed k.name n) n new → Passes x w r (through_pair k inner last v) (counts x) → Places n new r (pair_at (k ∷ inner) last v) (counts n)
+unfolding pair_at
+pair-found n new x w k inner last v r found sets h =
+    subst (Places n new r (pair_at (k ∷ inner) last v)) (graft-itself (key k.name) (counts n))
+    (places-found n new x w k.name r (λ f. through_pair k inner last v) (λ f. f) found sets h)
+
+pub pair-fresh : (n new x w : Branch) (k : SimpleKey) (inner : List SimpleKey) (last : SimpleKey) (v : Read) (m : Mark) (r : Result (Unit {0}) Halt)
+    → child k.name n ≡ None → m ≡ dotted_mark k v → met (closed_marks (closed k.name n)) m k.name ≡ None → IsFresh x → Sets (key k.name) (Some w, closed k.name n) n new
+    → Passes x w r (through_pair k inner last v) (counts x) → Places n new r (pair_at (k ∷ inner) last v) (counts n)
+unfolding pair_at
+pair-fresh n new x w k inner last v m r missing same free fresh sets h =
+    subst (Places n new r (pair_at (k ∷ inner) last v)) (graft-itself (key k.name) (counts n))
+    (places-new n new x w k.name r (λ f. through_pair k inner last v) (λ f. f) missing (unclosed (closed k.name n) m k.name free (ap (λ m. is_entry_sort m.sort) same)) fresh sets h)
+
+pub pair-beside : (n new : Branch) (k : SimpleKey) (inner : List SimpleKey) (last : SimpleKey) (v : Read) (m : Mark) (q : Result (Unit {0}) Halt) (e : Halt) (P : Unit {0} → Type 0) (d : Path → ℕ)
+    → child k.name n ≡ None → m ≡ dotted_mark k v → q ≡ Err e → Gives (Err e) (met (closed_marks (closed k.name n)) m k.name) P → Places n new q (pair_at (k ∷ inner) last v) d
+unfolding pair_at
+pair-beside n new k inner last v m q e P d missing same is h =
+    places-beside n new k.name q e (dotted [] k v) (pair_at inner last v) P d missing refl is (subst (λ m. Gives (Err e) (met (closed_marks (closed k.name n)) m k.name) P) same h)

@@ -15,7 +15,6 @@ pub mod Assembly
 pub mod Values
 pub mod Assignments
 pub mod Assigned
-pub mod DottedKeys
 pub mod Entries
 pub mod Headers
 pub mod EachClaim

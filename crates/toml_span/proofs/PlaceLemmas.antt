@@ -52,17 +52,9 @@ blame_told StandardTable earlier = told_of_header StandardTable (blame earlier S
 blame_told ArrayOfTables earlier = told_of_header ArrayOfTables (blame earlier ArrayOfTables) refl
 blame_told TableElement earlier = told_of_header TableElement (blame earlier TableElement) refl
 blame_told Dotted Passed = tt
-blame_told Dotted StandardTable = tt
-blame_told Dotted ArrayOfTables = tt
-blame_told Dotted TableElement = tt
-blame_told Dotted Dotted = tt
-blame_told Dotted Assigned = tt
+blame_told Dotted earlier = tt
 blame_told Assigned Passed = tt
-blame_told Assigned StandardTable = tt
-blame_told Assigned ArrayOfTables = tt
-blame_told Assigned TableElement = tt
-blame_told Assigned Dotted = tt
-blame_told Assigned Assigned = tt
+blame_told Assigned earlier = tt
 
 meeting_inside : (n : ℕ) (earlier later : Mark) (o : Option Blame) → IfSome o (IsTold later.sort) → IsMarkInside n later → IfSome (option_map (meeting earlier later) o) (λ m. IsInside n m.span)
 meeting_inside n earlier later None told inside = tt

@@ -179,12 +179,8 @@ places-beside n new k q e c cs P d missing here same h =
 
 -- each claim at a name with a value, and that of a table with an array
 pub named-clashes : (s : Sort) → is_entry_sort s ≡ false → (blame s Assigned ≡ None → ⊥) × (blame Assigned s ≡ None → ⊥) × (is_array_sort s ≡ false → blame s ArrayOfTables ≡ None → ⊥)
-named-clashes Passed e = (λ h. cc, λ h. cc, λ a h. cc)
-named-clashes StandardTable e = (λ h. cc, λ h. cc, λ a h. cc)
-named-clashes ArrayOfTables e = (λ h. cc, λ h. cc, λ a h. cc)
 named-clashes TableElement e = absurd (false≢true (sym e))
-named-clashes Dotted e = (λ h. cc, λ h. cc, λ a h. cc)
-named-clashes Assigned e = (λ h. cc, λ h. cc, λ a h. cc)
+named-clashes s e = (λ h. cc, λ h. cc, λ a h. cc)
 
 -- what clashes with none does not clash with the first one
 pub met-first : (x m : Mark) (ms : List Mark) (name : List ℕ) → met (x ∷ ms) m name ≡ None → blame x.sort m.sort ≡ None

@@ -11,7 +11,7 @@ use Rattle.toml_span.specs.Claims.{pair_mark}
 use Rattle.toml_span.specs.declared.claims.Sort.TheVariants.{Dotted}
 use Rattle.toml_span.specs.declared.branch.Branch.TheViews.{out-Branch}
 use Rattle.toml_span.proofs.Claimed.{marked-roll}
-use Rattle.toml_span.proofs.DottedKeys.{passes-dotted, passes-dotted-err, pair-found, pair-fresh, pair-beside}
+use Rattle.toml_span.proofs.Headers.{passes-dotted, passes-dotted-err, pair-found, pair-fresh, pair-beside}
 use Rattle.toml_span.proofs.Placed.{err-of, looked, sets-entry, told}
 use Rattle.toml_span.proofs.Borrowing.{front_from, keeps_child, keeps_marked, keeps_same}
 use Rattle.toml_span.specs.code.Borrowed.{standing}

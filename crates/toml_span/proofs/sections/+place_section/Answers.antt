@@ -1,10 +1,11 @@
 use Rattle.std.proofs.Common.{BTreeMap, arith, ◌≡◌, ◌-◌, ◌<◌, length, vec_len, ◌∙◌, [], ap, map, refl, rules, sym}
 use Rattle.std.specs.Prelude.{⊤}
 use Rattle.std.specs.BTreeMap.Entry.{map_with_value}
-use Rattle.std.proofs.lemmas.Bool.{false≢true}
+use Rattle.std.proofs.lemmas.Bool.{eqb-true, false≢true}
 use Rattle.std.specs.Global.{Box}
 use Rattle.std.specs.declared.collections.btree_map.Entry.{Entry}
 use Rattle.toml_span_lex.specs.declared.key.Key.{Key}
+use Rattle.toml_span_read.proofs.EarlierTree.{parts-first}
 use Rattle.toml_span_read.specs.Data.{key_value}
 use Rattle.toml_span_read.specs.Keys.{simple_key}
 use Rattle.toml_span.specs.declared.claims.Sort.TheVariants.{Passed}
@@ -14,7 +15,7 @@ use Rattle.toml_span.specs.Claims.{key_value_claims, header_mark}
 use Rattle.toml_span.specs.code.Tree.{entries}
 use Rattle.toml_span.proofs.Claimed.{marked-roll}
 use Rattle.toml_span.proofs.Nodes.{roll-out}
-use Rattle.toml_span.proofs.Headers.{descended, descended-err, no-latest, parts-below, parts-front, parts-none, parts-some, pass-again, pass-end, pass-lent, pass-vec, section-beside, section-end, section-found, section-free, section-fresh}
+use Rattle.toml_span.proofs.Headers.{descended, descended-err, no-latest, parts-below, parts-some, pass-again, pass-end, pass-lent, pass-vec, section-beside, section-end, section-found, section-free, section-fresh}
 use Rattle.toml_span.proofs.Borrowing.{front_from, keeps_child, keeps_entry, keeps_marked, keeps_same}
 use Rattle.toml_span.proofs.Placed.{err-of, looked, sets-entry, told}
 use Rattle.toml_span.specs.code.Borrowed.{standing}
@@ -35,7 +36,7 @@ descend-returns-clause-gives t c =
 pub pass_header-returns-then-is_empty-clause-gives : goal.pass_header-returns-then-is_empty-clause-gives
 pass_header-returns-then-is_empty-clause-gives t c =
     pass-end c.args.head (simple_key c.args.part.now) (key_value_claims (map key_value c.args.pairs.items) []) (map simple_key c.args.rest.now) c.args.node.now c.end_header.new.node c.end_header.result
-    (parts-none c.args.rest.now (sym c.if-is_empty.ensures)) c.end_header.ensures.gives
+    (parts-below c.args.rest.now (omega (arith, eqb-true (length c.args.rest.now) 0 (sym c.if-is_empty.ensures)))) c.end_header.ensures.gives
 
 pub pass_header-returns-in-Some-clause-gives : goal.pass_header-returns-in-Some-clause-gives
 pass_header-returns-in-Some-clause-gives t c =
@@ -55,7 +56,7 @@ place_section-returns-in_default-clause-gives t c =
 pub place_section-returns-in-Occupied-clause-gives : goal.place_section-returns-in-Occupied-clause-gives
 place_section-returns-in-Occupied-clause-gives t c =
     let n = out-Branch c.args.node.now in
-    let front = parts-front c.args.parts.now c.part-item.result _ c.in-len1-up.len_at_least c.part-item.is in
+    let front = parts-first c.args.parts.now c.part-item.result _ c.in-len1-up.len_at_least c.part-item.is in
     let clone = c.in_ok-clone in
     let stands = rw c.in-Occupied.is at c.in_ok-entry.ensures.value in
     let found = looked (simple_key c.part-item.result).name clone.field-0 n.tables _ clone.ensures.name (sym stands ∙ c.into_mut.ensures.value) in
@@ -68,7 +69,7 @@ place_section-returns-in-Occupied-clause-gives t c =
 pub place_section-returns-in_err-child-in-Vacant-clause-gives : goal.place_section-returns-in_err-child-in-Vacant-clause-gives
 place_section-returns-in_err-child-in-Vacant-clause-gives t c =
     let n = out-Branch c.args.node.now in
-    let front = parts-front c.args.parts.now c.part-item.result _ c.in-len1-up.len_at_least c.part-item.is in
+    let front = parts-first c.args.parts.now c.part-item.result _ c.in-len1-up.len_at_least c.part-item.is in
     let missing = looked (simple_key c.part-item.result).name c.in_ok-clone.field-0 n.tables _ c.in_ok-clone.ensures.name (rw c.in-Vacant.is at c.in_ok-entry.ensures.found) in
     let q = c.from_residual-in_err-child-in-Vacant in
     let e = c.in_err-child-in-Vacant.field-0.0 in
@@ -78,7 +79,7 @@ place_section-returns-in_err-child-in-Vacant-clause-gives t c =
 pub place_section-returns-in_ok-child-in-Vacant-clause-gives : goal.place_section-returns-in_ok-child-in-Vacant-clause-gives
 place_section-returns-in_ok-child-in-Vacant-clause-gives t c =
     let n = out-Branch c.args.node.now in
-    let front = parts-front c.args.parts.now c.part-item.result _ c.in-len1-up.len_at_least c.part-item.is in
+    let front = parts-first c.args.parts.now c.part-item.result _ c.in-len1-up.len_at_least c.part-item.is in
     let missing = looked (simple_key c.part-item.result).name c.in_ok-clone.field-0 n.tables _ c.in_ok-clone.ensures.name (rw c.in-Vacant.is at c.in_ok-entry.ensures.found) in
     let fresh = rw (c.header_mark-mark.ensures, c.sort_of.ensures) at c.in_ok-child-in-Vacant.ensures in
     let clone = c.in_ok-clone in
