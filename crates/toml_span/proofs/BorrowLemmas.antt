@@ -171,7 +171,7 @@ module _ (text : List ℕ) (ps : List SimpleKey) where
 
   -- ---- what is made
 
-  kept_held : (v : Value) (i : ValueInner) (span : Span) → (v.value ≡ Some i) × (v.span ≡ span) → held v ≡ inner_held i span
+  pub kept_held : (v : Value) (i : ValueInner) (span : Span) → (v.value ≡ Some i) × (v.span ≡ span) → held v ≡ inner_held i span
   kept_held v i span k = held_is v ∙ rw (k.0, k.1) refl
 
   pub made_table : (v : Value) (t : BTreeMap Key Value) (span : Span) → (v.value ≡ Some (inners.Table t)) × (v.span ≡ span) → AreBorrowedRight text ps (table_standing t.entries)

@@ -32,7 +32,7 @@ use Rattle.toml_span_read.specs.Grammar.{SpellsDocument}
 use Rattle.toml_span_read.specs.Data.{block}
 use Rattle.toml_span.specs.Parsing.{IsBorrowedTree}
 use Rattle.toml_span.specs.code.Tree.{is_named, entries}
-use Rattle.toml_span.proofs.BorrowLemmas.{held_is, made_table, made_array, of_node, node_of, insert_new, box_insert}
+use Rattle.toml_span.proofs.BorrowLemmas.{kept_held, of_node, node_of, insert_new, box_insert}
 use Rattle.toml_span.proofs.Placed.{with_tables}
 
 -- ---- results
@@ -178,9 +178,6 @@ module _ (text : List ℕ) (ps : List SimpleKey) where
   kind_from : (v : Val) (k : ValKind) → v.kind ≡ k → AreFrom text ps (written v) → AreFrom text ps (kind_written k v.span)
   kind_from v k is h = rw is at (rw (written_is v) at h)
 
-  held_by : (x : Value) (i inner : ValueInner) (span : Span) → (x.value ≡ Some i) × (x.span ≡ span) → i ≡ inner → held x ≡ inner_held inner span
-  held_by x i inner span kept is = held_is x ∙ rw (kept.0, kept.1, is) refl
-
   from_held : (x : Value) (h : Held) → held x ≡ h → AreBorrowedRight text ps h.1 → AreBorrowedRight text ps (value_standing x)
   from_held x h is right = subst (λ (y : Held). AreBorrowedRight text ps y.1) (sym is) right
 
@@ -190,10 +187,10 @@ module _ (text : List ℕ) (ps : List SimpleKey) where
       let read : kind_written (kinds.String s) v.span ≡ string_written s v.span ∷ [] = search (rules, read_lemmas) in
       let right = rw read at (kind_from v (kinds.String s) kind h) in
       let made : inner_held (inners.String s) v.span ≡ (true, string_standing s v.span ∷ []) = search (rules, tree_lemmas) in
-      from_held x (true, string_standing s v.span ∷ []) (held_by x i (inners.String s) v.span kept is ∙ made) (right.0, tt)
+      from_held x (true, string_standing s v.span ∷ []) (kept_held text ps x (inners.String s) v.span (kept.0 ∙ ap (λ i. Some i) is, kept.1) ∙ made) (right.0, tt)
 
   pub plain_right : (x : Value) (i inner : ValueInner) (span : Span) → (x.value ≡ Some i) × (x.span ≡ span) → i ≡ inner → inner_held inner span ≡ (true, []) → AreBorrowedRight text ps (value_standing x)
-  plain_right x i inner span kept is made = from_held x (true, []) (held_by x i inner span kept is ∙ made) tt
+  plain_right x i inner span kept is made = from_held x (true, []) (kept_held text ps x inner span (kept.0 ∙ ap (λ i. Some i) is, kept.1) ∙ made) tt
 
   pub array_from : (v : Val) (vs : Vec Val Global) → v.kind ≡ kinds.Array vs → AreFrom text ps (written v) → AreFrom text ps (joined (map written vs.items))
   array_from v vs kind h =
@@ -204,9 +201,3 @@ module _ (text : List ℕ) (ps : List SimpleKey) where
   inline_from v found kind h =
       let read : kind_written (kinds.Inline found) v.span ≡ assignments_written found.items = search (rules, read_lemmas) in
       rw read at (kind_from v (kinds.Inline found) kind h)
-
-  pub array_right : (x : Value) (i : ValueInner) (a : Vec Value Global) (span : Span) → (x.value ≡ Some i) × (x.span ≡ span) → i ≡ inners.Array a → AreBorrowedRight text ps (array_standing a.items) → AreBorrowedRight text ps (value_standing x)
-  array_right x i a span kept is h = (made_array text ps x a span (kept.0 ∙ ap (λ i. Some i) is, kept.1) h).1
-
-  pub table_right : (x : Value) (i : ValueInner) (t : BTreeMap Key Value) (span : Span) → (x.value ≡ Some i) × (x.span ≡ span) → i ≡ inners.Table t → AreBorrowedRight text ps (table_standing t.entries) → AreBorrowedRight text ps (value_standing x)
-  table_right x i t span kept is h = (made_table text ps x t span (kept.0 ∙ ap (λ i. Some i) is, kept.1) h).1

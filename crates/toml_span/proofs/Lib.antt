@@ -11,7 +11,6 @@ pub mod Refusals
 pub mod Shown
 pub mod Judged
 pub mod Absolute
-pub mod Assembly
 pub mod Values
 pub mod Assignments
 pub mod Assigned

@@ -1,4 +1,4 @@
-use Rattle.std.proofs.Common.{◌≡◌, [], rules, refl, sym, ap, ◌∙◌}
+use Rattle.std.proofs.Common.{◌≡◌, [], Some, rules, refl, sym, ap, ◌∙◌}
 use Rattle.std.proofs.lemmas.List.{nil_from_length}
 use Rattle.std.proofs.lemmas.Int.{to_z-of_z}
 use mir.Syntax.{w64}
@@ -12,7 +12,7 @@ use Rattle.toml_span_tree.specs.declared.value.ValueInner.TheVariants as inners
 use Rattle.toml_span_read.specs.Data.{view}
 use Rattle.toml_span_read.specs.declared.value.ValKind.{the_lemmas}
 use Rattle.toml_span_read.specs.Borrowed.{assignment_written, written}
-use Rattle.toml_span.proofs.BorrowLemmas.{element_push, of_node}
+use Rattle.toml_span.proofs.BorrowLemmas.{element_push, made_array, made_table, of_node}
 use Rattle.toml_span.proofs.Placed.{err-of}
 use Rattle.toml_span.proofs.Borrowing as borrowing
 use Rattle.toml_span.proofs.Borrowing.{assignment_from, first_from}
@@ -176,9 +176,9 @@ value_of-returns-clause-borrows t c = λ text ps h.
       | value_of-in-Boolean w ↦ borrowing.plain_right text ps x inner _ v.span kept w.inner-is (search (rules, tree_lemmas))
       | value_of-in-Datetime w ↦ borrowing.plain_right text ps x inner _ v.span kept w.inner-is (search (rules, tree_lemmas))
       | value_of-in-Array+in_ok-array_of-in-Array w ↦
-          borrowing.array_right text ps x inner w.in_ok-array_of-in-Array.field-0 v.span kept w.inner-is
-          (w.in_ok-array_of-in-Array.ensures.borrows text ps (borrowing.array_from text ps v w.in-Array.elements w.in-Array.is h))
+          (made_array text ps x w.in_ok-array_of-in-Array.field-0 v.span (kept.0 ∙ ap (λ i. Some i) w.inner-is, kept.1)
+          (w.in_ok-array_of-in-Array.ensures.borrows text ps (borrowing.array_from text ps v w.in-Array.elements w.in-Array.is h))).1
       | value_of-in-Inline+in_ok-table_of-in-Inline w ↦
-          borrowing.table_right text ps x inner w.in_ok-table_of-in-Inline.field-0 v.span kept w.inner-is
-          (w.in_ok-table_of-in-Inline.ensures.borrows text ps (borrowing.inline_from text ps v w.in-Inline.pairs w.in-Inline.is h))
+          (made_table text ps x w.in_ok-table_of-in-Inline.field-0 v.span (kept.0 ∙ ap (λ i. Some i) w.inner-is, kept.1)
+          (w.in_ok-table_of-in-Inline.ensures.borrows text ps (borrowing.inline_from text ps v w.in-Inline.pairs w.in-Inline.is h))).1
     ]

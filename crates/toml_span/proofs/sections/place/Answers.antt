@@ -1,4 +1,4 @@
-use Rattle.toml_span.proofs.Assembly.{placed-block}
+use Rattle.toml_span.proofs.Growth.{placed-block}
 use Rattle.toml_span.proofs.Borrowing.{section_from}
 use Rattle.toml_span.proofs.sections.place.Goals as goal
 
