@@ -271,19 +271,17 @@ became-table n t spans v placed seen none made = became n (table_inner t) spans 
 elements-show : (ns : List Branch) (vs : List Value) → AllZip BecomesEntry ns vs → ((i : ℕ) (c : Branch) → item i ns ≡ Some c → IsEntry (marks c) × Sound c) → (i : ℕ) (p : Path)
     → option_map tree_place (option_and_then (reached p) (tree.element_at i (items_view vs))) ≡ place_shown (or_nothing (option_map (cell_at p) (item i ns)))
 elements-show [] [] made good i p = refl
-elements-show [] (v ∷ vs) made good i p = absurd made
-elements-show (n ∷ ns) [] made good i p = absurd made
 elements-show (n ∷ ns) (v ∷ vs) made good zero p =
     let g = good 0 n refl in
     became-shows n made.0.0 v None made.0.1 g.1 (entry-decides (marks n) g.0) p
 elements-show (n ∷ ns) (v ∷ vs) made good (suc i) p = elements-show ns vs made.1 (λ j c is. good (suc j) c is) i p
+elements-show ns ms made good i p = absurd made
 
 -- the elements are in order
 elements-ordered : (ns : List Branch) (vs : List Value) → AllZip BecomesEntry ns vs → ((i : ℕ) (c : Branch) → item i ns ≡ Some c → Sound c) → AreOrdered (items_view vs)
 elements-ordered [] [] made good = tt
-elements-ordered [] (v ∷ vs) made good = absurd made
-elements-ordered (n ∷ ns) [] made good = absurd made
 elements-ordered (n ∷ ns) (v ∷ vs) made good = ((made.0.1 (good 0 n refl)).2, elements-ordered ns vs made.1 (λ i c is. good (suc i) c is))
+elements-ordered ns ms made good = absurd made
 
 -- a sound branch with entries is an array of tables
 array-of : (n : Branch) (ns : List Branch) → entries n ≡ ns → (ns ≡ [] → ⊥) → IsTableOrArray n ns → IsArray n

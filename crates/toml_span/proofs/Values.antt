@@ -92,9 +92,8 @@ made-more A B R all old left xs ys v x is h become more = record {
   where
     push : (ns : List A) (ms : List B) → AllZip R ns ms → AllZip R (ns ++ (v ∷ [])) (ms ++ (x ∷ []))
     push [] [] h = (become, tt)
-    push [] (m ∷ ms) h = absurd h
-    push (n ∷ ns) [] h = absurd h
     push (n ∷ ns) (m ∷ ms) h = (h.0, push ns ms h.1)
+    push ns ms h = absurd h
 
 abbrev pub IsMade : Val → Value → Type 0
 IsMade v x = ValueGives (Ok x) (view_read v)
@@ -143,18 +142,16 @@ told-array vs (s ∷ p) = ap (clash_met nothing) (item_claims-under vs 0 s p) �
 told-finished : (vs : List Val) (xs : List Value) → AllZip IsMade vs xs → first_in (onto (map view_read vs) no_items) ≡ None
 unfolding first_in
 told-finished [] [] h = refl
-told-finished [] (x ∷ xs) h = absurd h
-told-finished (v ∷ vs) [] h = absurd h
 told-finished (v ∷ vs) (x ∷ xs) h = rw (h.0.0) (told-finished vs xs h.1)
+told-finished ns ms h = absurd h
 
 -- the first clash in an element behind them
 told-element : (vs : List Val) (xs : List Value) (v : Val) (more : List Val) (t : NamedClash) → AllZip IsMade vs xs
     → clash_met nothing (value_claims (view_read v) []) ≡ Some t → first_in (onto (map view_read (vs ++ (v ∷ more))) no_items) ≡ Some t
 unfolding first_in
 told-element [] [] v more t h is = rw is
-told-element [] (x ∷ xs) v more t h is = absurd h
-told-element (w ∷ vs) [] v more t h is = absurd h
 told-element (w ∷ vs) (x ∷ xs) v more t h is = rw (h.0.0) (told-element vs xs v more t h.1 is)
+told-element ns ms v more t h is = absurd h
 
 -- ---- what elements show
 
@@ -191,8 +188,6 @@ items-shown : (vs : List Val) (xs : List Value) (i j l : ℕ) (st : State) (p : 
     → (show_all st (item_claims (onto (map view_read vs) no_items) i []) (position l ∷ p)).shown ≡ option_map (λ m. plain (tree_place m)) (option_and_then (reached p) (element_at j (items_view xs)))
 unfolding show_all item_claims graft
 items-shown [] [] i j l st p h clear is = ap (λ c. c.shown) (clear l p (omega arith))
-items-shown [] (x ∷ xs) i j l st p h clear is = absurd h
-items-shown (v ∷ vs) [] i j l st p h clear is = absurd h
 items-shown (v ∷ vs) (x ∷ xs) i zero l st p h clear is =
     let same : l ≡ i = omega arith in
     let rest = onto (map view_read vs) no_items in
@@ -204,6 +199,7 @@ items-shown (v ∷ vs) (x ∷ xs) i zero l st p h clear is =
 items-shown (v ∷ vs) (x ∷ xs) i (suc j) l st p h clear is =
     ap (λ f. (f (position l ∷ p)).shown) (show_all-item st i (view_read v) (onto (map view_read vs) no_items))
     ∙ items-shown vs xs (suc i) j l (behind st i (view_read v)) p h.1 (λ l p past. rw (apart i l (omega arith)) (clear l p (omega arith))) (omega arith)
+items-shown ns ms i j l st p h clear is = absurd h
 
 -- the elements show what their claims show
 items-plain : (vs : List Val) (xs : List Value) → AllZip IsMade vs xs → ShowsPlain (tree.array (items_view xs)) (show_all nothing (item_claims (onto (map view_read vs) no_items) 0 []))
@@ -213,9 +209,8 @@ items-plain vs xs h (position l) p = sym (items-shown vs xs 0 l l nothing p h (�
 -- and each is in order
 items-ordered : (vs : List Val) (xs : List Value) → AllZip IsMade vs xs → AreOrdered (items_view xs)
 items-ordered [] [] h = tt
-items-ordered [] (x ∷ xs) h = absurd h
-items-ordered (v ∷ vs) [] h = absurd h
 items-ordered (v ∷ vs) (x ∷ xs) h = (h.0.1.2, items-ordered vs xs h.1)
+items-ordered ns ms h = absurd h
 
 pub elements-err : {A : Type 0} (old later all : List Val) (v : Val) (xs : List Value) (seen : A → tree.Inner) (q : Result A Halt) (e : Halt) → old ≡ v ∷ later → Elements old all xs → q ≡ Err e
     → ValueGives (Err e) (view_read v) → ScopeGives q seen (item_claims (onto (map view_read all) no_items) 0 [])
