@@ -5,7 +5,7 @@ use Rattle.std.specs.BTreeMap.{insert_entry}
 use Rattle.std.specs.Box.{box_value}
 use Rattle.std.specs.Cow.{cow_str_bytes, IsBorrowedStr}
 use Rattle.std.specs.Global.{Box}
-use Rattle.std.specs.Map.{lookup, lookup_entry}
+use Rattle.std.specs.Map.{lookup_entry}
 use Rattle.std.specs.Result.{IsErrAnd}
 use Rattle.std.specs.declared.borrow.CowStr.{CowStr}
 use Rattle.toml_span_lex.specs.declared.key.Key.{Key}
@@ -27,7 +27,7 @@ use Rattle.toml_span.specs.declared.branch.Branch.{Branch}
 use Rattle.toml_span.specs.declared.branch.Branch.TheOpen.{Branch-F}
 use Rattle.toml_span.specs.declared.branch.Branch.TheViews.{roll-Branch, out-Branch}
 use Rattle.toml_span.specs.Borrowed.{string as string_standing, Held, held, key_standing, value_standing, IsKeyOf, IsNamedBy, IsBorrowedRight, AreBorrowedRight, keys_of}
-use Rattle.toml_span.specs.code.Borrowed.{boxes_standing, inner_held, standing, entries_of, array_standing, table_standing, IsFrom, AreFrom, Keeps}
+use Rattle.toml_span.specs.code.Borrowed.{boxes_standing, inner_held, standing, entries_of, IsFrom, AreFrom, Keeps}
 use Rattle.toml_span_read.specs.Grammar.{SpellsDocument}
 use Rattle.toml_span_read.specs.Data.{block}
 use Rattle.toml_span.specs.Parsing.{IsBorrowedTree}

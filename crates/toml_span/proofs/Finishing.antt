@@ -24,7 +24,7 @@ use Rattle.toml_span_tree.proofs.Values.{inner_view-Table, inner_view-Array, ent
 use Rattle.toml_span_read.proofs.EarlierTree.{key_cmp, same_name}
 use Rattle.toml_span.specs.declared.claims.Mark.{Mark}
 use Rattle.toml_span.specs.declared.claims.Sort.{Sort}
-use Rattle.toml_span.specs.declared.claims.Sort.TheVariants.{Passed, StandardTable, ArrayOfTables, TableElement, Dotted, Assigned}
+use Rattle.toml_span.specs.declared.claims.Sort.TheVariants.{ArrayOfTables, TableElement}
 use Rattle.toml_span.specs.declared.branch.Branch.{Branch}
 use Rattle.toml_span.specs.declared.branch.Branch.TheViews.{out-Branch}
 use Rattle.toml_span.specs.Claims.{shape_claimed, key_span_of}

@@ -1,5 +1,5 @@
 -- A section is placed: its header part by part, and its assignments at the end. A dotted key is placed part by part.
-use Rattle.std.proofs.Common.{◌≡◌, ◌<◌, ◌≤◌, ◌-◌, Global, Vec, drop, get_or, map, take, take_all, ℕ, zero, suc, Bool, false, true, if◌then◌else◌, List, [], ◌∷◌, length, Option, Some, None, Result, Err, refl, sym, ap, ◌∙◌, subst, inl, inr, arith}
+use Rattle.std.proofs.Common.{◌≡◌, ◌<◌, ◌-◌, Global, Vec, get_or, map, ℕ, zero, suc, Bool, false, true, if◌then◌else◌, List, [], ◌∷◌, length, Some, None, Result, Err, refl, sym, ap, ◌∙◌, subst, inl, inr, arith}
 use Rattle.std.specs.Prelude.{vec_len, ◌==◌}
 use Rattle.std.specs.Vec.{with_item}
 use Rattle.std.proofs.Math.ListN.{length-set}
@@ -261,16 +261,6 @@ parts-below [] h = refl
 parts-below (x ∷ xs) h = absurd (omega arith)
 
 -- ---- the code's nodes
-
--- at the end of the header
-pub section-end : (h : Head) (tail : Claims) (parts : List SimpleKey) (n new : Branch) (r : Result (Unit {0}) Halt) → parts ≡ [] → Places n new r tail (counts n)
-    → Places n new r (section_at (counts n) h parts tail) (grown (counts n) h parts)
-unfolding section_at grown
-section-end h tail parts n new r none placed = subst (λ ps. Places n new r (section_at (counts n) h ps tail) (grown (counts n) h ps)) (sym none) placed
-
-pub pass-end : (h : Head) (k : SimpleKey) (tail : Claims) (rest : List SimpleKey) (n new : Branch) (r : Result (Unit {0}) Halt) → rest ≡ []
-    → Passes n new r (ending h k tail (counts n [])) (grown_here (counts n) h) → Passes n new r (through (counts n) h k rest tail) (grown_through (counts n) h rest)
-pass-end h k tail rest n new r none placed = subst (λ ps. Passes n new r (through (counts n) h k ps tail) (grown_through (counts n) h ps)) (sym none) placed
 
 -- a node with another list of entries
 abbrev pub with_entries : Branch → Vec Branch Global → Branch

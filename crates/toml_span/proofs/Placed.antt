@@ -19,11 +19,10 @@ use Rattle.toml_span.specs.declared.claims.Blame.{Blame}
 use Rattle.toml_span.specs.declared.claims.Mark.{Mark}
 use Rattle.toml_span.specs.declared.claims.Meeting.{Meeting}
 use Rattle.toml_span.specs.declared.claims.Sort.{Sort}
-use Rattle.toml_span.specs.declared.claims.Sort.TheVariants.{Passed, StandardTable, ArrayOfTables, TableElement, Dotted, Assigned}
+use Rattle.toml_span.specs.declared.claims.Sort.TheVariants.{ArrayOfTables, TableElement, Assigned}
 use Rattle.toml_span.specs.declared.claims.Halt.{Halt}
 use Rattle.toml_span.specs.declared.claims.Halt.TheVariants.{Memory, Clash}
 use Rattle.toml_span.specs.declared.branch.Branch.{Branch}
-use Rattle.toml_span.specs.declared.branch.Branch.TheOpen.{Branch-F}
 use Rattle.toml_span.specs.declared.branch.Branch.TheViews.{roll-Branch, out-Branch}
 use Rattle.toml_span_read.proofs.EarlierTree.{key_cmp}
 use Rattle.toml_span.specs.Claims.{Claim, Claims, claimed, followed, pair_mark}
@@ -33,7 +32,7 @@ use Rattle.toml_span.specs.code.Marks.{partner}
 use Rattle.toml_span.specs.code.Placing.{Reaches, Places, Passes}
 use Rattle.toml_span.specs.code.Relative.{under}
 use Rattle.toml_span.specs.Paths.{same_step}
-use Rattle.toml_span.specs.code.Tree.{is_named, marks, entries, child, child_in, closed, closed_in, closed_marks, item, cells, counts, is_array_sort, is_entry_sort, IsChild, IsFresh, IsHeld, IsNamed, IsScope, IsTableOrArray, Sound}
+use Rattle.toml_span.specs.code.Tree.{is_named, marks, entries, child, child_in, closed, closed_marks, cells, counts, is_array_sort, is_entry_sort, IsChild, IsFresh, IsHeld, IsNamed, IsScope, IsTableOrArray, Sound}
 use Rattle.toml_span.proofs.Grafts.{told-followed, put_all-followed, told-under, put_all-under}
 use Rattle.toml_span.proofs.KeyMaps.{puts-insert}
 use Rattle.toml_span.proofs.Nodes.{Slot, Sets, cells-found, cells-missing, cells-slot, cells-sets, counts-found, counts-missing, counts-named, cells-fresh, counts-fresh, good-child, scope-fresh, scope-named, sets-roll, slot, slot_in, sound-good, sound-shape}

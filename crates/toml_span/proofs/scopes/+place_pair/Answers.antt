@@ -1,10 +1,7 @@
-use Rattle.std.proofs.Common.{map, [], BTreeMap, ◌≡◌, rules, refl, sym, ap, ◌∙◌}
+use Rattle.std.proofs.Common.{map, [], ◌≡◌, rules, refl, sym, ap, ◌∙◌}
 use Rattle.std.specs.Prelude.{⊤}
 use Rattle.std.specs.BTreeMap.Entry.{map_with_value}
-use Rattle.std.specs.Global.{Box}
 use Rattle.std.specs.declared.collections.btree_map.Entry.{Entry}
-use Rattle.toml_span_lex.specs.declared.key.Key.{Key}
-use Rattle.toml_span.specs.declared.branch.Branch.{Branch}
 use Rattle.toml_span_read.specs.Keys.{simple_key}
 use Rattle.toml_span_read.proofs.EarlierTree.{parts-first}
 use Rattle.toml_span.specs.Claims.{pair_mark}

@@ -1,21 +1,19 @@
-use Rattle.std.proofs.Common.{BTreeMap, arith, ◌≡◌, ◌-◌, ◌<◌, length, vec_len, ◌∙◌, [], ap, map, refl, rules, sym}
+use Rattle.std.proofs.Common.{arith, ◌≡◌, ◌-◌, ◌<◌, length, vec_len, ◌∙◌, [], map, refl, rules, sym}
 use Rattle.std.specs.Prelude.{⊤}
 use Rattle.std.specs.BTreeMap.Entry.{map_with_value}
 use Rattle.std.proofs.lemmas.Bool.{eqb-true, false≢true}
-use Rattle.std.specs.Global.{Box}
 use Rattle.std.specs.declared.collections.btree_map.Entry.{Entry}
-use Rattle.toml_span_lex.specs.declared.key.Key.{Key}
 use Rattle.toml_span_read.proofs.EarlierTree.{parts-first}
 use Rattle.toml_span_read.specs.Data.{key_value}
 use Rattle.toml_span_read.specs.Keys.{simple_key}
 use Rattle.toml_span.specs.declared.claims.Sort.TheVariants.{Passed}
-use Rattle.toml_span.specs.declared.branch.Branch.{Branch}
 use Rattle.toml_span.specs.declared.branch.Branch.TheViews.{out-Branch}
 use Rattle.toml_span.specs.Claims.{key_value_claims, header_mark}
+use Rattle.toml_span.specs.code.Relative.{grown, section_at}
 use Rattle.toml_span.specs.code.Tree.{entries}
 use Rattle.toml_span.proofs.Claimed.{marked-roll}
 use Rattle.toml_span.proofs.Nodes.{roll-out}
-use Rattle.toml_span.proofs.Headers.{descended, descended-err, no-latest, parts-below, parts-some, pass-again, pass-end, pass-lent, pass-vec, section-beside, section-end, section-found, section-free, section-fresh}
+use Rattle.toml_span.proofs.Headers.{descended, descended-err, no-latest, parts-below, parts-some, pass-again, pass-lent, pass-vec, section-beside, section-found, section-free, section-fresh}
 use Rattle.toml_span.proofs.Borrowing.{front_from, keeps_child, keeps_entry, keeps_marked, keeps_same}
 use Rattle.toml_span.proofs.Placed.{err-of, looked, sets-entry, told}
 use Rattle.toml_span.specs.code.Borrowed.{standing}
@@ -34,9 +32,7 @@ descend-returns-clause-gives t c =
     (marked-roll (header_mark c.args.head Passed c.args.part.now.span) c.args.node.now _ claimed.1 refl refl refl) c.place_section.ensures.gives
 
 pub pass_header-returns-then-is_empty-clause-gives : goal.pass_header-returns-then-is_empty-clause-gives
-pass_header-returns-then-is_empty-clause-gives t c =
-    pass-end c.args.head (simple_key c.args.part.now) (key_value_claims (map key_value c.args.pairs.items) []) (map simple_key c.args.rest.now) c.args.node.now c.end_header.new.node c.end_header.result
-    (parts-below c.args.rest.now (omega (arith, eqb-true (length c.args.rest.now) 0 (sym c.if-is_empty.ensures)))) c.end_header.ensures.gives
+pass_header-returns-then-is_empty-clause-gives t c = rw (parts-below c.args.rest.now (omega (arith, eqb-true (length c.args.rest.now) 0 (sym c.if-is_empty.ensures)))) c.end_header.ensures.gives
 
 pub pass_header-returns-in-Some-clause-gives : goal.pass_header-returns-in-Some-clause-gives
 pass_header-returns-in-Some-clause-gives t c =
@@ -49,9 +45,8 @@ pass_header-returns-in-None-clause-gives t c =
     (parts-some c.args.rest.now (sym c.if-is_empty.ensures)) (no-latest c.args.node.now (λ some. false≢true (c.in-None.ensures.variant.1 some))) c.descend-in-None.ensures.gives
 
 pub place_section-returns-in_default-clause-gives : goal.place_section-returns-in_default-clause-gives
-place_section-returns-in_default-clause-gives t c =
-    section-end c.args.head (key_value_claims (map key_value c.args.pairs.items) []) (map simple_key c.args.parts.now) c.args.node.now c.place_all.new.node c.place_all.result
-    (parts-below c.args.parts.now c.in_default.len_below) c.place_all.ensures.gives
+unfolding section_at grown
+place_section-returns-in_default-clause-gives t c = rw (parts-below c.args.parts.now c.in_default.len_below) c.place_all.ensures.gives
 
 pub place_section-returns-in-Occupied-clause-gives : goal.place_section-returns-in-Occupied-clause-gives
 place_section-returns-in-Occupied-clause-gives t c =
