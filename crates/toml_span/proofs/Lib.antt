@@ -6,7 +6,6 @@ pub mod Placed
 pub mod Finishing
 pub mod KeyMaps
 pub mod Claimed
-pub mod BorrowLemmas
 pub mod Refusals
 pub mod Shown
 pub mod Judged

@@ -4,7 +4,7 @@ use Rattle.toml_span.specs.declared.branch.Branch.{Branch}
 use Rattle.toml_span.specs.declared.branch.Branch.TheOpen.{Branch-F}
 use Rattle.toml_span.specs.declared.branch.Branch.TheViews.{out-Branch, roll-Branch}
 use Rattle.toml_span.proofs.Nodes.{no-entries, out-roll, some-entries}
-use Rattle.toml_span.proofs.BorrowLemmas.{box_first, entry_first, element_push, insert_title, of_node, made_table, made_array}
+use Rattle.toml_span.proofs.Borrowing.{box_first, entry_first, element_push, insert_title, of_node, made_table, made_array}
 use Rattle.toml_span.proofs.Finishing.{never-empty, filled-more, filled-none, filled-finishes, became-table, became-array}
 use Rattle.toml_span_tree.specs.declared.value.Value.{Value}
 use Rattle.toml_span.specs.code.Placing.{BecomesEntry}

@@ -10,9 +10,8 @@ use Rattle.toml_span.specs.declared.branch.Branch.TheViews.{out-Branch}
 use Rattle.toml_span.proofs.Claimed.{marked-roll}
 use Rattle.toml_span.proofs.Headers.{passes-dotted, passes-dotted-err, pair-found, pair-fresh, pair-beside}
 use Rattle.toml_span.proofs.Placed.{err-of, looked, sets-entry, told}
-use Rattle.toml_span.proofs.Borrowing.{front_from, keeps_child, keeps_marked, keeps_same}
+use Rattle.toml_span.proofs.Borrowing.{front_from, keeps_child, keeps_marked, keeps_same, box_found}
 use Rattle.toml_span.specs.code.Borrowed.{standing}
-use Rattle.toml_span.proofs.BorrowLemmas.{box_found}
 use Rattle.toml_span.proofs.scopes.+place_pair.Goals as goal
 
 pub pass_pair-returns-in_err-claim-clause-gives : goal.pass_pair-returns-in_err-claim-clause-gives

@@ -12,10 +12,9 @@ use Rattle.toml_span_tree.specs.declared.value.ValueInner.TheVariants as inners
 use Rattle.toml_span_read.specs.Data.{view}
 use Rattle.toml_span_read.specs.declared.value.ValKind.{the_lemmas}
 use Rattle.toml_span_read.specs.Borrowed.{assignment_written, written}
-use Rattle.toml_span.proofs.BorrowLemmas.{element_push, made_array, made_table, of_node}
 use Rattle.toml_span.proofs.Placed.{err-of}
 use Rattle.toml_span.proofs.Borrowing as borrowing
-use Rattle.toml_span.proofs.Borrowing.{assignment_from, first_from}
+use Rattle.toml_span.proofs.Borrowing.{assignment_from, first_from, element_push, made_array, made_table, of_node}
 use Rattle.toml_span.proofs.Assignments.{inner-none, places-one, val_span, remains-first, placing-more, placing-err, placing-none, table-gives, table-err}
 use Rattle.toml_span.proofs.Values.{IsMade, made-more, elements-first, elements-err, elements-none, scalar-gives, array-gives, array-err, inline-gives, inline-err}
 use Rattle.toml_span_read.specs.declared.value.Val.{Val}

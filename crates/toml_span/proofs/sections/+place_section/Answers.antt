@@ -14,10 +14,9 @@ use Rattle.toml_span.specs.code.Tree.{entries}
 use Rattle.toml_span.proofs.Claimed.{marked-roll}
 use Rattle.toml_span.proofs.Nodes.{roll-out}
 use Rattle.toml_span.proofs.Headers.{descended, descended-err, no-latest, parts-below, parts-some, pass-again, pass-lent, pass-vec, section-beside, section-found, section-free, section-fresh}
-use Rattle.toml_span.proofs.Borrowing.{front_from, keeps_child, keeps_entry, keeps_marked, keeps_same}
+use Rattle.toml_span.proofs.Borrowing.{front_from, keeps_child, keeps_entry, keeps_marked, keeps_same, box_found}
 use Rattle.toml_span.proofs.Placed.{err-of, looked, sets-entry, told}
 use Rattle.toml_span.specs.code.Borrowed.{standing}
-use Rattle.toml_span.proofs.BorrowLemmas.{box_found}
 use Rattle.toml_span.proofs.sections.+place_section.Goals as goal
 
 pub descend-returns-in_err-claim-clause-gives : goal.descend-returns-in_err-claim-clause-gives
