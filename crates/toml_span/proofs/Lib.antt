@@ -16,7 +16,6 @@ pub mod Assigned
 pub mod Entries
 pub mod Headers
 pub mod EachClaim
-pub mod WholeTree
 pub mod ShownWhole
 pub mod Borrowing
 pub mod Growth
