@@ -1,5 +1,5 @@
 -- Assignments placed one after another, and inline tables.
-use Rattle.std.proofs.Common.{◌≡◌, ℕ, List, [], ◌∷◌, ◌==◌, true, map, length, vec_len, Option, Some, None, option_map, Result, Ok, Err, BTreeMap, refl, sym, ap, ◌∙◌, subst, arith}
+use Rattle.std.proofs.Common.{◌≡◌, List, [], ◌∷◌, ◌==◌, true, map, vec_len, Option, Some, None, option_map, Result, Ok, Err, BTreeMap, refl, sym, ap, ◌∙◌, subst, arith}
 use Rattle.std.proofs.lemmas.Bool.{eqb-true}
 use Rattle.std.proofs.lemmas.List.{nil_from_length}
 use Rattle.toml_span_lex.specs.declared.key.Key.{Key}
@@ -17,21 +17,17 @@ use Rattle.toml_span.specs.declared.claims.Halt.{Halt}
 use Rattle.toml_span.specs.declared.claims.Halt.TheVariants.{Memory, Clash}
 use Rattle.toml_span.specs.declared.branch.Branch.{Branch}
 use Rattle.toml_span.specs.declared.branch.Branch.TheViews.{out-Branch}
-use Rattle.toml_span.specs.Claims.{Claims, followed, assignment_claims, key_value_claims}
+use Rattle.toml_span.specs.Claims.{Claims, no_claims, followed, assignment_claims, key_value_claims}
 use Rattle.toml_span.specs.Clashes.{or_else}
 use Rattle.toml_span.specs.code.Machine.{State, nothing, show_all, put_all, clash_met}
 use Rattle.toml_span.specs.code.Placing.{Places, ScopeGives, ShowsBelow, ShowsPlain, Finishes, place_shown}
 use Rattle.toml_span.specs.code.Relative.{pair_at}
 use Rattle.toml_span.specs.code.Tree.{marks, cells, counts, plain, IsScope, IsFresh}
 use Rattle.toml_span.proofs.Absolute.{pair_at-is}
-use Rattle.toml_span.proofs.Grafts.{told-followed, put_all-followed}
-use Rattle.toml_span.proofs.Nodes.{cells-fresh, sound-fresh}
+use Rattle.toml_span.proofs.Grafts.{followed-assoc, followed-none, told-followed}
+use Rattle.toml_span.proofs.Placed.{gives-err, gives-map, reaches-then}
+use Rattle.toml_span.proofs.Nodes.{cells-fresh, scope-fresh}
 use Rattle.toml_span.proofs.Shown.{put_all-shown, shown-plain, key_values-no_header}
-
--- no item is left
-pub none-left : {A : Type 0} (xs : List A) (n : ℕ) → n ≡ length xs → n ≡ 0 → xs ≡ []
-none-left [] n is none = refl
-none-left (x ∷ xs) n is none = absurd (omega (arith, is, none))
 
 -- ---- one assignment
 
@@ -54,77 +50,54 @@ inner-none a h = let v = a.parts.inner in sym (nil_from_length v.items (omega (a
 
 -- ---- one after another
 
--- From n on the rest tells and gives what all of it does from the first node on.
+-- what is placed from the first branch on up to n, before the rest
 pub record Remains (n : Branch) (rest : Claims) (first : Branch) (all : Claims) : Type 0 where
-  pub tells : clash_met (cells n) rest ≡ clash_met (cells first) all
-  pub gives : put_all (cells n) rest ≡ put_all (cells first) all
-  pub counted : counts n ≡ counts first
-  pub scope : IsScope n
-  pub kept : marks n ≡ marks first
+  pub done : Claims
+  pub split : all ≡ followed done rest
+  pub placed : Places first n (Ok tt) done (counts first)
 
 abbrev pub Placing : Branch → List Assignment → Branch → List Assignment → Type 0
-Placing n rest first all = IsScope first → Remains n (key_value_claims (map key_value rest) []) first (key_value_claims (map key_value all) [])
+Placing n rest first all = Remains n (key_value_claims (map key_value rest) []) first (key_value_claims (map key_value all) [])
 
 pub remains-first : (n : Branch) (rest all : List Assignment) → rest ≡ all → Placing n rest n all
-remains-first n rest all same =
-    λ scope. record {
-      tells = ap (λ es. clash_met (cells n) (key_value_claims (map key_value es) [])) same;
-      gives = ap (λ es. put_all (cells n) (key_value_claims (map key_value es) [])) same;
-      counted = refl;
-      scope = scope;
-      kept = refl;
-    }
+unfolding clash_met put_all followed
+remains-first n rest all same = record { done = no_claims; split = ap (λ es. key_value_claims (map key_value es) []) (sym same); placed = λ scope. (refl, (refl, refl, (scope, refl))) }
 
-key_values-more : (old new : List Assignment) (a : Assignment) → old ≡ a ∷ new
-    → key_value_claims (map key_value old) [] ≡ followed (assignment_claims (key_value a) []) (key_value_claims (map key_value new) [])
+placed-then : (first n w : Branch) (r : Result (Unit {0}) Halt) (xs ys : Claims) → Places first n (Ok tt) xs (counts first) → Places n w r ys (counts n) → Places first w r (followed xs ys) (counts first)
+placed-then first n w r xs ys h g before =
+    reaches-then IsScope (λ m. IsScope m × (marks m ≡ marks first)) (λ m. IsScope m × (marks m ≡ marks first)) first n w r xs ys (counts first) (counts first) h
+    (λ now. gives-map r _ _ _ _ refl (λ u k. (k.0, k.1 ∙ (h before).1.1, (k.2.0, k.2.1 ∙ now.1))) (g now.0)) before
+
+-- the next one and those behind it
+next-split : (n first : Branch) (old new all : List Assignment) (a : Assignment) → old ≡ a ∷ new → (inv : Placing n old first all)
+    → key_value_claims (map key_value all) [] ≡ followed (followed inv.done (assignment_claims (key_value a) [])) (key_value_claims (map key_value new) [])
 unfolding key_value_claims
-key_values-more old new a is = ap (λ es. key_value_claims (map key_value es) []) is
-
-remains-more : (n w first : Branch) (rest ps more all : Claims) → rest ≡ followed ps more → Remains n rest first all → Places n w (Ok tt) ps (counts n) → Remains w more first all
-remains-more n w first rest ps more all split inv placed =
-    let h = placed inv.scope in
-    record {
-      tells =
-          sym (told-followed (cells n) ps more ∙ ap (λ o. or_else o (clash_met (put_all (cells n) ps) more)) h.0 ∙ ap (λ f. clash_met f more) (sym h.1.0))
-          ∙ ap (clash_met (cells n)) (sym split) ∙ inv.tells;
-      gives = ap (λ f. put_all f more) h.1.0 ∙ sym (put_all-followed (cells n) ps more) ∙ ap (put_all (cells n)) (sym split) ∙ inv.gives;
-      counted = h.1.1 ∙ inv.counted;
-      scope = h.1.2.0;
-      kept = h.1.2.1 ∙ inv.kept;
-    }
+next-split n first old new all a is inv =
+    inv.split ∙ ap (λ es. followed inv.done (key_value_claims (map key_value es) [])) is ∙ sym (followed-assoc inv.done (assignment_claims (key_value a) []) (key_value_claims (map key_value new) []))
 
 pub placing-more : (n w first : Branch) (old new all : List Assignment) (a : Assignment) → old ≡ a ∷ new → Placing n old first all
     → Places n w (Ok tt) (assignment_claims (key_value a) []) (counts n) → Placing w new first all
-placing-more n w first old new all a is inv placed =
-    λ scope. remains-more n w first (key_value_claims (map key_value old) []) (assignment_claims (key_value a) []) (key_value_claims (map key_value new) []) (key_value_claims (map key_value all) [])
-    (key_values-more old new a is) (inv scope) placed
-
-remains-err : (n w new first : Branch) (rest ps more all : Claims) (q : Result (Unit {0}) Halt) (e : Halt) → rest ≡ followed ps more → Remains n rest first all → q ≡ Err e
-    → Places n w (Err e) ps (counts n) → Places first new q all (counts first)
-remains-err n w new first rest ps more all q (Clash c) split inv same placed =
-    rw same
-    (λ scope. sym inv.tells ∙ ap (clash_met (cells n)) split ∙ told-followed (cells n) ps more ∙ ap (λ o. or_else o (clash_met (put_all (cells n) ps) more)) (placed inv.scope))
-remains-err n w new first rest ps more all q (Memory e) split inv same placed = rw same (λ scope. tt)
+placing-more n w first old new all a is inv placed = record {
+  done = followed inv.done (assignment_claims (key_value a) []);
+  split = next-split n first old new all a is inv;
+  placed = placed-then first n w (Ok tt) inv.done (assignment_claims (key_value a) []) inv.placed placed;
+}
 
 pub placing-err : (n w first new : Branch) (old later all : List Assignment) (a : Assignment) (q : Result (Unit {0}) Halt) (e : Halt) → old ≡ a ∷ later → Placing n old first all → q ≡ Err e
     → Places n w (Err e) (assignment_claims (key_value a) []) (counts n) → Places first new q (key_value_claims (map key_value all) []) (counts first)
-placing-err n w first new old later all a q e is inv same placed =
-    λ scope. remains-err n w new first (key_value_claims (map key_value old) []) (assignment_claims (key_value a) []) (key_value_claims (map key_value later) []) (key_value_claims (map key_value all) []) q e
-    (key_values-more old later a is) (inv scope) same placed scope
+placing-err n w first new old later all a q e is inv same placed before =
+    let now = followed inv.done (assignment_claims (key_value a) []) in
+    let more = key_value_claims (map key_value later) [] in
+    gives-err q e (clash_met (cells first) now) (clash_met (cells first) (key_value_claims (map key_value all) [])) _ _ same
+    (λ t clash. ap (clash_met (cells first)) (next-split n first old later all a is inv) ∙ told-followed (cells first) now more ∙ ap (λ o. or_else o (clash_met (put_all (cells first) now) more)) clash)
+    (placed-then first n w (Err e) inv.done (assignment_claims (key_value a) []) inv.placed placed before)
 
 pub placing-none : (n first : Branch) (rest all : List Assignment) → rest ≡ [] → Placing n rest first all → Places first n (Ok tt) (key_value_claims (map key_value all) []) (counts first)
-unfolding clash_met put_all key_value_claims
+unfolding key_value_claims
 placing-none n first rest all none inv =
-    λ scope.
-    let h = inv scope in
-    let told_none = ap (λ es. clash_met (cells n) (key_value_claims (map key_value es) [])) none in
-    let put_none = ap (λ es. put_all (cells n) (key_value_claims (map key_value es) [])) none in
-    (sym h.tells ∙ told_none, (sym put_none ∙ h.gives, h.counted, (h.scope, h.kept)))
+    subst (λ cs. Places first n (Ok tt) cs (counts first)) (sym (inv.split ∙ ap (λ es. followed inv.done (key_value_claims (map key_value es) [])) none ∙ followed-none inv.done)) inv.placed
 
 -- ---- inline tables
-
-pub fresh-scope : (n : Branch) → IsFresh n → IsScope n
-fresh-scope n h = (sound-fresh n h, h.no_entries)
 
 map-plain : {A : Type 0} (f : A → Place) (o : Option A) → option_map (λ m. plain (f m)) o ≡ option_map plain (option_map f o)
 map-plain f None = refl
@@ -140,7 +113,7 @@ shows-plain i es st is h s p =
 pub table-gives : (old new : Branch) (es : List KeyValue) (table : BTreeMap Key Value) → IsFresh old → Places old new (Ok tt) (key_value_claims es []) (counts old)
     → Finishes (out-Branch new).tables (out-Branch new).values (Ok table) → ScopeGives (Ok table) (λ t. inner_view (Table t)) (key_value_claims es [])
 table-gives old new es table fresh placed finished =
-    let h = placed (fresh-scope old fresh) in
+    let h = placed (scope-fresh old fresh) in
     let whole = finished new refl refl h.1.2.0 in (
       ap (λ f. clash_met f (key_value_claims es [])) (sym (cells-fresh old fresh)) ∙ h.0,
       (shows-plain (inner_view (Table table)) es (cells new) (h.1.0 ∙ ap (λ f. put_all f (key_value_claims es [])) (cells-fresh old fresh)) whole.0, whole.1),
@@ -149,5 +122,5 @@ table-gives old new es table fresh placed finished =
 pub table-err : {A : Type 0} (old new : Branch) (es : List KeyValue) (seen : A → tree.Inner) (q : Result A Halt) (e : Halt) → IsFresh old → q ≡ Err e
     → Places old new (Err e) (key_value_claims es []) (counts old) → ScopeGives q seen (key_value_claims es [])
 table-err old new es seen q (Clash c) fresh same placed =
-    rw same (ap (λ f. clash_met f (key_value_claims es [])) (sym (cells-fresh old fresh)) ∙ placed (fresh-scope old fresh))
+    rw same (ap (λ f. clash_met f (key_value_claims es [])) (sym (cells-fresh old fresh)) ∙ placed (scope-fresh old fresh))
 table-err old new es seen q (Memory e) fresh same placed = rw same tt

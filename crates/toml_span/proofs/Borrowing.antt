@@ -1,44 +1,204 @@
--- What is placed into the tree borrows as it was read.
-use Rattle.std.proofs.Common.{◌≡◌, ℕ, ◌-◌, ◌<◌, ◌≤◌, Bool, true, false, List, [], ◌∷◌, ◌++◌, map, length, take, drop, set, zero, ℤ, get_or, take_all, suc, Some, None, Result, Ok, Err, inl, inr, refl, sym, ap, ◌∙◌, subst, rules, arith, Global, Vec, BTreeMap, OnOk}
-use Rattle.std.specs.Prelude.{IfOk}
+-- The tree under construction, and what becomes of it, borrow as what is put into them, and that as it was read.
+use Rattle.std.proofs.Common.{◌≡◌, ℕ, Bool, true, false, List, [], ◌∷◌, ◌++◌, map, Some, None, option_map, is_eq, rules, inl, inr, refl, sym, ap, ◌∙◌, subst, Global, Vec, BTreeMap, ◌-◌, ◌<◌, ◌≤◌, length, take, drop, set, zero, get_or, take_all, suc, Result, Ok, Err, arith, OnOk}
 use Rattle.std.specs.BTreeMap.{insert_entry}
 use Rattle.std.specs.Box.{box_value}
 use Rattle.std.specs.Cow.{cow_str_bytes, IsBorrowedStr}
 use Rattle.std.specs.Global.{Box}
 use Rattle.std.specs.Map.{lookup, lookup_entry}
-use Rattle.std.specs.Result.{IsErrAnd}
-use Rattle.std.specs.declared.borrow.CowStr.{CowStr}
-use Rattle.std.proofs.lemmas.Option.{none-some}
+use Rattle.std.proofs.lemmas.Bool.{cases_Bool, false≢true}
+use Rattle.std.proofs.lemmas.Option.{none-some, same_Some}
 use Rattle.toml_span_lex.specs.declared.key.Key.{Key}
 use Rattle.toml_span_lex.specs.declared.span.Span.{Span}
-use Rattle.toml_span_tree.specs.declared.date.DateText.{DateText}
-use Rattle.toml_span_tree.specs.declared.float.FloatText.{FloatText}
 use Rattle.toml_span_tree.specs.declared.value.Value.{Value}
 use Rattle.toml_span_tree.specs.declared.value.ValueInner.{ValueInner, the_lemmas as tree_lemmas}
-use Rattle.toml_span_tree.specs.declared.value.ValueInner.TheVariants as inners
+use Rattle.toml_span_read.specs.Keys.{SimpleKey}
+use Rattle.toml_span_read.proofs.EarlierTree.{key_cmp}
+use Rattle.toml_span_read.proofs.BorrowLemmas.{all_append, all_front, all_behind, written_is, assignment_written_is}
+use Rattle.toml_span.specs.declared.branch.Branch.{Branch}
+use Rattle.toml_span.specs.declared.branch.Branch.TheOpen.{Branch-F}
+use Rattle.toml_span.specs.declared.branch.Branch.TheViews.{roll-Branch, out-Branch}
+use Rattle.toml_span.specs.declared.branch.Branch.TheFolds.{fold-roll-Branch}
+use Rattle.toml_span.specs.Borrowed.{Standing, table_name, Held, key_standing, held_or_none, held, value_standing, IsNamedBy, IsBorrowedRight, AreBorrowedRight, string as string_standing, IsKeyOf, keys_of}
+use Rattle.toml_span.specs.code.Borrowed.{node_step, nodes_standing, inner_held, array_standing, table_standing, standing, boxes_standing, entries_of, IsFrom, AreFrom, Keeps}
+use Rattle.toml_span.specs.code.Tree.{is_named, entries}
+use Rattle.toml_span.proofs.KeyMaps.{cases_ordering}
+use Rattle.toml_span.proofs.Nodes.{roll-out}
+use Rattle.std.specs.Prelude.{IfOk}
+use Rattle.std.specs.Result.{IsErrAnd}
+use Rattle.std.specs.declared.borrow.CowStr.{CowStr}
 use Rattle.toml_span_read.specs.declared.section.Section.{Section}
 use Rattle.toml_span_read.specs.declared.value.Assignment.{Assignment}
 use Rattle.toml_span_read.specs.declared.value.Val.{Val}
 use Rattle.toml_span_read.specs.declared.value.ValKind.{ValKind, the_lemmas as read_lemmas}
-use Rattle.toml_span_read.specs.declared.value.ValKind.TheVariants as kinds
 use Rattle.toml_span_read.specs.Borrowed.{Written, string as string_written, name as name_written, AreWrittenRight as AreRightRead, joined, key_written, keys_written, dotted_written, written, kind_written, assignment_written, assignments_written, section_written, sections_written}
-use Rattle.toml_span_read.specs.Keys.{SimpleKey}
-use Rattle.toml_span_read.proofs.BorrowLemmas.{all_append, all_front, all_behind, written_is, assignment_written_is}
-use Rattle.toml_span_read.proofs.EarlierTree.{key_cmp}
 use Rattle.toml_span.specs.declared.claims.Halt.{Halt}
-use Rattle.toml_span.specs.declared.claims.Mark.{Mark}
-use Rattle.toml_span.specs.declared.claims.Sort.TheVariants.{Assigned}
-use Rattle.toml_span.specs.declared.branch.Branch.{Branch}
-use Rattle.toml_span.specs.declared.branch.Branch.TheOpen.{Branch-F}
-use Rattle.toml_span.specs.declared.branch.Branch.TheViews.{roll-Branch, out-Branch}
-use Rattle.toml_span.specs.Borrowed.{string as string_standing, Held, held, key_standing, value_standing, IsKeyOf, IsNamedBy, IsBorrowedRight, AreBorrowedRight, keys_of}
-use Rattle.toml_span.specs.code.Borrowed.{inner_held, standing, entries_of, array_standing, table_standing, IsFrom, AreFrom, Keeps}
 use Rattle.toml_span_read.specs.Grammar.{SpellsDocument}
 use Rattle.toml_span_read.specs.Data.{block}
-use Rattle.toml_span.specs.code.Machine.{Gives, met}
 use Rattle.toml_span.specs.Parsing.{IsBorrowedTree}
-use Rattle.toml_span.specs.code.Tree.{is_named, entries}
-use Rattle.toml_span.proofs.BorrowLemmas.{held_is, made_table, made_array, of_node, node_of, insert_new, box_found, box_insert}
+use Rattle.toml_span.proofs.Placed.{with_tables}
+use Rattle.toml_span_tree.specs.declared.value.ValueInner.TheVariants as inners
+use Rattle.toml_span_read.specs.declared.value.ValKind.TheVariants as kinds
+
+-- ---- a level at a time
+
+pub held_is : (v : Value) → held v ≡ held_or_none (option_map inner_held v.value) v.span
+held_is v = search (rules, tree_lemmas)
+
+pub held-Table : (t : BTreeMap Key Value) (span : Span) → inner_held (inners.Table t) span ≡ (false, table_standing t.entries)
+held-Table t span = search (rules, tree_lemmas)
+
+pub held-Array : (a : Vec Value Global) (span : Span) → inner_held (inners.Array a) span ≡ (false, array_standing a.items)
+held-Array a span = search (rules, tree_lemmas)
+
+boxes_map : (f : Key × Box Branch → Key × Box (List Standing)) → ((e : Key × Box Branch) → table_name (f e).0.name ≡ table_name e.0.name) → ((e : Key × Box Branch) → box_value (f e).1 ≡ standing (box_value e.1)) → (es : List (Key × Box Branch))
+    → nodes_standing (map f es) ≡ boxes_standing es
+boxes_map f names boxes [] = refl
+boxes_map f names boxes (e ∷ es) = rw (names e, boxes e, boxes_map f names boxes es) refl
+
+pub standing-roll : (b : Branch-F Branch) → standing (roll-Branch b) ≡ table_standing b.values.entries ++ (boxes_standing b.tables.entries ++ entries_of b.entries.items)
+standing-roll b =
+    fold-roll-Branch (List Standing) node_step b
+    ∙ ap (λ z. table_standing b.values.entries ++ (z ++ entries_of b.entries.items)) (boxes_map _ (λ e. refl) (λ e. refl) b.tables.entries)
+
+pub standing_is : (n : Branch) → standing n ≡ table_standing (out-Branch n).values.entries ++ (boxes_standing (out-Branch n).tables.entries ++ entries_of (out-Branch n).entries.items)
+standing_is n = ap standing (sym (roll-out n)) ∙ standing-roll (out-Branch n)
+
+-- ---- parts and wholes
+
+module _ (text : List ℕ) (ps : List SimpleKey) where
+  abbrev Borrows : Standing → Type 0
+  Borrows = IsBorrowedRight text ps
+
+  pub whole : (values : List (Key × Value)) (tables : List (Key × Box Branch)) (entries : List Branch)
+      → AreBorrowedRight text ps (table_standing values) → AreBorrowedRight text ps (boxes_standing tables) → AreBorrowedRight text ps (entries_of entries)
+      → AreBorrowedRight text ps (table_standing values ++ (boxes_standing tables ++ entries_of entries))
+  whole values tables entries a b c =
+      all_append Borrows (table_standing values) (boxes_standing tables ++ entries_of entries) a (all_append Borrows (boxes_standing tables) (entries_of entries) b c)
+
+  pub of_node : (n : Branch) → AreBorrowedRight text ps (standing n)
+      → AreBorrowedRight text ps (table_standing (out-Branch n).values.entries) × AreBorrowedRight text ps (boxes_standing (out-Branch n).tables.entries) × AreBorrowedRight text ps (entries_of (out-Branch n).entries.items)
+  of_node n h =
+      let all = rw (standing_is n) at h in
+      let behind = all_behind Borrows (table_standing (out-Branch n).values.entries) (boxes_standing (out-Branch n).tables.entries ++ entries_of (out-Branch n).entries.items) all in (
+        all_front Borrows (table_standing (out-Branch n).values.entries) (boxes_standing (out-Branch n).tables.entries ++ entries_of (out-Branch n).entries.items) all,
+        all_front Borrows (boxes_standing (out-Branch n).tables.entries) (entries_of (out-Branch n).entries.items) behind,
+        all_behind Borrows (boxes_standing (out-Branch n).tables.entries) (entries_of (out-Branch n).entries.items) behind,
+      )
+
+  pub node_of : (b : Branch-F Branch) → AreBorrowedRight text ps (table_standing b.values.entries) → AreBorrowedRight text ps (boxes_standing b.tables.entries) → AreBorrowedRight text ps (entries_of b.entries.items)
+      → AreBorrowedRight text ps (standing (roll-Branch b))
+  node_of b values tables entries = rw (standing-roll b) (whole b.values.entries b.tables.entries b.entries.items values tables entries)
+
+  -- ---- tables
+
+  key_named : (b : Bool) (k : Key) → IsBorrowedRight text ps (key_standing b k) → IsNamedBy text ps k.name
+  key_named true k h = (k.span, h.1, h.0)
+  key_named false k h = h
+
+  title_right : (b : Bool) (k : Key) → b ≡ false → IsNamedBy text ps k.name → IsBorrowedRight text ps (key_standing b k)
+  title_right true k e h = absurd (false≢true (sym e))
+  title_right false k e h = h
+
+  -- a table or an array put at a name
+  pub insert_title : (k : Key) (v : Value) (es : List (Key × Value)) → IsNamedBy text ps k.name → (held v).0 ≡ false → AreBorrowedRight text ps (value_standing v) → AreBorrowedRight text ps (table_standing es)
+      → AreBorrowedRight text ps (table_standing (insert_entry key_cmp es k v))
+  insert_title k v [] named plain inside h = (title_right (held v).0 k plain named, all_append Borrows (value_standing v) [] inside tt)
+  insert_title k v (e ∷ es) named plain inside h = elim (cases_ordering (key_cmp k e.0)) [
+    | inl less ↦ rw less (title_right (held v).0 k plain named, all_append Borrows (value_standing v) (table_standing (e ∷ es)) inside h)
+    | inr other ↦ elim other [
+      | inl tie ↦ rw tie (
+        title_right (held v).0 e.0 plain (key_named (held e.1).0 e.0 h.0),
+        all_append Borrows (value_standing v) (table_standing es) inside (all_behind Borrows (value_standing e.1) (table_standing es) h.1),
+      )
+      | inr more ↦ rw more (
+        h.0,
+        all_append Borrows (value_standing e.1) (table_standing (insert_entry key_cmp es k v)) (all_front Borrows (value_standing e.1) (table_standing es) h.1)
+            (insert_title k v es named plain inside (all_behind Borrows (value_standing e.1) (table_standing es) h.1)),
+      )
+    ]
+  ]
+
+  -- any value put at a name where none is
+  pub insert_new : (k : Key) (v : Value) (es : List (Key × Value)) → lookup_entry (is_named (cow_str_bytes k.name)) es ≡ None
+      → ((b : Bool) → IsBorrowedRight text ps (key_standing b k)) → AreBorrowedRight text ps (value_standing v) → AreBorrowedRight text ps (table_standing es)
+      → AreBorrowedRight text ps (table_standing (insert_entry key_cmp es k v))
+  insert_new k v [] free here inside h = (here (held v).0, all_append Borrows (value_standing v) [] inside tt)
+  insert_new k v (e ∷ es) free here inside h = elim (cases_Bool (is_named (cow_str_bytes k.name) e.0)) [
+    | inl there ↦ absurd (none-some e (sym free ∙ rw there))
+    | inr apart ↦ elim (cases_ordering (key_cmp k e.0)) [
+      | inl less ↦ rw less (here (held v).0, all_append Borrows (value_standing v) (table_standing (e ∷ es)) inside h)
+      | inr other ↦ elim other [
+        | inl tie ↦ absurd (false≢true (sym apart ∙ ap is_eq tie))
+        | inr more ↦ rw more (
+          h.0,
+          all_append Borrows (value_standing e.1) (table_standing (insert_entry key_cmp es k v)) (all_front Borrows (value_standing e.1) (table_standing es) h.1)
+              (insert_new k v es (rw apart at free) here inside (all_behind Borrows (value_standing e.1) (table_standing es) h.1)),
+        )
+      ]
+    ]
+  ]
+
+  -- ---- branches by name
+
+  pub box_found : (test : Key → Bool) (x : Box Branch) (es : List (Key × Box Branch)) → lookup test es ≡ Some x → AreBorrowedRight text ps (boxes_standing es) → AreBorrowedRight text ps (standing (box_value x))
+  box_found test x [] found h = absurd (none-some x found)
+  box_found test x (e ∷ es) found h = elim (cases_Bool (test e.0)) [
+    | inl here ↦
+        let same : Some e.1 ≡ Some x = rw here at found in
+        subst (λ (y : Box Branch). AreBorrowedRight text ps (standing (box_value y))) (same_Some e.1 x same) (all_front Borrows (standing (box_value e.1)) (boxes_standing es) h.1)
+    | inr off ↦ box_found test x es (rw off at found) (all_behind Borrows (standing (box_value e.1)) (boxes_standing es) h.1)
+  ]
+
+  pub box_insert : (k : Key) (w : Box Branch) (es : List (Key × Box Branch)) → IsNamedBy text ps k.name → AreBorrowedRight text ps (standing (box_value w)) → AreBorrowedRight text ps (boxes_standing es)
+      → AreBorrowedRight text ps (boxes_standing (insert_entry key_cmp es k w))
+  box_insert k w [] named inside h = (named, all_append Borrows (standing (box_value w)) [] inside tt)
+  box_insert k w (e ∷ es) named inside h = elim (cases_ordering (key_cmp k e.0)) [
+    | inl less ↦ rw less (named, all_append Borrows (standing (box_value w)) (boxes_standing (e ∷ es)) inside h)
+    | inr other ↦ elim other [
+      | inl tie ↦ rw tie (h.0, all_append Borrows (standing (box_value w)) (boxes_standing es) inside (all_behind Borrows (standing (box_value e.1)) (boxes_standing es) h.1))
+      | inr more ↦ rw more (
+        h.0,
+        all_append Borrows (standing (box_value e.1)) (boxes_standing (insert_entry key_cmp es k w)) (all_front Borrows (standing (box_value e.1)) (boxes_standing es) h.1)
+            (box_insert k w es named inside (all_behind Borrows (standing (box_value e.1)) (boxes_standing es) h.1)),
+      )
+    ]
+  ]
+
+  -- the first of them, and those behind it
+  pub box_first : (k : Key) (b : Box Branch) (left all : List (Key × Box Branch)) → all ≡ (k, b) ∷ left → AreBorrowedRight text ps (boxes_standing all)
+      → IsNamedBy text ps k.name × AreBorrowedRight text ps (standing (box_value b)) × AreBorrowedRight text ps (boxes_standing left)
+  box_first k b left all is h =
+      let g : AreBorrowedRight text ps (boxes_standing ((k, b) ∷ left)) = rw is at h in
+      (g.0, all_front Borrows (standing (box_value b)) (boxes_standing left) g.1, all_behind Borrows (standing (box_value b)) (boxes_standing left) g.1)
+
+  -- ---- elements
+
+  pub entry_first : (n : Branch) (left all : List Branch) → all ≡ n ∷ left → AreBorrowedRight text ps (entries_of all) → AreBorrowedRight text ps (standing n) × AreBorrowedRight text ps (entries_of left)
+  entry_first n left all is h =
+      let g : AreBorrowedRight text ps (entries_of (n ∷ left)) = rw is at h in
+      (all_front Borrows (standing n) (entries_of left) g, all_behind Borrows (standing n) (entries_of left) g)
+
+  pub element_push : (v : Value) (vs : List Value) → AreBorrowedRight text ps (array_standing vs) → AreBorrowedRight text ps (value_standing v) → AreBorrowedRight text ps (array_standing (vs ++ (v ∷ [])))
+  element_push v [] h k = all_append Borrows (value_standing v) [] k tt
+  element_push v (w ∷ vs) h k =
+      all_append Borrows (value_standing w) (array_standing (vs ++ (v ∷ []))) (all_front Borrows (value_standing w) (array_standing vs) h) (element_push v vs (all_behind Borrows (value_standing w) (array_standing vs) h) k)
+
+  -- ---- what is made
+
+  pub kept_held : (v : Value) (i : ValueInner) (span : Span) → (v.value ≡ Some i) × (v.span ≡ span) → held v ≡ inner_held i span
+  kept_held v i span k = held_is v ∙ rw (k.0, k.1) refl
+
+  pub made_table : (v : Value) (t : BTreeMap Key Value) (span : Span) → (v.value ≡ Some (inners.Table t)) × (v.span ≡ span) → AreBorrowedRight text ps (table_standing t.entries)
+      → ((held v).0 ≡ false) × AreBorrowedRight text ps (value_standing v)
+  made_table v t span k h =
+      let e : held v ≡ (false, table_standing t.entries) = kept_held v (inners.Table t) span k ∙ held-Table t span in
+      (ap (λ x. x.0) e, subst (λ (x : Held). AreBorrowedRight text ps x.1) (sym e) h)
+
+  pub made_array : (v : Value) (a : Vec Value Global) (span : Span) → (v.value ≡ Some (inners.Array a)) × (v.span ≡ span) → AreBorrowedRight text ps (array_standing a.items)
+      → ((held v).0 ≡ false) × AreBorrowedRight text ps (value_standing v)
+  made_array v a span k h =
+      let e : held v ≡ (false, array_standing a.items) = kept_held v (inners.Array a) span k ∙ held-Array a span in
+      (ap (λ x. x.0) e, subst (λ (x : Held). AreBorrowedRight text ps x.1) (sym e) h)
 
 -- ---- results
 
@@ -49,11 +209,6 @@ ok_map (Err e) P Q f h = tt
 pub err_ok : {A E : Type 0} (r : Result A E) (Q : E → Type 0) (P : A → Type 0) → IsErrAnd r Q → IfOk r P
 err_ok (Ok x) Q P h = absurd h
 err_ok (Err e) Q P h = tt
-
--- two values that are assigned to one name clash
-pub assigned_twice : (r : Result (Unit {0}) Halt) (a b : Mark) (name : List ℕ) (Q : Unit {0} → Type 0) (P : Type 0) → a.sort ≡ Assigned → b.sort ≡ Assigned → Gives r (met (a ∷ []) b name) Q → OnOk r P
-assigned_twice (Ok x) a b name Q P d e h = let clash = rw (d, e) at h.0 in absurd (none-some _ (sym clash))
-assigned_twice (Err e) a b name Q P d f h = tt
 
 -- ---- what was read
 
@@ -97,15 +252,9 @@ module _ (text : List ℕ) (ps : List SimpleKey) where
       let all : AreFrom text ps (f x ++ joined (map f new)) = rw is at h in
       (all_front From (f x) (joined (map f new)) all, all_behind From (f x) (joined (map f new)) all)
 
-  pub again_from : {A : Type 0} (f : A → List Written) (old new : List A) → new ≡ old → AreFrom text ps (joined (map f old)) → AreFrom text ps (joined (map f new))
-  again_from f old new is h = rw is h
-
   pub section_from : (s : Section) → AreFrom text ps (section_written s) → AreFrom text ps (keys_written s.header.items) × AreFrom text ps (assignments_written s.assignments.items)
   section_from s h =
       (all_front From (keys_written s.header.items) (assignments_written s.assignments.items) h, all_behind From (keys_written s.header.items) (assignments_written s.assignments.items) h)
-
-  pub keys_again : (old new : List Key) → new ≡ old → AreFrom text ps (keys_written old) → AreFrom text ps (keys_written new)
-  keys_again old new is h = rw is h
 
   pub from_key : (key : Key) → IsFrom text ps (key_written key) → (b : Bool) → IsBorrowedRight text ps (key_standing b key)
   from_key key h true = h
@@ -133,28 +282,16 @@ module _ (text : List ℕ) (ps : List SimpleKey) where
   pub keeps_same : (a n new : Branch) (r : Result (Unit {0}) Halt) → a ≡ n → Keeps text ps a new r → Keeps text ps n new r
   keeps_same a n new r is keep = subst (λ x. Keeps text ps x new r) is keep
 
-  pub keeps_entered : (n : Branch) (b : Branch-F Branch) (k c : Key) (x w : Box Branch) (r : Result (Unit {0}) Halt)
+  pub keeps_child : (n : Branch) (tables made : BTreeMap Key (Box Branch)) (k c : Key) (x : Branch) (w : Box Branch) (r : Result (Unit {0}) Halt)
       → cow_str_bytes c.name ≡ cow_str_bytes k.name → (IsBorrowedStr k.name → IsBorrowedStr c.name) → (IsBorrowedStr c.name → IsBorrowedStr k.name)
-      → lookup (is_named (cow_str_bytes c.name)) (out-Branch n).tables.entries ≡ Some x
-      → b.entries.items ≡ entries n → b.values ≡ (out-Branch n).values → b.tables.entries ≡ insert_entry key_cmp (out-Branch n).tables.entries c w
-      → IsFrom text ps (key_written k) → Keeps text ps (box_value x) (box_value w) r → Keeps text ps n (roll-Branch b) r
-  keeps_entered n b k c x w r same forth back found items values inserted key keep h =
+      → made.entries ≡ insert_entry key_cmp (out-Branch n).tables.entries c w → tables ≡ made → (AreBorrowedRight text ps (boxes_standing (out-Branch n).tables.entries) → AreBorrowedRight text ps (standing x))
+      → IsFrom text ps (key_written k) → Keeps text ps x (box_value w) r → Keeps text ps n (with_tables n tables) r
+  keeps_child n tables made k c x w r same forth back inserted is start key keep h =
       let inside = of_node text ps n h in
-      ok_map r (AreBorrowedRight text ps (standing (box_value w))) (AreBorrowedRight text ps (standing (roll-Branch b)))
-      (λ made. node_of text ps b (rw values inside.0)
-      (rw inserted (box_insert text ps c w (out-Branch n).tables.entries (clone_named k c same forth back key) made inside.1)) (rw items inside.2))
-      (keep (box_found text ps (is_named (cow_str_bytes c.name)) x (out-Branch n).tables.entries found inside.1))
-
-  pub keeps_new : (n : Branch) (b : Branch-F Branch) (k c : Key) (x : Branch) (w : Box Branch) (r : Result (Unit {0}) Halt) → standing x ≡ []
-      → cow_str_bytes c.name ≡ cow_str_bytes k.name → (IsBorrowedStr k.name → IsBorrowedStr c.name) → (IsBorrowedStr c.name → IsBorrowedStr k.name)
-      → b.entries.items ≡ entries n → b.values ≡ (out-Branch n).values → b.tables.entries ≡ insert_entry key_cmp (out-Branch n).tables.entries c w
-      → IsFrom text ps (key_written k) → Keeps text ps x (box_value w) r → Keeps text ps n (roll-Branch b) r
-  keeps_new n b k c x w r bare same forth back items values inserted key keep h =
-      let inside = of_node text ps n h in
-      ok_map r (AreBorrowedRight text ps (standing (box_value w))) (AreBorrowedRight text ps (standing (roll-Branch b)))
-      (λ made. node_of text ps b (rw values inside.0)
-      (rw inserted (box_insert text ps c w (out-Branch n).tables.entries (clone_named k c same forth back key) made inside.1)) (rw items inside.2))
-      (keep (rw bare tt))
+      ok_map r (AreBorrowedRight text ps (standing (box_value w))) (AreBorrowedRight text ps (standing (with_tables n tables)))
+      (λ right. node_of text ps (record { marks = (out-Branch n).marks; values = (out-Branch n).values; tables = tables; entries = (out-Branch n).entries }) inside.0
+      (rw (is, inserted) (box_insert text ps c w (out-Branch n).tables.entries (clone_named k c same forth back key) right inside.1)) inside.2)
+      (keep (start inside.1))
 
   pub keeps_value : (n : Branch) (b : Branch-F Branch) (k : Key) (v : Value) → lookup_entry (is_named (cow_str_bytes k.name)) (out-Branch n).values.entries ≡ None
       → b.tables ≡ (out-Branch n).tables → b.entries.items ≡ entries n → b.values.entries ≡ insert_entry key_cmp (out-Branch n).values.entries k v
@@ -206,9 +343,6 @@ module _ (text : List ℕ) (ps : List SimpleKey) where
   kind_from : (v : Val) (k : ValKind) → v.kind ≡ k → AreFrom text ps (written v) → AreFrom text ps (kind_written k v.span)
   kind_from v k is h = rw is at (rw (written_is v) at h)
 
-  held_by : (x : Value) (i inner : ValueInner) (span : Span) → (x.value ≡ Some i) × (x.span ≡ span) → i ≡ inner → held x ≡ inner_held inner span
-  held_by x i inner span kept is = held_is x ∙ rw (kept.0, kept.1, is) refl
-
   from_held : (x : Value) (h : Held) → held x ≡ h → AreBorrowedRight text ps h.1 → AreBorrowedRight text ps (value_standing x)
   from_held x h is right = subst (λ (y : Held). AreBorrowedRight text ps y.1) (sym is) right
 
@@ -218,22 +352,10 @@ module _ (text : List ℕ) (ps : List SimpleKey) where
       let read : kind_written (kinds.String s) v.span ≡ string_written s v.span ∷ [] = search (rules, read_lemmas) in
       let right = rw read at (kind_from v (kinds.String s) kind h) in
       let made : inner_held (inners.String s) v.span ≡ (true, string_standing s v.span ∷ []) = search (rules, tree_lemmas) in
-      from_held x (true, string_standing s v.span ∷ []) (held_by x i (inners.String s) v.span kept is ∙ made) (right.0, tt)
+      from_held x (true, string_standing s v.span ∷ []) (kept_held text ps x (inners.String s) v.span (kept.0 ∙ ap (λ i. Some i) is, kept.1) ∙ made) (right.0, tt)
 
-  plain_right : (x : Value) (i inner : ValueInner) (span : Span) → (x.value ≡ Some i) × (x.span ≡ span) → i ≡ inner → inner_held inner span ≡ (true, []) → AreBorrowedRight text ps (value_standing x)
-  plain_right x i inner span kept is made = from_held x (true, []) (held_by x i inner span kept is ∙ made) tt
-
-  pub integer_right : (x : Value) (i : ValueInner) (n : ℤ) (span : Span) → (x.value ≡ Some i) × (x.span ≡ span) → i ≡ inners.Integer n → AreBorrowedRight text ps (value_standing x)
-  integer_right x i n span kept is = plain_right x i (inners.Integer n) span kept is (search (rules, tree_lemmas))
-
-  pub float_right : (x : Value) (i : ValueInner) (f : FloatText) (span : Span) → (x.value ≡ Some i) × (x.span ≡ span) → i ≡ inners.Float f → AreBorrowedRight text ps (value_standing x)
-  float_right x i f span kept is = plain_right x i (inners.Float f) span kept is (search (rules, tree_lemmas))
-
-  pub boolean_right : (x : Value) (i : ValueInner) (b : Bool) (span : Span) → (x.value ≡ Some i) × (x.span ≡ span) → i ≡ inners.Boolean b → AreBorrowedRight text ps (value_standing x)
-  boolean_right x i b span kept is = plain_right x i (inners.Boolean b) span kept is (search (rules, tree_lemmas))
-
-  pub datetime_right : (x : Value) (i : ValueInner) (d : DateText) (span : Span) → (x.value ≡ Some i) × (x.span ≡ span) → i ≡ inners.Datetime d → AreBorrowedRight text ps (value_standing x)
-  datetime_right x i d span kept is = plain_right x i (inners.Datetime d) span kept is (search (rules, tree_lemmas))
+  pub plain_right : (x : Value) (i inner : ValueInner) (span : Span) → (x.value ≡ Some i) × (x.span ≡ span) → i ≡ inner → inner_held inner span ≡ (true, []) → AreBorrowedRight text ps (value_standing x)
+  plain_right x i inner span kept is made = from_held x (true, []) (kept_held text ps x inner span (kept.0 ∙ ap (λ i. Some i) is, kept.1) ∙ made) tt
 
   pub array_from : (v : Val) (vs : Vec Val Global) → v.kind ≡ kinds.Array vs → AreFrom text ps (written v) → AreFrom text ps (joined (map written vs.items))
   array_from v vs kind h =
@@ -244,9 +366,3 @@ module _ (text : List ℕ) (ps : List SimpleKey) where
   inline_from v found kind h =
       let read : kind_written (kinds.Inline found) v.span ≡ assignments_written found.items = search (rules, read_lemmas) in
       rw read at (kind_from v (kinds.Inline found) kind h)
-
-  pub array_right : (x : Value) (i : ValueInner) (a : Vec Value Global) (span : Span) → (x.value ≡ Some i) × (x.span ≡ span) → i ≡ inners.Array a → AreBorrowedRight text ps (array_standing a.items) → AreBorrowedRight text ps (value_standing x)
-  array_right x i a span kept is h = (made_array text ps x a span (kept.0 ∙ ap (λ i. Some i) is, kept.1) h).1
-
-  pub table_right : (x : Value) (i : ValueInner) (t : BTreeMap Key Value) (span : Span) → (x.value ≡ Some i) × (x.span ≡ span) → i ≡ inners.Table t → AreBorrowedRight text ps (table_standing t.entries) → AreBorrowedRight text ps (value_standing x)
-  table_right x i t span kept is h = (made_table text ps x t span (kept.0 ∙ ap (λ i. Some i) is, kept.1) h).1

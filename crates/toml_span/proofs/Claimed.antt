@@ -1,14 +1,9 @@
 -- A branch with one more claim.
 use Rattle.std.proofs.Common.{◌≡◌, ℕ, zero, suc, Bool, true, false, if◌then◌else◌, not, ◌||◌, List, [], ◌∷◌, ◌++◌, length, Option, Some, None, option_map, Result, Ok, Err, refl, sym, ap, ◌∙◌, subst, inl, inr, ◌⊎◌}
-use Rattle.std.specs.BTreeMap.{BTreeMap}
-use Rattle.std.specs.Box.{box_value}
-use Rattle.std.specs.Global.{Box}
 use Rattle.std.specs.List.{list_any}
-use Rattle.std.specs.Map.{lookup}
 use Rattle.std.proofs.lemmas.Bool.{cases_Bool, eqb-true, or_cases, true≢false, false≢true}
 use Rattle.std.proofs.lemmas.Option.{none-some}
-use Rattle.toml_span_tree.specs.Path.{Path, key, position}
-use Rattle.toml_span_lex.specs.declared.key.Key.{Key}
+use Rattle.toml_span_tree.specs.Path.{Path, Step, key, position}
 use Rattle.toml_span_read.specs.Keys.{SimpleKey}
 use Rattle.toml_span.specs.declared.claims.Sort.{Sort}
 use Rattle.toml_span.specs.declared.claims.Sort.TheVariants.{Passed, StandardTable, ArrayOfTables, TableElement, Dotted, Assigned}
@@ -25,10 +20,11 @@ use Rattle.toml_span.specs.Flat.{by_header}
 use Rattle.toml_span.specs.code.Marks.{deciding, first, first_by_header, remember, same_sort, sort_number}
 use Rattle.toml_span.specs.code.Machine.{Gives, change, decide, met, put_all, clash_met, with_claim}
 use Rattle.toml_span.specs.code.Placing.{Reaches}
-use Rattle.toml_span.specs.code.Tree.{marks, entries, child, closed, closed_in, closed_cell, is_named, item, or_closed, or_nothing, or_zero, own_cell, cells, cell_at, counts, count_at, by_mark, is_array_sort, is_entry_sort, NoArray, NoEntry, IsNamed, IsEntry, IsTableOrArray, IsScope, AreNamed, AreEntries, HoldsOrderedValues, Sound, sound}
+use Rattle.toml_span.specs.code.Tree.{marks, entries, child_in, closed_in, item, own_cell, cells, cell_at, counts, count_at, by_mark, is_array_sort, is_entry_sort, NoArray, NoEntry, IsNamed, IsEntry, IsScope}
 use Rattle.toml_span_read.proofs.BorrowLemmas.{all_append}
 use Rattle.toml_span.proofs.Grafts.{fun_ext}
-use Rattle.toml_span.proofs.Placed.{reaches-then, out-roll}
+use Rattle.toml_span.proofs.Nodes.{IsGood, Slot, cells-step, counts-step, out-roll, scope-from, scope-marks, slot, slot_cell, slot_count, sound-good}
+use Rattle.toml_span.proofs.Placed.{reaches-then}
 
 -- ---- sorts
 
@@ -43,11 +39,7 @@ sort_at (suc (suc (suc (suc (suc n))))) = Assigned
 sort_at-number : (a : Sort) → sort_at (sort_number a) ≡ a
 unfolding sort_at
 sort_at-number Passed = refl
-sort_at-number StandardTable = refl
-sort_at-number ArrayOfTables = refl
-sort_at-number TableElement = refl
-sort_at-number Dotted = refl
-sort_at-number Assigned = refl
+sort_at-number a = refl
 
 pub same_sort-eq : (a b : Sort) → same_sort a b ≡ true → a ≡ b
 same_sort-eq a b h = sym (sort_at-number a) ∙ ap sort_at (eqb-true (sort_number a) (sort_number b) h) ∙ sort_at-number b
@@ -192,30 +184,10 @@ marked-roll m old b claims values tables added = record {
   added = ap (λ (n : Branch-F Branch). n.entries.items) (out-roll b) ∙ added;
 }
 
--- what is the same below two branches
-pub child-same : (old new : Branch) (k : List ℕ) → (out-Branch new).tables ≡ (out-Branch old).tables → child k new ≡ child k old
-child-same old new k h = ap (λ (t : BTreeMap Key (Box Branch)). option_map box_value (lookup (is_named k) t.entries)) h
-
-pub closed-same : (old new : Branch) (k : List ℕ) → (out-Branch new).values ≡ (out-Branch old).values → closed k new ≡ closed k old
-closed-same old new k h = ap (closed_in k) h
-
-pub cells-key : (old new : Branch) (k : List ℕ) (p : Path) → child k new ≡ child k old → closed k new ≡ closed k old → cells new (key k ∷ p) ≡ cells old (key k ∷ p)
-unfolding cell_at
-cells-key old new k p tables values =
-    ap (λ o. or_closed (option_map (cell_at p) o) (closed_cell (closed k new) p)) tables
-    ∙ ap (λ o. or_closed (option_map (cell_at p) (child k old)) (closed_cell o p)) values
-
-pub counts-key : (old new : Branch) (k : List ℕ) (p : Path) → child k new ≡ child k old → counts new (key k ∷ p) ≡ counts old (key k ∷ p)
-unfolding count_at
-counts-key old new k p tables = ap (λ o. or_zero (option_map (count_at p) o)) tables
-
-pub cells-position : (old new : Branch) (i : ℕ) (p : Path) → item i (entries new) ≡ item i (entries old) → cells new (position i ∷ p) ≡ cells old (position i ∷ p)
-unfolding cell_at
-cells-position old new i p same = ap (λ o. or_nothing (option_map (cell_at p) o)) same
-
-pub counts-position : (old new : Branch) (i : ℕ) (p : Path) → item i (entries new) ≡ item i (entries old) → counts new (position i ∷ p) ≡ counts old (position i ∷ p)
-unfolding count_at
-counts-position old new i p same = ap (λ o. or_zero (option_map (count_at p) o)) same
+-- what stands below it is the same
+marked-slot : (m : Mark) (old new : Branch) → Marked m old new → (s : Step) → slot s new ≡ slot s old
+marked-slot m old new h (key k) = λ i. (child_in k (h.tables i), closed_in k (h.values i))
+marked-slot m old new h (position j) = ap (λ ns. (item j ns, None)) h.added
 
 pub cells-marked : (k : SimpleKey) (m : Mark) (old new : Branch) → Marked m old new → cells new ≡ change (cells old) [] (with_claim (table_claim [] k m))
 unfolding cell_at change same_path
@@ -223,8 +195,7 @@ cells-marked k m old new h = fun_ext at
   where
     at : (p : Path) → cells new p ≡ change (cells old) [] (with_claim (table_claim [] k m)) p
     at [] = ap own_cell h.claims ∙ ap (λ s. record { marks = remember (marks old) m; shown = s }) (deciding-remember (marks old) m)
-    at (key l ∷ p) = cells-key old new l p (child-same old new l h.tables) (closed-same old new l h.values)
-    at (position i ∷ p) = cells-position old new i p (ap (item i) h.added)
+    at (s ∷ p) = cells-step new s p ∙ ap (λ x. slot_cell x p) (marked-slot m old new h s) ∙ sym (cells-step old s p)
 
 pub counts-marked : (m : Mark) (old new : Branch) → Marked m old new → counts new ≡ counts old
 unfolding count_at
@@ -232,60 +203,13 @@ counts-marked m old new h = fun_ext at
   where
     at : (p : Path) → counts new p ≡ counts old p
     at [] = ap length h.added
-    at (key l ∷ p) = counts-key old new l p (child-same old new l h.tables)
-    at (position i ∷ p) = counts-position old new i p (ap (item i) h.added)
-
--- ---- what always holds of it
-
-pub sound-shape : (n : Branch) → Sound n → IsTableOrArray n (entries n)
-sound-shape n (sound m shape named added ordered below inside) = shape
-
-pub sound-named : (n : Branch) → Sound n → AreNamed n
-sound-named n (sound m shape named added ordered below inside) = named
-
-pub sound-entries : (n : Branch) → Sound n → AreEntries (entries n)
-sound-entries n (sound m shape named added ordered below inside) = added
-
-pub sound-ordered : (n : Branch) → Sound n → HoldsOrderedValues n
-sound-ordered n (sound m shape named added ordered below inside) = ordered
-
-pub sound-below : (n : Branch) → Sound n → (name : List ℕ) (c : Branch) → child name n ≡ Some c → Sound c
-sound-below n (sound m shape named added ordered below inside) = below
-
-pub sound-inside : (n : Branch) → Sound n → (i : ℕ) (c : Branch) → item i (entries n) ≡ Some c → Sound c
-sound-inside n (sound m shape named added ordered below inside) = inside
-
--- a table has no claim of an array
-pub scope-marks : (n : Branch) → IsScope n → NoArray (marks n)
-scope-marks n h = subst (IsTableOrArray n) h.1 (sound-shape n h.0)
-
--- the same below, and other claims, none of them of an array
-pub scope-same : (old new : Branch) → (out-Branch new).tables ≡ (out-Branch old).tables → (out-Branch new).values ≡ (out-Branch old).values → entries new ≡ entries old → NoArray (marks new)
-    → IsScope old → IsScope new
-scope-same old new tables values added claims h = (whole, none)
-  where
-    none : entries new ≡ []
-    none = added ∙ h.1
-
-    at : (k : List ℕ) (c : Branch) → child k new ≡ Some c → child k old ≡ Some c
-    at k c found = sym (child-same old new k tables) ∙ found
-
-    no_entry : (i : ℕ) (c : Branch) → item i (entries new) ≡ Some c → ⊥
-    no_entry i c found = none-some c (sym (ap (item i) none) ∙ found)
-
-    whole : Sound new
-    whole =
-        sound new (subst (IsTableOrArray new) (sym none) claims)
-        (λ k c found. let n = sound-named old h.0 k c (at k c found) in (closed-same old new k values ∙ n.0, n.1))
-        (λ i c found. absurd (no_entry i c found))
-        (λ k e found. sound-ordered old h.0 k e (sym (closed-same old new k values) ∙ found))
-        (λ k c found. sound-below old h.0 k c (at k c found))
-        (λ i c found. absurd (no_entry i c found))
+    at (s ∷ p) = counts-step new s p ∙ ap (λ x. slot_count x p) (marked-slot m old new h s) ∙ sym (counts-step old s p)
 
 -- a table that is claimed, but not as an array, is one
 pub scope-marked : (m : Mark) (old new : Branch) → is_array_sort m.sort ≡ false → Marked m old new → IsScope old → IsScope new
 scope-marked m old new other h before =
-    scope-same old new h.tables h.values h.added (subst NoArray (sym h.claims) (no_array-remember (marks old) m other (scope-marks old before))) before
+    scope-from new (subst NoArray (sym h.claims) (no_array-remember (marks old) m other (scope-marks old before))) (h.added ∙ before.1)
+    (λ s. subst (λ (x : Slot). IsGood x.0 x.1 s) (sym (marked-slot m old new h s)) (sound-good old before.0 s))
 
 -- ---- the claim is placed
 

@@ -1,5 +1,5 @@
 -- What the branches have become.
-use Rattle.std.proofs.Common.{◌≡◌, ℕ, zero, suc, List, [], ◌∷◌, ◌++◌, Option, Some, None, option_map, option_and_then, true, false, cond, Ok, Less, is_eq, nat_cmp, inl, inr, refl, sym, ap, subst, ◌∙◌, ◌==◌, append_assoc, arith, length, vec_len}
+use Rattle.std.proofs.Common.{◌≡◌, ℕ, zero, suc, List, [], ◌∷◌, Option, Some, None, option_map, option_and_then, false, cond, Ok, Less, is_eq, nat_cmp, inl, inr, refl, sym, ap, subst, ◌∙◌}
 use Rattle.std.specs.Prelude.{IfSome}
 use Rattle.std.specs.BTreeMap.{BTreeMap, insert_entry}
 use Rattle.std.specs.Box.{box_value}
@@ -9,8 +9,7 @@ use Rattle.std.specs.Global.{Box}
 use Rattle.std.specs.List.{AllZip, AllByRecursion}
 use Rattle.std.specs.List.Sorted.{IsStrictlySortedBy}
 use Rattle.std.specs.Map.{keys_of, lookup, lookup_entry}
-use Rattle.std.proofs.lemmas.Bool.{cases_Bool, eqb-false, eqb-true, false≢true}
-use Rattle.std.proofs.lemmas.List.{nil_from_length}
+use Rattle.std.proofs.lemmas.Bool.{cases_Bool, false≢true}
 use Rattle.std.proofs.lemmas.Map.Keys.{sorted_head, sorted_tail}
 use Rattle.std.proofs.lemmas.Option.{none-some, same_Some}
 use Rattle.toml_span_lex.specs.declared.key.Key.{Key}
@@ -25,7 +24,7 @@ use Rattle.toml_span_tree.proofs.Values.{inner_view-Table, inner_view-Array, ent
 use Rattle.toml_span_read.proofs.EarlierTree.{key_cmp, same_name}
 use Rattle.toml_span.specs.declared.claims.Mark.{Mark}
 use Rattle.toml_span.specs.declared.claims.Sort.{Sort}
-use Rattle.toml_span.specs.declared.claims.Sort.TheVariants.{Passed, StandardTable, ArrayOfTables, TableElement, Dotted, Assigned}
+use Rattle.toml_span.specs.declared.claims.Sort.TheVariants.{ArrayOfTables, TableElement}
 use Rattle.toml_span.specs.declared.branch.Branch.{Branch}
 use Rattle.toml_span.specs.declared.branch.Branch.TheViews.{out-Branch}
 use Rattle.toml_span.specs.Claims.{shape_claimed, key_span_of}
@@ -35,8 +34,9 @@ use Rattle.toml_span.specs.code.Marks.{first_by_header, deciding}
 use Rattle.toml_span.specs.code.Placing.{Becomes, BecomesEntry, EachBecomes, Finishes, NamesAscend, ShowsBelow, Table, Array, place_shown}
 use Rattle.toml_span.specs.Ordered.{IsOrdered, HoldsOrdered, AreOrdered}
 use Rattle.toml_span.specs.code.Tree.{is_named, marks, entries, child, item, closed, cells, cell_at, closed_cell, or_closed, or_nothing, plain, is_array_sort, is_entry_sort, NoArray, IsNamed, IsEntry, IsArray, IsTableOrArray, Sound}
-use Rattle.toml_span.proofs.Claimed.{sound-shape, sound-named, sound-entries, sound-ordered, sound-below, sound-inside}
-use Rattle.toml_span.proofs.KeyMaps.{cases_ordering}
+use Rattle.toml_span.proofs.Nodes.{good-child, good-entry, good-value, sound-good, sound-shape}
+use Rattle.toml_span.proofs.KeyMaps.{found-insert}
+use Rattle.toml_span.proofs.Values.{Made}
 use Rattle.toml_span.proofs.Ordered.{members-ordered}
 
 -- ---- values and branches by name
@@ -57,46 +57,10 @@ pub record Filled (tables left : List (Key × Box Branch)) (old new : List (Key 
   pub stands : (name : List ℕ) → StandsSoFar (lookup (is_named name) tables) (lookup (is_named name) left) (lookup_entry (is_named name) old) (lookup_entry (is_named name) new)
 
 -- the elements, where all entries but those that are left are finished
-pub record EntriesFilled (all left : List Branch) (made : List Value) : Type 0 where
-  pub done : List Branch
-  pub split : all ≡ done ++ left
-  pub become : AllZip BecomesEntry done made
+abbrev pub EntriesFilled : List Branch → List Branch → List Value → Type 0
+EntriesFilled all left made = Made Branch Value BecomesEntry all left made
 
 -- ---- one more is finished
-
--- a value put under a name that is missing stands there
-entry-put : (name : List ℕ) (k : Key) (v : Value) (es : List (Key × Value)) → is_named name k ≡ true → lookup_entry (is_named name) es ≡ None
-    → lookup_entry (is_named name) (insert_entry key_cmp es k v) ≡ Some (k, v)
-entry-put name k v [] here none = rw here
-entry-put name k v (e ∷ es) here none =
-    elim (cases_Bool (is_named name e.0)) [
-      | inl there ↦ absurd (none-some e (sym none ∙ rw there))
-      | inr apart ↦ elim (cases_ordering (key_cmp k e.0)) [
-        | inl less ↦ rw (less, here)
-        | inr other ↦ elim other [
-          | inl tie ↦
-              let same : cow_str_bytes k.name ≡ cow_str_bytes e.0.name = same_name (cow_str_bytes k.name) (cow_str_bytes e.0.name) (ap is_eq tie) in
-              absurd (false≢true (sym apart ∙ ap (λ l. is_eq (slice_cmp nat_cmp name l)) (sym same) ∙ here))
-          | inr more ↦ rw (more, apart) (entry-put name k v es here (rw apart at none))
-        ]
-      ]
-    ]
-
--- the other names keep what they have
-entry-others : (name : List ℕ) (k : Key) (v : Value) (es : List (Key × Value)) → is_named name k ≡ false
-    → lookup_entry (is_named name) (insert_entry key_cmp es k v) ≡ lookup_entry (is_named name) es
-entry-others name k v [] off = rw off
-entry-others name k v (e ∷ es) off =
-    elim (cases_ordering (key_cmp k e.0)) [
-      | inl less ↦ rw (less, off)
-      | inr other ↦ elim other [
-        | inl tie ↦
-            let same : cow_str_bytes k.name ≡ cow_str_bytes e.0.name = same_name (cow_str_bytes k.name) (cow_str_bytes e.0.name) (ap is_eq tie) in
-            let apart : is_named name e.0 ≡ false = ap (λ l. is_eq (slice_cmp nat_cmp name l)) (sym same) ∙ off in
-            rw (tie, apart)
-        | inr more ↦ rw more (ap (cond (is_named name e.0) (Some e)) (entry-others name k v es off))
-      ]
-    ]
 
 -- behind a key all are greater
 none-behind : {X : Type 0} (k : Key) (es : List (Key × X)) → AllByRecursion (λ q. key_cmp k q ≡ Less) (keys_of es) → lookup (is_named (cow_str_bytes k.name)) es ≡ None
@@ -110,12 +74,14 @@ finished-one : (name : List ℕ) (tables : Option (Box Branch)) (k made : Key) (
     → StandsSoFar tables (lookup (is_named name) left) old (lookup_entry (is_named name) (insert_entry key_cmp new made v))
 finished-one name tables k made b left old new v named become behind h =
     let same : is_named name made ≡ is_named name k = ap (λ l. is_eq (slice_cmp nat_cmp name l)) named in
+    let found = found-insert made v name new in
     elim (cases_Bool (is_named name k)) [
       | inl here ↦
           let at : StandsSoFar tables (Some b) old (lookup_entry (is_named name) new) = rw here at h in
           let none : lookup (is_named name) left ≡ None = ap (λ l. lookup (is_named l) left) (same_name name (cow_str_bytes k.name) here) ∙ none-behind k left behind in
-          rw (none, at.0) (λ missing. ((made, v), entry-put name made v new (same ∙ here) (at.1 ∙ missing), become))
-      | inr off ↦ rw (entry-others name made v new (same ∙ off)) (rw off at h)
+          let free = ap (λ l. lookup_entry (is_named l) new) (sym (same_name name (cow_str_bytes made.name) (same ∙ here))) ∙ at.1 in
+          rw (none, at.0) (λ missing. ((made, v), found.1 ∙ ap (λ c. cond c (Some (found.0, v)) (lookup_entry (is_named name) new)) (same ∙ here) ∙ ap (λ k. Some (k, v)) (found.2 (free ∙ missing)), become))
+      | inr off ↦ rw (found.1 ∙ ap (λ c. cond c (Some (found.0, v)) (lookup_entry (is_named name) new)) (same ∙ off)) (rw off at h)
     ]
 
 -- one branch more is finished
@@ -127,20 +93,6 @@ filled-more tables k made b left old new v named become h = record {
       finished-one name (lookup (is_named name) tables) k made b left (lookup_entry (is_named name) old) new v
       (ap (λ n. cow_str_bytes n) named) become (sorted_head key_cmp k (keys_of left) h.sorted) (h.stands name);
 }
-
--- one entry more is finished
-pub entries-more : (all left : List Branch) (made : List Value) (n : Branch) (v : Value) → EntriesFilled all (n ∷ left) made → BecomesEntry n v → EntriesFilled all left (made ++ (v ∷ []))
-entries-more all left made n v h become = record {
-  done = h.done ++ (n ∷ []);
-  split = h.split ∙ sym (append_assoc h.done (n ∷ []) left);
-  become = push h.done made h.become;
-}
-  where
-    push : (ns : List Branch) (vs : List Value) → AllZip BecomesEntry ns vs → AllZip BecomesEntry (ns ++ (n ∷ [])) (vs ++ (v ∷ []))
-    push [] [] h = (become, tt)
-    push [] (w ∷ vs) h = absurd h
-    push (m ∷ ns) [] h = absurd h
-    push (m ∷ ns) (w ∷ vs) h = (h.0, push ns vs h.1)
 
 -- ---- the deciding mark
 
@@ -176,21 +128,13 @@ deciding-some x ms = from (first_by_header (x ∷ ms)) refl
 
 -- a branch at a name stands at its key
 named_key : (sort : Sort) (at : Span) → is_entry_sort sort ≡ false → key_span_of sort at ≡ Some at
-named_key Passed at h = refl
-named_key StandardTable at h = refl
-named_key ArrayOfTables at h = refl
 named_key TableElement at h = absurd (false≢true (sym h))
-named_key Dotted at h = refl
-named_key Assigned at h = refl
+named_key sort at h = refl
 
 -- what is no array is a table
 table_shape : (sort : Sort) → is_array_sort sort ≡ false → shape_claimed sort ≡ shape_table
-table_shape Passed h = refl
-table_shape StandardTable h = refl
 table_shape ArrayOfTables h = absurd (false≢true (sym h))
-table_shape TableElement h = refl
-table_shape Dotted h = refl
-table_shape Assigned h = refl
+table_shape sort h = refl
 
 -- the mark that decides on a branch at a name, and on an entry
 named-decides : (ms : List Mark) → IsNamed ms → (m : Mark) × (deciding ms ≡ Some m) × (key_span_of m.sort m.key ≡ Some m.key)
@@ -259,7 +203,7 @@ finished tables left old new name none h = rw none at (h.stands name)
 
 -- a branch at a name, and its name among the values
 node-named : (n : Branch) → Sound n → (name : List ℕ) (c : Branch) → child name n ≡ Some c → (closed name n ≡ None) × IsNamed (marks c) × Sound c
-node-named n good name c is = let named = sound-named n good name c is in (named.0, named.1, sound-below n good name c is)
+node-named n good name c is = good-child n name c (sound-good n good (key name)) is
 
 -- a finished table shows below it what the branch's cells show
 finished-shows : (t : Table) (left : List (Key × Box Branch)) (n : Branch) → left ≡ [] → Filled (out-Branch n).tables.entries left (out-Branch n).values.entries t.entries → Sound n → entries n ≡ []
@@ -285,7 +229,7 @@ finished-ordered : (t : Table) (left : List (Key × Box Branch)) (n : Branch) �
     → HoldsOrdered (inner_view (table_inner t))
 finished-ordered t left n none h ascend good =
     rw (inner_view-Table t) (members-ordered t.entries ascend
-    (λ name e is. name-ordered _ _ _ e (finished _ _ _ _ name none h) (node-named n good name) (sound-ordered n good name) is))
+    (λ name e is. name-ordered _ _ _ e (finished _ _ _ _ name none h) (node-named n good name) (λ f is. good-value n name f (sound-good n good (key name)) is) is))
 
 -- where there are none
 pub filled-none : (tables : List (Key × Box Branch)) (values : List (Key × Value)) → tables ≡ [] → Filled tables [] values values
@@ -327,26 +271,17 @@ became-table n t spans v placed seen none made = became n (table_inner t) spans 
 elements-show : (ns : List Branch) (vs : List Value) → AllZip BecomesEntry ns vs → ((i : ℕ) (c : Branch) → item i ns ≡ Some c → IsEntry (marks c) × Sound c) → (i : ℕ) (p : Path)
     → option_map tree_place (option_and_then (reached p) (tree.element_at i (items_view vs))) ≡ place_shown (or_nothing (option_map (cell_at p) (item i ns)))
 elements-show [] [] made good i p = refl
-elements-show [] (v ∷ vs) made good i p = absurd made
-elements-show (n ∷ ns) [] made good i p = absurd made
 elements-show (n ∷ ns) (v ∷ vs) made good zero p =
     let g = good 0 n refl in
     became-shows n made.0.0 v None made.0.1 g.1 (entry-decides (marks n) g.0) p
 elements-show (n ∷ ns) (v ∷ vs) made good (suc i) p = elements-show ns vs made.1 (λ j c is. good (suc j) c is) i p
+elements-show ns ms made good i p = absurd made
 
 -- the elements are in order
 elements-ordered : (ns : List Branch) (vs : List Value) → AllZip BecomesEntry ns vs → ((i : ℕ) (c : Branch) → item i ns ≡ Some c → Sound c) → AreOrdered (items_view vs)
 elements-ordered [] [] made good = tt
-elements-ordered [] (v ∷ vs) made good = absurd made
-elements-ordered (n ∷ ns) [] made good = absurd made
 elements-ordered (n ∷ ns) (v ∷ vs) made good = ((made.0.1 (good 0 n refl)).2, elements-ordered ns vs made.1 (λ i c is. good (suc i) c is))
-
--- whether there are entries
-pub no_entries : (n : Branch) → true ≡ (vec_len (out-Branch n).entries == 0) → entries n ≡ []
-no_entries n h = let v = (out-Branch n).entries in nil_from_length v.items (omega (arith, v.ok.0, eqb-true (vec_len v) 0 (sym h)))
-
-pub some_entries : (n : Branch) → false ≡ (vec_len (out-Branch n).entries == 0) → entries n ≡ [] → ⊥
-some_entries n h none = let v = (out-Branch n).entries in eqb-false (vec_len v) 0 (sym h) (omega (arith, v.ok.0, ap length none))
+elements-ordered ns ms made good = absurd made
 
 -- a sound branch with entries is an array of tables
 array-of : (n : Branch) (ns : List Branch) → entries n ≡ ns → (ns ≡ [] → ⊥) → IsTableOrArray n ns → IsArray n
@@ -358,12 +293,12 @@ array-shows : (n : Branch) (a : Array) → EachBecomes (entries n) (Ok a) → So
 unfolding cell_at
 array-shows n a made good arr (key name) p = rw (inner_view-Array a, arr.no_tables, arr.no_values)
 array-shows n a made good arr (position i) p =
-    let shown = elements-show (entries n) a.items made (λ j c is. ((sound-entries n good j c is).1, sound-inside n good j c is)) i p in
+    let shown = elements-show (entries n) a.items made (λ j c is. let g = good-entry n j c (sound-good n good (position j)) is in (g.1, g.2)) i p in
     rw (inner_view-Array a) shown
 
 -- and so is the array
 array-ordered : (n : Branch) (a : Array) → EachBecomes (entries n) (Ok a) → Sound n → HoldsOrdered (inner_view (array_inner a))
-array-ordered n a made good = rw (inner_view-Array a) (elements-ordered (entries n) a.items made (sound-inside n good))
+array-ordered n a made good = rw (inner_view-Array a) (elements-ordered (entries n) a.items made (λ j c is. (good-entry n j c (sound-good n good (position j)) is).2))
 
 -- a branch with entries becomes an array
 pub became-array : (n : Branch) (a : Array) (spans : Span × Span) (v : Value) → IfSome (deciding (marks n)) (λ m. spans ≡ (m.key, m.extent)) → view v ≡ tree.node (inner_view (array_inner a)) spans.1

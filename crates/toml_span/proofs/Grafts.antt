@@ -130,6 +130,12 @@ followed-assoc no_claims ys zs = refl
 followed-assoc (claimed c cs) ys zs = ap (claimed c) (followed-assoc cs ys zs)
 followed-assoc (scope inner cs) ys zs = ap (scope inner) (followed-assoc cs ys zs)
 
+pub followed-none : (cs : Claims) → followed cs no_claims ≡ cs
+unfolding followed
+followed-none no_claims = refl
+followed-none (claimed c cs) = ap (claimed c) (followed-none cs)
+followed-none (scope inner cs) = ap (scope inner) (followed-none cs)
+
 pub show_all-followed : (st : State) (xs ys : Claims) → show_all st (followed xs ys) ≡ show_all (show_all st xs) ys
 unfolding show_all followed
 show_all-followed st no_claims ys = refl

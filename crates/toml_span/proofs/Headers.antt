@@ -1,71 +1,39 @@
--- A section is placed: its header part by part, and its assignments at the end.
-use Rattle.std.proofs.Common.{◌≡◌, ◌<◌, ◌≤◌, ◌-◌, Global, Vec, drop, get_or, map, take, take_all, ℕ, zero, suc, Bool, false, true, if◌then◌else◌, List, [], ◌∷◌, length, Option, Some, None, option_map, Result, Ok, Err, refl, sym, ap, ◌∙◌, subst, inl, inr, arith}
+-- A section is placed: its header part by part, and its assignments at the end. A dotted key is placed part by part.
+use Rattle.std.proofs.Common.{◌≡◌, ◌<◌, ◌-◌, Global, Vec, get_or, map, ℕ, zero, suc, Bool, false, true, if◌then◌else◌, List, [], ◌∷◌, length, Some, None, Result, Err, refl, sym, ap, ◌∙◌, subst, inl, inr, arith}
 use Rattle.std.specs.Prelude.{vec_len, ◌==◌}
 use Rattle.std.specs.Vec.{with_item}
 use Rattle.std.proofs.Math.ListN.{length-set}
-use Rattle.std.proofs.lemmas.Bool.{eqb-false, eqb-true, true≢false}
+use Rattle.std.proofs.lemmas.Bool.{eqb-false}
+use Rattle.std.proofs.lemmas.List.{length-map, nil_from_length}
 use Rattle.std.proofs.lemmas.Option.{none-some}
 use Rattle.toml_span_tree.specs.Path.{Path, key}
 use Rattle.toml_span_lex.specs.declared.key.Key.{Key}
+use Rattle.toml_span_read.specs.Data.{ParsedValue as Read, parsed_span}
 use Rattle.toml_span_read.specs.Keys.{SimpleKey, simple_key}
-use Rattle.toml_span.specs.declared.claims.Blame.{Blame}
-use Rattle.toml_span.specs.declared.claims.Blame.TheVariants as blames
+use Rattle.toml_span.specs.declared.claims.Blame.TheVariants.{DuplicateKey}
 use Rattle.toml_span.specs.declared.claims.Halt.{Halt}
-use Rattle.toml_span.specs.declared.claims.Meeting.{Meeting}
 use Rattle.toml_span.specs.declared.claims.Mark.{Mark}
 use Rattle.toml_span.specs.declared.claims.Sort.{Sort}
-use Rattle.toml_span.specs.declared.claims.Sort.TheVariants.{ArrayOfTables, Assigned, Dotted, TableElement, Passed, StandardTable}
+use Rattle.toml_span.specs.declared.claims.Sort.TheVariants.{ArrayOfTables, Dotted, Passed, StandardTable}
 use Rattle.toml_span.specs.declared.branch.Branch.{Branch}
 use Rattle.toml_span.specs.declared.branch.Branch.TheViews.{out-Branch, roll-Branch}
 use Rattle.toml_span.specs.declared.branch.Branch.TheOpen.{Branch-F}
 use Rattle.toml_span.specs.declared.claims.Head.{Head}
-use Rattle.toml_span.specs.Claims.{Claims, array_claims, claimed, header_mark, table_claim}
-use Rattle.toml_span.specs.Clashes.{NamedClash, blame, meeting, named, or_else}
+use Rattle.toml_span.specs.Claims.{Claims, array_claims, claimed, dotted, header_mark, pair_mark, table_claim}
+use Rattle.toml_span.specs.Clashes.{blame}
 use Rattle.toml_span.specs.code.Machine.{Gives, met}
-use Rattle.toml_span.specs.code.Marks.{partner, remember}
+use Rattle.toml_span.specs.code.Marks.{remember}
 use Rattle.toml_span.specs.code.Placing.{Opening, Opens, Passes, Places, Reaches}
-use Rattle.toml_span.specs.code.Relative.{adding, ending, entered, grown, grown_below, grown_here, grown_through, one_more, opening, part_sort, passing, section_at, through, under}
+use Rattle.toml_span.specs.code.Relative.{adding, ending, entered, grown, grown_below, grown_here, grown_through, one_more, opening, pair_at, part_sort, passing, section_at, through, through_pair, under}
 use Rattle.toml_span.specs.code.Tree.{IsChild, IsFresh, IsHeld, IsNamed, IsOpen, IsScope, IsTableOrArray, NoArray, Sound, child, closed, closed_marks, counts, entries, is_array_sort, is_entry_sort, item, marks}
 use Rattle.toml_span.proofs.Absolute.{grown-through, section_at-through}
-use Rattle.toml_span.proofs.Claimed.{Marked, counts-marked, named-fresh, named-remember, reaches-claim-err, reaches-claimed, scope-marked, sound-shape}
+use Rattle.toml_span.proofs.Claimed.{Marked, counts-marked, named-fresh, named-remember, reaches-claim-err, reaches-claimed, scope-marked}
 use Rattle.toml_span.proofs.Entries.{PutsEntry, item-at, open-array, puts-set, reaches-entry}
-use Rattle.toml_span.proofs.Grafts.{fun_ext}
-use Rattle.toml_span.proofs.Nodes.{counts-here, counts-missing}
-use Rattle.toml_span.proofs.Placed.{SetsChild, gives-map, out-roll, places-beside, places-found, places-new, places-new-err, roll-out, unclosed}
-
-length-none : {A : Type 0} (xs : List A) → length xs ≡ 0 → xs ≡ []
-length-none [] h = refl
-length-none (x ∷ xs) h = absurd (omega (arith, h))
+use Rattle.toml_span.proofs.Grafts.{fun_ext, graft-itself}
+use Rattle.toml_span.proofs.Nodes.{Sets, counts-here, counts-missing, out-roll, roll-out, sound-shape}
+use Rattle.toml_span.proofs.Placed.{gives-map, met-first, named-clashes, not-array, places-beside, places-found, places-new, unclosed}
 
 -- ---- what clashes
-
-free-first : (o : Option Blame) (f : Blame → Meeting) (g : Meeting → NamedClash) (p : Option Meeting) → option_map g (or_else (option_map f o) p) ≡ None → o ≡ None
-free-first None f g p h = refl
-free-first (Some b) f g p h = absurd (none-some (g (f b)) (sym h))
-
--- what clashes with none does not clash with the first one
-met-first : (x m : Mark) (ms : List Mark) (name : List ℕ) → met (x ∷ ms) m name ≡ None → blame x.sort m.sort ≡ None
-met-first x m ms name h = free-first (blame x.sort m.sort) (meeting x m) (named name) (partner ms m) h
-
--- a section claims no array
-section-table : (n : Branch) (m : Mark) (name : List ℕ) → m.sort ≡ StandardTable → Sound n → met (marks n) m name ≡ None → entries n ≡ []
-section-table n m name is h free = go (entries n) (sound-shape n h)
-  where
-    go : (xs : List Branch) → IsTableOrArray n xs → xs ≡ []
-    go [] shape = refl
-    go (x ∷ xs) array =
-        let known : met (array.claim ∷ []) m name ≡ None = ap (λ l. met l m name) (sym array.only) ∙ free in
-        let clash : blame ArrayOfTables StandardTable ≡ None = ap (λ s. blame s StandardTable) (sym array.array) ∙ ap (blame array.claim.sort) (sym is) ∙ met-first array.claim m [] name known in
-        absurd (none-some blames.DuplicateTable (sym clash))
-
--- every claim on a table at a name clashes with that of an array
-table-clashes : (s : Sort) → is_array_sort s ≡ false → is_entry_sort s ≡ false → blame s ArrayOfTables ≡ None → ⊥
-table-clashes Passed array entry h = none-some blames.RedefineAsArray (sym h)
-table-clashes StandardTable array entry h = none-some blames.DuplicateTable (sym h)
-table-clashes ArrayOfTables array entry h = true≢false array
-table-clashes TableElement array entry h = true≢false entry
-table-clashes Dotted array entry h = none-some blames.DuplicateKey (sym h)
-table-clashes Assigned array entry h = none-some blames.DuplicateKey (sym h)
 
 -- so what is claimed as an array is fresh
 array-fresh : (n : Branch) (m : Mark) (name : List ℕ) → m.sort ≡ ArrayOfTables → entries n ≡ [] → IsChild n → met (marks n) m name ≡ None → IsFresh n
@@ -77,7 +45,7 @@ array-fresh n m name is none h free =
   where
     go : (ms : List Mark) → IsNamed ms → NoArray ms → met ms m name ≡ None → ⊥
     go [] claims tables free = claims
-    go (x ∷ ms) claims tables free = table-clashes x.sort tables.0 claims.0 (ap (blame x.sort) (sym is) ∙ met-first x m ms name free)
+    go (x ∷ ms) claims tables free = (named-clashes x.sort claims.0).2 tables.0 (ap (blame x.sort) (sym is) ∙ met-first x m ms name free)
 
 -- ---- a table is claimed, and assignments are placed below it
 
@@ -94,7 +62,7 @@ opened A k m old mid new r cs d free h scope placed =
 opens-scope : (sort : Sort) (n : Branch) (m : Mark) (name : List ℕ) → m.sort ≡ sort → Opens sort n → met (marks n) m name ≡ None → IsScope n
 opens-scope sort n m name is h free =
     elim h.1 [
-      | inl section ↦ (h.0, section-table n m name (is ∙ section) h.0 free)
+      | inl section ↦ (h.0, not-array n m name (λ none. absurd (none-some _ (sym none ∙ ap (blame ArrayOfTables) (is ∙ section)))) free h.0)
       | inr entry ↦ (h.0, entry.1)
     ]
 
@@ -194,7 +162,7 @@ module _ (h : Head) (k : SimpleKey) where
         opens (x ∷ xs) is sure = open-array old 0 x (ap (item 0) is) sure
 
         counts-some : (n : Branch) → (entries n ≡ [] → ⊥) → counts n [] ≡ 0 → ⊥
-        counts-some n some zeros = some (length-none (entries n) (sym (counts-here n) ∙ zeros))
+        counts-some n some zeros = some (nil_from_length (entries n) (sym (counts-here n) ∙ zeros))
 
     -- ---- the inner parts of a header
 
@@ -252,12 +220,12 @@ module _ (h : Head) (k : SimpleKey) where
         → child k.name n ≡ None → q ≡ Err e → Gives (Err e) (met (closed_marks (closed k.name n)) (header_mark h (part_sort h rest) k.span) k.name) P
         → Places n new q (section_at (counts n) h (k ∷ rest) tail) d
     section-beside rest n new q e P d missing same clash =
-        subst (λ l. Places n new q l d) (sym (section_at-through (counts n) h k rest tail ∙ ap (under (key k.name)) (through-first rest (λ p. counts n (key k.name ∷ p)) (ap (λ f. f []) (counts-missing n k.name missing)))))
+        subst (λ l. Places n new q l d) (sym (section_at-through (counts n) h k rest tail ∙ ap (under (key k.name)) (through-first rest (λ p. counts n (key k.name ∷ p)) (ap (λ f. f []) (counts-missing n (key k.name) missing)))))
         (places-beside n new k.name q e (table_claim [] k (header_mark h (part_sort h rest) k.span)) (behind_first (λ p. counts n (key k.name ∷ p)) rest) P d missing refl same clash)
 
     -- where nothing clashes no value stands there
     pub section-free : (rest : List SimpleKey) (n : Branch) → met (closed_marks (closed k.name n)) (header_mark h (part_sort h rest) k.span) k.name ≡ None → closed k.name n ≡ None
-    section-free rest n free = unclosed (closed k.name n) (header_mark h (part_sort h rest) k.span) k.name free (named rest, tt)
+    section-free rest n free = unclosed (closed k.name n) (header_mark h (part_sort h rest) k.span) k.name free (named rest)
       where
         ends : (b : Bool) → is_entry_sort (if b then ArrayOfTables else StandardTable) ≡ false
         ends true = refl
@@ -267,75 +235,32 @@ module _ (h : Head) (k : SimpleKey) where
         named [] = ends h.array
         named (l ∷ more) = refl
 
-    pub section-found : (rest : List SimpleKey) (n new x w : Branch) (r : Result (Unit {0}) Halt) → child k.name n ≡ Some x → SetsChild k.name w n new
+    pub section-found : (rest : List SimpleKey) (n new x w : Branch) (r : Result (Unit {0}) Halt) → child k.name n ≡ Some x → Sets (key k.name) (Some w, closed k.name n) n new
         → Passes x w r (through (counts x) h k rest tail) (grown_through (counts x) h rest)
         → Places n new r (section_at (counts n) h (k ∷ rest) tail) (grown (counts n) h (k ∷ rest))
     section-found rest n new x w r found sets placed =
         rw (section_at-through, grown-through) (places-found n new x w k.name r (λ f. through f h k rest tail) (λ f. grown_through f h rest) found sets placed)
 
-    section-new : (rest : List SimpleKey) (n new x w : Branch) → child k.name n ≡ None → closed k.name n ≡ None → IsFresh x → SetsChild k.name w n new
-        → Passes x w (Ok tt) (through (counts x) h k rest tail) (grown_through (counts x) h rest)
-        → Places n new (Ok tt) (section_at (counts n) h (k ∷ rest) tail) (grown (counts n) h (k ∷ rest))
-    section-new rest n new x w missing free fresh sets placed =
-        rw (section_at-through, grown-through)
-        (places-new n new x w k.name (λ f. through f h k rest tail) (λ f. grown_through f h rest) missing free fresh sets placed)
-
-    section-new-err : (rest : List SimpleKey) (n new x w : Branch) (r q : Result (Unit {0}) Halt) (e : Halt) (d : Path → ℕ) → child k.name n ≡ None → closed k.name n ≡ None → IsFresh x
-        → r ≡ Err e → q ≡ Err e → Passes x w r (through (counts x) h k rest tail) (grown_through (counts x) h rest)
-        → Places n new q (section_at (counts n) h (k ∷ rest) tail) d
-    section-new-err rest n new x w r q e d missing free fresh is same placed =
-        rw section_at-through (places-new-err n new x w k.name r q e (λ f. through f h k rest tail) (grown_through (counts x) h rest) d missing free fresh is same placed)
-
-    pub section-fresh : (rest : List SimpleKey) (n new x w : Branch) (r : Result (Unit {0}) Halt) → child k.name n ≡ None → closed k.name n ≡ None → IsFresh x → SetsChild k.name w n new
+    pub section-fresh : (rest : List SimpleKey) (n new x w : Branch) (r : Result (Unit {0}) Halt) → child k.name n ≡ None → closed k.name n ≡ None → IsFresh x → Sets (key k.name) (Some w, closed k.name n) n new
         → Passes x w r (through (counts x) h k rest tail) (grown_through (counts x) h rest)
         → Places n new r (section_at (counts n) h (k ∷ rest) tail) (grown (counts n) h (k ∷ rest))
-    section-fresh rest n new x w (Ok u) missing free fresh sets placed = section-new rest n new x w missing free fresh sets placed
-    section-fresh rest n new x w (Err e) missing free fresh sets placed = section-new-err rest n new x w (Err e) (Err e) e (grown (counts n) h (k ∷ rest)) missing free fresh refl refl placed
+    section-fresh rest n new x w r missing free fresh sets placed =
+        rw (section_at-through, grown-through)
+        (places-new n new x w k.name r (λ f. through f h k rest tail) (λ f. grown_through f h rest) missing free fresh sets placed)
 
 -- ---- lists of the code
 
-pub no-entries : (n : Branch) → (vec_len (out-Branch n).entries == 0) ≡ true → entries n ≡ []
-no-entries n h = length-none (entries n) (omega (arith, eqb-true (vec_len (out-Branch n).entries) 0 h, (out-Branch n).entries.ok.0))
-
-pub some-entries : (n : Branch) → (vec_len (out-Branch n).entries == 0) ≡ false → entries n ≡ [] → ⊥
-some-entries n h none = eqb-false (vec_len (out-Branch n).entries) 0 h (omega (arith, ap length none, (out-Branch n).entries.ok.0))
-
 pub no-latest : (n : Branch) → (0 < vec_len (out-Branch n).entries → ⊥) → entries n ≡ []
-no-latest n none = length-none (entries n) (grind (arith, (out-Branch n).entries.ok.0, none))
-
-pub parts-none : (xs : List Key) → (length xs == 0) ≡ true → map simple_key xs ≡ []
-parts-none [] h = refl
-parts-none (x ∷ xs) h = absurd (omega (arith, eqb-true (length (x ∷ xs)) 0 h))
+no-latest n none = nil_from_length (entries n) (grind (arith, (out-Branch n).entries.ok.0, none))
 
 pub parts-some : (xs : List Key) → (length xs == 0) ≡ false → map simple_key xs ≡ [] → ⊥
-parts-some [] h none = true≢false h
-parts-some (x ∷ xs) h none = none-some (simple_key x) (sym (ap head none))
-  where
-    head : List SimpleKey → Option SimpleKey
-    head [] = None
-    head (k ∷ ks) = Some k
-
-pub parts-front : (xs : List Key) (first d : Key) → 1 ≤ length xs → first ≡ get_or xs 0 d → map simple_key xs ≡ simple_key first ∷ map simple_key (take (length xs - 1) (drop 1 xs))
-parts-front [] first d some same = absurd (omega arith)
-parts-front (x ∷ xs) first d some same =
-    let all : take (suc (length xs) - 1) xs ≡ xs = take_all _ xs (omega arith) in
-    rw (same, all) refl
+parts-some xs h none = eqb-false (length xs) 0 h (sym (length-map xs simple_key) ∙ ap length none)
 
 pub parts-below : (xs : List Key) → length xs < 1 → map simple_key xs ≡ []
 parts-below [] h = refl
 parts-below (x ∷ xs) h = absurd (omega arith)
 
 -- ---- the code's nodes
-
--- at the end of the header
-pub section-end : (h : Head) (tail : Claims) (parts : List SimpleKey) (n new : Branch) (r : Result (Unit {0}) Halt) → parts ≡ [] → Places n new r tail (counts n)
-    → Places n new r (section_at (counts n) h parts tail) (grown (counts n) h parts)
-unfolding section_at grown
-section-end h tail parts n new r none placed = subst (λ ps. Places n new r (section_at (counts n) h ps tail) (grown (counts n) h ps)) (sym none) placed
-
-pub pass-end : (h : Head) (k : SimpleKey) (tail : Claims) (rest : List SimpleKey) (n new : Branch) (r : Result (Unit {0}) Halt) → rest ≡ []
-    → Passes n new r (ending h k tail (counts n [])) (grown_here (counts n) h) → Passes n new r (through (counts n) h k rest tail) (grown_through (counts n) h rest)
-pass-end h k tail rest n new r none placed = subst (λ ps. Passes n new r (through (counts n) h k ps tail) (grown_through (counts n) h ps)) (sym none) placed
 
 -- a node with another list of entries
 abbrev pub with_entries : Branch → Vec Branch Global → Branch
@@ -366,3 +291,57 @@ pass-again h k tail rest n new r some none placed =
 pub pass-lent : (h : Head) (k : SimpleKey) (tail : Claims) (rest : List SimpleKey) (lent n new : Branch) (r : Result (Unit {0}) Halt) → lent ≡ n
     → Passes lent new r (through (counts lent) h k rest tail) (grown_through (counts lent) h rest) → Passes n new r (through (counts n) h k rest tail) (grown_through (counts n) h rest)
 pass-lent h k tail rest lent n new r same placed = subst (λ a. Passes a new r (through (counts a) h k rest tail) (grown_through (counts a) h rest)) same placed
+
+abbrev dotted_mark : SimpleKey → Read → Mark
+dotted_mark k v = pair_mark Dotted k.span (parsed_span v)
+
+-- ---- a dotted key, through a branch
+
+-- a branch that a dotted key passes through is a table
+table-marked : (n mid : Branch) (m : Mark) (name : List ℕ) → m.sort ≡ Dotted → met (marks n) m name ≡ None → Marked m n mid → IsChild n → IsScope mid × IsNamed (marks mid)
+table-marked n mid m name sort h marked before = (
+  scope-marked m n mid (ap is_array_sort sort) marked
+      (before.0, not-array n m name (λ is. let clash : blame ArrayOfTables m.sort ≡ Some DuplicateKey = ap (blame ArrayOfTables) sort in absurd (none-some _ (sym is ∙ clash))) h before.0),
+  held-claimed m n mid (ap is_entry_sort sort) before marked.claims,
+)
+
+pub passes-dotted : (n mid new : Branch) (k : SimpleKey) (inner : List SimpleKey) (last : SimpleKey) (v : Read) (m : Mark) (r : Result (Unit {0}) Halt)
+    → m ≡ dotted_mark k v → met (marks n) m k.name ≡ None → Marked m n mid → Places mid new r (pair_at inner last v) (counts mid)
+    → Passes n new r (through_pair k inner last v) (counts n)
+passes-dotted n mid new k inner last v m r same free marked h =
+    subst (λ m. Passes n new r (claimed (table_claim [] k m) (pair_at inner last v)) (counts n)) same
+    (reaches-claimed IsChild (λ n. IsScope n × IsNamed (marks n)) IsHeld k m n mid new r (pair_at inner last v) (counts n) free marked
+    (table-marked n mid m k.name (ap (λ m. m.sort) same) free marked)
+    (subst (Reaches (λ n. IsScope n × IsNamed (marks n)) IsHeld mid new r (pair_at inner last v)) (counts-marked m n mid marked) held))
+  where
+    held : Reaches (λ n. IsScope n × IsNamed (marks n)) IsHeld mid new r (pair_at inner last v) (counts mid)
+    held before = gives-map r _ _ _ _ refl (λ u g. (g.0, g.1, (g.2.0.0, subst IsNamed (sym g.2.1) before.1))) (h before.0)
+
+pub passes-dotted-err : (n new : Branch) (k : SimpleKey) (inner : List SimpleKey) (last : SimpleKey) (v : Read) (m : Mark) (q : Result (Unit {0}) Halt) (e : Halt) (P : Unit {0} → Type 0) (d : Path → ℕ)
+    → m ≡ dotted_mark k v → q ≡ Err e → Gives (Err e) (met (marks n) m k.name) P → Passes n new q (through_pair k inner last v) d
+passes-dotted-err n new k inner last v m q e P d same is h =
+    subst (λ m. Passes n new q (claimed (table_claim [] k m) (pair_at inner last v)) d) same
+    (reaches-claim-err IsChild IsHeld k m n new q e P (pair_at inner last v) d is h)
+
+-- ---- a dotted key, below a name
+
+pub pair-found : (n new x w : Branch) (k : SimpleKey) (inner : List SimpleKey) (last : SimpleKey) (v : Read) (r : Result (Unit {0}) Halt)
+    → child k.name n ≡ Some x → Sets (key k.name) (Some w, closed k.name n) n new → Passes x w r (through_pair k inner last v) (counts x) → Places n new r (pair_at (k ∷ inner) last v) (counts n)
+unfolding pair_at
+pair-found n new x w k inner last v r found sets h =
+    subst (Places n new r (pair_at (k ∷ inner) last v)) (graft-itself (key k.name) (counts n))
+    (places-found n new x w k.name r (λ f. through_pair k inner last v) (λ f. f) found sets h)
+
+pub pair-fresh : (n new x w : Branch) (k : SimpleKey) (inner : List SimpleKey) (last : SimpleKey) (v : Read) (m : Mark) (r : Result (Unit {0}) Halt)
+    → child k.name n ≡ None → m ≡ dotted_mark k v → met (closed_marks (closed k.name n)) m k.name ≡ None → IsFresh x → Sets (key k.name) (Some w, closed k.name n) n new
+    → Passes x w r (through_pair k inner last v) (counts x) → Places n new r (pair_at (k ∷ inner) last v) (counts n)
+unfolding pair_at
+pair-fresh n new x w k inner last v m r missing same free fresh sets h =
+    subst (Places n new r (pair_at (k ∷ inner) last v)) (graft-itself (key k.name) (counts n))
+    (places-new n new x w k.name r (λ f. through_pair k inner last v) (λ f. f) missing (unclosed (closed k.name n) m k.name free (ap (λ m. is_entry_sort m.sort) same)) fresh sets h)
+
+pub pair-beside : (n new : Branch) (k : SimpleKey) (inner : List SimpleKey) (last : SimpleKey) (v : Read) (m : Mark) (q : Result (Unit {0}) Halt) (e : Halt) (P : Unit {0} → Type 0) (d : Path → ℕ)
+    → child k.name n ≡ None → m ≡ dotted_mark k v → q ≡ Err e → Gives (Err e) (met (closed_marks (closed k.name n)) m k.name) P → Places n new q (pair_at (k ∷ inner) last v) d
+unfolding pair_at
+pair-beside n new k inner last v m q e P d missing same is h =
+    places-beside n new k.name q e (dotted [] k v) (pair_at inner last v) P d missing refl is (subst (λ m. Gives (Err e) (met (closed_marks (closed k.name n)) m k.name) P) same h)

@@ -1,78 +1,52 @@
 -- What is told is the first clash.
-use Rattle.std.proofs.Common.{◌≡◌, ℕ, true, cond, List, [], ◌∷◌, ◌++◌, Option, Some, None, option_map, refl, sym, ap, ◌∙◌, inl, inr}
-use Rattle.std.specs.Prelude.{nat_eq}
+use Rattle.std.proofs.Common.{◌≡◌, ℕ, true, List, [], ◌∷◌, ◌++◌, Option, Some, None, option_map, refl, sym, ap, ◌∙◌, inl, inr}
 use Rattle.std.specs.List.{list_any}
-use Rattle.std.proofs.lemmas.Bool.{cases_Bool, eqb-true, false≢true}
-use Rattle.toml_span.specs.declared.claims.Sort.{Sort}
-use Rattle.toml_span.specs.declared.claims.Sort.TheVariants.{Passed, StandardTable, ArrayOfTables, TableElement, Dotted, Assigned}
+use Rattle.std.proofs.lemmas.Bool.{cases_Bool, false≢true}
 use Rattle.toml_span.specs.declared.claims.Blame.{Blame}
 use Rattle.toml_span.specs.declared.claims.Mark.{Mark}
 use Rattle.toml_span.specs.declared.claims.Meeting.{Meeting}
 use Rattle.toml_span.specs.Paths.{same_path}
 use Rattle.toml_span.specs.Claims.{Claim, Claims, no_claims, claimed, scope}
 use Rattle.toml_span.specs.Clashes.{NamedClash, named, blame, meeting, meets, or_else, clash, clash_among, clash_behind, first_clash}
-use Rattle.toml_span.specs.code.Marks.{partner, sort_number, same_sort, remember}
+use Rattle.toml_span.specs.code.Marks.{partner, same_sort, remember}
 use Rattle.toml_span.specs.code.Machine.{State, nothing, change, with_claim, show_all, met, clash_met}
+use Rattle.toml_span.proofs.Claimed.{remember-cases, same_sort-eq}
+use Rattle.toml_span.proofs.Grafts.{or_else-assoc, or_else-none}
 use Rattle.toml_span.proofs.Shown.{show_all-marks}
 
 -- ---- a later claim meets the first one of each sort, and no other
 
-sort_of : ℕ → Sort
-sort_of n =
-    cond (nat_eq n 0) Passed (cond (nat_eq n 1) StandardTable (cond (nat_eq n 2) ArrayOfTables
-    (cond (nat_eq n 3) TableElement (cond (nat_eq n 4) Dotted Assigned))))
-
-sort_back : (s : Sort) → sort_of (sort_number s) ≡ s
-unfolding sort_of
-sort_back Passed = refl
-sort_back StandardTable = refl
-sort_back ArrayOfTables = refl
-sort_back TableElement = refl
-sort_back Dotted = refl
-sort_back Assigned = refl
-
-same_sort-eq : (s t : Sort) → same_sort s t ≡ true → s ≡ t
-same_sort-eq s t h = sym (sort_back s) ∙ ap sort_of (eqb-true (sort_number s) (sort_number t) h) ∙ sort_back t
-
-assoc : {A : Type 0} (x y z : Option A) → or_else (or_else x y) z ≡ or_else x (or_else y z)
-assoc (Some a) y z = refl
-assoc None y z = refl
-
-or_none : {A : Type 0} (x : Option A) → or_else x None ≡ x
-or_none (Some a) = refl
-or_none None = refl
-
 absorbed : (x a b : Mark) (o p : Option Blame) (y : Option Meeting) → o ≡ p
     → or_else (option_map (meeting x b) o) y ≡ or_else (or_else (option_map (meeting x b) o) y) (option_map (meeting a b) p)
 absorbed x a b (Some k) p y e = refl
-absorbed x a b None p y e = rw (← e) (sym (or_none y))
+absorbed x a b None p y e = rw (← e) (sym (or_else-none y))
 
 partner-known : (l : List Mark) (a b : Mark) → list_any (λ x. same_sort x.sort a.sort) l ≡ true → partner l b ≡ or_else (partner l b) (meets a b)
 partner-known [] a b h = absurd (false≢true h)
 partner-known (x ∷ l) a b h =
     elim (cases_Bool (same_sort x.sort a.sort)) [
       | inl same ↦ absorbed x a b (blame x.sort b.sort) (blame a.sort b.sort) (partner l b) (ap (λ s. blame s b.sort) (same_sort-eq x.sort a.sort same))
-      | inr other ↦ ap (or_else (meets x b)) (partner-known l a b (rw other at h)) ∙ sym (assoc (meets x b) (partner l b) (meets a b))
+      | inr other ↦ ap (or_else (meets x b)) (partner-known l a b (rw other at h)) ∙ sym (or_else-assoc (meets x b) (partner l b) (meets a b))
     ]
 
 partner-push : (l : List Mark) (a b : Mark) → partner (l ++ a ∷ []) b ≡ or_else (partner l b) (meets a b)
-partner-push [] a b = or_none (meets a b)
-partner-push (x ∷ l) a b = ap (or_else (meets x b)) (partner-push l a b) ∙ sym (assoc (meets x b) (partner l b) (meets a b))
+partner-push [] a b = or_else-none (meets a b)
+partner-push (x ∷ l) a b = ap (or_else (meets x b)) (partner-push l a b) ∙ sym (or_else-assoc (meets x b) (partner l b) (meets a b))
 
 partner-remember : (l : List Mark) (a b : Mark) → partner (remember l a) b ≡ or_else (partner l b) (meets a b)
 partner-remember l a b =
-    elim (cases_Bool (list_any (λ x. same_sort x.sort a.sort) l)) [
-      | inl known ↦ rw known (partner-known l a b known)
-      | inr new ↦ rw new (partner-push l a b)
+    elim (remember-cases l a) [
+      | inl h ↦ ap (λ ms. partner ms b) h.1 ∙ partner-known l a b h.0
+      | inr h ↦ ap (λ ms. partner ms b) h.1 ∙ partner-push l a b
     ]
 
 -- ---- what the state keeps of the earlier claims of the scope
 
 among-push : (earlier : List Claim) (c later : Claim) → clash_among (earlier ++ (c ∷ [])) later ≡ or_else (clash_among earlier later) (clash c later)
 unfolding clash_among
-among-push [] c later = or_none (clash c later)
+among-push [] c later = or_else-none (clash c later)
 among-push (x ∷ earlier) c later =
-    ap (or_else (clash x later)) (among-push earlier c later) ∙ sym (assoc (clash x later) (clash_among earlier later) (clash c later))
+    ap (or_else (clash x later)) (among-push earlier c later) ∙ sym (or_else-assoc (clash x later) (clash_among earlier later) (clash c later))
 
 abbrev met_in : State → Claim → Option NamedClash
 met_in st c = met (st c.path).marks c.mark c.name
@@ -96,7 +70,7 @@ met-claim st c later =
       | inl here ↦ rw here
           (ap (option_map (named later.name)) (partner-remember (st later.path).marks c.mark later.mark)
           ∙ map-or_else later.name (partner (st later.path).marks later.mark) (meets c.mark later.mark))
-      | inr off ↦ rw off (sym (or_none (met_in st later)))
+      | inr off ↦ rw off (sym (or_else-none (met_in st later)))
     ]
 
 keeps-claim : (st : State) (earlier : List Claim) (c : Claim) → Keeps st earlier → Keeps (change st c.path (with_claim c)) (earlier ++ (c ∷ []))

@@ -1,7 +1,7 @@
 -- A clash is told inside the text, at the later of two claims.
-use Rattle.std.proofs.Common.{◌≡◌, ℕ, zero, suc, ◌<◌, ◌≤◌, List, [], ◌∷◌, ◌++◌, map, length, Option, Some, None, option_map, true, false, refl, sym, ap, ◌∙◌, subst, inl, inr, arith, append-nil}
+use Rattle.std.proofs.Common.{◌≡◌, ℕ, zero, suc, List, [], ◌∷◌, ◌++◌, map, length, Option, Some, None, option_map, true, refl, sym, ◌∙◌, subst, inl, inr, append-nil}
 use Rattle.std.specs.Prelude.{⊤, IfSome}
-use Rattle.std.proofs.lemmas.Bool.{cases_Bool, false≢true, ne_eqb}
+use Rattle.std.proofs.lemmas.Bool.{cases_Bool, false≢true}
 use Rattle.toml_span_tree.specs.Path.{Path}
 use Rattle.toml_span_read.specs.Places.{IsInside, PartsInside, KeysInside, InnerKeysInside, ItemKeysInside, PairKeysInside, KeyValuesInside, SectionsInside}
 use Rattle.toml_span_read.specs.Data.{ParsedValue as Read, parsed, ParsedInner, scalar, array, inline, ParsedItems, no_items, item, ParsedPairs, no_pairs, pair, KeyValue, Block, block}
@@ -20,17 +20,15 @@ use Rattle.toml_span.specs.declared.claims.Head.{Head}
 use Rattle.toml_span.specs.declared.claims.Mark.{Mark}
 use Rattle.toml_span.specs.declared.claims.Meeting.{Meeting}
 use Rattle.toml_span.specs.declared.sections.Grown.{Grown}
-use Rattle.toml_span.specs.Paths.{same_path, with_key, with_position, enter, elements_added, opened_by, section_path}
-use Rattle.toml_span.specs.Claims.{Claims, no_claims, claimed, scope, followed, element, header_claim, key_claims, value_claims, inner_claims, item_claims, pair_claims, key_value_claims, array_claims, end_claims, header_claims, section_claims, claims_behind, claims, head_of}
+use Rattle.toml_span.specs.Paths.{with_key, with_position, enter, elements_added, opened_by, section_path}
+use Rattle.toml_span.specs.Claims.{Claims, no_claims, claimed, scope, followed, header_claim, key_claims, value_claims, inner_claims, pair_claims, key_value_claims, array_claims, end_claims, header_claims, section_claims, claims_behind, claims, head_of}
 use Rattle.toml_span.specs.Clashes.{NamedClash, blame, meeting, meets, named, or_else}
 use Rattle.toml_span.specs.Flat.{by_header}
 use Rattle.toml_span.specs.code.Growing.{Grows, GrowsTo, IsGrownInside}
-use Rattle.toml_span.specs.code.Machine.{State, change, clash_met, clash_told, met, nothing, put_all, show_all, with_claim}
+use Rattle.toml_span.specs.code.Machine.{State, change, clash_met, clash_told, met, nothing, show_all, with_claim}
 use Rattle.toml_span.specs.code.Marks.{IsHaltInside, partner}
-use Rattle.toml_span.proofs.Grafts.{same_step-self, told-followed}
 use Rattle.toml_span.proofs.Judged.{first-met}
-use Rattle.toml_span.proofs.Shown.{show_all-marks}
-use Rattle.toml_span.proofs.Values.{put_all-value}
+use Rattle.toml_span.proofs.Values.{first_in, told-array}
 
 -- the key of a claim stands inside the first n bytes, and of a header's claim its line too
 abbrev IsMarkInside : ℕ → Mark → Type 0
@@ -54,17 +52,9 @@ blame_told StandardTable earlier = told_of_header StandardTable (blame earlier S
 blame_told ArrayOfTables earlier = told_of_header ArrayOfTables (blame earlier ArrayOfTables) refl
 blame_told TableElement earlier = told_of_header TableElement (blame earlier TableElement) refl
 blame_told Dotted Passed = tt
-blame_told Dotted StandardTable = tt
-blame_told Dotted ArrayOfTables = tt
-blame_told Dotted TableElement = tt
-blame_told Dotted Dotted = tt
-blame_told Dotted Assigned = tt
+blame_told Dotted earlier = tt
 blame_told Assigned Passed = tt
-blame_told Assigned StandardTable = tt
-blame_told Assigned ArrayOfTables = tt
-blame_told Assigned TableElement = tt
-blame_told Assigned Dotted = tt
-blame_told Assigned Assigned = tt
+blame_told Assigned earlier = tt
 
 meeting_inside : (n : ℕ) (earlier later : Mark) (o : Option Blame) → IfSome o (IsTold later.sort) → IsMarkInside n later → IfSome (option_map (meeting earlier later) o) (λ m. IsInside n m.span)
 meeting_inside n earlier later None told inside = tt
@@ -122,43 +112,20 @@ key_told n p [] v inside h g = tt
 key_told n p (k ∷ []) v inside h g = ((h.0, λ e. absurd (false≢true e)), g (with_key p k))
 key_told n p (k ∷ l ∷ more) v inside h g = ((h.0, λ e. absurd (false≢true e)), key_told n (with_key p k) (l ∷ more) v inside h.1 g)
 
--- no claim is on the positions from i on
-abbrev NoneFrom : Path → ℕ → State → Type 0
-NoneFrom p i st = (l : ℕ) → i ≤ l → (st (with_position p l)).marks ≡ []
-
-apart_at : (p : Path) (i l : ℕ) → i < l → same_path (with_position p i) (with_position p l) ≡ false
-unfolding same_path
-apart_at [] i l h = rw (ne_eqb i l (λ same. absurd (omega (arith, same))))
-apart_at (s ∷ p) i l h = rw (same_step-self s) (apart_at p i l h)
-
-none_behind : (p : Path) (i : ℕ) (v : Read) (st : State) → NoneFrom p i st
-    → NoneFrom p (suc i) (put_all (change st (with_position p i) (with_claim (element (with_position p i) v))) (value_claims v (with_position p i)))
-unfolding change
-none_behind p i v st none l past =
-    let next = change st (with_position p i) (with_claim (element (with_position p i) v)) in
-    ap (λ (f : State). (f (with_position p l)).marks) (put_all-value next v (with_position p i))
-    ∙ show_all-marks next (value_claims v (with_position p i)) (with_position p l) ∙ rw (apart_at p i l (omega arith)) (none l (omega arith))
-
 mutual
-  unfolding value_claims inner_claims item_claims pair_claims clash_met
+  unfolding value_claims inner_claims pair_claims first_in
 
   value_told : (n : ℕ) (v : Read) (p : Path) → KeysInside n v → Told n (value_claims v p)
   value_told n (parsed k span) p h = inner_told n k p h
 
   inner_told : (n : ℕ) (k : ParsedInner) (p : Path) → InnerKeysInside n k → Told n (inner_claims k p)
   inner_told n (scalar s) p h = tt
-  inner_told n (array vs) p h = (items_told n vs 0 p nothing (λ l past. refl) h, tt)
+  inner_told n (array vs) p h = (rw (told-array vs p) (items_told n vs h), tt)
   inner_told n (inline ps) p h = (told_inside n nothing (pair_claims ps p) (pairs_told n ps p h), tt)
 
-  items_told : (n : ℕ) (vs : ParsedItems) (i : ℕ) (p : Path) (st : State) → NoneFrom p i st → ItemKeysInside n vs → IfSome (clash_met st (item_claims vs i p)) (In n)
-  items_told n no_items i p st none h = tt
-  items_told n (item v vs) i p st none h =
-      let q = with_position p i in
-      let next = change st q (with_claim (element q v)) in
-      let rest = item_claims vs (suc i) p in
-      rw (none i (omega arith), told-followed next (value_claims v q) rest)
-      (or_else_if (In n) (clash_met next (value_claims v q)) (clash_met (put_all next (value_claims v q)) rest)
-      (told_inside n next (value_claims v q) (value_told n v q h.0)) (items_told n vs (suc i) p (put_all next (value_claims v q)) (none_behind p i v st none) h.1))
+  items_told : (n : ℕ) (vs : ParsedItems) → ItemKeysInside n vs → IfSome (first_in vs) (In n)
+  items_told n no_items h = tt
+  items_told n (item v vs) h = or_else_if (In n) (clash_met nothing (value_claims v [])) (first_in vs) (told_inside n nothing (value_claims v []) (value_told n v [] h.0)) (items_told n vs h.1)
 
   pairs_told : (n : ℕ) (ps : ParsedPairs) (p : Path) → PairKeysInside n ps → Told n (pair_claims ps p)
   pairs_told n no_pairs p h = tt

@@ -1,40 +1,37 @@
 -- What finished values show, and which clashes are told in them.
-use Rattle.std.proofs.Common.{◌≡◌, ℕ, zero, suc, ◌+◌, ◌<◌, ◌≤◌, ℤ, Bool, false, List, [], ◌∷◌, ◌++◌, map, Some, None, option_map, Result, Ok, Err, BTreeMap, Vec, Global, refl, sym, ap, ◌∙◌, append_assoc, append-nil, arith, rules}
-use Rattle.std.specs.Prelude.{⊤, option_and_then}
-use Rattle.std.specs.Cow.{cow_str_bytes}
-use Rattle.std.specs.declared.borrow.CowStr.{CowStr}
+use Rattle.std.proofs.Common.{◌≡◌, ℕ, zero, suc, ◌+◌, ◌<◌, ◌≤◌, false, List, [], ◌∷◌, ◌++◌, map, Option, Some, None, option_map, Result, Ok, Err, BTreeMap, Vec, Global, refl, sym, ap, ◌∙◌, append_assoc, append-nil, arith}
+use Rattle.std.specs.Prelude.{option_and_then}
 use Rattle.std.proofs.lemmas.Bool.{ne_eqb}
-use Rattle.std.proofs.lemmas.List.{map-append}
 use Rattle.toml_span_lex.specs.declared.key.Key.{Key}
 use Rattle.toml_span_tree.specs.Node as tree
 use Rattle.toml_span_tree.specs.Node.{Scalar, text, integer, float, boolean, datetime, element_at}
 use Rattle.toml_span_tree.specs.Path.{Path, Step, key, position, reached, Shape, shape_of as tree_shape, place_of as tree_place}
-use Rattle.toml_span_tree.specs.Value.{view, inner_view, items_view, float_value, date_bytes}
-use Rattle.toml_span_tree.specs.declared.date.DateText.{DateText}
-use Rattle.toml_span_tree.specs.declared.float.FloatText.{FloatText}
+use Rattle.toml_span_tree.specs.Value.{view, inner_view, items_view}
 use Rattle.toml_span_tree.specs.declared.value.Value.{Value}
-use Rattle.toml_span_tree.specs.declared.value.ValueInner.{ValueInner, the_lemmas as tree_lemmas}
+use Rattle.toml_span_tree.specs.declared.value.ValueInner.{ValueInner}
 use Rattle.toml_span_tree.specs.declared.value.ValueInner.TheVariants as inners
 use Rattle.toml_span_tree.proofs.Values.{inner_view-Array, inner_view-Table}
-use Rattle.toml_span_read.specs.Data.{ParsedValue as Read, parsed, ParsedInner, scalar, array, inline, ParsedItems, no_items, item, no_pairs, onto, pairs_onto, view as view_read, kind_view, key_value}
+use Rattle.toml_span_read.specs.Data.{ParsedValue as Read, parsed, ParsedInner, scalar, array, inline, parsed_span, ParsedItems, no_items, item, no_pairs, onto, pairs_onto, view as view_read, kind_view, key_value}
 use Rattle.toml_span_read.specs.declared.value.Assignment.{Assignment}
 use Rattle.toml_span_read.specs.declared.value.Val.{Val}
-use Rattle.toml_span_read.specs.declared.value.ValKind.{the_lemmas as read_lemmas}
+use Rattle.toml_span_read.specs.declared.value.ValKind.{ValKind}
 use Rattle.toml_span_read.specs.declared.value.ValKind.TheVariants as kinds
 use Rattle.toml_span_read.proofs.Views.{view_is, kind_view-Array, kind_view-Inline}
 use Rattle.toml_span.specs.declared.claims.Halt.{Halt}
 use Rattle.toml_span.specs.declared.claims.Halt.TheVariants.{Memory, Clash}
 use Rattle.toml_span.specs.Paths.{same_step, same_path}
-use Rattle.toml_span.specs.Claims.{Claim, Claims, no_claims, claimed, scope, value_claims, inner_claims, item_claims, key_value_claims, element, value_shape}
+use Rattle.std.specs.List.{AllZip}
+use Rattle.toml_span_lex.specs.declared.span.Span.{Span}
+use Rattle.toml_span.specs.Claims.{Claim, Claims, no_claims, claimed, scope, followed, parsed_inner, value_claims, inner_claims, item_claims, key_value_claims, element, value_shape}
 use Rattle.toml_span.specs.Clashes.{or_else, NamedClash}
-use Rattle.toml_span.specs.code.Machine.{State, nothing, no_cell, change, with_claim, with_inner, show_all, put_all, clash_met, clash_told, graft}
+use Rattle.toml_span.specs.code.Machine.{Cell, State, nothing, no_cell, change, with_claim, with_inner, show_all, put_all, clash_met, clash_told, graft}
 use Rattle.toml_span.specs.Ordered.{HoldsOrdered, AreOrdered}
 use Rattle.toml_span.specs.code.Placing.{IsFinished, ValueGives, ShowsPlain, ScopeGives}
+use Rattle.toml_span.specs.code.Relative.{under}
 use Rattle.toml_span.specs.code.Tree.{value_shows, plain}
-use Rattle.toml_span.proofs.Absolute.{value_claims-under, pairs-key_values}
-use Rattle.toml_span.proofs.Grafts.{same_step-self, sub-graft, show_all-under, show_all-followed, told-followed, told-under, or_else-none}
+use Rattle.toml_span.proofs.Absolute.{item_claims-under, pairs-key_values, value_claims-under}
+use Rattle.toml_span.proofs.Grafts.{fun_ext, or_else-none, put_all-under, show_all-followed, show_all-under, sub-graft, told-followed, told-under}
 use Rattle.toml_span.proofs.EachClaim.{Each, value-each}
-use Rattle.toml_span.proofs.Shown.{show_all-marks}
 
 -- ---- what a value claims stands below it
 
@@ -78,209 +75,156 @@ put_all-value st (parsed (scalar s) span) p = refl
 put_all-value st (parsed (array vs) span) p = refl
 put_all-value st (parsed (inline ps) span) p = refl
 
-told-moved : (st : State) (v : Read) (s : Step) → clash_met st (value_claims v (s ∷ [])) ≡ clash_met nothing (value_claims v [])
-told-moved st v s = told-value st v (s ∷ []) ∙ ap (clash_met nothing) (value_claims-under v s []) ∙ told-under s nothing (value_claims v [])
-
 -- ---- elements, one after another
 
--- the element of that position
-abbrev step_to : ℕ → Path
-step_to i = position i ∷ []
+-- what is made of the items of a list, where all but those that are left are done
+pub record Made (A B : Type 0) (R : A → B → Type 0) (all left : List A) (made : List B) : Type 0 where
+  pub done : List A
+  pub split : all ≡ done ++ left
+  pub become : AllZip R done made
 
--- behind an element: as it is told, and as it is shown
-abbrev behind : State → ℕ → Read → State
-behind st i v = show_all (change st (step_to i) (with_claim (element (step_to i) v))) (value_claims v (step_to i))
+pub made-more : (A B : Type 0) (R : A → B → Type 0) (all old left : List A) (xs ys : List B) (v : A) (x : B) → old ≡ v ∷ left → Made A B R all old xs → R v x → ys ≡ xs ++ (x ∷ []) → Made A B R all left ys
+made-more A B R all old left xs ys v x is h become more = record {
+  done = h.done ++ (v ∷ []);
+  split = h.split ∙ ap (λ l. h.done ++ l) is ∙ sym (append_assoc h.done (v ∷ []) left);
+  become = rw more (push h.done xs h.become);
+}
+  where
+    push : (ns : List A) (ms : List B) → AllZip R ns ms → AllZip R (ns ++ (v ∷ [])) (ms ++ (x ∷ []))
+    push [] [] h = (become, tt)
+    push (n ∷ ns) (m ∷ ms) h = (h.0, push ns ms h.1)
+    push ns ms h = absurd h
 
-abbrev shown_behind : State → ℕ → Read → State
-shown_behind st i v = show_all (change st (step_to i) (with_inner (element (step_to i) v))) (value_claims v (step_to i))
+abbrev pub IsMade : Val → Value → Type 0
+IsMade v x = ValueGives (Ok x) (view_read v)
 
--- no claim is on the positions from i on
-abbrev NoMarks : ℕ → State → Type 0
-NoMarks i st = (l : ℕ) → i ≤ l → (st (step_to l)).marks ≡ []
+abbrev pub Elements : List Val → List Val → List Value → Type 0
+Elements rest all xs = Made Val Value IsMade all rest xs
 
--- nothing stands at the positions from i on
-abbrev IsClear : ℕ → State → Type 0
-IsClear i st = (l : ℕ) (p : Path) → i ≤ l → st (position l ∷ p) ≡ no_cell
+pub elements-first : (rest all : List Val) (xs : List Value) → rest ≡ all → xs ≡ [] → Elements rest all xs
+elements-first rest all xs same none = record { done = []; split = sym same; become = rw none tt }
+
+-- an element claims its position, and below it what the value claims
+abbrev own : Read → Claims
+own v = claimed (element [] v) (value_claims v [])
+
+item-under : (v : Read) (vs : ParsedItems) (i : ℕ) → item_claims (item v vs) i [] ≡ followed (under (position i) (own v)) (item_claims vs (suc i) [])
+unfolding item_claims followed under
+item-under v vs i = ap (λ t. claimed (element (position i ∷ []) v) (followed t (item_claims vs (suc i) []))) (value_claims-under v (position i) [])
 
 apart : (i l : ℕ) → i < l → same_step (position i) (position l) ≡ false
 apart i l h = ne_eqb i l (λ same. absurd (omega (arith, same)))
 
-told-item : (st : State) (i : ℕ) (v : Read) (vs : ParsedItems) → (st (step_to i)).marks ≡ []
-    → clash_met st (item_claims (item v vs) i []) ≡ or_else (clash_met nothing (value_claims v [])) (clash_met (behind st i v) (item_claims vs (suc i) []))
-unfolding clash_met item_claims
-told-item st i v vs none =
-    let next = change st (step_to i) (with_claim (element (step_to i) v)) in
+-- ---- what is told: the first clash in an element
+
+unfoldable pub first_in : ParsedItems → Option NamedClash
+first_in no_items = None
+first_in (item v vs) = or_else (clash_met nothing (value_claims v [])) (first_in vs)
+
+told-items : (vs : ParsedItems) (i : ℕ) (st : State) → ((l : ℕ) → i ≤ l → (st (position l ∷ [])).marks ≡ []) → clash_met st (item_claims vs i []) ≡ first_in vs
+unfolding clash_met item_claims first_in graft
+told-items no_items i st none = refl
+told-items (item v vs) i st none =
     let rest = item_claims vs (suc i) [] in
-    rw none
-    (told-followed next (value_claims v (step_to i)) rest
-    ∙ ap (λ o. or_else o (clash_met (put_all next (value_claims v (step_to i))) rest)) (told-moved next v (position i))
-    ∙ ap (λ f. or_else (clash_met nothing (value_claims v [])) (clash_met f rest)) (put_all-value next v (step_to i)))
+    let below = λ (q : Path). st (position i ∷ q) in
+    let next = put_all st (under (position i) (own v)) in
+    let here : clash_met below (own v) ≡ clash_met nothing (value_claims v []) = rw (none i (omega arith)) (told-value (change below [] (with_claim (element [] v))) v []) in
+    ap (clash_met st) (item-under v vs i) ∙ told-followed st (under (position i) (own v)) rest
+    ∙ ap (λ o. or_else o (clash_met next rest)) (told-under (position i) st (own v) ∙ here)
+    ∙ ap (or_else (clash_met nothing (value_claims v []))) (told-items vs (suc i) next
+    (λ l past. ap (λ f. (f (position l ∷ [])).marks) (put_all-under (position i) st (own v)) ∙ rw (apart i l (omega arith)) (none l (omega arith))))
 
-no_marks-behind : (st : State) (i : ℕ) (v : Read) → NoMarks i st → NoMarks (suc i) (behind st i v)
-unfolding change same_path
-no_marks-behind st i v none l past =
-    show_all-marks (change st (step_to i) (with_claim (element (step_to i) v))) (value_claims v (step_to i)) (step_to l)
-    ∙ rw (apart i l (omega arith)) (none l (omega arith))
+-- at whatever path
+pub told-array : (vs : ParsedItems) (p : Path) → clash_met nothing (item_claims vs 0 p) ≡ first_in vs
+told-array vs [] = told-items vs 0 nothing (λ l past. refl)
+told-array vs (s ∷ p) = ap (clash_met nothing) (item_claims-under vs 0 s p) ∙ told-under s nothing (item_claims vs 0 p) ∙ told-array vs p
 
--- the elements that are finished
-abbrev pub AreFinished : List Read → List Value → Type 0
-AreFinished [] [] = ⊤
-AreFinished [] (x ∷ xs) = ⊥
-AreFinished (v ∷ vs) [] = ⊥
-AreFinished (v ∷ vs) (x ∷ xs) = ((clash_met nothing (value_claims v []) ≡ None) × IsFinished v x) × AreFinished vs xs
-
-pub finished-more : (vs : List Read) (xs : List Value) (v : Read) (x : Value) → AreFinished vs xs → ValueGives (Ok x) v → AreFinished (vs ++ (v ∷ [])) (xs ++ (x ∷ []))
-finished-more [] [] v x h g = (g, tt)
-finished-more [] (y ∷ xs) v x h g = absurd h
-finished-more (w ∷ vs) [] v x h g = absurd h
-finished-more (w ∷ vs) (y ∷ xs) v x h g = (h.0, finished-more vs xs v x h.1 g)
-
-told-finished : (vs : List Read) (xs : List Value) (i : ℕ) (st : State) → AreFinished vs xs → NoMarks i st → clash_met st (item_claims (onto vs no_items) i []) ≡ None
-unfolding clash_met item_claims
-told-finished [] [] i st h none = refl
-told-finished [] (x ∷ xs) i st h none = absurd h
-told-finished (v ∷ vs) [] i st h none = absurd h
-told-finished (v ∷ vs) (x ∷ xs) i st h none =
-    told-item st i v (onto vs no_items) (none i (omega arith))
-    ∙ ap (λ o. or_else o (clash_met (behind st i v) (item_claims (onto vs no_items) (suc i) []))) h.0.0
-    ∙ told-finished vs xs (suc i) (behind st i v) h.1 (no_marks-behind st i v none)
+told-finished : (vs : List Val) (xs : List Value) → AllZip IsMade vs xs → first_in (onto (map view_read vs) no_items) ≡ None
+unfolding first_in
+told-finished [] [] h = refl
+told-finished (v ∷ vs) (x ∷ xs) h = rw (h.0.0) (told-finished vs xs h.1)
+told-finished ns ms h = absurd h
 
 -- the first clash in an element behind them
-told-element : (vs : List Read) (xs : List Value) (v : Read) (more : List Read) (t : NamedClash) (i : ℕ) (st : State) → AreFinished vs xs → NoMarks i st
-    → clash_met nothing (value_claims v []) ≡ Some t → clash_met st (item_claims (onto (vs ++ (v ∷ more)) no_items) i []) ≡ Some t
-told-element [] [] v more t i st h none is =
-    told-item st i v (onto more no_items) (none i (omega arith))
-    ∙ ap (λ o. or_else o (clash_met (behind st i v) (item_claims (onto more no_items) (suc i) []))) is
-told-element [] (x ∷ xs) v more t i st h none is = absurd h
-told-element (w ∷ vs) [] v more t i st h none is = absurd h
-told-element (w ∷ vs) (x ∷ xs) v more t i st h none is =
-    told-item st i w (onto (vs ++ (v ∷ more)) no_items) (none i (omega arith))
-    ∙ ap (λ o. or_else o (clash_met (behind st i w) (item_claims (onto (vs ++ (v ∷ more)) no_items) (suc i) []))) h.0.0
-    ∙ told-element vs xs v more t (suc i) (behind st i w) h.1 (no_marks-behind st i w none) is
+told-element : (vs : List Val) (xs : List Value) (v : Val) (more : List Val) (t : NamedClash) → AllZip IsMade vs xs
+    → clash_met nothing (value_claims (view_read v) []) ≡ Some t → first_in (onto (map view_read (vs ++ (v ∷ more))) no_items) ≡ Some t
+unfolding first_in
+told-element [] [] v more t h is = rw is
+told-element (w ∷ vs) (x ∷ xs) v more t h is = rw (h.0.0) (told-element vs xs v more t h.1 is)
+told-element ns ms v more t h is = absurd h
 
 -- ---- what elements show
 
--- an element changes nothing elsewhere
-shown-apart : (st : State) (i : ℕ) (v : Read) (s : Step) (p : Path) → same_step (position i) s ≡ false → shown_behind st i v (s ∷ p) ≡ st (s ∷ p)
-unfolding graft change same_path
-shown-apart st i v s p other =
-    let next = change st (step_to i) (with_inner (element (step_to i) v)) in
-    ap (λ cs. show_all next cs (s ∷ p)) (value_claims-under v (position i) [])
-    ∙ ap (λ f. f (s ∷ p)) (show_all-under (position i) next (value_claims v []))
-    ∙ rw other
+abbrev behind : State → ℕ → Read → State
+behind st i v = graft (position i) st (show_all (λ q. st (position i ∷ q)) (own v))
 
-show_all-item : (st : State) (i : ℕ) (v : Read) (vs : ParsedItems) → show_all st (item_claims (item v vs) i []) ≡ show_all (shown_behind st i v) (item_claims vs (suc i) [])
-unfolding show_all item_claims
-show_all-item st i v vs = show_all-followed (change st (step_to i) (with_inner (element (step_to i) v))) (value_claims v (step_to i)) (item_claims vs (suc i) [])
+show_all-item : (st : State) (i : ℕ) (v : Read) (vs : ParsedItems) → show_all st (item_claims (item v vs) i []) ≡ show_all (behind st i v) (item_claims vs (suc i) [])
+show_all-item st i v vs =
+    ap (show_all st) (item-under v vs i) ∙ show_all-followed st (under (position i) (own v)) (item_claims vs (suc i) [])
+    ∙ ap (λ f. show_all f (item_claims vs (suc i) [])) (show_all-under (position i) st (own v))
 
 -- elements from i on change nothing elsewhere
 items-apart : (vs : ParsedItems) (i : ℕ) (st : State) (s : Step) (p : Path) → ((l : ℕ) → i ≤ l → same_step (position l) s ≡ false) → show_all st (item_claims vs i []) (s ∷ p) ≡ st (s ∷ p)
-unfolding show_all item_claims
+unfolding show_all item_claims graft
 items-apart no_items i st s p other = refl
 items-apart (item v vs) i st s p other =
-    ap (λ f. f (s ∷ p)) (show_all-item st i v vs)
-    ∙ items-apart vs (suc i) (shown_behind st i v) s p (λ l past. other l (omega arith))
-    ∙ shown-apart st i v s p (other i (omega arith))
+    ap (λ f. f (s ∷ p)) (show_all-item st i v vs) ∙ items-apart vs (suc i) (behind st i v) s p (λ l past. other l (omega arith)) ∙ rw (other i (omega arith)) refl
 
--- what stands below its position
-abbrev sub : State → ℕ → Read → State
-sub st i v q = change st (step_to i) (with_inner (element (step_to i) v)) (position i ∷ q)
-
-element-moved : (st : State) (i : ℕ) (v : Read) (p : Path) → shown_behind st i v (position i ∷ p) ≡ show_all (sub st i v) (value_claims v []) p
-element-moved st i v p =
-    let next = change st (step_to i) (with_inner (element (step_to i) v)) in
-    ap (λ cs. show_all next cs (position i ∷ p)) (value_claims-under v (position i) [])
-    ∙ ap (λ f. f (position i ∷ p)) (show_all-under (position i) next (value_claims v []))
-    ∙ ap (λ f. f p) (sub-graft (position i) next (show_all (λ q. next (position i ∷ q)) (value_claims v [])))
-
-element-here : (st : State) (i : ℕ) (v : Read) (x : Value) (p : Path) → st (position i ∷ p) ≡ no_cell → IsFinished v x → (show_all (sub st i v) (value_claims v []) p).shown ≡ value_shows None (view x) p
+-- a value shows what was claimed where nothing stood
+pub value-shown : (v : Read) (x : Value) (at : Option Span) (f : Cell → Cell) → IsFinished v x → (f no_cell).shown ≡ Some (plain (record { shape = value_shape (parsed_inner v); key_span = at; span = parsed_span v }))
+    → (p : Path) → (show_all (change nothing [] f) (value_claims v []) p).shown ≡ value_shows at (view x) p
 unfolding change same_path
-element-here st i v x [] clear finished =
-    ap (λ c. c.shown) (show_all-here (sub st i v) (value_claims v []) (value_below v []))
-    ∙ rw (same_step-self (position i), clear) (ap (λ m. Some (plain m)) (sym (finished.0 None)))
-element-here st i v x (s ∷ p) clear finished =
-    ap (λ c. c.shown) (show_all-local (sub st i v) nothing (value_claims v []) (s ∷ p) (rw (same_step-self (position i)) clear))
-    ∙ sym (finished.1 s p)
+value-shown v x at f h is [] = ap (λ c. c.shown) (show_all-here (change nothing [] f) (value_claims v []) (value_below v [])) ∙ is ∙ ap (λ m. Some (plain m)) (sym (h.0 at))
+value-shown v x at f h is (s ∷ p) = ap (λ c. c.shown) (show_all-local (change nothing [] f) nothing (value_claims v []) (s ∷ p) refl) ∙ sym (h.1 s p)
 
 -- below its position an element shows what the value shows
-element-shown : (st : State) (i : ℕ) (v : Read) (x : Value) (p : Path) → st (position i ∷ p) ≡ no_cell → IsFinished v x
-    → (shown_behind st i v (position i ∷ p)).shown ≡ value_shows None (view x) p
-element-shown st i v x p clear finished = ap (λ c. c.shown) (element-moved st i v p) ∙ element-here st i v x p clear finished
+element-shown : (st : State) (i : ℕ) (v : Read) (x : Value) (p : Path) → (λ q. st (position i ∷ q)) ≡ nothing → IsFinished v x → (behind st i v (position i ∷ p)).shown ≡ value_shows None (view x) p
+unfolding show_all
+element-shown st i v x p clear finished =
+    ap (λ f. (f p).shown) (sub-graft (position i) st (show_all (λ q. st (position i ∷ q)) (own v)) ∙ ap (λ f. show_all f (own v)) clear)
+    ∙ value-shown v x None (with_inner (element [] v)) finished refl p
 
-clear-behind : (st : State) (i : ℕ) (v : Read) → IsClear i st → IsClear (suc i) (shown_behind st i v)
-clear-behind st i v clear l p past = shown-apart st i v (position l) p (apart i l (omega arith)) ∙ clear l p (omega arith)
-
-none-shown : (i l : ℕ) (st : State) (p : Path) → IsClear i st → i ≤ l → (show_all st (item_claims no_items i []) (position l ∷ p)).shown ≡ None
-unfolding show_all item_claims
-none-shown i l st p clear past = ap (λ c. c.shown) (clear l p past)
-
-items-shown : (vs : List Read) (xs : List Value) (i j l : ℕ) (st : State) (p : Path) → AreFinished vs xs → IsClear i st → l ≡ i + j
-    → (show_all st (item_claims (onto vs no_items) i []) (position l ∷ p)).shown ≡ option_map (λ m. plain (tree_place m)) (option_and_then (reached p) (element_at j (items_view xs)))
-items-shown [] [] i j l st p h clear is = none-shown i l st p clear (omega arith)
-items-shown [] (x ∷ xs) i j l st p h clear is = absurd h
-items-shown (v ∷ vs) [] i j l st p h clear is = absurd h
+items-shown : (vs : List Val) (xs : List Value) (i j l : ℕ) (st : State) (p : Path) → AllZip IsMade vs xs → ((l : ℕ) (p : Path) → i ≤ l → st (position l ∷ p) ≡ no_cell) → l ≡ i + j
+    → (show_all st (item_claims (onto (map view_read vs) no_items) i []) (position l ∷ p)).shown ≡ option_map (λ m. plain (tree_place m)) (option_and_then (reached p) (element_at j (items_view xs)))
+unfolding show_all item_claims graft
+items-shown [] [] i j l st p h clear is = ap (λ c. c.shown) (clear l p (omega arith))
 items-shown (v ∷ vs) (x ∷ xs) i zero l st p h clear is =
     let same : l ≡ i = omega arith in
-    let rest = onto vs no_items in
-    ap (λ f. (f (position l ∷ p)).shown) (show_all-item st i v rest)
-    ∙ ap (λ c. c.shown) (items-apart rest (suc i) (shown_behind st i v) (position l) p (λ k past. ne_eqb k l (λ e. absurd (omega (arith, e)))))
-    ∙ ap (λ k. (shown_behind st i v (position k ∷ p)).shown) same
-    ∙ element-shown st i v x p (clear i p (omega arith)) h.0.1
+    let rest = onto (map view_read vs) no_items in
+    let next = behind st i (view_read v) in
+    ap (λ f. (f (position l ∷ p)).shown) (show_all-item st i (view_read v) rest)
+    ∙ ap (λ c. c.shown) (items-apart rest (suc i) next (position l) p (λ k past. ne_eqb k l (λ e. absurd (omega (arith, e)))))
+    ∙ ap (λ k. (next (position k ∷ p)).shown) same
+    ∙ element-shown st i (view_read v) x p (fun_ext (λ q. clear i q (omega arith))) h.0.1
 items-shown (v ∷ vs) (x ∷ xs) i (suc j) l st p h clear is =
-    ap (λ f. (f (position l ∷ p)).shown) (show_all-item st i v (onto vs no_items))
-    ∙ items-shown vs xs (suc i) j l (shown_behind st i v) p h.1 (clear-behind st i v clear) (omega arith)
+    ap (λ f. (f (position l ∷ p)).shown) (show_all-item st i (view_read v) (onto (map view_read vs) no_items))
+    ∙ items-shown vs xs (suc i) j l (behind st i (view_read v)) p h.1 (λ l p past. rw (apart i l (omega arith)) (clear l p (omega arith))) (omega arith)
+items-shown ns ms i j l st p h clear is = absurd h
 
 -- the elements show what their claims show
-items-plain : (vs : List Read) (xs : List Value) → AreFinished vs xs → ShowsPlain (tree.array (items_view xs)) (show_all nothing (item_claims (onto vs no_items) 0 []))
-items-plain vs xs h (key k) p = sym (ap (λ c. c.shown) (items-apart (onto vs no_items) 0 nothing (key k) p (λ l past. refl)))
+items-plain : (vs : List Val) (xs : List Value) → AllZip IsMade vs xs → ShowsPlain (tree.array (items_view xs)) (show_all nothing (item_claims (onto (map view_read vs) no_items) 0 []))
+items-plain vs xs h (key k) p = sym (ap (λ c. c.shown) (items-apart (onto (map view_read vs) no_items) 0 nothing (key k) p (λ l past. refl)))
 items-plain vs xs h (position l) p = sym (items-shown vs xs 0 l l nothing p h (λ l p past. refl) (omega arith))
 
 -- and each is in order
-items-ordered : (vs : List Read) (xs : List Value) → AreFinished vs xs → AreOrdered (items_view xs)
+items-ordered : (vs : List Val) (xs : List Value) → AllZip IsMade vs xs → AreOrdered (items_view xs)
 items-ordered [] [] h = tt
-items-ordered [] (x ∷ xs) h = absurd h
-items-ordered (v ∷ vs) [] h = absurd h
 items-ordered (v ∷ vs) (x ∷ xs) h = (h.0.1.2, items-ordered vs xs h.1)
-
--- ---- the elements of an array
-
--- these elements of all are finished, and the others remain
-abbrev pub Elements : List Val → List Val → List Value → Type 0
-Elements rest all xs = (done : List Val) × (all ≡ done ++ rest) × AreFinished (map view_read done) xs
-
-pub elements-first : (rest all : List Val) (xs : List Value) → rest ≡ all → xs ≡ [] → Elements rest all xs
-elements-first rest all xs same none = ([], sym same, rw none tt)
-
-pub elements-more : (old new all : List Val) (v : Val) (xs ys : List Value) (x : Value) → old ≡ v ∷ new → Elements old all xs → ValueGives (Ok x) (view_read v) → ys ≡ xs ++ (x ∷ [])
-    → Elements new all ys
-elements-more old new all v xs ys x is inv gives more = (
-  inv.0 ++ (v ∷ []),
-  inv.1 ∙ ap (λ l. inv.0 ++ l) is ∙ sym (append_assoc inv.0 (v ∷ []) new),
-  rw (more, map-append view_read inv.0 (v ∷ [])) (finished-more (map view_read inv.0) xs (view_read v) x inv.2 gives),
-)
-
-no_marks : NoMarks 0 nothing
-no_marks l past = refl
-
-elements-split : (all done later : List Val) (v : Val) → all ≡ done ++ (v ∷ later)
-    → item_claims (onto (map view_read all) no_items) 0 [] ≡ item_claims (onto (map view_read done ++ (view_read v ∷ map view_read later)) no_items) 0 []
-elements-split all done later v is =
-    ap (λ l. item_claims (onto l no_items) 0 []) (ap (map view_read) is ∙ map-append view_read done (v ∷ later))
+items-ordered ns ms h = absurd h
 
 pub elements-err : {A : Type 0} (old later all : List Val) (v : Val) (xs : List Value) (seen : A → tree.Inner) (q : Result A Halt) (e : Halt) → old ≡ v ∷ later → Elements old all xs → q ≡ Err e
     → ValueGives (Err e) (view_read v) → ScopeGives q seen (item_claims (onto (map view_read all) no_items) 0 [])
 elements-err old later all v xs seen q (Clash c) is inv same gives =
-    rw same
-    (ap (clash_met nothing) (elements-split all inv.0 later v (inv.1 ∙ ap (λ l. inv.0 ++ l) is))
-    ∙ told-element (map view_read inv.0) xs (view_read v) (map view_read later) (clash_told c) 0 nothing inv.2 no_marks gives)
+    let split : all ≡ inv.done ++ (v ∷ later) = inv.split ∙ ap (λ l. inv.done ++ l) is in
+    rw (same, split) (told-array (onto (map view_read (inv.done ++ (v ∷ later))) no_items) [] ∙ told-element inv.done xs v later (clash_told c) inv.become gives)
 elements-err old later all v xs seen q (Memory e) is inv same gives = rw same tt
 
 pub elements-none : (rest all : List Val) (xs : Vec Value Global) → rest ≡ [] → Elements rest all xs.items
     → ScopeGives (Ok xs) (λ xs. inner_view (inners.Array xs)) (item_claims (onto (map view_read all) no_items) 0 [])
 elements-none rest all xs none inv =
-    let whole : all ≡ inv.0 = inv.1 ∙ ap (λ l. inv.0 ++ l) none ∙ append-nil inv.0 in
+    let whole : all ≡ inv.done = inv.split ∙ ap (λ l. inv.done ++ l) none ∙ append-nil inv.done in
     rw (whole, inner_view-Array xs)
-    (told-finished (map view_read inv.0) xs.items 0 nothing inv.2 no_marks, (items-plain (map view_read inv.0) xs.items inv.2, items-ordered (map view_read inv.0) xs.items inv.2))
+    (told-array (onto (map view_read inv.done) no_items) [] ∙ told-finished inv.done xs.items inv.become, (items-plain inv.done xs.items inv.become, items-ordered inv.done xs.items inv.become))
 
 -- ---- what was read of a kind
 
@@ -295,45 +239,11 @@ scalar-shows : (x : Scalar) → ShowsPlain (tree.scalar x) nothing
 scalar-shows x (key k) p = refl
 scalar-shows x (position i) p = refl
 
-scalar-gives : (v : Val) (inner : ValueInner) (x : Value) (s : Scalar) → kind_view v.kind ≡ scalar s → inner_view inner ≡ tree.scalar s → view x ≡ tree.node (inner_view inner) v.span
+pub scalar-gives : (v : Val) (inner i : ValueInner) (kind : ValKind) (x : Value) (s : Scalar) → v.kind ≡ kind → inner ≡ i → kind_view kind ≡ scalar s → inner_view i ≡ tree.scalar s → view x ≡ tree.node (inner_view inner) v.span
     → ValueGives (Ok x) (view_read v)
 unfolding clash_met show_all inner_claims
-scalar-gives v inner x s kind is seen = value-gives v (scalar s) (tree.scalar s) x kind (seen ∙ ap (λ i. tree.node i v.span) is) refl refl (scalar-shows s) tt
-
-pub string-gives : (v : Val) (inner : ValueInner) (x : Value) (s : CowStr Global) → v.kind ≡ kinds.String s → inner ≡ inners.String s → view x ≡ tree.node (inner_view inner) v.span
-    → ValueGives (Ok x) (view_read v)
-string-gives v inner x s kind is seen =
-    let read : kind_view (kinds.String s) ≡ scalar (text (cow_str_bytes s)) = search (rules, read_lemmas) in
-    let made : inner_view (inners.String s) ≡ tree.scalar (text (cow_str_bytes s)) = search (rules, tree_lemmas) in
-    scalar-gives v inner x (text (cow_str_bytes s)) (ap kind_view kind ∙ read) (ap inner_view is ∙ made) seen
-
-pub integer-gives : (v : Val) (inner : ValueInner) (x : Value) (n : ℤ) → v.kind ≡ kinds.Integer n → inner ≡ inners.Integer n → view x ≡ tree.node (inner_view inner) v.span
-    → ValueGives (Ok x) (view_read v)
-integer-gives v inner x n kind is seen =
-    let read : kind_view (kinds.Integer n) ≡ scalar (integer n) = search (rules, read_lemmas) in
-    let made : inner_view (inners.Integer n) ≡ tree.scalar (integer n) = search (rules, tree_lemmas) in
-    scalar-gives v inner x (integer n) (ap kind_view kind ∙ read) (ap inner_view is ∙ made) seen
-
-pub float-gives : (v : Val) (inner : ValueInner) (x : Value) (f : FloatText) → v.kind ≡ kinds.Float f → inner ≡ inners.Float f → view x ≡ tree.node (inner_view inner) v.span
-    → ValueGives (Ok x) (view_read v)
-float-gives v inner x f kind is seen =
-    let read : kind_view (kinds.Float f) ≡ scalar (float (float_value f)) = search (rules, read_lemmas) in
-    let made : inner_view (inners.Float f) ≡ tree.scalar (float (float_value f)) = search (rules, tree_lemmas) in
-    scalar-gives v inner x (float (float_value f)) (ap kind_view kind ∙ read) (ap inner_view is ∙ made) seen
-
-pub boolean-gives : (v : Val) (inner : ValueInner) (x : Value) (b : Bool) → v.kind ≡ kinds.Boolean b → inner ≡ inners.Boolean b → view x ≡ tree.node (inner_view inner) v.span
-    → ValueGives (Ok x) (view_read v)
-boolean-gives v inner x b kind is seen =
-    let read : kind_view (kinds.Boolean b) ≡ scalar (boolean b) = search (rules, read_lemmas) in
-    let made : inner_view (inners.Boolean b) ≡ tree.scalar (boolean b) = search (rules, tree_lemmas) in
-    scalar-gives v inner x (boolean b) (ap kind_view kind ∙ read) (ap inner_view is ∙ made) seen
-
-pub datetime-gives : (v : Val) (inner : ValueInner) (x : Value) (d : DateText) → v.kind ≡ kinds.Datetime d → inner ≡ inners.Datetime d → view x ≡ tree.node (inner_view inner) v.span
-    → ValueGives (Ok x) (view_read v)
-datetime-gives v inner x d kind is seen =
-    let read : kind_view (kinds.Datetime d) ≡ scalar (datetime (date_bytes d)) = search (rules, read_lemmas) in
-    let made : inner_view (inners.Datetime d) ≡ tree.scalar (datetime (date_bytes d)) = search (rules, tree_lemmas) in
-    scalar-gives v inner x (datetime (date_bytes d)) (ap kind_view kind ∙ read) (ap inner_view is ∙ made) seen
+scalar-gives v inner i kind x s is made read seen shown =
+    value-gives v (scalar s) (tree.scalar s) x (ap kind_view is ∙ read) (shown ∙ ap (λ i. tree.node (inner_view i) v.span) made ∙ ap (λ i. tree.node i v.span) seen) refl refl (scalar-shows s) tt
 
 -- what is claimed in a scope that is all there is
 scope-told : (cs : Claims) → clash_met nothing (scope cs no_claims) ≡ clash_met nothing cs

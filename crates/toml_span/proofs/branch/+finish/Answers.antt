@@ -1,18 +1,21 @@
-use Rattle.std.proofs.Common.{◌≡◌, [], refl, ap, ◌∙◌}
+use Rattle.std.proofs.Common.{◌≡◌, [], refl, sym, ap, ◌∙◌}
 use Rattle.std.proofs.lemmas.List.{nil_from_length}
 use Rattle.toml_span.specs.declared.branch.Branch.{Branch}
 use Rattle.toml_span.specs.declared.branch.Branch.TheOpen.{Branch-F}
 use Rattle.toml_span.specs.declared.branch.Branch.TheViews.{out-Branch, roll-Branch}
-use Rattle.toml_span.proofs.Placed.{out-roll}
-use Rattle.toml_span.proofs.BorrowLemmas.{box_first, entry_first, element_push, insert_title, of_node, made_table, made_array}
-use Rattle.toml_span.proofs.Finishing.{no_entries, some_entries, never-empty, entries-more, filled-more, filled-none, filled-finishes, became-table, became-array}
+use Rattle.toml_span.proofs.Nodes.{no-entries, out-roll, some-entries}
+use Rattle.toml_span.proofs.Borrowing.{box_first, entry_first, element_push, insert_title, of_node, made_table, made_array}
+use Rattle.toml_span.proofs.Finishing.{never-empty, filled-more, filled-none, filled-finishes, became-table, became-array}
+use Rattle.toml_span_tree.specs.declared.value.Value.{Value}
+use Rattle.toml_span.specs.code.Placing.{BecomesEntry}
+use Rattle.toml_span.proofs.Values.{made-more}
 use Rattle.toml_span.proofs.branch.+finish.Goals as goal
 
 pub into_array-loop-entry-preserved : goal.into_array-loop-entry-preserved
 into_array-loop-entry-preserved t c = record {
   can = tt;
   ends = tt;
-  filled = rw c.in_ok-push.ensures.items (entries-more _ _ _ c.in-Some.entry _ (rw c.in-Some.ensures.steps.0 at c.loop-entry.invariant.filled) (c.in_ok-value.field-0-0, c.in_ok-value.ensures.becomes));
+  filled = made-more Branch Value BecomesEntry _ _ _ _ _ c.in-Some.entry _ c.in-Some.ensures.steps.0 c.loop-entry.invariant.filled (c.in_ok-value.field-0-0, c.in_ok-value.ensures.becomes) c.in_ok-push.ensures.items;
   borrows = λ text ps h.
       let before = c.loop-entry.invariant.borrows text ps h in
       let first = entry_first text ps c.in-Some.entry _ _ c.in-Some.ensures.steps.0 before.0 in
@@ -47,12 +50,12 @@ values_kept b = ap (λ (b : Branch-F Branch). b.values) (out-roll b)
 
 pub into_value-returns-then-is_empty-clause-becomes : goal.into_value-returns-then-is_empty-clause-becomes
 into_value-returns-then-is_empty-clause-becomes t c =
-    became-table c.args.node.now c.in_ok-table.table c.spans.result _ (rw c.as_slice.ensures at c.spans.ensures) c.with_span.ensures.view (no_entries c.args.node.now c.if-is_empty.ensures)
+    became-table c.args.node.now c.in_ok-table.table c.spans.result _ (rw c.as_slice.ensures at c.spans.ensures) c.with_span.ensures.view (no-entries c.args.node.now (sym c.if-is_empty.ensures))
     (rw (c.replace-tables.ensures.value, c.replace-values.ensures.value ∙ values_kept _) at c.in_ok-table.ensures.finishes)
 
 pub into_value-returns-clause-becomes : goal.into_value-returns-clause-becomes
 into_value-returns-clause-becomes t c =
-    became-array c.args.node.now c.in_ok-array.array c.spans.result _ (rw c.as_slice.ensures at c.spans.ensures) c.with_span-2.ensures.view (some_entries c.args.node.now c.if-is_empty.ensures)
+    became-array c.args.node.now c.in_ok-array.array c.spans.result _ (rw c.as_slice.ensures at c.spans.ensures) c.with_span-2.ensures.view (some-entries c.args.node.now (sym c.if-is_empty.ensures))
     (rw c.replace.ensures.value at c.in_ok-array.ensures.becomes)
 
 pub into_value-returns-then-is_empty-clause-borrows : goal.into_value-returns-then-is_empty-clause-borrows

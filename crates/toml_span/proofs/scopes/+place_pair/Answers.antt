@@ -1,20 +1,17 @@
-use Rattle.std.proofs.Common.{map, BTreeMap, ◌≡◌, rules, refl, sym, ap, ◌∙◌}
+use Rattle.std.proofs.Common.{map, [], ◌≡◌, rules, refl, sym, ap, ◌∙◌}
 use Rattle.std.specs.Prelude.{⊤}
 use Rattle.std.specs.BTreeMap.Entry.{map_with_value}
-use Rattle.std.specs.Global.{Box}
 use Rattle.std.specs.declared.collections.btree_map.Entry.{Entry}
-use Rattle.toml_span_lex.specs.declared.key.Key.{Key}
-use Rattle.toml_span.specs.declared.branch.Branch.{Branch}
 use Rattle.toml_span_read.specs.Keys.{simple_key}
 use Rattle.toml_span_read.proofs.EarlierTree.{parts-first}
 use Rattle.toml_span.specs.Claims.{pair_mark}
 use Rattle.toml_span.specs.declared.claims.Sort.TheVariants.{Dotted}
 use Rattle.toml_span.specs.declared.branch.Branch.TheViews.{out-Branch}
 use Rattle.toml_span.proofs.Claimed.{marked-roll}
-use Rattle.toml_span.proofs.DottedKeys.{passes-dotted, passes-dotted-err, pair-found, pair-fresh, pair-beside}
-use Rattle.toml_span.proofs.Placed.{err-of, sets-new}
-use Rattle.toml_span.proofs.Borrowing.{front_from, keeps_entered, keeps_marked, keeps_new, keeps_same}
-use Rattle.toml_span.proofs.Named.{looked, told}
+use Rattle.toml_span.proofs.Headers.{passes-dotted, passes-dotted-err, pair-found, pair-fresh, pair-beside}
+use Rattle.toml_span.proofs.Placed.{err-of, looked, sets-entry, told}
+use Rattle.toml_span.proofs.Borrowing.{front_from, keeps_child, keeps_marked, keeps_same, box_found}
+use Rattle.toml_span.specs.code.Borrowed.{standing}
 use Rattle.toml_span.proofs.scopes.+place_pair.Goals as goal
 
 pub pass_pair-returns-in_err-claim-clause-gives : goal.pass_pair-returns-in_err-claim-clause-gives
@@ -60,11 +57,8 @@ place_pair-returns-in-Occupied-clause-gives t c = λ d v due value span.
     let update = rw c.in-Occupied.is at c.in_ok-entry.ensures.update in
     let same = rw c.in-Occupied.is at c.in_ok-entry.ensures.same_map in
     let box = c.pass_child.new.child in
-    let places = λ (tables : BTreeMap Key (Box Branch)) (is : tables ≡ map_with_value (Entry.Occupied c.in-Occupied.entry) box).
-    pair-found c.args.node.now _ c.into_mut.result.now.value box.value (simple_key c.part-item.result) _ (simple_key d.last) v c.pass_child.result found
-    (sets-new c.args.node.now (record { marks = n.marks; values = n.values; tables = tables; entries = n.entries }) (simple_key c.part-item.result).name clone.field-0 box clone.ensures.name refl refl refl
-    (ap (λ (m : BTreeMap Key (Box Branch)). m.entries) is ∙ update.1 box)) (c.pass_child.ensures.gives d v due value span) in
-    rw front (places _ (search (rules, same)))
+    rw front (pair-found c.args.node.now _ c.into_mut.result.now.value box.value (simple_key c.part-item.result) _ (simple_key d.last) v c.pass_child.result found
+    (sets-entry c.args.node.now _ (map_with_value (Entry.Occupied c.in-Occupied.entry) box) (simple_key c.part-item.result).name clone.field-0 box clone.ensures.name (update.1 box) (search (rules, same))) (c.pass_child.ensures.gives d v due value span))
 
 pub place_pair-returns-in_ok-child-in-Vacant-clause-gives : goal.place_pair-returns-in_ok-child-in-Vacant-clause-gives
 place_pair-returns-in_ok-child-in-Vacant-clause-gives t c = λ d v due value span.
@@ -76,38 +70,28 @@ place_pair-returns-in_ok-child-in-Vacant-clause-gives t c = λ d v due value spa
     let update = rw c.in-Vacant.is at c.in_ok-entry.ensures.update in
     let same = rw c.in-Vacant.is at c.in_ok-entry.ensures.same_map in
     let box = c.pass_child-in-Vacant.new.child in
-    let places = λ (tables : BTreeMap Key (Box Branch)) (is : tables ≡ map_with_value (Entry.Vacant c.in-Vacant.entry) box).
-    pair-fresh c.args.node.now _ c.insert.result.now.value box.value (simple_key c.part-item.result) _ (simple_key d.last) v c.pair_mark-mark.result c.pass_child-in-Vacant.result missing (c.pair_mark-mark.ensures ∙ ap (pair_mark Dotted c.part-item.result.span) span)
+    rw front (pair-fresh c.args.node.now _ c.insert.result.now.value box.value (simple_key c.part-item.result) _ (simple_key d.last) v c.pair_mark-mark.result c.pass_child-in-Vacant.result missing (c.pair_mark-mark.ensures ∙ ap (pair_mark Dotted c.part-item.result.span) span)
     fresh.0 (rw c.insert.ensures.value fresh.1.0)
-    (sets-new c.args.node.now (record { marks = n.marks; values = n.values; tables = tables; entries = n.entries }) (simple_key c.part-item.result).name clone.field-0 box clone.ensures.name refl refl refl
-    (ap (λ (m : BTreeMap Key (Box Branch)). m.entries) is ∙ update.1 box)) (c.pass_child-in-Vacant.ensures.gives d v due value span) in
-    rw front (places _ (search (rules, same)))
+    (sets-entry c.args.node.now _ (map_with_value (Entry.Vacant c.in-Vacant.entry) box) (simple_key c.part-item.result).name clone.field-0 box clone.ensures.name (update.1 box) (search (rules, same))) (c.pass_child-in-Vacant.ensures.gives d v due value span))
 
 pub place_pair-returns-in-Occupied-clause-borrows : goal.place_pair-returns-in-Occupied-clause-borrows
 place_pair-returns-in-Occupied-clause-borrows t c = λ text ps d due parts last value.
-    let n = out-Branch c.args.node.now in
     let front = front_from text ps c.args.inner.now c.part-item.result _ c.in-len1-up.len_at_least c.part-item.is parts in
     let clone = c.in_ok-clone in
     let stands = rw c.in-Occupied.is at c.in_ok-entry.ensures.value in
     let update = rw c.in-Occupied.is at c.in_ok-entry.ensures.update in
     let same = rw c.in-Occupied.is at c.in_ok-entry.ensures.same_map in
     let box = c.pass_child.new.child in
-    let keeps = λ (tables : BTreeMap Key (Box Branch)) (is : tables ≡ map_with_value (Entry.Occupied c.in-Occupied.entry) box).
-    keeps_entered text ps c.args.node.now (record { marks = n.marks; values = n.values; tables = tables; entries = n.entries }) c.part-item.result clone.field-0 c.into_mut.result.now box c.pass_child.result
-    clone.ensures.name clone.ensures.borrowed clone.ensures.owned (sym stands ∙ c.into_mut.ensures.value) refl refl (ap (λ (m : BTreeMap Key (Box Branch)). m.entries) is ∙ update.1 box) front.0
-    (c.pass_child.ensures.borrows text ps d due front.0 front.1 last value) in
-    keeps _ (search (rules, same))
+    keeps_child text ps c.args.node.now _ (map_with_value (Entry.Occupied c.in-Occupied.entry) box) c.part-item.result clone.field-0 _ box c.pass_child.result clone.ensures.name clone.ensures.borrowed clone.ensures.owned (update.1 box) (search (rules, same))
+    (λ h. box_found text ps _ c.into_mut.result.now (out-Branch c.args.node.now).tables.entries (sym stands ∙ c.into_mut.ensures.value) h) front.0 (c.pass_child.ensures.borrows text ps d due front.0 front.1 last value)
 
 pub place_pair-returns-in_ok-child-in-Vacant-clause-borrows : goal.place_pair-returns-in_ok-child-in-Vacant-clause-borrows
 place_pair-returns-in_ok-child-in-Vacant-clause-borrows t c = λ text ps d due parts last value.
-    let n = out-Branch c.args.node.now in
     let front = front_from text ps c.args.inner.now c.part-item.result _ c.in-len1-up.len_at_least c.part-item.is parts in
     let clone = c.in_ok-clone in
     let update = rw c.in-Vacant.is at c.in_ok-entry.ensures.update in
     let same = rw c.in-Vacant.is at c.in_ok-entry.ensures.same_map in
     let box = c.pass_child-in-Vacant.new.child in
-    let keeps = λ (tables : BTreeMap Key (Box Branch)) (is : tables ≡ map_with_value (Entry.Vacant c.in-Vacant.entry) box).
-    keeps_new text ps c.args.node.now (record { marks = n.marks; values = n.values; tables = tables; entries = n.entries }) c.part-item.result clone.field-0 c.insert.result.now.value box c.pass_child-in-Vacant.result
-    (rw c.insert.ensures.value c.in_ok-child-in-Vacant.ensures.1.1) clone.ensures.name clone.ensures.borrowed clone.ensures.owned refl refl (ap (λ (m : BTreeMap Key (Box Branch)). m.entries) is ∙ update.1 box)
-    front.0 (c.pass_child-in-Vacant.ensures.borrows text ps d due front.0 front.1 last value) in
-    keeps _ (search (rules, same))
+    let bare : standing c.insert.result.now.value ≡ [] = rw c.insert.ensures.value c.in_ok-child-in-Vacant.ensures.1.1 in
+    keeps_child text ps c.args.node.now _ (map_with_value (Entry.Vacant c.in-Vacant.entry) box) c.part-item.result clone.field-0 _ box c.pass_child-in-Vacant.result clone.ensures.name clone.ensures.borrowed clone.ensures.owned (update.1 box) (search (rules, same))
+    (λ h. rw bare tt) front.0 (c.pass_child-in-Vacant.ensures.borrows text ps d due front.0 front.1 last value)

@@ -1,19 +1,24 @@
-use Rattle.std.proofs.Common.{◌≡◌, [], rules, refl, ap, ◌∙◌}
+use Rattle.std.proofs.Common.{◌≡◌, [], Some, rules, refl, sym, ap, ◌∙◌}
+use Rattle.std.proofs.lemmas.List.{nil_from_length}
 use Rattle.std.proofs.lemmas.Int.{to_z-of_z}
 use mir.Syntax.{w64}
 use mir.Val.{SFits, of_z, to_z}
-use Rattle.toml_span_tree.specs.Value.{inner_view}
+use Rattle.std.specs.Cow.{cow_str_bytes}
+use Rattle.toml_span_tree.specs.Node.{text, integer, float, boolean, datetime}
+use Rattle.toml_span_tree.specs.Value.{inner_view, float_value, date_bytes}
+use Rattle.toml_span_tree.specs.declared.value.ValueInner.{the_lemmas as tree_lemmas}
 use Rattle.toml_span_tree.specs.declared.value.ValueInner.TheVariants.{Array, Table}
 use Rattle.toml_span_tree.specs.declared.value.ValueInner.TheVariants as inners
 use Rattle.toml_span_read.specs.Data.{view}
 use Rattle.toml_span_read.specs.declared.value.ValKind.{the_lemmas}
 use Rattle.toml_span_read.specs.Borrowed.{assignment_written, written}
-use Rattle.toml_span.proofs.BorrowLemmas.{element_push, of_node}
 use Rattle.toml_span.proofs.Placed.{err-of}
 use Rattle.toml_span.proofs.Borrowing as borrowing
-use Rattle.toml_span.proofs.Borrowing.{again_from, assignment_from, first_from}
-use Rattle.toml_span.proofs.Assignments.{none-left, inner-none, places-one, val_span, remains-first, placing-more, placing-err, placing-none, table-gives, table-err}
-use Rattle.toml_span.proofs.Values.{elements-first, elements-more, elements-err, elements-none, string-gives, integer-gives, float-gives, boolean-gives, datetime-gives, array-gives, array-err, inline-gives, inline-err}
+use Rattle.toml_span.proofs.Borrowing.{assignment_from, first_from, element_push, made_array, made_table, of_node}
+use Rattle.toml_span.proofs.Assignments.{inner-none, places-one, val_span, remains-first, placing-more, placing-err, placing-none, table-gives, table-err}
+use Rattle.toml_span.proofs.Values.{IsMade, made-more, elements-first, elements-err, elements-none, scalar-gives, array-gives, array-err, inline-gives, inline-err}
+use Rattle.toml_span_read.specs.declared.value.Val.{Val}
+use Rattle.toml_span_tree.specs.declared.value.Value.{Value}
 use Rattle.toml_span.proofs.scopes.+value_of.Goals as goal
 use Rattle.toml_span.proofs.scopes.+value_of.Goals.{value_of-in-String, value_of-in-Integer, value_of-in-Float, value_of-in-Boolean, value_of-in-Datetime, value_of-in-Array+in_ok-array_of-in-Array, value_of-in-Inline+in_ok-table_of-in-Inline}
 
@@ -23,7 +28,7 @@ pub array_of-loop-element-init : goal.array_of-loop-element-init
 array_of-loop-element-init t c = record {
   can = tt;
   ends = tt;
-  borrows = λ text ps h. (again_from text ps written _ _ c.into_iter-element-iterator.ensures.into_iter_gives.0 h, rw c.in_ok-array.ensures.items tt);
+  borrows = λ text ps h. (rw c.into_iter-element-iterator.ensures.into_iter_gives.0 h, rw c.in_ok-array.ensures.items tt);
   finished = elements-first _ _ _ c.into_iter-element-iterator.ensures.into_iter_gives.0 c.in_ok-array.ensures.items;
 }
 
@@ -35,7 +40,7 @@ array_of-loop-element-preserved t c = record {
       let before = c.loop-element.invariant.borrows text ps h in
       let first = first_from text ps written _ _ c.in-Some.element c.in-Some.ensures.steps.0 before.0 in
       (first.1, rw c.in_ok-push.ensures.items (element_push text ps c.in_ok-value_of.field-0 c.loop-element.array.items before.1 (c.in_ok-value_of.ensures.borrows text ps first.0)));
-  finished = elements-more _ _ _ c.in-Some.element c.loop-element.array.items c.push.new.self.items c.in_ok-value_of.field-0 c.in-Some.ensures.steps.0 c.loop-element.invariant.finished c.in_ok-value_of.ensures.gives c.in_ok-push.ensures.items;
+  finished = made-more Val Value IsMade _ _ _ c.loop-element.array.items c.push.new.self.items c.in-Some.element c.in_ok-value_of.field-0 c.in-Some.ensures.steps.0 c.loop-element.invariant.finished c.in_ok-value_of.ensures.gives c.in_ok-push.ensures.items;
 }
 
 pub array_of-returns-in_err-value_of-clause-gives : goal.array_of-returns-in_err-value_of-clause-gives
@@ -46,7 +51,7 @@ array_of-returns-in_err-value_of-clause-gives t c =
     (err-of q e _ c.from_residual-in_err-value_of.ensures.1 (λ y p. p)) c.in_err-value_of.ensures.gives
 
 pub array_of-returns-clause-gives : goal.array_of-returns-clause-gives
-array_of-returns-clause-gives t c = elements-none _ _ c.loop-element.array (none-left _ _ c.loop-element.element-iterator.rest.ok.0 c.in-None.ensures.steps.0) c.loop-element.invariant.finished
+array_of-returns-clause-gives t c = elements-none _ _ c.loop-element.array (nil_from_length _ (sym c.loop-element.element-iterator.rest.ok.0 ∙ c.in-None.ensures.steps.0)) c.loop-element.invariant.finished
 
 -- ---- assignments
 
@@ -64,7 +69,7 @@ pub place_pairs-loop-pair-init : goal.place_pairs-loop-pair-init
 place_pairs-loop-pair-init t c = record {
   can = tt;
   ends = tt;
-  borrows = λ text ps h before. (again_from text ps assignment_written _ _ c.into_iter-pair-iterator.ensures.into_iter_gives.0 h, before);
+  borrows = λ text ps h before. (rw c.into_iter-pair-iterator.ensures.into_iter_gives.0 h, before);
   placing = remains-first _ _ _ c.into_iter-pair-iterator.ensures.into_iter_gives.0;
 }
 
@@ -87,7 +92,7 @@ place_pairs-returns-in_err-place_one-clause-gives t c =
     (err-of q e _ c.from_residual.ensures.1 (λ y p. p)) c.in_err-place_one.ensures.gives
 
 pub place_pairs-returns-clause-gives : goal.place_pairs-returns-clause-gives
-place_pairs-returns-clause-gives t c = placing-none c.loop-pair.node _ _ _ (none-left _ _ c.loop-pair.pair-iterator.rest.ok.0 c.in-None.ensures.steps.0) c.loop-pair.invariant.placing
+place_pairs-returns-clause-gives t c = placing-none c.loop-pair.node _ _ _ (nil_from_length _ (sym c.loop-pair.pair-iterator.rest.ok.0 ∙ c.in-None.ensures.steps.0)) c.loop-pair.invariant.placing
 
 -- ---- inline tables
 
@@ -120,15 +125,15 @@ value_of-returns-clause-gives t c =
     let inner = c.match-kind.inner in
     let seen = c.with_span.ensures.view in
     elim c.match-kind.branch [
-      | value_of-in-String w ↦ string-gives v inner x w.in-String.text w.in-String.is w.inner-is seen
+      | value_of-in-String w ↦ scalar-gives v inner _ _ x (text (cow_str_bytes w.in-String.text)) w.in-String.is w.inner-is (search (rules, the_lemmas)) (search (rules, tree_lemmas)) seen
       | value_of-in-Integer w ↦
           let n = w.in-Integer.number in
           let fits : SFits w64 n = search (rules, the_lemmas) in
           let whole : to_z w64 (of_z w64 n) ≡ n = to_z-of_z w64 n fits in
-          integer-gives v inner x n w.in-Integer.is (w.inner-is ∙ ap inners.Integer whole) seen
-      | value_of-in-Float w ↦ float-gives v inner x _ w.in-Float.is w.inner-is seen
-      | value_of-in-Boolean w ↦ boolean-gives v inner x _ w.in-Boolean.is w.inner-is seen
-      | value_of-in-Datetime w ↦ datetime-gives v inner x _ w.in-Datetime.is w.inner-is seen
+          scalar-gives v inner (inners.Integer n) _ x (integer n) w.in-Integer.is (w.inner-is ∙ ap inners.Integer whole) (search (rules, the_lemmas)) (search (rules, tree_lemmas)) seen
+      | value_of-in-Float w ↦ scalar-gives v inner _ _ x (float (float_value w.in-Float.text)) w.in-Float.is w.inner-is (search (rules, the_lemmas)) (search (rules, tree_lemmas)) seen
+      | value_of-in-Boolean w ↦ scalar-gives v inner _ _ x (boolean w.in-Boolean.truth) w.in-Boolean.is w.inner-is (search (rules, the_lemmas)) (search (rules, tree_lemmas)) seen
+      | value_of-in-Datetime w ↦ scalar-gives v inner _ _ x (datetime (date_bytes w.in-Datetime.text)) w.in-Datetime.is w.inner-is (search (rules, the_lemmas)) (search (rules, tree_lemmas)) seen
       | value_of-in-Array+in_ok-array_of-in-Array w ↦ array-gives v w.in-Array.elements w.in_ok-array_of-in-Array.field-0 inner x w.in-Array.is w.inner-is seen w.in_ok-array_of-in-Array.ensures.gives
       | value_of-in-Inline+in_ok-table_of-in-Inline w ↦ inline-gives v w.in-Inline.pairs w.in_ok-table_of-in-Inline.field-0 inner x w.in-Inline.is w.inner-is seen w.in_ok-table_of-in-Inline.ensures.gives
     ]
@@ -165,14 +170,14 @@ value_of-returns-clause-borrows t c = λ text ps h.
     let kept = c.with_span.ensures.kept in
     elim c.match-kind.branch [
       | value_of-in-String w ↦ borrowing.string_from text ps v x inner w.in-String.text w.in-String.is w.inner-is kept h
-      | value_of-in-Integer w ↦ borrowing.integer_right text ps x inner _ v.span kept w.inner-is
-      | value_of-in-Float w ↦ borrowing.float_right text ps x inner _ v.span kept w.inner-is
-      | value_of-in-Boolean w ↦ borrowing.boolean_right text ps x inner _ v.span kept w.inner-is
-      | value_of-in-Datetime w ↦ borrowing.datetime_right text ps x inner _ v.span kept w.inner-is
+      | value_of-in-Integer w ↦ borrowing.plain_right text ps x inner _ v.span kept w.inner-is (search (rules, tree_lemmas))
+      | value_of-in-Float w ↦ borrowing.plain_right text ps x inner _ v.span kept w.inner-is (search (rules, tree_lemmas))
+      | value_of-in-Boolean w ↦ borrowing.plain_right text ps x inner _ v.span kept w.inner-is (search (rules, tree_lemmas))
+      | value_of-in-Datetime w ↦ borrowing.plain_right text ps x inner _ v.span kept w.inner-is (search (rules, tree_lemmas))
       | value_of-in-Array+in_ok-array_of-in-Array w ↦
-          borrowing.array_right text ps x inner w.in_ok-array_of-in-Array.field-0 v.span kept w.inner-is
-          (w.in_ok-array_of-in-Array.ensures.borrows text ps (borrowing.array_from text ps v w.in-Array.elements w.in-Array.is h))
+          (made_array text ps x w.in_ok-array_of-in-Array.field-0 v.span (kept.0 ∙ ap (λ i. Some i) w.inner-is, kept.1)
+          (w.in_ok-array_of-in-Array.ensures.borrows text ps (borrowing.array_from text ps v w.in-Array.elements w.in-Array.is h))).1
       | value_of-in-Inline+in_ok-table_of-in-Inline w ↦
-          borrowing.table_right text ps x inner w.in_ok-table_of-in-Inline.field-0 v.span kept w.inner-is
-          (w.in_ok-table_of-in-Inline.ensures.borrows text ps (borrowing.inline_from text ps v w.in-Inline.pairs w.in-Inline.is h))
+          (made_table text ps x w.in_ok-table_of-in-Inline.field-0 v.span (kept.0 ∙ ap (λ i. Some i) w.inner-is, kept.1)
+          (w.in_ok-table_of-in-Inline.ensures.borrows text ps (borrowing.inline_from text ps v w.in-Inline.pairs w.in-Inline.is h))).1
     ]

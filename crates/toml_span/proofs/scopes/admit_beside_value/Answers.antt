@@ -3,9 +3,8 @@ use Rattle.std.specs.Cow.{cow_str_bytes}
 use Rattle.std.specs.Option.{option_map}
 use Rattle.toml_span.specs.code.Machine.{met}
 use Rattle.toml_span.specs.code.Tree.{closed_marks}
-use Rattle.toml_span.proofs.Closed.{marks-found}
 use Rattle.toml_span.proofs.KeyMaps.{entry-found, entry-missing}
-use Rattle.toml_span.proofs.Placed.{gives-map}
+use Rattle.toml_span.proofs.Placed.{gives-map, marks-found}
 use Rattle.toml_span.proofs.scopes.admit_beside_value.Goals as goal
 
 pub returns-in-Some : goal.returns-in-Some

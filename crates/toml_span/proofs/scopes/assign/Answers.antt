@@ -10,8 +10,8 @@ use Rattle.toml_span.specs.Claims.{pair_mark}
 use Rattle.toml_span.specs.declared.claims.Sort.TheVariants.{Assigned}
 use Rattle.toml_span.specs.declared.branch.Branch.TheViews.{out-Branch}
 use Rattle.toml_span.proofs.Assigned.{refused-child, refused-value, assigned-err, assigned-ok, sets-value, missing-free}
-use Rattle.toml_span.proofs.Placed.{err-of}
-use Rattle.toml_span.proofs.Borrowing.{assigned_twice, keeps_value}
+use Rattle.toml_span.proofs.Placed.{assigned_twice, err-of}
+use Rattle.toml_span.proofs.Borrowing.{keeps_value}
 use Rattle.toml_span.proofs.KeyMaps.{entry-found, entry-missing}
 use Rattle.toml_span.proofs.scopes.assign.Goals as goal
 

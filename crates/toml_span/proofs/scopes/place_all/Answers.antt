@@ -1,7 +1,7 @@
 use Rattle.std.proofs.Common.{◌∙◌}
 use Rattle.toml_span_read.specs.Borrowed.{assignment_written}
 use Rattle.toml_span.proofs.Placed.{err-of}
-use Rattle.toml_span.proofs.Borrowing.{again_from, first_from}
+use Rattle.toml_span.proofs.Borrowing.{first_from}
 use Rattle.toml_span.proofs.Assignments.{remains-first, placing-more, placing-err, placing-none}
 use Rattle.toml_span.proofs.scopes.place_all.Goals as goal
 
@@ -9,7 +9,7 @@ pub loop-pair-init : goal.loop-pair-init
 loop-pair-init c =
     let all = c.into_iter-pair-iterator.ensures.into_iter_gives ∙ c.new-pair-items.ensures in
     record {
-      borrows = λ text ps h before. (again_from text ps assignment_written _ _ all h, before);
+      borrows = λ text ps h before. (rw all h, before);
       placing = remains-first _ _ _ all;
     }
 

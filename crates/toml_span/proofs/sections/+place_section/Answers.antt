@@ -1,23 +1,22 @@
-use Rattle.std.proofs.Common.{BTreeMap, arith, ◌≡◌, ◌-◌, ◌<◌, length, vec_len, ◌∙◌, [], ap, map, refl, rules, sym}
+use Rattle.std.proofs.Common.{arith, ◌≡◌, ◌-◌, ◌<◌, length, vec_len, ◌∙◌, [], map, refl, rules, sym}
 use Rattle.std.specs.Prelude.{⊤}
 use Rattle.std.specs.BTreeMap.Entry.{map_with_value}
-use Rattle.std.proofs.lemmas.Bool.{false≢true}
-use Rattle.std.specs.Global.{Box}
+use Rattle.std.proofs.lemmas.Bool.{eqb-true, false≢true}
 use Rattle.std.specs.declared.collections.btree_map.Entry.{Entry}
-use Rattle.toml_span_lex.specs.declared.key.Key.{Key}
+use Rattle.toml_span_read.proofs.EarlierTree.{parts-first}
 use Rattle.toml_span_read.specs.Data.{key_value}
 use Rattle.toml_span_read.specs.Keys.{simple_key}
 use Rattle.toml_span.specs.declared.claims.Sort.TheVariants.{Passed}
-use Rattle.toml_span.specs.declared.branch.Branch.{Branch}
 use Rattle.toml_span.specs.declared.branch.Branch.TheViews.{out-Branch}
 use Rattle.toml_span.specs.Claims.{key_value_claims, header_mark}
+use Rattle.toml_span.specs.code.Relative.{grown, section_at}
 use Rattle.toml_span.specs.code.Tree.{entries}
 use Rattle.toml_span.proofs.Claimed.{marked-roll}
-use Rattle.toml_span.proofs.Placed.{roll-out}
-use Rattle.toml_span.proofs.Headers.{descended, descended-err, no-latest, parts-below, parts-front, parts-none, parts-some, pass-again, pass-end, pass-lent, pass-vec, section-beside, section-end, section-found, section-free, section-fresh}
-use Rattle.toml_span.proofs.Borrowing.{front_from, keeps_entered, keeps_entry, keeps_marked, keeps_new, keeps_same}
-use Rattle.toml_span.proofs.Placed.{err-of, sets-new}
-use Rattle.toml_span.proofs.Named.{looked, told}
+use Rattle.toml_span.proofs.Nodes.{roll-out}
+use Rattle.toml_span.proofs.Headers.{descended, descended-err, no-latest, parts-below, parts-some, pass-again, pass-lent, pass-vec, section-beside, section-found, section-free, section-fresh}
+use Rattle.toml_span.proofs.Borrowing.{front_from, keeps_child, keeps_entry, keeps_marked, keeps_same, box_found}
+use Rattle.toml_span.proofs.Placed.{err-of, looked, sets-entry, told}
+use Rattle.toml_span.specs.code.Borrowed.{standing}
 use Rattle.toml_span.proofs.sections.+place_section.Goals as goal
 
 pub descend-returns-in_err-claim-clause-gives : goal.descend-returns-in_err-claim-clause-gives
@@ -32,9 +31,7 @@ descend-returns-clause-gives t c =
     (marked-roll (header_mark c.args.head Passed c.args.part.now.span) c.args.node.now _ claimed.1 refl refl refl) c.place_section.ensures.gives
 
 pub pass_header-returns-then-is_empty-clause-gives : goal.pass_header-returns-then-is_empty-clause-gives
-pass_header-returns-then-is_empty-clause-gives t c =
-    pass-end c.args.head (simple_key c.args.part.now) (key_value_claims (map key_value c.args.pairs.items) []) (map simple_key c.args.rest.now) c.args.node.now c.end_header.new.node c.end_header.result
-    (parts-none c.args.rest.now (sym c.if-is_empty.ensures)) c.end_header.ensures.gives
+pass_header-returns-then-is_empty-clause-gives t c = rw (parts-below c.args.rest.now (omega (arith, eqb-true (length c.args.rest.now) 0 (sym c.if-is_empty.ensures)))) c.end_header.ensures.gives
 
 pub pass_header-returns-in-Some-clause-gives : goal.pass_header-returns-in-Some-clause-gives
 pass_header-returns-in-Some-clause-gives t c =
@@ -47,30 +44,26 @@ pass_header-returns-in-None-clause-gives t c =
     (parts-some c.args.rest.now (sym c.if-is_empty.ensures)) (no-latest c.args.node.now (λ some. false≢true (c.in-None.ensures.variant.1 some))) c.descend-in-None.ensures.gives
 
 pub place_section-returns-in_default-clause-gives : goal.place_section-returns-in_default-clause-gives
-place_section-returns-in_default-clause-gives t c =
-    section-end c.args.head (key_value_claims (map key_value c.args.pairs.items) []) (map simple_key c.args.parts.now) c.args.node.now c.place_all.new.node c.place_all.result
-    (parts-below c.args.parts.now c.in_default.len_below) c.place_all.ensures.gives
+unfolding section_at grown
+place_section-returns-in_default-clause-gives t c = rw (parts-below c.args.parts.now c.in_default.len_below) c.place_all.ensures.gives
 
 pub place_section-returns-in-Occupied-clause-gives : goal.place_section-returns-in-Occupied-clause-gives
 place_section-returns-in-Occupied-clause-gives t c =
     let n = out-Branch c.args.node.now in
-    let front = parts-front c.args.parts.now c.part-item.result _ c.in-len1-up.len_at_least c.part-item.is in
+    let front = parts-first c.args.parts.now c.part-item.result _ c.in-len1-up.len_at_least c.part-item.is in
     let clone = c.in_ok-clone in
     let stands = rw c.in-Occupied.is at c.in_ok-entry.ensures.value in
     let found = looked (simple_key c.part-item.result).name clone.field-0 n.tables _ clone.ensures.name (sym stands ∙ c.into_mut.ensures.value) in
     let update = rw c.in-Occupied.is at c.in_ok-entry.ensures.update in
     let same = rw c.in-Occupied.is at c.in_ok-entry.ensures.same_map in
     let box = c.pass_child.new.child in
-    let places = λ (tables : BTreeMap Key (Box Branch)) (is : tables ≡ map_with_value (Entry.Occupied c.in-Occupied.entry) box).
-    section-found c.args.head (simple_key c.part-item.result) (key_value_claims (map key_value c.args.pairs.items) []) _ c.args.node.now _ c.into_mut.result.now.value box.value c.pass_child.result found
-    (sets-new c.args.node.now (record { marks = n.marks; values = n.values; tables = tables; entries = n.entries }) (simple_key c.part-item.result).name clone.field-0 box clone.ensures.name refl refl refl
-    (ap (λ (m : BTreeMap Key (Box Branch)). m.entries) is ∙ update.1 box)) c.pass_child.ensures.gives in
-    rw front (places _ (search (rules, same)))
+    rw front (section-found c.args.head (simple_key c.part-item.result) (key_value_claims (map key_value c.args.pairs.items) []) _ c.args.node.now _ c.into_mut.result.now.value box.value c.pass_child.result found
+    (sets-entry c.args.node.now _ (map_with_value (Entry.Occupied c.in-Occupied.entry) box) (simple_key c.part-item.result).name clone.field-0 box clone.ensures.name (update.1 box) (search (rules, same))) c.pass_child.ensures.gives)
 
 pub place_section-returns-in_err-child-in-Vacant-clause-gives : goal.place_section-returns-in_err-child-in-Vacant-clause-gives
 place_section-returns-in_err-child-in-Vacant-clause-gives t c =
     let n = out-Branch c.args.node.now in
-    let front = parts-front c.args.parts.now c.part-item.result _ c.in-len1-up.len_at_least c.part-item.is in
+    let front = parts-first c.args.parts.now c.part-item.result _ c.in-len1-up.len_at_least c.part-item.is in
     let missing = looked (simple_key c.part-item.result).name c.in_ok-clone.field-0 n.tables _ c.in_ok-clone.ensures.name (rw c.in-Vacant.is at c.in_ok-entry.ensures.found) in
     let q = c.from_residual-in_err-child-in-Vacant in
     let e = c.in_err-child-in-Vacant.field-0.0 in
@@ -80,19 +73,16 @@ place_section-returns-in_err-child-in-Vacant-clause-gives t c =
 pub place_section-returns-in_ok-child-in-Vacant-clause-gives : goal.place_section-returns-in_ok-child-in-Vacant-clause-gives
 place_section-returns-in_ok-child-in-Vacant-clause-gives t c =
     let n = out-Branch c.args.node.now in
-    let front = parts-front c.args.parts.now c.part-item.result _ c.in-len1-up.len_at_least c.part-item.is in
+    let front = parts-first c.args.parts.now c.part-item.result _ c.in-len1-up.len_at_least c.part-item.is in
     let missing = looked (simple_key c.part-item.result).name c.in_ok-clone.field-0 n.tables _ c.in_ok-clone.ensures.name (rw c.in-Vacant.is at c.in_ok-entry.ensures.found) in
     let fresh = rw (c.header_mark-mark.ensures, c.sort_of.ensures) at c.in_ok-child-in-Vacant.ensures in
     let clone = c.in_ok-clone in
     let update = rw c.in-Vacant.is at c.in_ok-entry.ensures.update in
     let same = rw c.in-Vacant.is at c.in_ok-entry.ensures.same_map in
     let box = c.pass_child-in-Vacant.new.child in
-    let places = λ (tables : BTreeMap Key (Box Branch)) (is : tables ≡ map_with_value (Entry.Vacant c.in-Vacant.entry) box).
-    section-fresh c.args.head (simple_key c.part-item.result) (key_value_claims (map key_value c.args.pairs.items) []) _ c.args.node.now _ c.insert.result.now.value box.value c.pass_child-in-Vacant.result missing
+    rw front (section-fresh c.args.head (simple_key c.part-item.result) (key_value_claims (map key_value c.args.pairs.items) []) _ c.args.node.now _ c.insert.result.now.value box.value c.pass_child-in-Vacant.result missing
     (section-free c.args.head (simple_key c.part-item.result) (key_value_claims (map key_value c.args.pairs.items) []) _ c.args.node.now fresh.0) (rw c.insert.ensures.value fresh.1.0)
-    (sets-new c.args.node.now (record { marks = n.marks; values = n.values; tables = tables; entries = n.entries }) (simple_key c.part-item.result).name clone.field-0 box clone.ensures.name refl refl refl
-    (ap (λ (m : BTreeMap Key (Box Branch)). m.entries) is ∙ update.1 box)) c.pass_child-in-Vacant.ensures.gives in
-    rw front (places _ (search (rules, same)))
+    (sets-entry c.args.node.now _ (map_with_value (Entry.Vacant c.in-Vacant.entry) box) (simple_key c.part-item.result).name clone.field-0 box clone.ensures.name (update.1 box) (search (rules, same))) c.pass_child-in-Vacant.ensures.gives)
 
 pub pass_child-returns-clause-gives : goal.pass_child-returns-clause-gives
 pass_child-returns-clause-gives t c =
@@ -128,29 +118,22 @@ place_section-returns-in_default-clause-borrows t c = λ text ps parts pairs. c.
 
 pub place_section-returns-in-Occupied-clause-borrows : goal.place_section-returns-in-Occupied-clause-borrows
 place_section-returns-in-Occupied-clause-borrows t c = λ text ps parts pairs.
-    let n = out-Branch c.args.node.now in
     let front = front_from text ps c.args.parts.now c.part-item.result _ c.in-len1-up.len_at_least c.part-item.is parts in
     let clone = c.in_ok-clone in
     let stands = rw c.in-Occupied.is at c.in_ok-entry.ensures.value in
     let update = rw c.in-Occupied.is at c.in_ok-entry.ensures.update in
     let same = rw c.in-Occupied.is at c.in_ok-entry.ensures.same_map in
     let box = c.pass_child.new.child in
-    let keeps = λ (tables : BTreeMap Key (Box Branch)) (is : tables ≡ map_with_value (Entry.Occupied c.in-Occupied.entry) box).
-    keeps_entered text ps c.args.node.now (record { marks = n.marks; values = n.values; tables = tables; entries = n.entries }) c.part-item.result clone.field-0 c.into_mut.result.now box c.pass_child.result
-    clone.ensures.name clone.ensures.borrowed clone.ensures.owned (sym stands ∙ c.into_mut.ensures.value) refl refl (ap (λ (m : BTreeMap Key (Box Branch)). m.entries) is ∙ update.1 box) front.0
-    (c.pass_child.ensures.borrows text ps front.0 front.1 pairs) in
-    keeps _ (search (rules, same))
+    keeps_child text ps c.args.node.now _ (map_with_value (Entry.Occupied c.in-Occupied.entry) box) c.part-item.result clone.field-0 _ box c.pass_child.result clone.ensures.name clone.ensures.borrowed clone.ensures.owned (update.1 box) (search (rules, same))
+    (λ h. box_found text ps _ c.into_mut.result.now (out-Branch c.args.node.now).tables.entries (sym stands ∙ c.into_mut.ensures.value) h) front.0 (c.pass_child.ensures.borrows text ps front.0 front.1 pairs)
 
 pub place_section-returns-in_ok-child-in-Vacant-clause-borrows : goal.place_section-returns-in_ok-child-in-Vacant-clause-borrows
 place_section-returns-in_ok-child-in-Vacant-clause-borrows t c = λ text ps parts pairs.
-    let n = out-Branch c.args.node.now in
     let front = front_from text ps c.args.parts.now c.part-item.result _ c.in-len1-up.len_at_least c.part-item.is parts in
     let clone = c.in_ok-clone in
     let update = rw c.in-Vacant.is at c.in_ok-entry.ensures.update in
     let same = rw c.in-Vacant.is at c.in_ok-entry.ensures.same_map in
     let box = c.pass_child-in-Vacant.new.child in
-    let keeps = λ (tables : BTreeMap Key (Box Branch)) (is : tables ≡ map_with_value (Entry.Vacant c.in-Vacant.entry) box).
-    keeps_new text ps c.args.node.now (record { marks = n.marks; values = n.values; tables = tables; entries = n.entries }) c.part-item.result clone.field-0 c.insert.result.now.value box c.pass_child-in-Vacant.result
-    (rw c.insert.ensures.value c.in_ok-child-in-Vacant.ensures.1.1) clone.ensures.name clone.ensures.borrowed clone.ensures.owned refl refl (ap (λ (m : BTreeMap Key (Box Branch)). m.entries) is ∙ update.1 box)
-    front.0 (c.pass_child-in-Vacant.ensures.borrows text ps front.0 front.1 pairs) in
-    keeps _ (search (rules, same))
+    let bare : standing c.insert.result.now.value ≡ [] = rw c.insert.ensures.value c.in_ok-child-in-Vacant.ensures.1.1 in
+    keeps_child text ps c.args.node.now _ (map_with_value (Entry.Vacant c.in-Vacant.entry) box) c.part-item.result clone.field-0 _ box c.pass_child-in-Vacant.result clone.ensures.name clone.ensures.borrowed clone.ensures.owned (update.1 box) (search (rules, same))
+    (λ h. rw bare tt) front.0 (c.pass_child-in-Vacant.ensures.borrows text ps front.0 front.1 pairs)

@@ -10,7 +10,8 @@ use Rattle.toml_span.specs.code.Tree.{IsHeld, IsOpen, counts}
 use Rattle.toml_span.proofs.Claimed.{Marked, marked-roll}
 use Rattle.toml_span.proofs.Placed.{err-of}
 use Rattle.toml_span.proofs.Borrowing.{keeps_marked, keeps_same}
-use Rattle.toml_span.proofs.Headers.{end-first, end-first-err, end-further, end-table, no-entries, some-entries}
+use Rattle.toml_span.proofs.Headers.{end-first, end-first-err, end-further, end-table}
+use Rattle.toml_span.proofs.Nodes.{no-entries, some-entries}
 use Rattle.toml_span.proofs.sections.end_header.Goals as goal
 use Rattle.toml_span.proofs.sections.end_header.Goals.{then-is_empty+in_ok-claim, else-is_empty}
 

@@ -1,5 +1,5 @@
 use Rattle.std.proofs.Common.{refl}
-use Rattle.toml_span.proofs.BorrowLemmas.{made_table, of_node}
+use Rattle.toml_span.proofs.Borrowing.{made_table, of_node}
 use Rattle.toml_span.proofs.Growth.{finish-clash, finish-tree}
 use Rattle.toml_span.proofs.sections.finish.Goals as goal
 

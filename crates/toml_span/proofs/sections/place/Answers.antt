@@ -1,5 +1,5 @@
-use Rattle.toml_span.proofs.Assembly.{placed-block}
-use Rattle.toml_span.proofs.Borrowing.{keys_again, section_from}
+use Rattle.toml_span.proofs.Growth.{placed-block}
+use Rattle.toml_span.proofs.Borrowing.{section_from}
 use Rattle.toml_span.proofs.sections.place.Goals as goal
 
 pub returns-clause-gives : goal.returns-clause-gives
@@ -8,4 +8,4 @@ returns-clause-gives c = placed-block c.args.section _ c.args.root.now c.place_s
 pub returns-clause-borrows : goal.returns-clause-borrows
 returns-clause-borrows c = λ text ps h.
     let from = section_from text ps c.args.section h in
-    c.place_section.ensures.borrows text ps (keys_again text ps _ _ c.as_slice.ensures from.0) from.1
+    c.place_section.ensures.borrows text ps (rw c.as_slice.ensures from.0) from.1
