@@ -30,7 +30,7 @@ store() {
 
 # program CRATE: runs a program on its stored inputs, and fails where it writes or ends otherwise
 program() {
-    local words=() input name wanted native wrong=0
+    local words=() data=() input name wanted native wrong=0
     cd "crates/$1" || return
     if compgen -G 'runs/*.args' >/dev/null; then
         native=$(bash ../../scripts/native.sh "$1") || return
@@ -42,12 +42,15 @@ program() {
     fi
     mkdir "$work/cases"
     if [ -f args ]; then mapfile -t words <args; fi
+    for input in data/*; do
+        if [ -f "$input" ]; then data+=(--data "${input#data/}=$input"); fi
+    done
     store "$([ -f stdin ] && echo stdin || echo /dev/null)" stdout status stdin
     for input in runs/*; do
         case $input in *.stdout | *.status | 'runs/*') continue ;; esac
         store "$input" "$input.stdout" "$input.status" "${input#runs/}"
     done
-    rt try --steps "$steps" --cases "$work/cases" -- "${words[@]}" 2>&1
+    rt try --steps "$steps" "${data[@]}" --cases "$work/cases" -- "${words[@]}" 2>&1
     while read -r name wanted; do
         grep -q "^case=$name run=ended status=$wanted .*output=expected" "$work/said" && continue
         wrong=$((wrong + 1))
