@@ -1,4 +1,6 @@
 -- What is told where another token stands than the one that is due, and where.
+use Rattle.std.proofs.lemmas.Grind.{common_steps}
+use Rattle.std.proofs.lemmas.Bool.Decides.{nat_tests}
 use Rattle.std.proofs.Common.{◌≡◌, ℕ, ◌≤◌, false, List, length, get_or, arith, inl, inr, refl, ap, sym, ◌∙◌, Err}
 use Rattle.std.proofs.lemmas.Bool.{false≢true}
 use Rattle.toml_span_lex.specs.declared.stop.Stop.{Stop}
@@ -36,8 +38,7 @@ token_missing (stops.Fault e) text i due (j, x, h, is) = (no_token x, (j, h), is
 
 -- a token that is no string, where a value is due
 no_string : (text : List ℕ) (i : ℕ) (s : Span) (l : Lexeme) (j : ℕ) → opens_string (get_or text i 0) ≡ false → Stands text i j s l → string_of i (token s l j) ≡ Err (record { kind = kinds.Wanted dues.Value (found_of l); span = from_to i j })
-no_string text i s (string source value multi) j o h = absurd (false≢true (sym o ∙ opens_quote (get_or text i 0) h.quote))
-no_string text i s l j o h = refl
+no_string text i s l j o h = grind (arith, nat_tests, common_steps)
 
 pub refused : (stop : Stop Fault) (text : List ℕ) (i : ℕ) → FoundGives text i (Err stop) → NoValueGives text i stop
 refused (stops.Memory e) text i h = tt

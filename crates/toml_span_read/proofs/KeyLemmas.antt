@@ -1,4 +1,6 @@
 -- How dotted keys are put together.
+use Rattle.std.proofs.lemmas.Grind.{common_steps}
+use Rattle.std.proofs.lemmas.Bool.Decides.{nat_tests}
 use Rattle.std.proofs.Common.{◌≡◌, ℕ, zero, suc, ◌+◌, ◌-◌, ◌<◌, ◌≤◌, ◌⊎◌, Bool, true, false, List, [], ◌∷◌, ◌++◌, length, map, get_or, arith, inl, inr, refl, sym, ◌∙◌, ap, subst, length-append, append_assoc, Result, Ok, Err}
 use Rattle.std.specs.Prelude.{not, ◌&&◌, ◌==◌, if◌then◌else◌}
 use Rattle.std.specs.Result.{IsErrAnd}
@@ -27,8 +29,7 @@ use Rattle.toml_span_read.specs.code.Wanted.{StringReads, WantedGives}
 
 -- an error that `?` hands on
 pub handed_on : {T E : Type 0} (r : Result T E) (x : E) → IsErrAnd r (λ y. y ≡ x) → r ≡ Err x
-handed_on (Ok v) x h = absurd h
-handed_on (Err y) x h = ap (λ z. Err z) h
+handed_on r x h = grind (arith, nat_tests, common_steps)
 
 pub one_more : {A : Type 0} (xs ys : List A) (x : A) → ys ≡ xs ++ (x ∷ []) → length ys ≡ length xs + 1
 one_more xs ys x e = rw e (length-append xs (x ∷ []))
@@ -39,8 +40,7 @@ abbrev IsForward : List ℕ → Span → Type 0
 IsForward text s = (s.start ≤ length text) × (s.start ≤ s.end)
 
 span_forward : (b : Bool) (i from to : ℕ) (text : List ℕ) → i < length text → from ≤ to → to ≤ length text → IsForward text (if b then record { start = i; end = i + 1 } else record { start = from; end = to })
-span_forward true i from to text l f w = (omega arith, omega arith)
-span_forward false i from to text l f w = (omega arith, f)
+span_forward b i from to text l f w = grind (arith, nat_tests, common_steps)
 
 string_span : (text v src : List ℕ) (i j : ℕ) (s : Span) (m : Bool) → IsString text i j s src v m → IsForward text s
 string_span text v src i j s m h =
@@ -59,26 +59,21 @@ string_stops (stops.Memory e) text i h = tt
 string_stops (stops.Fault e) text i (j, x, h, is) = (no_token x, (j, h), ap (λ y. Err y) is)
 
 quote_opens : (b : ℕ) → (b ≡ 34) ⊎ (b ≡ 39) → opens_string b ≡ true
-quote_opens b (inl e) = rw e refl
-quote_opens b (inr e) = rw e refl
+quote_opens b h = grind (arith, nat_tests, common_steps)
 
 -- another token than a key's stands here
 other_key : (text : List ℕ) (i : ℕ) (standing : Standing) → StandsAt text i standing → is_keylike (get_or text i 0) ≡ false → opens_string (get_or text i 0) ≡ false → key_of i standing ≡ Err (read.wanted dues.TableKey i standing)
-other_key text i (token s (keylike name) j) h k o = absurd (false≢true (sym k ∙ h.0.1.passes i (omega arith) h.0.0))
-other_key text i (token s (string source name multi) j) h k o = absurd (false≢true (sym o ∙ quote_opens (get_or text i 0) h.quote))
-other_key text i standing h k o = refl
+other_key text i standing h k o = grind (arith, nat_tests, common_steps)
 
 pub wanted_stops : (stop : Stop Fault) (text : List ℕ) (i : ℕ) → WantedGives text i dues.TableKey stop → is_keylike (get_or text i 0) ≡ false → opens_string (get_or text i 0) ≡ false
     → Gives key_found (read.simple_key_at text i) (Err stop)
-wanted_stops (stops.Memory e) text i h k o = tt
-wanted_stops (stops.Fault e) text i (standing, stands, is) k o = (standing, stands, ap (λ y. Err y) is ∙ sym (other_key text i standing stands k o))
+wanted_stops stop text i h k o = grind (arith, nat_tests, common_steps)
 
 -- ---- keys as they are read
 
 key_stops : (header : Bool) (text : List ℕ) (left i : ℕ) (e : Fault) → read.simple_key_at text i (Err e) → (ps : List SimpleKey) → read.key header text left ps i (Err e)
 unfolding read.key
-key_stops header text zero i e h ps = inr (e, h, refl)
-key_stops header text (suc left) i e h ps = inr (e, h, refl)
+key_stops header text left i e h ps = grind (arith, nat_tests, common_steps)
 
 pub key_past : (header : Bool) (text : List ℕ) (left i j : ℕ) (s : SimpleKey) → left ≡ 0 → read.simple_key_at text i (Ok (s, j)) → (ps : List SimpleKey) → read.key header text left ps i (Err (one_too_many header i s))
 unfolding read.key
@@ -89,8 +84,7 @@ part_stops (stops.Memory e) header text limit n i h placed = tt
 part_stops (stops.Fault e) header text limit n i h placed = (key_stops header text (limit - n) i e h, placed)
 
 pub part_placed : (stop : Stop Fault) (header : Bool) (text : List ℕ) (limit n i : ℕ) → PartGives header text limit n i (Err stop) → IsPlacedStop text stop
-part_placed (stops.Memory e) header text limit n i h = tt
-part_placed (stops.Fault e) header text limit n i h = h.1
+part_placed stop header text limit n i h = grind (arith, nat_tests, common_steps)
 
 -- whatever is read at m behind these parts is read from i on
 abbrev pub Behind : Bool → List ℕ → ℕ → ℕ → List Key → ℕ → Type 0
@@ -98,10 +92,7 @@ Behind header text limit i ps m =
     (n : ℕ) (r : Result Parts Fault) → length ps + n ≡ limit → read.key header text n (map simple_key ps) m r → read.key header text limit [] i r
 
 pub none_behind : (header : Bool) (text : List ℕ) (limit i : ℕ) (ps : List Key) → ps ≡ [] → Behind header text limit i ps i
-none_behind header text limit i ps e n r few h =
-    let z : length ps ≡ 0 = rw e refl in
-    let same : limit ≡ n = omega arith in
-    rw same (rw e at h)
+none_behind header text limit i ps h = grind (arith, nat_tests, common_steps)
 
 pub more_behind : (header : Bool) (text : List ℕ) (limit i m k p : ℕ) (ps qs : List Key) (s : Key) → qs ≡ ps ++ (s ∷ []) → read.simple_key_at text m (Ok (simple_key s, k)) → Dot text k p → Behind header text limit i ps m
     → Behind header text limit i qs p
@@ -122,8 +113,7 @@ stops_behind view (stops.Memory e) header text limit i m n ps is few behind h = 
 stops_behind view (stops.Fault e) header text limit i m n ps is few behind h = behind (limit - n) (Err e) (omega arith) (h.0 (map simple_key ps))
 
 pub parts_length : (inner : List Key) (last : Key) → length (map simple_key inner ++ (simple_key last ∷ [])) ≡ length inner + 1
-parts_length [] last = refl
-parts_length (k ∷ ks) last = let h = parts_length ks last in omega arith
+parts_length inner last = grind (arith, nat_tests, common_steps)
 
 -- ---- what is read is spelled
 
@@ -131,13 +121,10 @@ given : {A : Type 0} (x y : A) (P : A → Type 0) → ◌≡◌ {A = Result A Fa
 given x y P u h = let e : y ≡ x = cc in subst P e h
 
 pub simple_sound : (s : SimpleKey) (text : List ℕ) (i m : ℕ) → read.simple_key_at text i (Ok (s, m)) → SpellsSimpleKey s text i m
-simple_sound s text i m (token span (keylike name) j, h, u) = given (s, m) (record { name = name; span = span }, j) (λ f. SpellsSimpleKey f.0 text i f.1) u (inl h)
-simple_sound s text i m (token span (string source name false) j, h, u) = given (s, m) (record { name = name; span = span }, j) (λ f. SpellsSimpleKey f.0 text i f.1) u (inr (source, h))
-simple_sound s text i m (standing, h, u) = absurd cc
+simple_sound s text i m h = grind (arith, nat_tests, common_steps)
 
 dotted_more : (s : SimpleKey) (ss : List SimpleKey) (text : List ℕ) (i m p j : ℕ) → SpellsSimpleKey s text i m → Dot text m p → SpellsKey ss text p j → SpellsKey (s ∷ ss) text i j
-dotted_more s [] text i m p j k d h = absurd h
-dotted_more s (t ∷ ts) text i m p j k d (q, l, h) = (m, k, (p, q, d, l, h))
+dotted_more s ss text i m p j k d h = grind (arith, nat_tests, common_steps)
 
 -- behind these parts others are spelled
 abbrev KeyBehind : List SimpleKey → List ℕ → ℕ → ℕ → Parts → Type 0
@@ -167,8 +154,7 @@ abbrev IsBefore : ℕ → ℕ → Span → Type 0
 IsBefore i j s = (i ≤ j) × (s.start ≤ j)
 
 span_before : (b : Bool) (i from to j : ℕ) → i < from → from ≤ to → to < j → IsBefore i j (if b then record { start = i; end = i + 1 } else record { start = from; end = to })
-span_before true i from to j a f l = (omega arith, omega arith)
-span_before false i from to j a f l = (omega arith, omega arith)
+span_before b i from to j a f l = grind (arith, nat_tests, common_steps)
 
 pub string_before : (text v src : List ℕ) (i j : ℕ) (s : Span) (m : Bool) → IsString text i j s src v m → (i ≤ j) × (s.start ≤ j)
 string_before text v src i j s m h =

@@ -1,4 +1,5 @@
 -- The parts of a dotted key stand one behind the other.
+use Rattle.std.proofs.lemmas.Grind.{common_steps}
 use Rattle.std.proofs.Common.{◌≡◌, ℕ, ◌+◌, ◌<◌, ◌≤◌, Bool, true, false, List, [], ◌∷◌, length, get_or, arith, inl, inr, refl}
 use Rattle.std.specs.Prelude.{◌==◌, if◌then◌else◌}
 use Rattle.std.proofs.lemmas.Bool.Decides.{nat_tests}
@@ -16,8 +17,7 @@ record Inside (i j : ℕ) (s : Span) : Type 0 where
   ends : s.end ≤ j
 
 span_inside : (b : Bool) (i from to j : ℕ) → (from == to) ≡ b → i < from → from ≤ to → to < j → Inside i j (if b then record { start = i; end = i + 1 } else record { start = from; end = to })
-span_inside true i from to j e a f l = record { begins = omega arith; some = omega arith; ends = omega arith }
-span_inside false i from to j e a f l = let apart : from < to = grind (arith, nat_tests) in record { begins = omega arith; some = apart; ends = omega arith }
+span_inside b i from to j e a f l = grind (arith, nat_tests, common_steps)
 
 string_key : (text v src : List ℕ) (i j : ℕ) (s : Span) → IsString text i j s src v false → Inside i j s × (j ≤ length text)
 string_key text v src i j s h =

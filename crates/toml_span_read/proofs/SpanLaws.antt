@@ -1,4 +1,6 @@
 -- The spans of a value lie within the text that it is spelled by.
+use Rattle.std.proofs.lemmas.Grind.{common_steps}
+use Rattle.std.proofs.lemmas.Bool.Decides.{nat_tests}
 use Rattle.std.proofs.Common.{◌≡◌, ℕ, ◌+◌, ◌<◌, ◌≤◌, Bool, true, false, List, [], ◌∷◌, ◌++◌, length, get_or, arith, inl, inr}
 use Rattle.std.specs.Prelude.{◌==◌, ◌&&◌, not, if◌then◌else◌}
 use Rattle.toml_span_lex.specs.declared.span.Span.{Span}
@@ -29,8 +31,7 @@ whole : (text : List ℕ) (i j : ℕ) (s : Span) → s ≡ from_to i j → (i �
 whole text i j s e h = rw e (record { begins = omega arith; forward = h.0; ends = omega arith; within = h.1 })
 
 content_lies : (text : List ℕ) (b : Bool) (i from to j : ℕ) → i < from → from ≤ to → to < j → j ≤ length text → Lies text i j (if b then record { start = i; end = i + 1 } else record { start = from; end = to })
-content_lies text true i from to j a f l w = record { begins = omega arith; forward = omega arith; ends = omega arith; within = w }
-content_lies text false i from to j a f l w = record { begins = omega arith; forward = f; ends = omega arith; within = w }
+content_lies text b i from to j a f l w = grind (arith, nat_tests, common_steps)
 
 string_lies : (text v src : List ℕ) (i j : ℕ) (s : Span) (m : Bool) → IsString text i j s src v m → Lies text i j s
 string_lies text v src i j s m h =
@@ -39,8 +40,7 @@ string_lies text v src i j s m h =
     rw h.span_is (content_lies text (not m && h.from == h.to) i h.from h.to j a (omega (arith, f.0)) f.1 f.2)
 
 candidate_on : (text : List ℕ) (i j : ℕ) → IsCandidate text i j → (i ≤ j) × (j ≤ length text)
-candidate_on text i j (inl h) = (h.0.forward, h.0.within)
-candidate_on text i j (inr h) = (omega (arith, h.2.forward), h.2.within)
+candidate_on text i j h = grind (arith, nat_tests, common_steps)
 
 scalar_lies : (s : Scalar) (span : Span) (t : List ℕ) (i j : ℕ) → SpellsScalar s span t i j → Lies t i j span
 scalar_lies (text_scalar v) span t i j (src, m, h) = string_lies t v src i j span m h
@@ -55,8 +55,7 @@ sign_onward : (c : ℕ) (text : List ℕ) (i j : ℕ) → Separator c text i j �
 sign_onward c text i j s = omega (arith, s.before.forward, s.behind.forward)
 
 closes_on : (c : ℕ) (text : List ℕ) (i j : ℕ) → 0 < c → Closes c text i j → (i ≤ j) × (j ≤ length text)
-closes_on c text i j l s =
-    let w : s.at < length text = read_within text s.at (omega (arith, s.here)) in (omega (arith, s.before.forward, s.ends), omega (arith, s.ends, w))
+closes_on c text i j l s = grind (arith, nat_tests, common_steps)
 
 -- a value that lies from i on lies from n on, before it
 nearer : (v : ParsedValue) (n i j : ℕ) → n ≤ i → Inside v i j → Inside v n j
