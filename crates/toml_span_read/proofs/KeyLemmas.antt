@@ -11,10 +11,8 @@ use Rattle.toml_span_lex.specs.declared.stop.Stop.{Stop}
 use Rattle.toml_span_lex.specs.declared.stop.Stop.TheVariants as stops
 use Rattle.toml_span_lex.specs.declared.span.Span.{Span}
 use Rattle.toml_span_lex.specs.Bytes.{is_keylike}
-use Rattle.toml_span_lex.specs.Strings.{IsString}
 use Rattle.toml_span_lex.specs.Tokens.{keylike, string}
-use Rattle.toml_span_lex.proofs.Copies.{content_fits}
-use Rattle.toml_span_lex.proofs.MadeStrings.{content_from_after}
+use Rattle.toml_span_read.proofs.KeyOrder.{key_inside}
 use Rattle.toml_span_read.specs.declared.fault.Due.TheVariants as dues
 use Rattle.toml_span_read.specs.declared.fault.FaultKind.{FaultKind}
 use Rattle.toml_span_read.specs.Places.{StartsInside}
@@ -36,21 +34,8 @@ one_more xs ys x e = rw e (length-append xs (x ∷ []))
 
 -- ---- spans
 
-abbrev IsForward : List ℕ → Span → Type 0
-IsForward text s = (s.start ≤ length text) × (s.start ≤ s.end)
-
-span_forward : (b : Bool) (i from to : ℕ) (text : List ℕ) → i < length text → from ≤ to → to ≤ length text → IsForward text (if b then record { start = i; end = i + 1 } else record { start = from; end = to })
-span_forward b i from to text l f w = grind (arith, nat_tests, common_steps)
-
-string_span : (text v src : List ℕ) (i j : ℕ) (s : Span) (m : Bool) → IsString text i j s src v m → IsForward text s
-string_span text v src i j s m h =
-    let f = content_fits (get_or text i 0) m text v h.from h.to j h.content_is in
-    let a = content_from_after m text i h.from h.begins in
-    rw h.span_is (span_forward (not m && h.from == h.to) i h.from h.to text (omega (arith, f.0, f.1, f.2)) (omega (arith, f.0)) (omega (arith, f.1, f.2)))
-
 pub key_placed : (text : List ℕ) (i j : ℕ) (p : SimpleKey) (kind : FaultKind) → SpellsSimpleKey p text i j → StartsInside text (record { kind = kind; span = p.span })
-key_placed text i j p kind (inl (run, e)) = record { within = rw e (omega (arith, run.0, run.1.within)); forward = rw e (omega (arith, run.0)) }
-key_placed text i j p kind (inr (src, h)) = let s = string_span text p.name src i j p.span false h in record { within = s.0; forward = s.1 }
+key_placed text i j p kind h = let l = (key_inside p text i j h).0 in record { within = omega (arith, l.forward, l.ends, l.within); forward = l.forward }
 
 -- ---- simple keys as they are read
 
@@ -147,17 +132,3 @@ key_sound header text limit i j ss h = let (ts, is, spelled, few) = behind_sound
 pub past_placed : (header : Bool) (text : List ℕ) (i j : ℕ) (s : SimpleKey) → i ≤ length text → SpellsSimpleKey s text i j → StartsInside text (one_too_many header i s)
 past_placed true text i j s within h = key_placed text i j s _ h
 past_placed false text i j s within h = record { within = within; forward = omega arith }
-
--- ---- a string starts before it ends
-
-abbrev IsBefore : ℕ → ℕ → Span → Type 0
-IsBefore i j s = (i ≤ j) × (s.start ≤ j)
-
-span_before : (b : Bool) (i from to j : ℕ) → i < from → from ≤ to → to < j → IsBefore i j (if b then record { start = i; end = i + 1 } else record { start = from; end = to })
-span_before b i from to j a f l = grind (arith, nat_tests, common_steps)
-
-pub string_before : (text v src : List ℕ) (i j : ℕ) (s : Span) (m : Bool) → IsString text i j s src v m → (i ≤ j) × (s.start ≤ j)
-string_before text v src i j s m h =
-    let f = content_fits (get_or text i 0) m text v h.from h.to j h.content_is in
-    let a = content_from_after m text i h.from h.begins in
-    rw h.span_is (span_before (not m && h.from == h.to) i h.from h.to j a (omega (arith, f.0)) f.1)
