@@ -127,10 +127,6 @@ knows_more old new key_values next inner last key h known tree fewer short = rec
     length_more [] e = omega arith
     length_more (x ∷ es) e = let h = length_more es e in omega arith
 
--- all of them are in the tree
-pub knows_all : (old new : Earlier) (key_values : List KeyValue) → Knows old key_values → new.fewest ≡ old.fewest → new.known ≡ length key_values → ((names : Path) → TellsEarliest names key_values (holds new.tree names)) → Knows new key_values
-knows_all old new key_values h fewest known tells = grind (arith, nat_tests, common_steps)
-
 -- ---- the verdict
 
 none_told : (names : Path) (key_values : List KeyValue) (o : Option Span) → o ≡ None → TellsEarliest names key_values o → NoneAt names key_values
@@ -169,10 +165,6 @@ crossing_found key_values next inner last f start first end key tells (outer, p,
 pub length_parts : (keys : List Key) → length (map simple_key keys) ≡ length keys
 length_parts [] = refl
 length_parts (k ∷ keys) = ap suc (length_parts keys)
-
-length_key_values : (values : List Assignment) → length (map key_value values) ≡ length values
-length_key_values [] = refl
-length_key_values (v ∷ values) = ap suc (length_key_values values)
 
 pub tells_init : (old : Earlier) (values : List Assignment) → Knows old (map key_value values) → (names : Path) → TellsEarliest names (map key_value (take old.known values)) (holds old.tree names)
 tells_init old values h names = subst (λ (es : List KeyValue). TellsEarliest names es (holds old.tree names)) (take-map key_value old.known values) (h.tree names)

@@ -54,9 +54,6 @@ holds-below n name names =
 pub roll-out : (n : Tree) → roll-Node (out-Node n) ≡ n
 roll-out n = search (rules, the_lemmas)
 
-pub out-roll : (n : Node-F Tree) → out-Node (roll-Node n) ≡ n
-out-roll n = search (rules, the_lemmas)
-
 -- ---- names
 
 equal_ordering : (o : Ordering) → is_eq o ≡ true → o ≡ Equal

@@ -74,12 +74,6 @@ opens_on double text i j h = grind (arith, nat_tests, common_steps)
 pub shuts_on : (double : Bool) (text : List ℕ) (i j : ℕ) → ClosesHeader double text i j → i < j
 shuts_on double text i j h = grind (arith, nat_tests, common_steps)
 
-skipped_on : (text : List ℕ) (i j : ℕ) → Skipped text i j → i ≤ j
-skipped_on text i j h = elim h.comment [ inl c ↦ omega (arith, h.blank.forward, c.1.forward) | inr c ↦ omega (arith, h.blank.forward, c.1) ]
-
-line_within : (text : List ℕ) (i j : ℕ) → LineEnd text i j → j ≤ length text
-line_within text i j h = grind (arith, nat_tests, common_steps)
-
 pub tail_inside : (text : List ℕ) (i j : ℕ) → Tail text i j → (i ≤ j) × (j ≤ length text)
 tail_inside text i j h = grind (arith, nat_tests, common_steps)
 

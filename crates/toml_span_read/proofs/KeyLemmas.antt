@@ -43,13 +43,6 @@ pub string_stops : (stop : Stop Fault) (text : List ℕ) (i : ℕ) → StringRea
 string_stops (stops.Memory e) text i h = tt
 string_stops (stops.Fault e) text i (j, x, h, is) = (no_token x, (j, h), ap (λ y. Err y) is)
 
-quote_opens : (b : ℕ) → (b ≡ 34) ⊎ (b ≡ 39) → opens_string b ≡ true
-quote_opens b h = grind (arith, nat_tests, common_steps)
-
--- another token than a key's stands here
-other_key : (text : List ℕ) (i : ℕ) (standing : Standing) → StandsAt text i standing → is_keylike (get_or text i 0) ≡ false → opens_string (get_or text i 0) ≡ false → key_of i standing ≡ Err (read.wanted dues.TableKey i standing)
-other_key text i standing h k o = grind (arith, nat_tests, common_steps)
-
 pub wanted_stops : (stop : Stop Fault) (text : List ℕ) (i : ℕ) → WantedGives text i dues.TableKey stop → is_keylike (get_or text i 0) ≡ false → opens_string (get_or text i 0) ≡ false
     → Gives key_found (read.simple_key_at text i) (Err stop)
 wanted_stops stop text i h k o = grind (arith, nat_tests, common_steps)

@@ -305,11 +305,6 @@ sum_step radix v c cs h =
     let p : radix ^ length (c ∷ fs) ≡ radix * radix ^ length fs = pow-succ' radix (length fs) in
     rw (e, p) (regroup v radix (digit_value c) (radix ^ length fs) (sum_of_digits radix fs))
 
-pub sum_skip : (radix v c : ℕ) (cs : List ℕ) → is_digit_in radix c ≡ false
-    → v * radix ^ length (filter (is_digit_in radix) (c ∷ cs)) + sum_of_digits radix (filter (is_digit_in radix) (c ∷ cs))
-    ≡ v * radix ^ length (filter (is_digit_in radix) cs) + sum_of_digits radix (filter (is_digit_in radix) cs)
-sum_skip radix v c cs h = grind (arith, nat_tests, common_steps)
-
 -- v is what the digits before `rest` come to
 abbrev pub Summed : ℕ → ℕ → List ℕ → List ℕ → Type 0
 Summed radix v rest all = v * radix ^ length (filter (is_digit_in radix) rest) + sum_of_digits radix (filter (is_digit_in radix) rest) ≡ sum_of_digits radix (filter (is_digit_in radix) all)
@@ -355,9 +350,6 @@ signed_past negative m l = grind (arith, nat_tests, common_steps)
 
 digits_ascii : (radix : ℕ) (text : List ℕ) (i j k : ℕ) → Digits radix text i j → i ≤ k → k < j → get_or text k 0 < 128
 digits_ascii radix text i j k d a b = keylike_small (get_or text k 0) (figure_keylike radix (get_or text k 0) (d.run.passes k a b))
-
-sign_small : (c : ℕ) → (c == 43 || c == 45) ≡ true → c < 128
-sign_small c h = elim (or_cases _ _ h) [ inl p ↦ let e : c ≡ 43 = byte_is c 43 p in omega arith | inr m ↦ let e : c ≡ 45 = byte_is c 45 m in omega arith ]
 
 sign_ascii : (text : List ℕ) (i k : ℕ) → i ≤ k → k < behind_sign text i → get_or text k 0 < 128
 sign_ascii text i k a b = grind (arith, nat_tests, common_steps)

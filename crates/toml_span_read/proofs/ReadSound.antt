@@ -311,9 +311,6 @@ lines_sound es text limit i j (k, gap, h) =
 
 -- ---- headers
 
-bracket_sound : (text : List ℕ) (i j : ℕ) → read.bracket text i (Ok j) → (get_or text i 0 ≡ 93) × (j ≡ i + 1)
-bracket_sound text i j h = grind (arith, nat_tests, common_steps)
-
 closing_sound : (array : Bool) (text : List ℕ) (i j : ℕ) → read.closing array text i (Ok j) → ClosesHeader array text i j
 closing_sound array text i j h = grind (arith, nat_tests, common_steps)
 

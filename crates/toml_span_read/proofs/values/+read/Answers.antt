@@ -20,33 +20,6 @@ value-returns-in-91-clause-value t c =
 pub value-returns-in-91-clause-advances : goal.value-returns-in-91-clause-advances
 value-returns-in-91-clause-advances t c = c.too_deep.ensures.placed
 
-pub value-returns-in-91-2-clause-advances : goal.value-returns-in-91-2-clause-advances
-value-returns-in-91-2-clause-advances t c = c.array.ensures.advances
-
-pub value-returns-in-91-2-clause-value : goal.value-returns-in-91-2-clause-value
-value-returns-in-91-2-clause-value t c = c.array.ensures.value
-
-pub value-returns-in-91-2-clause-borrows : goal.value-returns-in-91-2-clause-borrows
-value-returns-in-91-2-clause-borrows t c = c.array.ensures.borrows
-
-pub value-returns-in-123-clause-advances : goal.value-returns-in-123-clause-advances
-value-returns-in-123-clause-advances t c = c.inline_table.ensures.advances
-
-pub value-returns-in-123-clause-value : goal.value-returns-in-123-clause-value
-value-returns-in-123-clause-value t c = c.inline_table.ensures.value
-
-pub value-returns-in-123-clause-borrows : goal.value-returns-in-123-clause-borrows
-value-returns-in-123-clause-borrows t c = c.inline_table.ensures.borrows
-
-pub value-returns-in-34-clause-advances : goal.value-returns-in-34-clause-advances
-value-returns-in-34-clause-advances t c = c.string_value.ensures.advances
-
-pub value-returns-in-34-clause-value : goal.value-returns-in-34-clause-value
-value-returns-in-34-clause-value t c = c.string_value.ensures.value
-
-pub value-returns-in-34-clause-borrows : goal.value-returns-in-34-clause-borrows
-value-returns-in-34-clause-borrows t c = c.string_value.ensures.borrows
-
 pub value-returns-in_default-clause-advances : goal.value-returns-in_default-clause-advances
 value-returns-in_default-clause-advances t c = c.scalar.ensures.advances
 
