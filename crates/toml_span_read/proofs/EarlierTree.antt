@@ -1,7 +1,7 @@
 -- The tree of the earlier values, level by level.
 use Rattle.std.proofs.lemmas.Grind.{common_steps}
 use Rattle.std.proofs.lemmas.Bool.Decides.{nat_tests}
-use Rattle.std.proofs.Common.{◌≡◌, ℕ, ◌-◌, ◌≤◌, suc, ◌++◌, length, take, take_all, drop, get_or, Result, Ok, Err, arith, Bool, true, false, cond, List, [], ◌∷◌, map, Option, Some, None, option_map, is_some, BTreeMap, Ordering, Less, Equal, Greater, is_eq, nat_cmp, refl, sym, ap, subst, MutBor, ◌∙◌, inl, inr, ◌⊎◌, rules}
+use Rattle.std.proofs.Common.{◌≡◌, ℕ, ◌-◌, ◌≤◌, ◌++◌, length, take, drop, get_or, Result, Ok, Err, arith, Bool, true, false, cond, List, [], ◌∷◌, map, Option, Some, None, option_map, is_some, BTreeMap, Ordering, Less, Equal, Greater, is_eq, nat_cmp, refl, sym, ap, subst, MutBor, ◌∙◌, inl, inr, ◌⊎◌, rules}
 use Rattle.std.specs.Prelude.{unwrap_or, OnOk}
 use Rattle.toml_span_read.specs.Keys.{SimpleKey, simple_key}
 use Rattle.toml_span_read.proofs.EarlierLemmas.{through_none, through_more}

@@ -1,12 +1,11 @@
 -- What is told where another token stands than the one that is due, and where.
 use Rattle.std.proofs.lemmas.Grind.{common_steps}
 use Rattle.std.proofs.lemmas.Bool.Decides.{nat_tests}
-use Rattle.std.proofs.Common.{◌≡◌, ℕ, ◌≤◌, false, List, length, get_or, arith, inl, inr, refl, ap, sym, ◌∙◌, Err}
-use Rattle.std.proofs.lemmas.Bool.{false≢true}
+use Rattle.std.proofs.Common.{◌≡◌, ℕ, ◌≤◌, false, List, length, get_or, arith, inl, inr, ap, sym, Err}
 use Rattle.toml_span_lex.specs.declared.stop.Stop.{Stop}
 use Rattle.toml_span_lex.specs.declared.stop.Stop.TheVariants as stops
 use Rattle.toml_span_lex.specs.declared.span.Span.{Span}
-use Rattle.toml_span_lex.specs.Tokens.{Lexeme, Stands, string}
+use Rattle.toml_span_lex.specs.Tokens.{Lexeme, Stands}
 use Rattle.toml_span_lex.proofs.Within.{token_within}
 use Rattle.toml_span_read.specs.declared.fault.Found.{Found}
 use Rattle.toml_span_read.specs.declared.fault.Due.{Due}
@@ -19,7 +18,6 @@ use Rattle.toml_span_read.specs.Keys.{opens_string}
 use Rattle.toml_span_read.specs.Read as read
 use Rattle.toml_span_read.specs.Read.{Standing, StandsAt, token, text_end, no_token, string_of}
 use Rattle.toml_span_read.specs.code.Wanted.{IsFound, FoundGives, WantedGives, NoValueGives}
-use Rattle.toml_span_read.proofs.ValueRead.{opens_quote}
 
 -- what is found at a place ends there or further on
 pub found_forward : (text : List ℕ) (i j : ℕ) (found : Found) → IsFound text i j found → i ≤ j

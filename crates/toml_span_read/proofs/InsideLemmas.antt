@@ -1,14 +1,10 @@
 -- Keys and headers of a spelled document stand inside the text.
 use Rattle.std.proofs.lemmas.Grind.{common_steps}
 use Rattle.std.proofs.lemmas.Bool.Decides.{nat_tests}
-use Rattle.std.proofs.Common.{ℕ, ◌+◌, ◌<◌, ◌≤◌, Bool, true, false, List, [], ◌∷◌, ◌++◌, length, map, arith, inl, inr}
-use Rattle.toml_span_lex.specs.Text.{LineEnd}
-use Rattle.toml_span_lex.proofs.Runs.{read_within}
-use Rattle.toml_span_lex.proofs.Folded.{second}
-use Rattle.toml_span_lex.proofs.PieceLemmas.{line_forward}
+use Rattle.std.proofs.Common.{ℕ, ◌+◌, ◌<◌, ◌≤◌, Bool, List, [], ◌∷◌, ◌++◌, length, map, arith, inl, inr}
 use Rattle.toml_span_read.specs.declared.section.Section.{Section}
 use Rattle.toml_span_read.specs.Data.{ParsedValue, parsed, scalar, array, inline, ParsedItems, no_items, item, ParsedPairs, no_pairs, pair, KeyValue, Block, block}
-use Rattle.toml_span_read.specs.Gaps.{Skipped, Tail}
+use Rattle.toml_span_read.specs.Gaps.{Tail}
 use Rattle.toml_span_read.specs.Grammar.{Spells, SpellsItems, SpellsPairs, SpellsKeyValues, SpellsLines, OpensHeader, ClosesHeader, SpellsHeader, SpellsSection, first_block, SpellsSections, SpellsDocument}
 use Rattle.toml_span_read.specs.Keys.{SimpleKey, SpellsKey}
 use Rattle.toml_span_read.specs.Places.{Ascend, IsInside, PartsInside, KeysInside, ItemKeysInside, PairKeysInside, KeyValuesInside, SectionsInside}

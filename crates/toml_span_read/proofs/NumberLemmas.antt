@@ -1,12 +1,12 @@
 -- Steps of reading numbers, and what they come to.
 use Rattle.std.proofs.lemmas.Grind.{common_steps}
-use Rattle.std.proofs.Common.{◌≡◌, ℕ, ◌+◌, ◌-◌, ◌<◌, ◌≤◌, ◌⊎◌, Bool, true, false, drop, take, zero, suc, Option, Some, None, is_some, Ok, Err, List, [], ◌∷◌, length, get_or, arith, inl, inr, refl, sym, ◌∙◌, length-drop, length-take}
-use Rattle.std.proofs.Math.Nat.{add-mul, mul_assoc, pow-succ', one-le-pow, le-mul_of_pos_right}
-use Rattle.std.proofs.lemmas.List.{drop_more, get_or-take, get_or-drop, get_or_past}
+use Rattle.std.proofs.Common.{◌≡◌, ℕ, ◌+◌, ◌-◌, ◌<◌, ◌≤◌, ◌⊎◌, Bool, true, false, drop, take, zero, suc, Option, Some, None, is_some, Ok, Err, List, ◌∷◌, length, get_or, arith, inl, inr, refl, sym, ◌∙◌, length-drop, length-take}
+use Rattle.std.proofs.Math.Nat.{pow-succ', one-le-pow, le-mul_of_pos_right}
+use Rattle.std.proofs.lemmas.List.{drop_more, get_or-drop, get_or_past}
 use Rattle.std.proofs.lemmas.List.Sums.{prefix_len-le-length, prefix_len_passes, prefix_len_stops}
 use Rattle.std.specs.List.{prefix_len, list_all, range_with_len}
-use Rattle.std.specs.Prelude.{◌*◌, ◌^◌, filter, slice_range, nat_lt, not, ◌==◌, ◌||◌, ◌&&◌}
-use Rattle.std.proofs.lemmas.Bool.{cases_lt, and_parts, and_from, le-ltb, lt-leb, false≢true}
+use Rattle.std.specs.Prelude.{◌*◌, ◌^◌, filter, slice_range, not, ◌==◌, ◌||◌, ◌&&◌}
+use Rattle.std.proofs.lemmas.Bool.{cases_lt, and_parts, and_from, false≢true}
 use Rattle.std.proofs.lemmas.Bool.Decides.{nat_tests}
 use Rattle.toml_span_lex.specs.Bytes.{is_keylike, MaximalRun}
 use Rattle.toml_span_lex.proofs.Unique.{run_unique}

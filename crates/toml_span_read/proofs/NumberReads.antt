@@ -2,12 +2,12 @@
 use Rattle.std.proofs.lemmas.Grind.{common_steps}
 use Rattle.std.proofs.lemmas.Bool.Decides.{nat_tests}
 use Rattle.std.proofs.Common.{◌≡◌, ℕ, ◌+◌, ◌-◌, ◌<◌, ◌≤◌, ◌⊎◌, Bool, true, false, List, length, get_or, arith, Ok, Err, Option, Some, None, is_some, inl, inr, refl, sym, ◌∙◌, subst, Result}
-use Rattle.std.proofs.lemmas.Bool.{cases_lt, and_parts, not-true, not-false, or_parts, eqb-false, ltb-true, ltb-false, leb-true, false≢true}
+use Rattle.std.proofs.lemmas.Bool.{cases_lt, and_parts, not-true, not-false, or_parts, eqb-false, ltb-true, ltb-false, false≢true}
 use Rattle.std.proofs.lemmas.List.Folds.{list_all_at}
 use Rattle.std.proofs.lemmas.Slice.Eq.{bytes_eq-Decides}
 use Rattle.std.specs.List.{list_all}
 use Rattle.std.specs.Option.{ok_or, option_map_or}
-use Rattle.std.specs.Prelude.{ℤ, pos, neg_ℤ, not, ◌^◌, ◌==◌, ◌||◌, ◌&&◌, nat_lt, nat_le, slice_range, codes, if◌then◌else◌}
+use Rattle.std.specs.Prelude.{ℤ, not, ◌==◌, ◌||◌, ◌&&◌, nat_lt, slice_range, codes, if◌then◌else◌}
 use Rattle.std.specs.Str.{bytes_eq, IsUtf8}
 use Rattle.toml_span_lex.specs.Bytes.{is_keylike}
 use Rattle.toml_span_lex.proofs.Runs.{behind, keylike_ascii}

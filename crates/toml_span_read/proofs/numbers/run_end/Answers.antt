@@ -1,5 +1,5 @@
 use Rattle.std.proofs.Common.{sym}
-use Rattle.toml_span_read.proofs.NumberLemmas.{run_is, passes_run}
+use Rattle.toml_span_read.proofs.NumberLemmas.{run_is}
 use Rattle.toml_span_read.proofs.numbers.run_end.Goals as goal
 
 pub returns-clause-gives : goal.returns-clause-gives

@@ -1,5 +1,5 @@
-use Rattle.std.proofs.Common.{arith, rules}
-use Rattle.toml_span_read.proofs.LineRead.{close_missing, close_one, close_second, close_both}
+use Rattle.std.proofs.Common.{rules}
+use Rattle.toml_span_read.proofs.LineRead.{close_missing, close_second}
 use Rattle.toml_span_read.proofs.sections.header_close.Goals as goal
 
 pub returns-then-byte_at-ne93-clause-closes : goal.returns-then-byte_at-ne93-clause-closes

@@ -1,6 +1,5 @@
-use Rattle.std.proofs.Common.{arith, refl}
 use Rattle.toml_span_read.proofs.KeyLemmas.{handed_on}
-use Rattle.toml_span_read.proofs.LineRead.{header_key_stops, header_close_stops, header_rest_stops, header_read}
+use Rattle.toml_span_read.proofs.LineRead.{header_close_stops, header_rest_stops, header_read}
 use Rattle.toml_span_read.proofs.sections.read_header.Goals as goal
 
 pub returns-in_err-close-clause-header : goal.returns-in_err-close-clause-header

@@ -1,5 +1,5 @@
 use Rattle.std.proofs.Common.{rules}
-use Rattle.toml_span_read.proofs.FaultPlaces.{found_forward, other_token, refused}
+use Rattle.toml_span_read.proofs.FaultPlaces.{other_token, refused}
 use Rattle.toml_span_read.proofs.wanted.no_value.Goals as goal
 
 pub returns-in-Ok-clause-fault : goal.returns-in-Ok-clause-fault

@@ -1,6 +1,6 @@
 use Rattle.std.proofs.Common.{refl, sym}
 use Rattle.toml_span_read.specs.code.Earlier.{holds}
-use Rattle.toml_span_read.proofs.EarlierKnows.{tells_init, tells_next, knows_caught}
+use Rattle.toml_span_read.proofs.EarlierKnows.{tells_init, tells_next}
 use Rattle.toml_span_read.proofs.earlier.Earlier.catch_up.Goals as goal
 
 pub loop-at-init : goal.loop-at-init
