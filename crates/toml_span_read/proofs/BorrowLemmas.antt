@@ -1,5 +1,8 @@
 -- What is put together is borrowed as its parts are.
-use Rattle.std.proofs.Common.{◌≡◌, ℕ, true, false, List, [], ◌∷◌, ◌++◌, map, get_or, rules, inl, inr, sym, ap, ◌∙◌, Ok}
+use Rattle.std.proofs.Common.{arith}
+use Rattle.std.proofs.lemmas.Grind.{common_steps}
+use Rattle.std.proofs.lemmas.Bool.Decides.{nat_tests}
+use Rattle.std.proofs.Common.{◌≡◌, ℕ, true, false, List, [], ◌∷◌, ◌++◌, map, get_or, rules, sym, ap, ◌∙◌, Ok}
 use Rattle.std.proofs.lemmas.Bool.{false≢true}
 use Rattle.std.specs.Cow.{cow_str_bytes}
 use Rattle.std.specs.List.{AllByRecursion}
@@ -24,8 +27,7 @@ use Rattle.toml_span_read.specs.Faults.{begins_bare}
 -- ---- lists
 
 pub all_append : {A : Type 0} (P : A → Type 0) (xs ys : List A) → AllByRecursion P xs → AllByRecursion P ys → AllByRecursion P (xs ++ ys)
-all_append P [] ys h k = k
-all_append P (x ∷ xs) ys h k = (h.0, all_append P xs ys h.1 k)
+all_append P xs ys h k = grind (arith, nat_tests, common_steps)
 
 pub all_front : {A : Type 0} (P : A → Type 0) (xs ys : List A) → AllByRecursion P (xs ++ ys) → AllByRecursion P xs
 all_front P [] ys h = tt
@@ -45,8 +47,7 @@ pub joined_more : {A : Type 0} (P : Written → Type 0) (f : A → List Written)
 joined_more P f xs ys x e h k = rw e (joined_push P f xs x h k)
 
 keys_push : (P : Written → Type 0) (xs : List Key) (x : Key) → AllByRecursion P (keys_written xs) → P (key_written x) → AllByRecursion P (keys_written (xs ++ (x ∷ [])))
-keys_push P [] x h k = (k, tt)
-keys_push P (y ∷ ys) x h k = (h.0, keys_push P ys x h.1 k)
+keys_push P xs x h k = grind (arith, nat_tests, common_steps)
 
 pub keys_more : (P : Written → Type 0) (xs ys : List Key) (x : Key) → ys ≡ xs ++ (x ∷ []) → AllByRecursion P (keys_written xs) → P (key_written x) → AllByRecursion P (keys_written ys)
 keys_more P xs ys x e h k = rw e (keys_push P xs x h k)
@@ -62,12 +63,7 @@ pub assignment_written_is : (a : Assignment) → assignment_written a ≡ dotted
 assignment_written_is a = search (rules, the_lemmas)
 
 not_text : (v text : List ℕ) (s : Scalar) (span : Span) (i j : ℕ) → begins_bare (get_or text i 0) ≡ true → s ≡ text_scalar v → SpellsScalar s span text i j → ⊥
-not_text v text s span i j b e h =
-    let is : SpellsScalar (text_scalar v) span text i j = rw e at h in
-    elim is.2.quote [
-      | inl q ↦ (let c : begins_bare 34 ≡ true = rw q at b in search (rules))
-      | inr q ↦ (let c : begins_bare 39 ≡ true = rw q at b in search (rules))
-    ]
+not_text v text s span i j b e h = grind (arith, nat_tests, common_steps)
 
 no_array : (k : ParsedInner) (s : Scalar) → is_scalar k ≡ false → k ≡ scalar s → ⊥
 no_array k s a e = false≢true (sym a ∙ ap is_scalar e)

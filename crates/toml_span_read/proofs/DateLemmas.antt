@@ -1,6 +1,7 @@
 -- Where dates end.
-use Rattle.std.proofs.Common.{◌≡◌, ℕ, ◌<◌, ◌⊎◌, Bool, true, false, List, get_or, arith, inl, inr, refl}
-use Rattle.std.specs.Prelude.{◌&&◌, ◌||◌, ◌==◌}
+use Rattle.std.proofs.lemmas.Grind.{common_steps}
+use Rattle.std.proofs.Common.{◌≡◌, ℕ, ◌<◌, true, List, get_or, arith, inl, inr, refl}
+use Rattle.std.proofs.lemmas.Bool.{and_parts}
 use Rattle.std.proofs.lemmas.Bool.Decides.{nat_tests}
 use Rattle.toml_span_lex.specs.Bytes.{is_keylike}
 use Rattle.std.specs.Char.{is_ascii_digit}
@@ -10,30 +11,12 @@ use Rattle.toml_span_read.proofs.Places.{run_some}
 pub keylike_small : (c : ℕ) → is_keylike c ≡ true → c < 128
 keylike_small c h = grind arith
 
-or_cases : (a b : Bool) → (a || b) ≡ true → (a ≡ true) ⊎ (b ≡ true)
-or_cases true b h = inl refl
-or_cases false b h = inr h
-
-equal_small : (c k : ℕ) → k < 128 → (c == k) ≡ true → c < 128
-equal_small c k l h = grind (arith, nat_tests)
-
 pub date_ascii : (c : ℕ) → is_date_byte c ≡ true → c < 128
-date_ascii c h =
-    elim (or_cases _ _ h) [
-      | inl a ↦ elim (or_cases _ _ a) [
-        | inl b ↦ elim (or_cases _ _ b) [ inl d ↦ keylike_small c d | inr d ↦ equal_small c 58 (omega arith) d ]
-        | inr b ↦ equal_small c 46 (omega arith) b
-      ]
-      | inr a ↦ equal_small c 43 (omega arith) a
-    ]
+date_ascii c h = grind (arith, nat_tests, common_steps)
 
 decimal_date : (c : ℕ) → is_ascii_digit c ≡ true → is_date_byte c ≡ true
 decimal_date c h = let k : is_keylike c ≡ true = grind arith in rw k refl
 
-and_left : (a b : Bool) → (a && b) ≡ true → a ≡ true
-and_left true b h = refl
-and_left false b h = h
-
 pub candidate_on : (text : List ℕ) (i j : ℕ) → begins_date text i ≡ true → IsCandidate text i j → i < j
-candidate_on text i j b (inl h) = run_some is_date_byte text i j refl (decimal_date (get_or text i 0) (and_left _ _ (and_left _ _ b))) h.0
+candidate_on text i j b (inl h) = run_some is_date_byte text i j refl (decimal_date (get_or text i 0) (and_parts _ _ (and_parts _ _ b).0).0) h.0
 candidate_on text i j b (inr h) = omega (arith, h.2.forward)

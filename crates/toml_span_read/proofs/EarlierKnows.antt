@@ -1,5 +1,7 @@
 -- What is known of the earlier values.
-use Rattle.std.proofs.Common.{◌≡◌, ℕ, suc, ◌+◌, ◌<◌, ◌≤◌, ◌⊎◌, inl, inr, List, [], ◌∷◌, ◌++◌, map, length, take, take_all, get_or, append_assoc, Option, Some, None, arith, refl, sym, ap, subst, ◌∙◌}
+use Rattle.std.proofs.lemmas.Grind.{common_steps}
+use Rattle.std.proofs.lemmas.Bool.Decides.{nat_tests}
+use Rattle.std.proofs.Common.{◌≡◌, ℕ, suc, ◌+◌, ◌<◌, ◌≤◌, ◌⊎◌, inl, inr, List, [], ◌∷◌, ◌++◌, map, length, take, get_or, append_assoc, Option, Some, None, arith, refl, sym, ap, subst, ◌∙◌}
 use Rattle.std.specs.Prelude.{unwrap_or}
 use Rattle.std.proofs.lemmas.List.{take-append-le, map_more, take-map}
 use Rattle.std.proofs.lemmas.Bool.{cases_Bool, false≢true}
@@ -21,9 +23,7 @@ Path = List (List ℕ)
 -- ---- paths are equal or not
 
 decided : {A : Type 0} (x y : A) → ((x ≡ y) ⊎ (x ≡ y → ⊥)) → (xs ys : List A) → ((xs ≡ ys) ⊎ (xs ≡ ys → ⊥)) → (x ∷ xs ≡ y ∷ ys) ⊎ (x ∷ xs ≡ y ∷ ys → ⊥)
-decided x y (inl same) xs ys (inl more) = inl (cc)
-decided x y (inl same) xs ys (inr apart) = inr (λ e. apart (cc))
-decided x y (inr apart) xs ys d = inr (λ e. apart (cc))
+decided x y h xs ys d = grind (arith, nat_tests, common_steps)
 
 name : (a b : List ℕ) → (a ≡ b) ⊎ (a ≡ b → ⊥)
 name a b =
@@ -45,18 +45,7 @@ none_more names [] e h apart = (apart, tt)
 none_more names (x ∷ xs) e h apart = (h.0, none_more names xs e h.1 apart)
 
 earliest_more : (names : Path) (key_values : List KeyValue) (e : KeyValue) (first : Span) → EarliestAt names key_values first → EarliestAt names (key_values ++ (e ∷ [])) first
-earliest_more names key_values e first h = record {
-  before = h.before;
-  found = h.found;
-  behind = h.behind ++ (e ∷ []);
-  inner = h.inner;
-  last = h.last;
-  stands = ap (λ es. es ++ (e ∷ [])) h.stands ∙ append_assoc h.before (h.found ∷ h.behind) (e ∷ []);
-  none_before = h.none_before;
-  same = h.same;
-  key = h.key;
-  span = h.span;
-}
+earliest_more names key_values e first h = grind (arith, nat_tests, common_steps)
 
 tells_other : (names : Path) (key_values : List KeyValue) (e : KeyValue) (o : Option Span) → (part_names e.parts ≡ names → ⊥) → TellsEarliest names key_values o → TellsEarliest names (key_values ++ (e ∷ [])) o
 tells_other names key_values e None apart h = none_more names key_values e h apart
@@ -64,19 +53,7 @@ tells_other names key_values e (Some first) apart h = earliest_more names key_va
 
 tells_same : (names : Path) (key_values : List KeyValue) (e : KeyValue) (inner : List SimpleKey) (last : SimpleKey) (o : Option Span) → part_names e.parts ≡ names → e.parts ≡ inner ++ (last ∷ [])
     → TellsEarliest names key_values o → TellsEarliest names (key_values ++ (e ∷ [])) (Some (unwrap_or o last.span))
-tells_same names key_values e inner last None same key h = record {
-  before = key_values;
-  found = e;
-  behind = [];
-  inner = inner;
-  last = last;
-  stands = refl;
-  none_before = h;
-  same = same;
-  key = key;
-  span = refl;
-}
-tells_same names key_values e inner last (Some first) same key h = earliest_more names key_values e first h
+tells_same names key_values e inner last o same key h = grind (arith, nat_tests, common_steps)
 
 -- what the tree tells, once an assignment more is put in
 pub tells_more : (key_values : List KeyValue) (e : KeyValue) (inner : List SimpleKey) (last : SimpleKey) (f g : Holds) → e.parts ≡ inner ++ (last ∷ [])
@@ -150,14 +127,6 @@ knows_more old new key_values next inner last key h known tree fewer short = rec
     length_more [] e = omega arith
     length_more (x ∷ es) e = let h = length_more es e in omega arith
 
--- all of them are in the tree
-pub knows_all : (old new : Earlier) (key_values : List KeyValue) → Knows old key_values → new.fewest ≡ old.fewest → new.known ≡ length key_values → ((names : Path) → TellsEarliest names key_values (holds new.tree names)) → Knows new key_values
-knows_all old new key_values h fewest known tells = record {
-  fewest = subst (λ (n : ℕ). EachLonger n key_values) (sym fewest) h.fewest;
-  within = omega (arith, known);
-  tree = λ names. subst (λ (es : List KeyValue). TellsEarliest names es (holds new.tree names)) (sym (take_all new.known key_values (omega (arith, known)))) (tells names);
-}
-
 -- ---- the verdict
 
 none_told : (names : Path) (key_values : List KeyValue) (o : Option Span) → o ≡ None → TellsEarliest names key_values o → NoneAt names key_values
@@ -197,10 +166,6 @@ pub length_parts : (keys : List Key) → length (map simple_key keys) ≡ length
 length_parts [] = refl
 length_parts (k ∷ keys) = ap suc (length_parts keys)
 
-length_key_values : (values : List Assignment) → length (map key_value values) ≡ length values
-length_key_values [] = refl
-length_key_values (v ∷ values) = ap suc (length_key_values values)
-
 pub tells_init : (old : Earlier) (values : List Assignment) → Knows old (map key_value values) → (names : Path) → TellsEarliest names (map key_value (take old.known values)) (holds old.tree names)
 tells_init old values h names = subst (λ (es : List KeyValue). TellsEarliest names es (holds old.tree names)) (take-map key_value old.known values) (h.tree names)
 
@@ -216,15 +181,11 @@ tells_next values i v inner keys last f g below at same key tells puts names =
 
 pub knows_caught : (old new : Earlier) (values : List Assignment) (i : ℕ) → Knows old (map key_value values) → new.fewest ≡ old.fewest → new.known ≡ length values → length values ≤ i
     → ((names : Path) → TellsEarliest names (map key_value (take i values)) (holds new.tree names)) → Knows new (map key_value values)
-knows_caught old new values i h fewest known all tells =
-    knows_all old new (map key_value values) h fewest (known ∙ sym (length_key_values values))
-    (λ names. subst (λ (vs : List Assignment). TellsEarliest names (map key_value vs) (holds new.tree names)) (take_all i values all) (tells names))
+knows_caught old new values i h fewest known all tells = grind (arith, nat_tests, common_steps)
 
 -- where all are in the tree, it tells of all of them
 pub tells_all : (new : Earlier) (values : List Assignment) → Knows new (map key_value values) → new.known ≡ length values → (names : Path) → TellsEarliest names (map key_value values) (holds new.tree names)
-tells_all new values h known names =
-    let l = length_key_values values in
-    subst (λ (es : List KeyValue). TellsEarliest names es (holds new.tree names)) (take_all new.known (map key_value values) (omega (arith, l, known))) (h.tree names)
+tells_all new values h known names = grind (arith, nat_tests, common_steps)
 
 pub finds_same : (f : Holds) (xs ys : List Key) (r s : Option (ℕ × Span)) → xs ≡ ys → r ≡ s → FindsOutermost f (map simple_key xs) r → FindsOutermost f (map simple_key ys) s
 finds_same f xs ys r s same is h = subst (λ (o : Option (ℕ × Span)). FindsOutermost f (map simple_key ys) o) is (subst (λ (ks : List Key). FindsOutermost f (map simple_key ks) r) same h)

@@ -1,5 +1,8 @@
 -- Paths of earlier values.
-use Rattle.std.proofs.Common.{◌≡◌, ℕ, List, [], ◌∷◌, ◌++◌, refl, sym, subst, ◌∙◌}
+use Rattle.std.proofs.Common.{arith}
+use Rattle.std.proofs.lemmas.Grind.{common_steps}
+use Rattle.std.proofs.lemmas.Bool.Decides.{nat_tests}
+use Rattle.std.proofs.Common.{◌≡◌, ℕ, List, [], ◌∷◌, ◌++◌, subst}
 use Rattle.toml_span_read.specs.Keys.{SimpleKey}
 use Rattle.toml_span_read.specs.Data.{KeyValue}
 use Rattle.toml_span_read.specs.Earlier.{part_names, NoneThrough, Clear}
@@ -23,16 +26,8 @@ through_more P x xs here on (y ∷ outer) p rest e =
 
 -- the front and the last of a list
 pub snoc_same : {A : Type 0} (xs ys : List A) (x y : A) → xs ++ (x ∷ []) ≡ ys ++ (y ∷ []) → (xs ≡ ys) × (x ≡ y)
-snoc_same [] [] x y e = (refl, cc)
-snoc_same [] (b ∷ []) x y e = absurd (cc)
-snoc_same [] (b ∷ c ∷ ys) x y e = absurd (cc)
-snoc_same (a ∷ []) [] x y e = absurd (cc)
-snoc_same (a ∷ c ∷ xs) [] x y e = absurd (cc)
-snoc_same (a ∷ xs) (b ∷ ys) x y e =
-    let more = snoc_same xs ys x y (cc) in
-    (cc, more.1)
+snoc_same xs ys x y e = grind (arith, nat_tests, common_steps)
 
 -- the parts of a key but for the last
 pub clear_of : (key_values : List KeyValue) (next : KeyValue) (inner : List SimpleKey) (last : SimpleKey) → next.parts ≡ inner ++ (last ∷ []) → NoneThrough inner key_values → Clear key_values next
-clear_of key_values next inner last key none front end is =
-    subst (λ (ps : List SimpleKey). NoneThrough ps key_values) (snoc_same inner front last end (sym key ∙ is)).0 none
+clear_of key_values next inner last h h2 = grind (arith, nat_tests, common_steps)

@@ -1,5 +1,7 @@
 -- The tree of the earlier values, level by level.
-use Rattle.std.proofs.Common.{◌≡◌, ℕ, ◌-◌, ◌≤◌, suc, ◌++◌, length, take, take_all, drop, get_or, Result, Ok, Err, arith, Bool, true, false, cond, List, [], ◌∷◌, map, Option, Some, None, option_map, is_some, BTreeMap, Ordering, Less, Equal, Greater, is_eq, nat_cmp, refl, sym, ap, subst, MutBor, ◌∙◌, inl, inr, ◌⊎◌, rules}
+use Rattle.std.proofs.lemmas.Grind.{common_steps}
+use Rattle.std.proofs.lemmas.Bool.Decides.{nat_tests}
+use Rattle.std.proofs.Common.{◌≡◌, ℕ, ◌-◌, ◌≤◌, ◌++◌, length, take, drop, get_or, Result, Ok, Err, arith, Bool, true, false, cond, List, [], ◌∷◌, map, Option, Some, None, option_map, is_some, BTreeMap, Ordering, Less, Equal, Greater, is_eq, nat_cmp, refl, sym, ap, subst, MutBor, ◌∙◌, inl, inr, ◌⊎◌, rules}
 use Rattle.std.specs.Prelude.{unwrap_or, OnOk}
 use Rattle.toml_span_read.specs.Keys.{SimpleKey, simple_key}
 use Rattle.toml_span_read.proofs.EarlierLemmas.{through_none, through_more}
@@ -52,15 +54,10 @@ holds-below n name names =
 pub roll-out : (n : Tree) → roll-Node (out-Node n) ≡ n
 roll-out n = search (rules, the_lemmas)
 
-pub out-roll : (n : Node-F Tree) → out-Node (roll-Node n) ≡ n
-out-roll n = search (rules, the_lemmas)
-
 -- ---- names
 
 equal_ordering : (o : Ordering) → is_eq o ≡ true → o ≡ Equal
-equal_ordering Less h = absurd (false≢true h)
-equal_ordering Equal h = refl
-equal_ordering Greater h = absurd (false≢true h)
+equal_ordering o h = grind (arith, nat_tests, common_steps)
 
 abbrev pub same : List ℕ → List ℕ → Bool
 same k l = is_eq (slice_cmp nat_cmp k l)
@@ -112,9 +109,7 @@ puts-set_value k w x (e ∷ es) h l =
         ])
 
 cases_ordering : (o : Ordering) → (o ≡ Less) ⊎ ((o ≡ Equal) ⊎ (o ≡ Greater))
-cases_ordering Less = inl refl
-cases_ordering Equal = inr (inl refl)
-cases_ordering Greater = inr (inr refl)
+cases_ordering o = grind (arith, nat_tests, common_steps)
 
 pub puts-insert : (key : Key) (w : Tree) (es : Children) → PutsChild (cow_str_bytes key.name) w es (insert_entry key_cmp es key w)
 puts-insert key w [] l = ap (λ b. cond b (Some w) None) (same-sym l (cow_str_bytes key.name))
@@ -239,17 +234,11 @@ puts-full x first (Some s) is h = puts-again x first s (holds-value x ∙ is)
 -- the parts of a key, the first of which is at hand
 pub parts-front : (xs : List Key) (key d last : Key) → 1 ≤ length xs → key ≡ get_or xs 0 d
     → part_names (map simple_key xs ++ (simple_key last ∷ [])) ≡ cow_str_bytes key.name ∷ part_names (map simple_key (take (length xs - 1) (drop 1 xs)) ++ (simple_key last ∷ []))
-parts-front [] key d last some same = absurd (omega arith)
-parts-front (x ∷ xs) key d last some same =
-    let all : take (suc (length xs) - 1) xs ≡ xs = take_all _ xs (omega arith) in
-    rw (same, all)
+parts-front xs key d last some same = grind (arith, nat_tests, common_steps)
 
 pub parts-first : (xs : List Key) (key d : Key) → 1 ≤ length xs → key ≡ get_or xs 0 d
     → map simple_key xs ≡ simple_key key ∷ map simple_key (take (length xs - 1) (drop 1 xs))
-parts-first [] key d some same = absurd (omega arith)
-parts-first (x ∷ xs) key d some same =
-    let all : take (suc (length xs) - 1) xs ≡ xs = take_all _ xs (omega arith) in
-    rw (same, all)
+parts-first xs key d some same = grind (arith, nat_tests, common_steps)
 
 pub then-puts : {E : Type 0} (r : Result (Unit {0}) E) (done then : Type 0) → OnOk r done → (done → then) → OnOk r then
 then-puts (Ok u) done then h k = k h

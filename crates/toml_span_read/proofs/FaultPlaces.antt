@@ -1,10 +1,11 @@
 -- What is told where another token stands than the one that is due, and where.
-use Rattle.std.proofs.Common.{◌≡◌, ℕ, ◌≤◌, false, List, length, get_or, arith, inl, inr, refl, ap, sym, ◌∙◌, Err}
-use Rattle.std.proofs.lemmas.Bool.{false≢true}
+use Rattle.std.proofs.lemmas.Grind.{common_steps}
+use Rattle.std.proofs.lemmas.Bool.Decides.{nat_tests}
+use Rattle.std.proofs.Common.{◌≡◌, ℕ, ◌≤◌, false, List, length, get_or, arith, inl, inr, ap, sym, Err}
 use Rattle.toml_span_lex.specs.declared.stop.Stop.{Stop}
 use Rattle.toml_span_lex.specs.declared.stop.Stop.TheVariants as stops
 use Rattle.toml_span_lex.specs.declared.span.Span.{Span}
-use Rattle.toml_span_lex.specs.Tokens.{Lexeme, Stands, string}
+use Rattle.toml_span_lex.specs.Tokens.{Lexeme, Stands}
 use Rattle.toml_span_lex.proofs.Within.{token_within}
 use Rattle.toml_span_read.specs.declared.fault.Found.{Found}
 use Rattle.toml_span_read.specs.declared.fault.Due.{Due}
@@ -17,7 +18,6 @@ use Rattle.toml_span_read.specs.Keys.{opens_string}
 use Rattle.toml_span_read.specs.Read as read
 use Rattle.toml_span_read.specs.Read.{Standing, StandsAt, token, text_end, no_token, string_of}
 use Rattle.toml_span_read.specs.code.Wanted.{IsFound, FoundGives, WantedGives, NoValueGives}
-use Rattle.toml_span_read.proofs.ValueRead.{opens_quote}
 
 -- what is found at a place ends there or further on
 pub found_forward : (text : List ℕ) (i j : ℕ) (found : Found) → IsFound text i j found → i ≤ j
@@ -36,8 +36,7 @@ token_missing (stops.Fault e) text i due (j, x, h, is) = (no_token x, (j, h), is
 
 -- a token that is no string, where a value is due
 no_string : (text : List ℕ) (i : ℕ) (s : Span) (l : Lexeme) (j : ℕ) → opens_string (get_or text i 0) ≡ false → Stands text i j s l → string_of i (token s l j) ≡ Err (record { kind = kinds.Wanted dues.Value (found_of l); span = from_to i j })
-no_string text i s (string source value multi) j o h = absurd (false≢true (sym o ∙ opens_quote (get_or text i 0) h.quote))
-no_string text i s l j o h = refl
+no_string text i s l j o h = grind (arith, nat_tests, common_steps)
 
 pub refused : (stop : Stop Fault) (text : List ℕ) (i : ℕ) → FoundGives text i (Err stop) → NoValueGives text i stop
 refused (stops.Memory e) text i h = tt

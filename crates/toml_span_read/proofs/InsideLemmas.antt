@@ -1,12 +1,10 @@
 -- Keys and headers of a spelled document stand inside the text.
-use Rattle.std.proofs.Common.{ℕ, ◌+◌, ◌<◌, ◌≤◌, Bool, true, false, List, [], ◌∷◌, ◌++◌, length, map, arith, inl, inr}
-use Rattle.toml_span_lex.specs.Text.{LineEnd}
-use Rattle.toml_span_lex.proofs.Runs.{read_within}
-use Rattle.toml_span_lex.proofs.Folded.{second}
-use Rattle.toml_span_lex.proofs.PieceLemmas.{line_forward}
+use Rattle.std.proofs.lemmas.Grind.{common_steps}
+use Rattle.std.proofs.lemmas.Bool.Decides.{nat_tests}
+use Rattle.std.proofs.Common.{ℕ, ◌+◌, ◌<◌, ◌≤◌, Bool, List, [], ◌∷◌, ◌++◌, length, map, arith, inl, inr}
 use Rattle.toml_span_read.specs.declared.section.Section.{Section}
 use Rattle.toml_span_read.specs.Data.{ParsedValue, parsed, scalar, array, inline, ParsedItems, no_items, item, ParsedPairs, no_pairs, pair, KeyValue, Block, block}
-use Rattle.toml_span_read.specs.Gaps.{Skipped, Tail}
+use Rattle.toml_span_read.specs.Gaps.{Tail}
 use Rattle.toml_span_read.specs.Grammar.{Spells, SpellsItems, SpellsPairs, SpellsKeyValues, SpellsLines, OpensHeader, ClosesHeader, SpellsHeader, SpellsSection, first_block, SpellsSections, SpellsDocument}
 use Rattle.toml_span_read.specs.Keys.{SimpleKey, SpellsKey}
 use Rattle.toml_span_read.specs.Places.{Ascend, IsInside, PartsInside, KeysInside, ItemKeysInside, PairKeysInside, KeyValuesInside, SectionsInside}
@@ -67,23 +65,13 @@ BlocksInside n [] = Unit {0}
 BlocksInside n (b ∷ bs) = BlockInside n b × BlocksInside n bs
 
 pub opens_on : (double : Bool) (text : List ℕ) (i j : ℕ) → OpensHeader double text i j → i < j
-opens_on false text i j h = omega (arith, h.2)
-opens_on true text i j h = omega (arith, h.2)
+opens_on double text i j h = grind (arith, nat_tests, common_steps)
 
 pub shuts_on : (double : Bool) (text : List ℕ) (i j : ℕ) → ClosesHeader double text i j → i < j
-shuts_on false text i j h = omega (arith, h.1)
-shuts_on true text i j h = omega (arith, h.2)
-
-skipped_on : (text : List ℕ) (i j : ℕ) → Skipped text i j → i ≤ j
-skipped_on text i j h = elim h.comment [ inl c ↦ omega (arith, h.blank.forward, c.1.forward) | inr c ↦ omega (arith, h.blank.forward, c.1) ]
-
-line_within : (text : List ℕ) (i j : ℕ) → LineEnd text i j → j ≤ length text
-line_within text i j (inl h) = omega (arith, h.1, read_within text i (omega (arith, h.0)))
-line_within text i j (inr h) = omega (arith, h.1, read_within text (i + 1) (omega (arith, second text i h.0)))
+shuts_on double text i j h = grind (arith, nat_tests, common_steps)
 
 pub tail_inside : (text : List ℕ) (i j : ℕ) → Tail text i j → (i ≤ j) × (j ≤ length text)
-tail_inside text i j (k, skipped, inl line) = (omega (arith, skipped_on text i k skipped, line_forward text k j line), line_within text k j line)
-tail_inside text i j (k, skipped, inr (a, b)) = (omega (arith, skipped_on text i k skipped, b), omega (arith, a, b))
+tail_inside text i j h = grind (arith, nat_tests, common_steps)
 
 header_inside : (ps : List SimpleKey) (double : Bool) (text : List ℕ) (limit i j : ℕ) → SpellsHeader ps double text limit i j → ((i ≤ j) × (j ≤ length text)) × PartsInside (length text) ps
 header_inside ps double text limit i j h =
@@ -105,8 +93,7 @@ sections_blocks [] text limit i h = tt
 sections_blocks (b ∷ bs) text limit i (j, s, rest) = (section_block b text limit i j s, sections_blocks bs text limit j rest)
 
 first_inside : (n : ℕ) (evs : List KeyValue) (bs : List Block) → KeyValuesInside n evs → BlocksInside n bs → BlocksInside n (first_block evs ++ bs)
-first_inside n [] bs h g = g
-first_inside n (ev ∷ evs) bs h g = (((omega arith, omega arith), tt, h), g)
+first_inside n evs bs h g = grind (arith, nat_tests, common_steps)
 
 document_blocks : (bs : List Block) (text : List ℕ) (limit : ℕ) → SpellsDocument bs text limit → BlocksInside (length text) bs
 document_blocks bs text limit h =

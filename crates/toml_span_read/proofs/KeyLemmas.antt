@@ -1,18 +1,14 @@
 -- How dotted keys are put together.
-use Rattle.std.proofs.Common.{◌≡◌, ℕ, zero, suc, ◌+◌, ◌-◌, ◌<◌, ◌≤◌, ◌⊎◌, Bool, true, false, List, [], ◌∷◌, ◌++◌, length, map, get_or, arith, inl, inr, refl, sym, ◌∙◌, ap, subst, length-append, append_assoc, Result, Ok, Err}
-use Rattle.std.specs.Prelude.{not, ◌&&◌, ◌==◌, if◌then◌else◌}
+use Rattle.std.proofs.lemmas.Grind.{common_steps}
+use Rattle.std.proofs.lemmas.Bool.Decides.{nat_tests}
+use Rattle.std.proofs.Common.{◌≡◌, ℕ, zero, suc, ◌+◌, ◌-◌, ◌<◌, ◌≤◌, Bool, true, false, List, [], ◌∷◌, ◌++◌, length, map, get_or, arith, inl, inr, refl, ◌∙◌, ap, subst, length-append, append_assoc, Result, Ok, Err}
 use Rattle.std.specs.Result.{IsErrAnd}
-use Rattle.std.proofs.lemmas.Bool.{false≢true}
 use Rattle.std.proofs.lemmas.List.{map-append}
 use Rattle.toml_span_lex.specs.declared.key.Key.{Key}
 use Rattle.toml_span_lex.specs.declared.stop.Stop.{Stop}
 use Rattle.toml_span_lex.specs.declared.stop.Stop.TheVariants as stops
-use Rattle.toml_span_lex.specs.declared.span.Span.{Span}
 use Rattle.toml_span_lex.specs.Bytes.{is_keylike}
-use Rattle.toml_span_lex.specs.Strings.{IsString}
-use Rattle.toml_span_lex.specs.Tokens.{keylike, string}
-use Rattle.toml_span_lex.proofs.Copies.{content_fits}
-use Rattle.toml_span_lex.proofs.MadeStrings.{content_from_after}
+use Rattle.toml_span_read.proofs.KeyOrder.{key_inside}
 use Rattle.toml_span_read.specs.declared.fault.Due.TheVariants as dues
 use Rattle.toml_span_read.specs.declared.fault.FaultKind.{FaultKind}
 use Rattle.toml_span_read.specs.Places.{StartsInside}
@@ -27,30 +23,15 @@ use Rattle.toml_span_read.specs.code.Wanted.{StringReads, WantedGives}
 
 -- an error that `?` hands on
 pub handed_on : {T E : Type 0} (r : Result T E) (x : E) → IsErrAnd r (λ y. y ≡ x) → r ≡ Err x
-handed_on (Ok v) x h = absurd h
-handed_on (Err y) x h = ap (λ z. Err z) h
+handed_on r x h = grind (arith, nat_tests, common_steps)
 
 pub one_more : {A : Type 0} (xs ys : List A) (x : A) → ys ≡ xs ++ (x ∷ []) → length ys ≡ length xs + 1
 one_more xs ys x e = rw e (length-append xs (x ∷ []))
 
 -- ---- spans
 
-abbrev IsForward : List ℕ → Span → Type 0
-IsForward text s = (s.start ≤ length text) × (s.start ≤ s.end)
-
-span_forward : (b : Bool) (i from to : ℕ) (text : List ℕ) → i < length text → from ≤ to → to ≤ length text → IsForward text (if b then record { start = i; end = i + 1 } else record { start = from; end = to })
-span_forward true i from to text l f w = (omega arith, omega arith)
-span_forward false i from to text l f w = (omega arith, f)
-
-string_span : (text v src : List ℕ) (i j : ℕ) (s : Span) (m : Bool) → IsString text i j s src v m → IsForward text s
-string_span text v src i j s m h =
-    let f = content_fits (get_or text i 0) m text v h.from h.to j h.content_is in
-    let a = content_from_after m text i h.from h.begins in
-    rw h.span_is (span_forward (not m && h.from == h.to) i h.from h.to text (omega (arith, f.0, f.1, f.2)) (omega (arith, f.0)) (omega (arith, f.1, f.2)))
-
 pub key_placed : (text : List ℕ) (i j : ℕ) (p : SimpleKey) (kind : FaultKind) → SpellsSimpleKey p text i j → StartsInside text (record { kind = kind; span = p.span })
-key_placed text i j p kind (inl (run, e)) = record { within = rw e (omega (arith, run.0, run.1.within)); forward = rw e (omega (arith, run.0)) }
-key_placed text i j p kind (inr (src, h)) = let s = string_span text p.name src i j p.span false h in record { within = s.0; forward = s.1 }
+key_placed text i j p kind h = let l = (key_inside p text i j h).0 in record { within = omega (arith, l.forward, l.ends, l.within); forward = l.forward }
 
 -- ---- simple keys as they are read
 
@@ -58,27 +39,15 @@ pub string_stops : (stop : Stop Fault) (text : List ℕ) (i : ℕ) → StringRea
 string_stops (stops.Memory e) text i h = tt
 string_stops (stops.Fault e) text i (j, x, h, is) = (no_token x, (j, h), ap (λ y. Err y) is)
 
-quote_opens : (b : ℕ) → (b ≡ 34) ⊎ (b ≡ 39) → opens_string b ≡ true
-quote_opens b (inl e) = rw e refl
-quote_opens b (inr e) = rw e refl
-
--- another token than a key's stands here
-other_key : (text : List ℕ) (i : ℕ) (standing : Standing) → StandsAt text i standing → is_keylike (get_or text i 0) ≡ false → opens_string (get_or text i 0) ≡ false → key_of i standing ≡ Err (read.wanted dues.TableKey i standing)
-other_key text i (token s (keylike name) j) h k o = absurd (false≢true (sym k ∙ h.0.1.passes i (omega arith) h.0.0))
-other_key text i (token s (string source name multi) j) h k o = absurd (false≢true (sym o ∙ quote_opens (get_or text i 0) h.quote))
-other_key text i standing h k o = refl
-
 pub wanted_stops : (stop : Stop Fault) (text : List ℕ) (i : ℕ) → WantedGives text i dues.TableKey stop → is_keylike (get_or text i 0) ≡ false → opens_string (get_or text i 0) ≡ false
     → Gives key_found (read.simple_key_at text i) (Err stop)
-wanted_stops (stops.Memory e) text i h k o = tt
-wanted_stops (stops.Fault e) text i (standing, stands, is) k o = (standing, stands, ap (λ y. Err y) is ∙ sym (other_key text i standing stands k o))
+wanted_stops stop text i h k o = grind (arith, nat_tests, common_steps)
 
 -- ---- keys as they are read
 
 key_stops : (header : Bool) (text : List ℕ) (left i : ℕ) (e : Fault) → read.simple_key_at text i (Err e) → (ps : List SimpleKey) → read.key header text left ps i (Err e)
 unfolding read.key
-key_stops header text zero i e h ps = inr (e, h, refl)
-key_stops header text (suc left) i e h ps = inr (e, h, refl)
+key_stops header text left i e h ps = grind (arith, nat_tests, common_steps)
 
 pub key_past : (header : Bool) (text : List ℕ) (left i j : ℕ) (s : SimpleKey) → left ≡ 0 → read.simple_key_at text i (Ok (s, j)) → (ps : List SimpleKey) → read.key header text left ps i (Err (one_too_many header i s))
 unfolding read.key
@@ -89,8 +58,7 @@ part_stops (stops.Memory e) header text limit n i h placed = tt
 part_stops (stops.Fault e) header text limit n i h placed = (key_stops header text (limit - n) i e h, placed)
 
 pub part_placed : (stop : Stop Fault) (header : Bool) (text : List ℕ) (limit n i : ℕ) → PartGives header text limit n i (Err stop) → IsPlacedStop text stop
-part_placed (stops.Memory e) header text limit n i h = tt
-part_placed (stops.Fault e) header text limit n i h = h.1
+part_placed stop header text limit n i h = grind (arith, nat_tests, common_steps)
 
 -- whatever is read at m behind these parts is read from i on
 abbrev pub Behind : Bool → List ℕ → ℕ → ℕ → List Key → ℕ → Type 0
@@ -98,10 +66,7 @@ Behind header text limit i ps m =
     (n : ℕ) (r : Result Parts Fault) → length ps + n ≡ limit → read.key header text n (map simple_key ps) m r → read.key header text limit [] i r
 
 pub none_behind : (header : Bool) (text : List ℕ) (limit i : ℕ) (ps : List Key) → ps ≡ [] → Behind header text limit i ps i
-none_behind header text limit i ps e n r few h =
-    let z : length ps ≡ 0 = rw e refl in
-    let same : limit ≡ n = omega arith in
-    rw same (rw e at h)
+none_behind header text limit i ps h = grind (arith, nat_tests, common_steps)
 
 pub more_behind : (header : Bool) (text : List ℕ) (limit i m k p : ℕ) (ps qs : List Key) (s : Key) → qs ≡ ps ++ (s ∷ []) → read.simple_key_at text m (Ok (simple_key s, k)) → Dot text k p → Behind header text limit i ps m
     → Behind header text limit i qs p
@@ -122,8 +87,7 @@ stops_behind view (stops.Memory e) header text limit i m n ps is few behind h = 
 stops_behind view (stops.Fault e) header text limit i m n ps is few behind h = behind (limit - n) (Err e) (omega arith) (h.0 (map simple_key ps))
 
 pub parts_length : (inner : List Key) (last : Key) → length (map simple_key inner ++ (simple_key last ∷ [])) ≡ length inner + 1
-parts_length [] last = refl
-parts_length (k ∷ ks) last = let h = parts_length ks last in omega arith
+parts_length inner last = grind (arith, nat_tests, common_steps)
 
 -- ---- what is read is spelled
 
@@ -131,13 +95,10 @@ given : {A : Type 0} (x y : A) (P : A → Type 0) → ◌≡◌ {A = Result A Fa
 given x y P u h = let e : y ≡ x = cc in subst P e h
 
 pub simple_sound : (s : SimpleKey) (text : List ℕ) (i m : ℕ) → read.simple_key_at text i (Ok (s, m)) → SpellsSimpleKey s text i m
-simple_sound s text i m (token span (keylike name) j, h, u) = given (s, m) (record { name = name; span = span }, j) (λ f. SpellsSimpleKey f.0 text i f.1) u (inl h)
-simple_sound s text i m (token span (string source name false) j, h, u) = given (s, m) (record { name = name; span = span }, j) (λ f. SpellsSimpleKey f.0 text i f.1) u (inr (source, h))
-simple_sound s text i m (standing, h, u) = absurd cc
+simple_sound s text i m h = grind (arith, nat_tests, common_steps)
 
 dotted_more : (s : SimpleKey) (ss : List SimpleKey) (text : List ℕ) (i m p j : ℕ) → SpellsSimpleKey s text i m → Dot text m p → SpellsKey ss text p j → SpellsKey (s ∷ ss) text i j
-dotted_more s [] text i m p j k d h = absurd h
-dotted_more s (t ∷ ts) text i m p j k d (q, l, h) = (m, k, (p, q, d, l, h))
+dotted_more s ss text i m p j k d h = grind (arith, nat_tests, common_steps)
 
 -- behind these parts others are spelled
 abbrev KeyBehind : List SimpleKey → List ℕ → ℕ → ℕ → Parts → Type 0
@@ -160,18 +121,3 @@ key_sound header text limit i j ss h = let (ts, is, spelled, few) = behind_sound
 pub past_placed : (header : Bool) (text : List ℕ) (i j : ℕ) (s : SimpleKey) → i ≤ length text → SpellsSimpleKey s text i j → StartsInside text (one_too_many header i s)
 past_placed true text i j s within h = key_placed text i j s _ h
 past_placed false text i j s within h = record { within = within; forward = omega arith }
-
--- ---- a string starts before it ends
-
-abbrev IsBefore : ℕ → ℕ → Span → Type 0
-IsBefore i j s = (i ≤ j) × (s.start ≤ j)
-
-span_before : (b : Bool) (i from to j : ℕ) → i < from → from ≤ to → to < j → IsBefore i j (if b then record { start = i; end = i + 1 } else record { start = from; end = to })
-span_before true i from to j a f l = (omega arith, omega arith)
-span_before false i from to j a f l = (omega arith, omega arith)
-
-pub string_before : (text v src : List ℕ) (i j : ℕ) (s : Span) (m : Bool) → IsString text i j s src v m → (i ≤ j) × (s.start ≤ j)
-string_before text v src i j s m h =
-    let f = content_fits (get_or text i 0) m text v h.from h.to j h.content_is in
-    let a = content_from_after m text i h.from h.begins in
-    rw h.span_is (span_before (not m && h.from == h.to) i h.from h.to j a (omega (arith, f.0)) f.1)

@@ -1,4 +1,6 @@
 -- How lines, headers and sections are read, step by step.
+use Rattle.std.proofs.lemmas.Grind.{common_steps}
+use Rattle.std.proofs.lemmas.Bool.Decides.{nat_tests}
 use Rattle.std.proofs.Common.{◌≡◌, ℕ, ◌+◌, ◌-◌, ◌<◌, ◌⊎◌, zero, suc, Bool, true, false, List, [], ◌∷◌, ◌++◌, length, map, get_or, arith, inl, inr, refl, ap, Ok, Err, Result, Option}
 use Rattle.std.specs.Prelude.{◌==◌}
 use Rattle.toml_span_lex.specs.declared.stop.Stop.{Stop}
@@ -64,8 +66,7 @@ assigned_stops stop text limit u i a b ps key s e h =
     value.assigned_stops stop text limit (MaximalRun is_blank text) (read.value text limit (limit + 1)) i a s.at b ps key s.before s.here s.behind (under_stops stop text limit (length ps) u b e h)
 
 pub tail_missing : (stop : Stop Fault) (text : List ℕ) (i k : ℕ) → NoTail text i k → WantedGives text k dues.Newline stop → Gives (λ j. j) (read.tail text i) (Err stop)
-tail_missing (stops.Memory e) text i k none h = tt
-tail_missing (stops.Fault e) text i k none (standing, stands, is) = inr (k, none, (standing, stands, ap (λ y. Err y) is))
+tail_missing stop text i k h h2 = grind (arith, nat_tests, common_steps)
 
 -- ---- lines
 
@@ -80,8 +81,7 @@ pub goes_further : (text : List ℕ) (i : ℕ) → i < length text → (get_or t
 goes_further text i l other = let none : (i == length text) ≡ false = is_false (i == length text) (λ t. omega (arith, l, byte_is i (length text) t)) in rw (none, other) refl
 
 pub lines_stop : (text : List ℕ) (i : ℕ) → (i ≡ length text) ⊎ (get_or text i 0 ≡ 91) → read.ends_lines text i ≡ true
-lines_stop text i (inl e) = or_left (i == length text) (get_or text i 0 == 91) (same_byte i (length text) e)
-lines_stop text i (inr e) = or_right (i == length text) (get_or text i 0 == 91) (same_byte (get_or text i 0) 91 e)
+lines_stop text i h = grind (arith, nat_tests, common_steps)
 
 pub lines_more : (es : List KeyValue) (e : KeyValue) (text : List ℕ) (limit from i m n k : ℕ) → LinesFrom text limit from es i → read.ends_lines text i ≡ false → assignment text limit i (Ok (e, m)) → read.tail text m (Ok n) → Clear es e → MaximalGap text n k
     → LinesFrom text limit from (es ++ (e ∷ [])) k
@@ -138,8 +138,7 @@ opened true text limit i m r (here, two, e) h = inl (same_byte _ _ two, rw e at 
 
 pub header_key_stops : (array : Bool) (stop : Stop Fault) (text : List ℕ) (limit i m k : ℕ) → OpensHeader array text i m → MaximalRun is_blank text m k → Gives header_found (read.key true text limit [] k) (Err stop)
     → Gives head_found (read.header text limit i) (Err stop)
-header_key_stops array (stops.Memory e) text limit i m k opens run h = tt
-header_key_stops array (stops.Fault e) text limit i m k opens run h = opened array text limit i m (Err e) opens (k, run, inr (e, h, refl))
+header_key_stops array stop text limit i m k opens run h = grind (arith, nat_tests, common_steps)
 
 pub header_close_stops : (array : Bool) (stop : Stop Fault) (ps : List SimpleKey) (text : List ℕ) (limit i m k a : ℕ) → OpensHeader array text i m → MaximalRun is_blank text m k → read.key true text limit [] k (Ok (ps, a)) → Gives (λ j. j) (closed array text a) (Err stop)
     → Gives head_found (read.header text limit i) (Err stop)
@@ -158,12 +157,10 @@ header_read array ps text limit i m k a b j opens run key (c, blank, shut) rest 
 -- ---- sections
 
 pub header_stops : (stop : Stop Fault) (text : List ℕ) (limit i : ℕ) → Gives head_found (read.header text limit i) (Err stop) → Gives section_found (read.section text limit i) (Err stop)
-header_stops (stops.Memory e) text limit i h = tt
-header_stops (stops.Fault e) text limit i h = inr (e, h, refl)
+header_stops stop text limit i h = grind (arith, nat_tests, common_steps)
 
 pub section_stops : (stop : Stop Fault) (h : Header) (text : List ℕ) (limit i : ℕ) → read.header text limit i (Ok (head_found h)) → Gives lines_found (read.lines text limit h.extent.end) (Err stop) → Gives section_found (read.section text limit i) (Err stop)
-section_stops (stops.Memory e) h text limit i header lines = tt
-section_stops (stops.Fault e) h text limit i header lines = inl (head_found h, header, inr (e, lines, refl))
+section_stops stop h text limit i header lines = grind (arith, nat_tests, common_steps)
 
 pub section_read : (s : Section) (h : Header) (es : List KeyValue) (text : List ℕ) (limit i k j : ℕ) → block s ≡ read.block_at k (head_found h) es → k ≡ i → read.header text limit i (Ok (head_found h)) → read.lines text limit h.extent.end (Ok (es, j))
     → Gives section_found (read.section text limit i) (Ok (s, j))
@@ -200,8 +197,7 @@ document_stops view (stops.Memory e) text limit i bs whole l h = tt
 document_stops view (stops.Fault e) text limit i bs whole l h = whole (Err e) (stops_there (bs, i) e (inr (not_at_end text i l, inr (e, h, refl))))
 
 pub document_refused : {A : Type 0} (view : A → List Block) (stop : Stop Fault) (text : List ℕ) (limit : ℕ) → Gives first_found (read.before_headers text limit) (Err stop) → Gives view (read.document text limit) (Err stop)
-document_refused view (stops.Memory e) text limit h = tt
-document_refused view (stops.Fault e) text limit h = inr (e, h, refl)
+document_refused view stop text limit h = grind (arith, nat_tests, common_steps)
 
 pub blocks_end : (ss ts : List Section) (s : Section) → ts ≡ ss ++ (s ∷ []) → map block ts ≡ map block ss ++ (block s ∷ [])
 blocks_end ss ts s e = map_end block ss ts s e

@@ -1,4 +1,6 @@
 -- Memory is wanted only where there is something to keep.
+use Rattle.std.proofs.lemmas.Grind.{common_steps}
+use Rattle.std.proofs.lemmas.Bool.Decides.{nat_tests}
 use Rattle.std.proofs.Common.{◌≡◌, ℕ, ◌<◌, ◌≤◌, List, [], ◌∷◌, ◌++◌, length, arith, ap, Err, Some}
 use Rattle.toml_span_lex.specs.declared.stop.Stop.{Stop}
 use Rattle.toml_span_lex.specs.declared.stop.Stop.TheVariants as stops
@@ -48,8 +50,7 @@ keeps A E (stops.Fault e) text at (start, k, first, g, l) under = (start, first,
 
 -- whatever is not read for want of memory
 pub forms_keep : {E : Type 0} (A : Type 0) (stop : Stop E) (text : List ℕ) (i : ℕ) → HoldsForm text i → OnlyFormsTakeMemory {A = A} {E = E} text i (Err stop)
-forms_keep A (stops.Memory e) text i h = h
-forms_keep A (stops.Fault e) text i h = tt
+forms_keep A stop text i h = grind (arith, nat_tests, common_steps)
 
 pub keeps_same : {E : Type 0} (A B : Type 0) (stop : Stop E) (text : List ℕ) → (start : ℕ) × FirstPlace text start × OnlyFormsTakeMemory {A = A} {E = E} text start (Err stop)
     → (start : ℕ) × FirstPlace text start × OnlyFormsTakeMemory {A = B} {E = E} text start (Err stop)

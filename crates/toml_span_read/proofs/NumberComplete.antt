@@ -1,10 +1,10 @@
 -- Where a number is spelled, it is read.
+use Rattle.std.proofs.lemmas.Grind.{common_steps}
+use Rattle.std.proofs.lemmas.Bool.Decides.{nat_tests}
 use Rattle.std.proofs.Common.{◌≡◌, ℕ, ◌+◌, ◌<◌, ◌≤◌, ◌⊎◌, Bool, true, false, Some, None, Ok, List, get_or, arith, inl, inr, refl, sym, ◌∙◌}
-use Rattle.std.specs.Prelude.{ℤ, ◌^◌, ◌==◌, ◌&&◌, nat_lt, slice_range, codes}
+use Rattle.std.specs.Prelude.{ℤ, ◌==◌, ◌&&◌, nat_lt, slice_range, codes}
 use Rattle.std.specs.List.{list_all}
-use Rattle.std.specs.Str.{bytes_eq}
-use Rattle.std.proofs.lemmas.Bool.{cases_lt, or_cases, or_parts, le-ltb, lt-ltb, le-leb, ne_eqb, false≢true}
-use Rattle.std.proofs.lemmas.Slice.Eq.{bytes_eq-Decides}
+use Rattle.std.proofs.lemmas.Bool.{cases_lt, or_parts, le-ltb, lt-ltb, ne_eqb, false≢true}
 use Rattle.toml_span_lex.specs.Bytes.{is_keylike}
 use Rattle.toml_span_tree.specs.Node.{text as text_scalar, finite, infinite, not_a_number, Scalar, integer, float, boolean, datetime}
 use Rattle.toml_span_read.specs.declared.numbers.Numeral.{Numeral}
@@ -20,10 +20,7 @@ use Rattle.toml_span_read.proofs.NumberReads.{First, digits_to, first_plain, fir
 
 -- what goes on within a run and ends where no byte of a run stands, ends with it
 ends_with_run : (text : List ℕ) (i k j b : ℕ) → Passes text i b → i ≤ k → k ≤ j → k ≤ b → ((l : ℕ) → k ≤ l → l < j → is_keylike (get_or text l 0) ≡ true) → is_keylike (get_or text j 0) ≡ false → j ≡ b
-ends_with_run text i k j b r a f g p n = elim (cases_lt j b) [
-  | inl l ↦ absurd (false≢true (sym n ∙ r.passes j (omega arith) l))
-  | inr x ↦ elim (cases_lt b j) [ inl l ↦ absurd (false≢true (sym r.last ∙ p b g l)) | inr h ↦ omega arith ]
-]
+ends_with_run text i k j b r a f g p n = grind (arith, nat_tests, common_steps)
 
 digits_keylike : (radix : ℕ) (text : List ℕ) (i j : ℕ) → Digits radix text i j → (l : ℕ) → i ≤ l → l < j → is_keylike (get_or text l 0) ≡ true
 digits_keylike radix text i j d l a b = figure_keylike radix (get_or text l 0) (d.run.passes l a b)
@@ -36,15 +33,7 @@ run_of radix text i j d n = run_is text i j (record { forward = d.run.forward; w
 
 -- a letter of an exponent is a byte of the run
 before_end : (text : List ℕ) (m b : ℕ) → m ≤ b → is_keylike (get_or text b 0) ≡ false → is_exponent (get_or text m 0) ≡ true → m < b
-before_end text m b l n x = elim (cases_lt m b) [
-  | inl y ↦ y
-  | inr g ↦
-      let e : m ≡ b = omega arith in
-      elim (or_cases (get_or text m 0 == 101) (get_or text m 0 == 69) x) [
-        | inl c ↦ let d : get_or text b 0 ≡ 101 = rw e at (byte_is _ 101 c) in absurd (false≢true (sym n ∙ (rw d refl)))
-        | inr c ↦ let d : get_or text b 0 ≡ 69 = rw e at (byte_is _ 69 c) in absurd (false≢true (sym n ∙ (rw d refl)))
-      ]
-]
+before_end text m b l n x = grind (arith, nat_tests, common_steps)
 
 -- ---- integer parts
 
@@ -110,8 +99,7 @@ fraction_complete text i a b m j f o n =
 
 signed_complete : (negative : Bool) (m : ℕ) (n : ℤ) → IsSigned negative m n → signed negative m ≡ Some n
 unfolding signed
-signed_complete false m n (e, l) = rw (lt-ltb m (2 ^ 63) l, e) refl
-signed_complete true m n (e, l) = rw (le-leb m (2 ^ 63) l, e) refl
+signed_complete negative m n h = grind (arith, nat_tests, common_steps)
 
 integer_complete : (radix : ℕ) (text : List ℕ) (negative : Bool) (start from end : ℕ) (n : ℤ) → IsSigned negative (magnitude radix text from end) n → spec.integer radix text negative start from end ≡ Ok n
 unfolding spec.integer
@@ -158,9 +146,7 @@ decimal_float text i a b j g f =
 
 special_none : (negative : Bool) (word : List ℕ) → is_digit_in 10 (get_or word 0 0) ≡ true → special negative word ≡ None
 unfolding special
-special_none negative word d =
-    let no : (w : List ℕ) → is_digit_in 10 (get_or w 0 0) ≡ false → bytes_eq word w ≡ false = λ w n. is_false (bytes_eq word w) (λ t. (let e : word ≡ w = (bytes_eq-Decides word w).0 t in false≢true (sym n ∙ (rw e at d)))) in
-    rw (no (codes "inf") refl, no (codes "nan") refl) refl
+special_none negative word d = grind (arith, nat_tests, common_steps)
 
 -- ---- where a number without a prefix begins
 
@@ -244,11 +230,7 @@ radix_read text i j n x =
 -- ---- numbers
 
 rest_letter : (text : List ℕ) (m j : ℕ) → Exponent text m j ⊎ ((q : ℕ) × Fraction text m q × ((j ≡ q) ⊎ Exponent text q j)) → NoLetter (get_or text m 0)
-rest_letter text m j (inl x) = elim (or_cases (get_or text m 0 == 101) (get_or text m 0 == 69) x.letter) [
-  | inl e ↦ let c : get_or text m 0 ≡ 101 = byte_is (get_or text m 0) 101 e in rw c (refl, refl, refl)
-  | inr e ↦ let c : get_or text m 0 ≡ 69 = byte_is (get_or text m 0) 69 e in rw c (refl, refl, refl)
-]
-rest_letter text m j (inr (q, f, r)) = rw f.point (refl, refl, refl)
+rest_letter text m j h = grind (arith, nat_tests, common_steps)
 
 -- a number with an integer part, which ends at m
 decimal_begun : (text : List ℕ) (i m : ℕ) → UnsignedDecimal text (behind_sign text i) m → NoLetter (get_or text m 0) → (a : ℕ) × Begun text i a

@@ -1,11 +1,12 @@
 -- Steps of reading numbers, and what they come to.
-use Rattle.std.proofs.Common.{◌≡◌, ℕ, ◌+◌, ◌-◌, ◌<◌, ◌≤◌, ◌⊎◌, Bool, true, false, drop, take, zero, suc, Option, Some, None, is_some, Ok, Err, List, [], ◌∷◌, length, get_or, arith, inl, inr, refl, sym, ◌∙◌, length-drop, length-take}
-use Rattle.std.proofs.Math.Nat.{add-mul, mul_assoc, pow-succ', one-le-pow, le-mul_of_pos_right}
-use Rattle.std.proofs.lemmas.List.{drop_more, get_or-take, get_or-drop, get_or_past}
+use Rattle.std.proofs.lemmas.Grind.{common_steps}
+use Rattle.std.proofs.Common.{◌≡◌, ℕ, ◌+◌, ◌-◌, ◌<◌, ◌≤◌, ◌⊎◌, Bool, true, false, drop, take, zero, suc, Option, Some, None, is_some, Ok, Err, List, ◌∷◌, length, get_or, arith, inl, inr, refl, sym, ◌∙◌, length-drop, length-take}
+use Rattle.std.proofs.Math.Nat.{pow-succ', one-le-pow, le-mul_of_pos_right}
+use Rattle.std.proofs.lemmas.List.{drop_more, get_or-drop, get_or_past}
 use Rattle.std.proofs.lemmas.List.Sums.{prefix_len-le-length, prefix_len_passes, prefix_len_stops}
 use Rattle.std.specs.List.{prefix_len, list_all, range_with_len}
-use Rattle.std.specs.Prelude.{◌*◌, ◌^◌, filter, slice_range, nat_lt, not, ◌==◌, ◌||◌, ◌&&◌}
-use Rattle.std.proofs.lemmas.Bool.{cases_lt, and_parts, and_from, le-ltb, lt-leb, false≢true}
+use Rattle.std.specs.Prelude.{◌*◌, ◌^◌, filter, slice_range, not, ◌==◌, ◌||◌, ◌&&◌}
+use Rattle.std.proofs.lemmas.Bool.{cases_lt, and_parts, and_from, false≢true}
 use Rattle.std.proofs.lemmas.Bool.Decides.{nat_tests}
 use Rattle.toml_span_lex.specs.Bytes.{is_keylike, MaximalRun}
 use Rattle.toml_span_lex.proofs.Unique.{run_unique}
@@ -18,28 +19,22 @@ use Rattle.toml_span_read.specs.code.Numbers.{DigitGives, Passes}
 -- ---- bytes
 
 pub is_false : (b : Bool) → (b ≡ true → ⊥) → b ≡ false
-is_false true h = absurd (h refl)
-is_false false h = refl
+is_false b h = grind (arith, nat_tests, common_steps)
 
 pub bool_cases : (b : Bool) → (b ≡ true) ⊎ (b ≡ false)
-bool_cases true = inl refl
-bool_cases false = inr refl
+bool_cases b = grind (arith, nat_tests, common_steps)
 
 or_right : (a b : Bool) → b ≡ true → (a || b) ≡ true
-or_right true b h = refl
-or_right false b h = h
+or_right a b h = grind (arith, nat_tests, common_steps)
 
 or_cases : (a b : Bool) → (a || b) ≡ true → (a ≡ true) ⊎ (b ≡ true)
-or_cases true b h = inl refl
-or_cases false b h = inr h
+or_cases a b h = grind (arith, nat_tests, common_steps)
 
 or_none : (a b : Bool) → a ≡ false → b ≡ false → (a || b) ≡ false
-or_none true b h g = h
-or_none false b h g = g
+or_none a b h g = grind (arith, nat_tests, common_steps)
 
 pub and_left : (a b : Bool) → (a && b) ≡ true → a ≡ true
-and_left true b h = refl
-and_left false b h = h
+and_left a b h = grind (arith, nat_tests, common_steps)
 
 pub byte_is : (c k : ℕ) → (c == k) ≡ true → c ≡ k
 byte_is c k h = grind (arith, nat_tests)
@@ -128,12 +123,10 @@ passes_on text i k j r a b = record { forward = b; within = r.within; passes = �
 -- ---- digits
 
 pub digit_some : (radix c : ℕ) (o : Option ℕ) → DigitGives radix c o → is_some o ≡ true → is_digit_in radix c ≡ true
-digit_some radix c (Some v) h e = h.0
-digit_some radix c None h e = absurd (false≢true e)
+digit_some radix c o h e = grind (arith, nat_tests, common_steps)
 
 pub digit_none : (radix c : ℕ) (o : Option ℕ) → DigitGives radix c o → is_some o ≡ false → is_digit_in radix c ≡ false
-digit_none radix c (Some v) h e = absurd (false≢true (sym e))
-digit_none radix c None h e = h
+digit_none radix c o h e = grind (arith, nat_tests, common_steps)
 
 -- no digit and no underscore stands where digits end
 pub digits_stop : (radix : ℕ) (text : List ℕ) (i j : ℕ) → Digits radix text i j → is_figure radix (get_or text j 0) ≡ false
@@ -159,8 +152,7 @@ all_from p i (suc n) h =
     and_from (p i) (list_all p (range_with_len (i + 1) n)) (h i (omega arith) (omega arith)) (all_from p (i + 1) n (λ k a b. h k (omega arith) (omega arith)))
 
 followed : (b c : Bool) → (b ≡ true → c ≡ true) → (not b || c) ≡ true
-followed true c h = h refl
-followed false c h = refl
+followed b c h = grind (arith, nat_tests, common_steps)
 
 digits_found : (radix : ℕ) (text : List ℕ) (i : ℕ) → are_digits radix text i (figures_end radix text i) ≡ true → Digits radix text i (figures_end radix text i)
 unfolding are_digits figures_end
@@ -301,10 +293,7 @@ stands_alone text j k d = or_none _ _ k d
 -- ---- values
 
 regroup : (v r d p s : ℕ) → v * (r * p) + (d * p + s) ≡ (v * r + d) * p + s
-regroup v r d p s =
-    let e : (v * r + d) * p ≡ v * r * p + d * p = add-mul (v * r) d p in
-    let f : v * r * p ≡ v * (r * p) = mul_assoc v r p in
-    omega (arith, e, f)
+regroup v r d p s = grind (arith, nat_tests, common_steps)
 
 -- one digit more
 pub sum_step : (radix v c : ℕ) (cs : List ℕ) → is_digit_in radix c ≡ true
@@ -315,12 +304,6 @@ sum_step radix v c cs h =
     let e : filter (is_digit_in radix) (c ∷ cs) ≡ c ∷ fs = rw h refl in
     let p : radix ^ length (c ∷ fs) ≡ radix * radix ^ length fs = pow-succ' radix (length fs) in
     rw (e, p) (regroup v radix (digit_value c) (radix ^ length fs) (sum_of_digits radix fs))
-
-pub sum_skip : (radix v c : ℕ) (cs : List ℕ) → is_digit_in radix c ≡ false
-    → v * radix ^ length (filter (is_digit_in radix) (c ∷ cs)) + sum_of_digits radix (filter (is_digit_in radix) (c ∷ cs))
-    ≡ v * radix ^ length (filter (is_digit_in radix) cs) + sum_of_digits radix (filter (is_digit_in radix) cs)
-sum_skip radix v c cs h =
-    let e : filter (is_digit_in radix) (c ∷ cs) ≡ filter (is_digit_in radix) cs = rw h refl in rw e refl
 
 -- v is what the digits before `rest` come to
 abbrev pub Summed : ℕ → ℕ → List ℕ → List ℕ → Type 0
@@ -335,17 +318,13 @@ sum_goes_on radix v w i digits l h e s =
 
 pub sum_passes : (radix v i : ℕ) (digits : List ℕ) → i < length digits → is_digit_in radix (get_or digits i 0) ≡ false
     → Summed radix v (drop i digits) digits → Summed radix v (drop (i + 1) digits) digits
-sum_passes radix v i digits l h s =
-    let d : Summed radix v (get_or digits i 0 ∷ drop (i + 1) digits) digits = rw (drop_more digits i 0 l) at s in
-    sym (sum_skip radix v (get_or digits i 0) (drop (i + 1) digits) h) ∙ d
+sum_passes radix v i digits l h s = grind (arith, nat_tests, common_steps)
 
 pub and_right : (a b : Bool) → (a && b) ≡ true → b ≡ true
-and_right true b h = h
-and_right false b h = absurd (false≢true h)
+and_right a b h = grind (arith, nat_tests, common_steps)
 
 radix_some : (radix c : ℕ) → is_digit_in radix c ≡ true → 0 < radix
-radix_some radix c h =
-    let l : nat_lt (digit_value c) radix ≡ true = and_right _ _ h in grind (arith, nat_tests)
+radix_some radix c h = grind (arith, nat_tests, common_steps)
 
 -- what is past 64 bits stays so, however many digits follow
 pub past_with_digits : (radix c n s k : ℕ) → is_digit_in radix c ≡ true → 2 ^ 64 ≤ n → 2 ^ 64 ≤ n * radix ^ k + s
@@ -365,22 +344,15 @@ sum_past radix v i d digits l h e s b =
 
 pub signed_past : (negative : Bool) (m : ℕ) → 2 ^ 64 ≤ m → signed negative m ≡ None
 unfolding signed
-signed_past false m l = rw (le-ltb m (2 ^ 63) (omega arith)) refl
-signed_past true m l = rw (lt-leb m (2 ^ 63) (omega arith)) refl
+signed_past negative m l = grind (arith, nat_tests, common_steps)
 
 -- ---- bytes of literals
 
 digits_ascii : (radix : ℕ) (text : List ℕ) (i j k : ℕ) → Digits radix text i j → i ≤ k → k < j → get_or text k 0 < 128
 digits_ascii radix text i j k d a b = keylike_small (get_or text k 0) (figure_keylike radix (get_or text k 0) (d.run.passes k a b))
 
-sign_small : (c : ℕ) → (c == 43 || c == 45) ≡ true → c < 128
-sign_small c h = elim (or_cases _ _ h) [ inl p ↦ let e : c ≡ 43 = byte_is c 43 p in omega arith | inr m ↦ let e : c ≡ 45 = byte_is c 45 m in omega arith ]
-
 sign_ascii : (text : List ℕ) (i k : ℕ) → i ≤ k → k < behind_sign text i → get_or text k 0 < 128
-sign_ascii text i k a b = elim (bool_cases (get_or text i 0 == 43 || get_or text i 0 == 45)) [
-  | inl h ↦ let l : k < i + 1 = rw h at b in let e : k ≡ i = omega arith in rw e (sign_small (get_or text i 0) h)
-  | inr h ↦ let l : k < i = rw h at b in absurd (omega arith)
-]
+sign_ascii text i k a b = grind (arith, nat_tests, common_steps)
 
 exponent_small : (c : ℕ) → is_exponent c ≡ true → c < 128
 exponent_small c h = elim (or_cases _ _ h) [ inl p ↦ let e : c ≡ 101 = byte_is c 101 p in omega arith | inr m ↦ let e : c ≡ 69 = byte_is c 69 m in omega arith ]
@@ -419,16 +391,10 @@ pub range_length : (text : List ℕ) (a b : ℕ) → b ≤ length text → lengt
 range_length text a b w = omega (arith, length-take (b - a) (drop a text), length-drop a text)
 
 pub range_at : (text : List ℕ) (a b k : ℕ) → a ≤ k → k < b → get_or (slice_range text a b) (k - a) 0 ≡ get_or text k 0
-range_at text a b k x y =
-    let e : a + (k - a) ≡ k = omega arith in
-    let l : k - a < b - a = omega arith in
-    rw (get_or-take (b - a) (drop a text) (k - a) 0 l, get_or-drop, e) refl
+range_at text a b k x y = grind (arith, nat_tests, common_steps)
 
 slice_byte : (text : List ℕ) (a n k : ℕ) → ((l : ℕ) → a ≤ l → l < a + n → get_or text l 0 < 128) → get_or (take n (drop a text)) k 0 < 128
-slice_byte text a n k h = elim (cases_lt k n) [
-  | inl l ↦ rw (get_or-take n (drop a text) k 0 l, get_or-drop a text k 0) (h (a + k) (omega arith) (omega arith))
-  | inr g ↦ rw (get_or_past (take n (drop a text)) k 0 (omega (arith, length-take n (drop a text)))) (omega arith)
-]
+slice_byte text a n k h = grind (arith, nat_tests, common_steps)
 
 -- each byte of a part of a float's literal
 pub slice_ascii : (text : List ℕ) (i a b k : ℕ) → FloatLiteral text i b → i ≤ a → a ≤ b → get_or (slice_range text a b) k 0 < 128
@@ -438,10 +404,7 @@ pub cons_parts : (x y : ℕ) (xs ys : List ℕ) → x ∷ xs ≡ y ∷ ys → (x
 cons_parts x y xs ys e = (cc, cc)
 
 pub slice_some : (text : List ℕ) (a b x : ℕ) (xs : List ℕ) → slice_range text a b ≡ x ∷ xs → a < b
-slice_some text a b x xs h = elim (cases_lt a b) [
-  | inl l ↦ l
-  | inr g ↦ let e : b - a ≡ 0 = omega arith in let n : [] ≡ x ∷ xs = rw e at h in absurd cc
-]
+slice_some text a b x xs h = grind (arith, nat_tests, common_steps)
 
 pub slice_first : (text : List ℕ) (a b x : ℕ) (xs : List ℕ) → a < b → b ≤ length text → slice_range text a b ≡ x ∷ xs → (get_or text a 0 ≡ x) × (slice_range text (a + 1) b ≡ xs)
 slice_first text a b x xs l w h = cons_parts _ _ _ _ (sym (slice_cons text a b l w) ∙ h)

@@ -1,11 +1,13 @@
 -- What is read as a number is spelled, and a fault that is told stands in the text.
+use Rattle.std.proofs.lemmas.Grind.{common_steps}
+use Rattle.std.proofs.lemmas.Bool.Decides.{nat_tests}
 use Rattle.std.proofs.Common.{◌≡◌, ℕ, ◌+◌, ◌-◌, ◌<◌, ◌≤◌, ◌⊎◌, Bool, true, false, List, length, get_or, arith, Ok, Err, Option, Some, None, is_some, inl, inr, refl, sym, ◌∙◌, subst, Result}
-use Rattle.std.proofs.lemmas.Bool.{cases_lt, and_parts, not-true, not-false, or_parts, eqb-false, ltb-true, ltb-false, leb-true, false≢true}
+use Rattle.std.proofs.lemmas.Bool.{cases_lt, and_parts, not-true, not-false, or_parts, eqb-false, ltb-true, ltb-false, false≢true}
 use Rattle.std.proofs.lemmas.List.Folds.{list_all_at}
 use Rattle.std.proofs.lemmas.Slice.Eq.{bytes_eq-Decides}
 use Rattle.std.specs.List.{list_all}
 use Rattle.std.specs.Option.{ok_or, option_map_or}
-use Rattle.std.specs.Prelude.{ℤ, pos, neg_ℤ, not, ◌^◌, ◌==◌, ◌||◌, ◌&&◌, nat_lt, nat_le, slice_range, codes, if◌then◌else◌}
+use Rattle.std.specs.Prelude.{ℤ, not, ◌==◌, ◌||◌, ◌&&◌, nat_lt, slice_range, codes, if◌then◌else◌}
 use Rattle.std.specs.Str.{bytes_eq, IsUtf8}
 use Rattle.toml_span_lex.specs.Bytes.{is_keylike}
 use Rattle.toml_span_lex.proofs.Runs.{behind, keylike_ascii}
@@ -42,23 +44,19 @@ fails : {A : Type 0} (text : List ℕ) (s e : ℕ) (Q : A → Type 0) → Placed
 fails text s e Q p = record { given = λ b h. absurd cc; told = λ x h. (let same : invalid_number s e ≡ x = cc in rw (← same) (record { within = p.1; forward = p.0 })) }
 
 after : {A B : Type 0} (text : List ℕ) (r : Read A) (f : A → Read B) (P : A → Type 0) (Q : B → Type 0) → Reads text r P → ((a : A) → P a → Reads text (f a) Q) → Reads text (r >>= f) Q
-after text (Ok a) f P Q h g = g a (h.given a refl)
-after text (Err e) f P Q h g = record { given = λ b x. absurd cc; told = λ x y. h.told x (let s : e ≡ x = cc in rw s refl) }
+after text r f P Q h g = grind (arith, nat_tests, common_steps)
 
 choice : {A : Type 0} (text : List ℕ) (c : Bool) (x y : Read A) (Q : A → Type 0) → (c ≡ true → Reads text x Q) → (c ≡ false → Reads text y Q) → Reads text (if c then x else y) Q
-choice text true x y Q h g = h refl
-choice text false x y Q h g = g refl
+choice text c x y Q h g = grind (arith, nat_tests, common_steps)
 
 weaker : {A : Type 0} (text : List ℕ) (r : Read A) (P Q : A → Type 0) → Reads text r P → ((a : A) → P a → Q a) → Reads text r Q
 weaker text r P Q h g = record { given = λ a e. g a (h.given a e); told = h.told }
 
 some_or : {A B : Type 0} (text : List ℕ) (f : A → Read B) (o : Option A) (r : Read B) (Q : B → Type 0) → ((a : A) → o ≡ Some a → Reads text (f a) Q) → (o ≡ None → Reads text r Q) → Reads text (option_map_or f o r) Q
-some_or text f (Some a) r Q h g = h a refl
-some_or text f None r Q h g = g refl
+some_or text f o r Q h g = grind (arith, nat_tests, common_steps)
 
 or_fails : {A : Type 0} (text : List ℕ) (s e : ℕ) (o : Option A) (Q : A → Type 0) → Placed text s e → ((a : A) → o ≡ Some a → Q a) → Reads text (ok_or o (invalid_number s e)) Q
-or_fails text s e (Some a) Q p h = done text a Q (h a refl)
-or_fails text s e None Q p h = fails text s e Q p
+or_fails text s e o Q p h = grind (arith, nat_tests, common_steps)
 
 -- ---- digits
 
@@ -99,8 +97,7 @@ leads : (text : List ℕ) (from m : ℕ) → from < m → (get_or text from 0 ==
 leads text from m l c z = let n : nat_lt (from + 1) m ≡ false = rw z at c in omega (arith, ltb-false (from + 1) m n)
 
 second_in : (b : Bool) (from m end : ℕ) → from + 1 < m → m ≤ end → (if b then from + 2 else from + 1) ≤ end
-second_in true from m end l t = omega arith
-second_in false from m end l t = omega arith
+second_in b from m end l t = grind (arith, nat_tests, common_steps)
 
 part_reads : (text : List ℕ) (start from end : ℕ) → Piece text start from end → Reads text (integer_part text start from end) (PartTo text from end)
 unfolding integer_part
@@ -180,14 +177,7 @@ fraction_reads text i a b f q p =
 
 pub signed_sound : (negative : Bool) (m : ℕ) (n : ℤ) → signed negative m ≡ Some n → IsSigned negative m n
 unfolding signed
-signed_sound false m n h = elim (bool_cases (nat_lt m (2 ^ 63))) [
-  | inl l ↦ let e : Some (pos m) ≡ Some n = rw l at h in (cc, ltb-true m (2 ^ 63) l)
-  | inr g ↦ let e : None ≡ Some n = rw g at h in absurd cc
-]
-signed_sound true m n h = elim (bool_cases (nat_le m (2 ^ 63))) [
-  | inl l ↦ let e : Some (neg_ℤ (pos m)) ≡ Some n = rw l at h in (cc, leb-true m (2 ^ 63) l)
-  | inr g ↦ let e : None ≡ Some n = rw g at h in absurd cc
-]
+signed_sound negative m n h = grind (arith, nat_tests, common_steps)
 
 integer_reads : (radix : ℕ) (text : List ℕ) (negative : Bool) (start from end : ℕ) → Placed text start end
     → Reads text (spec.integer radix text negative start from end) (IsSigned negative (magnitude radix text from end))
@@ -297,9 +287,7 @@ pub no_prefix : (text : List ℕ) (i : ℕ) → (get_or text i 0 ≡ 48 → NoLe
 no_prefix text i h = elim (bool_cases (get_or text i 0 == 48)) [ inl z ↦ let n = h (byte_is (get_or text i 0) 48 z) in rw (z, n.0, n.1, n.2) refl | inr n ↦ rw n refl ]
 
 pub keylike_letter : (c : ℕ) → is_keylike c ≡ false → NoLetter c
-keylike_letter c k =
-    let no : (d : ℕ) → is_keylike d ≡ true → (c == d) ≡ false = λ d t. is_false _ (λ e. clash (λ x. not (is_keylike x)) c d (rw k refl) (byte_is c d e) (rw t refl)) in
-    (no 120 refl, no 111 refl, no 98 refl)
+keylike_letter c k = grind (arith, nat_tests, common_steps)
 
 pub prefix_some : (text : List ℕ) (a b radix : ℕ) → Passes text a b → a < b → radix_at text a ≡ Some radix → a + 2 ≤ b
 prefix_some text a b radix r l h = elim (cases_lt (a + 1) b) [
@@ -355,12 +343,10 @@ abbrev pub Starts : List ℕ → ℕ → Type 0
 Starts text i = (is_keylike (get_or text i 0) || get_or text i 0 == 43) ≡ true
 
 no_some : (o : Option ℕ) → is_some o ≡ false → o ≡ None
-no_some None h = refl
-no_some (Some n) h = absurd (false≢true (sym h))
+no_some o h = grind (arith, nat_tests, common_steps)
 
 first_of_two : (a b : Bool) → (a || b) ≡ true → b ≡ false → a ≡ true
-first_of_two true b h n = refl
-first_of_two false b h n = absurd (false≢true (sym n ∙ h))
+first_of_two a b h n = grind (arith, nat_tests, common_steps)
 
 -- a number is read only where one is spelled, and as that one
 pub numeral_reads : (text : List ℕ) (i : ℕ) → Starts text i → Reads text (numeral text i) (Spelled text i)

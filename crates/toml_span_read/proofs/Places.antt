@@ -1,8 +1,10 @@
 -- Places of a text at which it may be cut.
-use Rattle.std.proofs.Common.{◌≡◌, ℕ, ◌+◌, ◌<◌, Bool, true, false, List, [], ◌∷◌, ◌++◌, length, get_or, arith, refl, inl, inr, sym, ◌∙◌}
+use Rattle.std.proofs.lemmas.Grind.{common_steps}
+use Rattle.std.proofs.lemmas.Bool.Decides.{nat_tests}
+use Rattle.std.proofs.Common.{◌≡◌, ℕ, ◌+◌, ◌<◌, Bool, true, false, List, [], ◌∷◌, ◌++◌, length, get_or, arith, refl, inl, inr}
 use Rattle.std.specs.Str.{IsUtf8, IsCharBoundary}
 use Rattle.std.proofs.lemmas.Str.{IsCharBoundary-after_ascii}
-use Rattle.std.proofs.lemmas.Bool.{cases_lt, false≢true}
+use Rattle.std.proofs.lemmas.Bool.{cases_lt}
 use Rattle.std.proofs.lemmas.List.{get_or_past}
 use Rattle.toml_span_read.specs.Gaps.{GapPiece, GapBy}
 use Rattle.toml_span_read.specs.code.Gaps.{Further}
@@ -28,12 +30,4 @@ gap_more text i j k (ks, g) h = (ks ++ (k ∷ []), gap_longer text i j k ks g h)
 
 -- where a byte passes that is not 0, a run is not empty
 pub run_some : (p : ℕ → Bool) (text : List ℕ) (i j : ℕ) → p 0 ≡ false → p (get_or text i 0) ≡ true → MaximalRun p text i j → i < j
-run_some p text i j z h r =
-    elim (cases_lt i j) [
-      | inl l ↦ l
-      | inr g ↦ let e : j ≡ i = omega (arith, r.forward) in
-          elim (cases_lt j (length text)) [
-            | inl l ↦ absurd (false≢true (sym (r.stops l) ∙ (rw e h)))
-            | inr m ↦ absurd (false≢true (sym z ∙ (rw (get_or_past text i 0 (omega arith)) at h)))
-          ]
-    ]
+run_some p text i j z h r = grind (arith, nat_tests, common_steps)

@@ -1,11 +1,12 @@
 -- What is read is spelled.
+use Rattle.std.proofs.lemmas.Grind.{common_steps}
 use Rattle.std.proofs.Common.{◌≡◌, ℕ, zero, suc, ◌+◌, ◌<◌, ◌≤◌, Bool, true, false, List, [], ◌∷◌, ◌++◌, length, get_or, arith, inl, inr, sym, ◌∙◌, refl, ap, append-nil, append_assoc, Result, Ok, Err}
 use Rattle.std.specs.Prelude.{◌==◌, slice_range, codes, if◌then◌else◌, ◌||◌, is_some}
 use Rattle.std.specs.Str.{bytes_eq}
 use Rattle.std.proofs.lemmas.Bool.Decides.{nat_tests}
 use Rattle.std.proofs.lemmas.Slice.Eq.{bytes_eq-Decides}
 use Rattle.toml_span_lex.specs.Bytes.{is_blank, is_keylike, MaximalRun}
-use Rattle.toml_span_lex.specs.Tokens.{string, RunAt}
+use Rattle.toml_span_lex.specs.Tokens.{RunAt}
 use Rattle.toml_span_lex.specs.Tokenizer.{FirstPlace}
 use Rattle.toml_span_tree.specs.Node.{Scalar, text as text_scalar, integer, float, boolean, datetime}
 use Rattle.toml_span_read.specs.declared.fault.Due.{Due}
@@ -47,9 +48,7 @@ separator_on close due text m next end s (k, gap, inr (none, inl (shut, e))) = a
 separator_on close due text m next end s (k, gap, inr (none, inr (other, (standing, stands, e)))) = absurd cc
 
 separator_done : {S A : Type 0} (close : ℕ) (due : Due) (text : List ℕ) (m : ℕ) (next : ℕ → S) (end : ℕ → A) (a : A) → read.separator close due text m next end (Ok (done a)) → (j : ℕ) × Closes close text m j × (a ≡ end j)
-separator_done close due text m next end a (k, gap, inl (comma, (p, behind, e))) = absurd cc
-separator_done close due text m next end a (k, gap, inr (none, inl (shut, e))) = (k + 1, record { at = k; before = gap; here = byte_is _ _ shut; ends = refl }, cc)
-separator_done close due text m next end a (k, gap, inr (none, inr (other, (standing, stands, e)))) = absurd cc
+separator_done close due text m next end a h = grind (arith, nat_tests, common_steps)
 
 -- ---- values without brackets
 
@@ -101,8 +100,7 @@ letter : (c : ℕ) → begins_bare c ≡ true → begins_number c ≡ false → 
 letter c b n = grind (arith, nat_tests)
 
 or_false : (a b : Bool) → (a || b) ≡ false → a ≡ false
-or_false false b h = refl
-or_false true b h = absurd cc
+or_false a b h = grind (arith, nat_tests, common_steps)
 
 choose : (s : Scalar) (text : List ℕ) (i j : ℕ) (n : Bool) → (begins_number (get_or text i 0) || is_some (special false (read.run_at text i))) ≡ n → begins_date text i ≡ false → begins_bare (get_or text i 0) ≡ true
     → ◌≡◌ {A = Result (Scalar × ℕ) Fault} (if n then number text i else read.word text i) (Ok (s, j)) → SpellsScalar s (from_to i j) text i j
@@ -116,9 +114,7 @@ bare_sound s text i j b (inl (d, (k, candidate, inr (wrong, e)))) = absurd cc
 bare_sound s text i j b (inr (d, e)) = choose s text i j _ refl d b (sym e)
 
 string_sound : (v : ParsedValue) (text : List ℕ) (limit d i j : ℕ) → d ≤ limit → read.string_value text i (Ok (v, j)) → Spells v text limit d i j
-string_sound v text limit d i j l (token span (string source value multi) k, h, e) =
-    let u = same_found v (parsed (scalar (text_scalar value)) span) j k e in rw (u.0, u.1) (l, (source, multi, h))
-string_sound v text limit d i j l (standing, h, e) = absurd cc
+string_sound v text limit d i j l h = grind (arith, nat_tests, common_steps)
 
 -- ---- elements
 
@@ -231,13 +227,11 @@ members_sound text limit d k value sound a h =
 
 array_sound : (v : ParsedValue) (inner : ParsedInner) (text : List ℕ) (limit d i k j m : ℕ) → d ≤ limit → (get_or text i 0 == 91) ≡ true → MaximalGap text (i + 1) k → Elements text limit (d + 1) k (inner, m)
     → ◌≡◌ {A = Result ValueEnd Fault} (Ok (v, j)) (Ok (parsed inner (from_to i m), m)) → Spells v text limit d i j
-array_sound v inner text limit d i k j m l here gap (vs, is, items) e =
-    let u = same_found v (parsed inner (from_to i m)) j m e in rw (u.0, u.1, is) (l, (byte_is _ _ here, refl, k, gap, items))
+array_sound v inner text limit d i k j m l here gap h e = grind (arith, nat_tests, common_steps)
 
 table_sound : (v : ParsedValue) (inner : ParsedInner) (text : List ℕ) (limit d i k j m : ℕ) → d ≤ limit → (get_or text i 0 == 123) ≡ true → MaximalGap text (i + 1) k → Members text limit (d + 1) k (inner, m)
     → ◌≡◌ {A = Result ValueEnd Fault} (Ok (v, j)) (Ok (parsed inner (from_to i m), m)) → Spells v text limit d i j
-table_sound v inner text limit d i k j m l here gap (ps, is, pairs) e =
-    let u = same_found v (parsed inner (from_to i m)) j m e in rw (u.0, u.1, is) (l, (byte_is _ _ here, refl, k, gap, pairs))
+table_sound v inner text limit d i k j m l here gap h e = grind (arith, nat_tests, common_steps)
 
 -- with so many levels left above the limit
 pub value_sound : (left : ℕ) (text : List ℕ) (limit d n : ℕ) → d + left ≡ limit + 1 → ValueSound text limit (d + n) (read.value text limit left n)
@@ -285,8 +279,7 @@ key_value_spelled e text limit i j h =
     }
 
 tail_sound : (text : List ℕ) (i j : ℕ) → read.tail text i (Ok j) → Tail text i j
-tail_sound text i j (inl (k, h, e)) = let same : k ≡ j = cc in rw same at h
-tail_sound text i j (inr (k, none, (standing, h, e))) = absurd cc
+tail_sound text i j h = grind (arith, nat_tests, common_steps)
 
 -- whatever assignments follow, they and those that are read stand from k on
 abbrev LinesFrom : List ℕ → ℕ → ℕ → Pairs → Type 0
@@ -318,17 +311,8 @@ lines_sound es text limit i j (k, gap, h) =
 
 -- ---- headers
 
-bracket_sound : (text : List ℕ) (i j : ℕ) → read.bracket text i (Ok j) → (get_or text i 0 ≡ 93) × (j ≡ i + 1)
-bracket_sound text i j (inl (here, e)) = (byte_is _ _ here, cc)
-bracket_sound text i j (inr (other, (standing, h, e))) = absurd cc
-
 closing_sound : (array : Bool) (text : List ℕ) (i j : ℕ) → read.closing array text i (Ok j) → ClosesHeader array text i j
-closing_sound false text i j h = bracket_sound text i j h
-closing_sound true text i j (inl (k, h, g)) =
-    let a = bracket_sound text i k h in
-    let b = bracket_sound text k j g in
-    (a.0, rw a.1 at b.0, omega (arith, a.1, b.1))
-closing_sound true text i j (inr (x, h, e)) = absurd cc
+closing_sound array text i j h = grind (arith, nat_tests, common_steps)
 
 heading_sound : (opened array : Bool) (h : HeaderEnd) (text : List ℕ) (limit i m : ℕ) → OpensHeader array text i m → read.heading array text limit m (Ok h) → (h.array ≡ array) × SpellsHeader h.parts h.array text limit i h.end
 heading_sound opened array h text limit i m opens (k, before, inl ((ps, a), key, (c, behind, inl (e, shut, inl (j, rest, is))))) =
@@ -364,19 +348,14 @@ section_sound b text limit i j here (inr (x, g, is)) = absurd cc
 -- ---- the document
 
 line_ends : (text : List ℕ) (limit : ℕ) (s a : Pairs) → read.next_assignment text limit s (Ok (done a)) → read.ends_lines text a.1 ≡ true
-line_ends text limit (es, i) a (inl (end, e)) = let is : a ≡ (es, i) = cc in rw is end
-line_ends text limit (es, i) a (inr (go, inl ((p, m), h, inl (n, rest_of, inl (fs, judged, (q, gap, is)))))) = absurd cc
-line_ends text limit (es, i) a (inr (go, inl ((p, m), h, inl (n, rest_of, inr (x, judged, e))))) = absurd cc
-line_ends text limit (es, i) a (inr (go, inl ((p, m), h, inr (x, rest_of, e)))) = absurd cc
-line_ends text limit (es, i) a (inr (go, inr (x, h, e))) = absurd cc
+line_ends text limit s a h = grind (arith, nat_tests, common_steps)
 
 pub lines_end : (es : List KeyValue) (text : List ℕ) (limit i j : ℕ) → read.lines text limit i (Ok (es, j)) → read.ends_lines text j ≡ true
 lines_end es text limit i j (k, gap, h) =
     loop_sound (read.next_assignment text limit) (λ s. Unit {0}) (λ a. read.ends_lines text a.1 ≡ true) (λ s t p h. tt) (λ s a p h. line_ends text limit s a h) ([], k) (Ok (es, j)) (es, j) tt h refl
 
 begins_header : (end here : Bool) → (end || here) ≡ true → end ≡ false → here ≡ true
-begins_header false here h e = h
-begins_header true here h e = absurd cc
+begins_header end here h e = grind (arith, nat_tests, common_steps)
 
 -- whatever sections follow, they and those that are read are the document, and one begins here, or the text ends
 abbrev DocumentFrom : List ℕ → ℕ → Blocks → Type 0

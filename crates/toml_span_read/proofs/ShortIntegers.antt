@@ -1,4 +1,5 @@
 -- Integers of a few digits alone.
+use Rattle.std.proofs.lemmas.Grind.{common_steps}
 use Rattle.std.proofs.Common.{◌≡◌, ℕ, ◌+◌, ◌-◌, ◌<◌, ◌≤◌, true, false, drop, List, length, get_or, arith, inl, inr, refl, sym, ◌∙◌}
 use Rattle.std.specs.Prelude.{ℤ, ◌*◌, slice_range, ◌==◌, Ok}
 use Rattle.std.specs.Str.{IsUtf8, IsCharBoundary}
@@ -58,21 +59,10 @@ among : (text : List ℕ) (i j k : ℕ) → is_keylike (get_or text j 0) ≡ fal
 among text i j k n le h = elim (cases_lt k j) [ inl lt ↦ lt | inr ge ↦ let e : k ≡ j = omega arith in absurd (no_keylike_decimal (get_or text j 0) n (rw e at h)) ]
 
 no_dash : (text : List ℕ) (i j k : ℕ) → Decimals text i j → is_keylike (get_or text j 0) ≡ false → i ≤ k → k ≤ j → (get_or text k 0 == 45) ≡ true → ⊥
-no_dash text i j k h n a b e =
-    elim (cases_lt k j) [
-      | inl lt ↦ not_decimal (get_or text k 0) 45 (h k a lt) (byte_is (get_or text k 0) 45 e) refl
-      | inr ge ↦
-          let same : k ≡ j = omega arith in
-          let dash : get_or text j 0 ≡ 45 = rw same at (byte_is (get_or text k 0) 45 e) in
-          false≢true (sym n ∙ (rw dash refl))
-    ]
+no_dash text i j k h n a b e = grind (arith, nat_tests, common_steps)
 
 no_colon : (text : List ℕ) (i j k : ℕ) → Decimals text i j → (get_or text j 0 == 58) ≡ false → i ≤ k → k ≤ j → (get_or text k 0 == 58) ≡ true → ⊥
-no_colon text i j k h n a b e =
-    elim (cases_lt k j) [
-      | inl lt ↦ not_decimal (get_or text k 0) 58 (h k a lt) (byte_is (get_or text k 0) 58 e) refl
-      | inr ge ↦ let same : k ≡ j = omega arith in false≢true (sym n ∙ (rw same at e))
-    ]
+no_colon text i j k h n a b e = grind (arith, nat_tests, common_steps)
 
 date_no : (text : List ℕ) (i j : ℕ) → i < j → Decimals text i j → is_keylike (get_or text j 0) ≡ false → (get_or text j 0 == 58) ≡ false → begins_date text i ≡ true → ⊥
 date_no text i j l h n c b =

@@ -1,5 +1,6 @@
 -- Strings on one line in which each character stands for itself.
-use Rattle.std.proofs.Common.{◌≡◌, ℕ, ◌+◌, ◌-◌, ◌<◌, ◌⊎◌, true, false, List, [], ◌∷◌, length, get_or, arith, inl, inr, refl, sym, subst, ◌∙◌, append-nil}
+use Rattle.std.proofs.lemmas.Grind.{common_steps}
+use Rattle.std.proofs.Common.{◌≡◌, ℕ, ◌+◌, ◌-◌, ◌<◌, ◌⊎◌, true, false, List, [], ◌∷◌, length, get_or, arith, refl, sym, subst, ◌∙◌, append-nil}
 use Rattle.std.specs.Prelude.{slice_range, ◌==◌}
 use Rattle.std.specs.Str.{IsUtf8, IsCharBoundary}
 use Rattle.std.specs.Cow.{cow_str_bytes, IsBorrowedStr}
@@ -37,8 +38,7 @@ plain_content text q i j l run e w = record {
 }
 
 quote_byte : (q : ℕ) → (q ≡ 34) ⊎ (q ≡ 39) → (0 < q) × (q < 128)
-quote_byte q (inl e) = (omega arith, omega arith)
-quote_byte q (inr e) = (omega arith, omega arith)
+quote_byte q h = grind (arith, nat_tests, common_steps)
 
 -- what reading such a string gives
 pub short_read : {Z : Type 0} (text : List ℕ) (q i j : ℕ) (val : CowStr Z) → IsUtf8 text → q ≡ get_or text i 0 → (get_or text i 0 ≡ 34) ⊎ (get_or text i 0 ≡ 39) → i + 1 < j

@@ -1,10 +1,8 @@
 -- The spans of a value lie within the text that it is spelled by.
-use Rattle.std.proofs.Common.{◌≡◌, ℕ, ◌+◌, ◌<◌, ◌≤◌, Bool, true, false, List, [], ◌∷◌, ◌++◌, length, get_or, arith, inl, inr}
-use Rattle.std.specs.Prelude.{◌==◌, ◌&&◌, not, if◌then◌else◌}
+use Rattle.std.proofs.lemmas.Grind.{common_steps}
+use Rattle.std.proofs.lemmas.Bool.Decides.{nat_tests}
+use Rattle.std.proofs.Common.{◌≡◌, ℕ, ◌+◌, ◌<◌, ◌≤◌, List, [], ◌∷◌, ◌++◌, length, arith, inl, inr}
 use Rattle.toml_span_lex.specs.declared.span.Span.{Span}
-use Rattle.toml_span_lex.specs.Strings.{IsString}
-use Rattle.toml_span_lex.proofs.Copies.{content_fits}
-use Rattle.toml_span_lex.proofs.MadeStrings.{content_from_after}
 use Rattle.toml_span_tree.specs.Node.{Scalar, text as text_scalar, integer, float, boolean, datetime}
 use Rattle.toml_span_read.specs.Gaps.{Separator, Closes}
 use Rattle.toml_span_read.specs.Keys.{SimpleKey}
@@ -14,36 +12,19 @@ use Rattle.toml_span_read.specs.Data.{ParsedValue, parsed, ParsedInner, scalar, 
 use Rattle.toml_span_read.specs.Grammar.{from_to, SpellsScalar, Spells, SpellsInner, SpellsItems, SpellsPairs}
 use Rattle.toml_span_read.proofs.NumberReads.{number_on}
 use Rattle.toml_span_read.proofs.Places.{read_within}
-use Rattle.toml_span_read.proofs.KeyOrder.{dotted_ascend}
+use Rattle.toml_span_read.proofs.KeyOrder.{Lies, string_lies, dotted_ascend}
+use Rattle.toml_span_read.proofs.InsideLemmas.{ascend_forward}
 
 -- ---- scalars
-
--- a span that is not turned round lies from i to j, which is within the text
-record Lies (text : List ℕ) (i j : ℕ) (s : Span) : Type 0 where
-  begins : i ≤ s.start
-  forward : s.start ≤ s.end
-  ends : s.end ≤ j
-  within : j ≤ length text
 
 whole : (text : List ℕ) (i j : ℕ) (s : Span) → s ≡ from_to i j → (i ≤ j) × (j ≤ length text) → Lies text i j s
 whole text i j s e h = rw e (record { begins = omega arith; forward = h.0; ends = omega arith; within = h.1 })
 
-content_lies : (text : List ℕ) (b : Bool) (i from to j : ℕ) → i < from → from ≤ to → to < j → j ≤ length text → Lies text i j (if b then record { start = i; end = i + 1 } else record { start = from; end = to })
-content_lies text true i from to j a f l w = record { begins = omega arith; forward = omega arith; ends = omega arith; within = w }
-content_lies text false i from to j a f l w = record { begins = omega arith; forward = f; ends = omega arith; within = w }
-
-string_lies : (text v src : List ℕ) (i j : ℕ) (s : Span) (m : Bool) → IsString text i j s src v m → Lies text i j s
-string_lies text v src i j s m h =
-    let f = content_fits (get_or text i 0) m text v h.from h.to j h.content_is in
-    let a = content_from_after m text i h.from h.begins in
-    rw h.span_is (content_lies text (not m && h.from == h.to) i h.from h.to j a (omega (arith, f.0)) f.1 f.2)
-
 candidate_on : (text : List ℕ) (i j : ℕ) → IsCandidate text i j → (i ≤ j) × (j ≤ length text)
-candidate_on text i j (inl h) = (h.0.forward, h.0.within)
-candidate_on text i j (inr h) = (omega (arith, h.2.forward), h.2.within)
+candidate_on text i j h = grind (arith, nat_tests, common_steps)
 
 scalar_lies : (s : Scalar) (span : Span) (t : List ℕ) (i j : ℕ) → SpellsScalar s span t i j → Lies t i j span
-scalar_lies (text_scalar v) span t i j (src, m, h) = string_lies t v src i j span m h
+scalar_lies (text_scalar v) span t i j (src, m, h) = (string_lies t v src i j span m h).0
 scalar_lies (boolean b) span t i j (run, e) = whole t i j span e (run.1.forward, run.1.within)
 scalar_lies (datetime d) span t i j (b, c, is, same, e) = whole t i j span e (candidate_on t i j c)
 scalar_lies (integer n) span t i j (b, h, e) = whole t i j span e (number_on (integer n) t i j h)
@@ -55,8 +36,7 @@ sign_onward : (c : ℕ) (text : List ℕ) (i j : ℕ) → Separator c text i j �
 sign_onward c text i j s = omega (arith, s.before.forward, s.behind.forward)
 
 closes_on : (c : ℕ) (text : List ℕ) (i j : ℕ) → 0 < c → Closes c text i j → (i ≤ j) × (j ≤ length text)
-closes_on c text i j l s =
-    let w : s.at < length text = read_within text s.at (omega (arith, s.here)) in (omega (arith, s.before.forward, s.ends), omega (arith, s.ends, w))
+closes_on c text i j l s = grind (arith, nat_tests, common_steps)
 
 -- a value that lies from i on lies from n on, before it
 nearer : (v : ParsedValue) (n i j : ℕ) → n ≤ i → Inside v i j → Inside v n j
@@ -65,10 +45,6 @@ nearer (parsed k span) n i j l (begins, forward, ends, inner) = (omega arith, fo
 ascend_nearer : (ps : List SimpleKey) (n i j : ℕ) → n ≤ i → Ascend ps i j → Ascend ps n j
 ascend_nearer [] n i j l h = omega arith
 ascend_nearer (p ∷ ps) n i j l (begins, some, rest) = (omega arith, some, rest)
-
-ascend_forward : (ps : List SimpleKey) (i j : ℕ) → Ascend ps i j → i ≤ j
-ascend_forward [] i j h = h
-ascend_forward (p ∷ ps) i j (begins, some, rest) = let f = ascend_forward ps p.span.end j rest in omega arith
 
 mutual
   pub value_lies : (v : ParsedValue) (text : List ℕ) (limit d i j : ℕ) → Spells v text limit d i j → Inside v i j × (i ≤ j) × (j ≤ length text)

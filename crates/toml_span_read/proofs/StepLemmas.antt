@@ -1,4 +1,7 @@
 -- What is read section by section.
+use Rattle.std.proofs.Common.{arith}
+use Rattle.std.proofs.lemmas.Grind.{common_steps}
+use Rattle.std.proofs.lemmas.Bool.Decides.{nat_tests}
 use Rattle.std.proofs.Common.{◌≡◌, refl, sym, ap, ◌∙◌, ℕ, List, [], ◌∷◌, ◌++◌, map, subst, Ok, Option, Some, None}
 use Rattle.std.specs.Prelude.{IfSome}
 use Rattle.toml_span_lex.specs.Tokenizer.{FirstPlace}
@@ -15,8 +18,7 @@ use Rattle.toml_span_read.proofs.MemoryLemmas.{Begun, begun_by_lines, lines_keep
 use Rattle.toml_span_read.proofs.ReadSound.{first_sound}
 
 pub first_right : (text : List ℕ) (o : Option Section) (vs : List Assignment) → IfSome o (λ s. section_written s ≡ assignments_written vs) → AreWrittenRight text (assignments_written vs) → IfSome o (λ s. AreWrittenRight text (section_written s))
-first_right text None vs written right = tt
-first_right text (Some s) vs written right = rw written right
+first_right text o vs written right = grind (arith, nat_tests, common_steps)
 
 pub first_begun : (text : List ℕ) (limit at : ℕ) (o : Option Section) → read.before_headers text limit (Ok (first_blocks o, at)) → Begun text at
 first_begun text limit at o h = let (start, es, begins, lines, is, end) = first_sound (first_blocks o) text limit at h in begun_by_lines es text limit start at begins lines

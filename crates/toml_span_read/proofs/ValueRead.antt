@@ -1,4 +1,6 @@
 -- How values are read, step by step.
+use Rattle.std.proofs.lemmas.Grind.{common_steps}
+use Rattle.std.proofs.lemmas.Bool.Decides.{nat_tests}
 use Rattle.std.proofs.Common.{◌≡◌, ℕ, zero, suc, ◌+◌, ◌-◌, ◌<◌, ◌≤◌, ◌⊎◌, Bool, true, false, List, [], ◌∷◌, ◌++◌, length, map, get_or, arith, inl, inr, sym, ◌∙◌, refl, ap, Result, Ok, Err}
 use Rattle.std.specs.Cow.{cow_str_bytes}
 use Rattle.std.specs.Prelude.{◌==◌, ◌||◌, slice_range, codes, is_some}
@@ -56,25 +58,20 @@ number_first text i t = rw t refl
 
 pub number_bare : (r : Result (ValKind × ℕ) (Stop Fault)) (text : List ℕ) (i : ℕ) → begins_date text i ≡ false → (begins_number (get_or text i 0) || is_some (special false (read.run_at text i))) ≡ true
     → ScalarGives (λ x. x ≡ number text i) r → ScalarGives (read.bare text i) r
-number_bare (Ok (kind, j)) text i d t (s, e, h) = (s, e, inr (d, h ∙ sym (number_first text i t)))
-number_bare (Err (stops.Memory e)) text i d t h = tt
-number_bare (Err (stops.Fault e)) text i d t h = inr (d, h ∙ sym (number_first text i t))
+number_bare r text i d t h = grind (arith, nat_tests, common_steps)
 
 pub or_right : (a b : Bool) → b ≡ true → (a || b) ≡ true
-or_right true b h = refl
-or_right false b h = h
+or_right a b h = grind (arith, nat_tests, common_steps)
 
 pub or_left : (a b : Bool) → a ≡ true → (a || b) ≡ true
-or_left true b h = refl
-or_left false b h = absurd (false≢true h)
+or_left a b h = grind (arith, nat_tests, common_steps)
 
 pub digit_number : (text : List ℕ) (i : ℕ) → begins_number (get_or text i 0) ≡ true → (begins_number (get_or text i 0) || is_some (special false (read.run_at text i))) ≡ true
 digit_number text i n = or_left (begins_number (get_or text i 0)) _ n
 
 special_word : (word : List ℕ) → (word ≡ codes "inf") ⊎ (word ≡ codes "nan") → is_some (special false word) ≡ true
 unfolding special
-special_word word (inl e) = rw e refl
-special_word word (inr e) = rw e refl
+special_word word h = grind (arith, nat_tests, common_steps)
 
 pub letters_number : (text bytes : List ℕ) (i j : ℕ) → bytes ≡ text → MaximalRun is_keylike text i j → (slice_range bytes i j ≡ codes "inf") ⊎ (slice_range bytes i j ≡ codes "nan")
     → (begins_number (get_or text i 0) || is_some (special false (read.run_at text i))) ≡ true
@@ -107,19 +104,16 @@ past_limit text limit d i r l h = let none : (limit + 1) - d ≡ zero = omega (a
 -- ---- values without brackets
 
 pub opens_quote : (b : ℕ) → (b ≡ 34) ⊎ (b ≡ 39) → opens_string b ≡ true
-opens_quote b (inl e) = rw e refl
-opens_quote b (inr e) = rw e refl
+opens_quote b h = grind (arith, nat_tests, common_steps)
 
 no_bracket : (c : ℕ) → opens_nested c ≡ false → ((c == 91) ≡ false) × ((c == 123) ≡ false)
 no_bracket c h = (is_false (c == 91) (λ t. false≢true (sym h ∙ or_left (c == 91) (c == 123) t)), is_false (c == 123) (λ t. false≢true (sym h ∙ or_right (c == 91) (c == 123) t)))
 
 either_false : (a b : Bool) → (a || b) ≡ false → a ≡ false
-either_false true b h = h
-either_false false b h = refl
+either_false a b h = grind (arith, nat_tests, common_steps)
 
 quote_plain : (c : ℕ) → (c ≡ 34) ⊎ (c ≡ 39) → (opens_nested c ≡ false) × (begins_bare c ≡ false)
-quote_plain c (inl e) = (rw e refl, rw e refl)
-quote_plain c (inr e) = (rw e refl, rw e refl)
+quote_plain c h = grind (arith, nat_tests, common_steps)
 
 -- a value that begins neither with a bracket or a brace nor as a bare one
 plain_value : (text : List ℕ) (limit d i : ℕ) (r : Result ValueEnd Fault) → d ≤ limit → opens_nested (get_or text i 0) ≡ false → begins_bare (get_or text i 0) ≡ false → read.string_value text i r → read.value text limit ((limit + 1) - d) zero i r
@@ -260,13 +254,11 @@ no_bracket_stops (stops.Fault e) text limit d i n m p vs v from other h s w = fr
 
 pub key_stops : (stop : Stop Fault) (text : List ℕ) (limit : ℕ) (skipped : ℕ → ℕ → Type 0) (value : ℕ → ℕ → Reading ValueEnd) (i : ℕ) → Gives parts_found (read.key false text limit [] i) (Err stop)
     → Gives key_value_found (read.keyval text limit skipped value i) (Err stop)
-key_stops (stops.Memory e) text limit skipped value i h = tt
-key_stops (stops.Fault e) text limit skipped value i h = inr (e, h, refl)
+key_stops stop text limit skipped value i h = grind (arith, nat_tests, common_steps)
 
 pub equals_stops : (stop : Stop Fault) (text : List ℕ) (limit : ℕ) (skipped : ℕ → ℕ → Type 0) (value : ℕ → ℕ → Reading ValueEnd) (i a n : ℕ) (ps : List SimpleKey) → read.key false text limit [] i (Ok (ps, a)) → skipped a n → (get_or text n 0 == 61) ≡ false
     → WantedGives text n dues.Equals stop → Gives key_value_found (read.keyval text limit skipped value i) (Err stop)
-equals_stops (stops.Memory e) text limit skipped value i a n ps key run none h = tt
-equals_stops (stops.Fault e) text limit skipped value i a n ps key run none (standing, stands, is) = inl ((ps, a), key, (n, run, inr (none, (standing, stands, ap (λ y. Err y) is))))
+equals_stops stop text limit skipped value i a n ps key run h h4 = grind (arith, nat_tests, common_steps)
 
 pub assigned_stops : (stop : Stop Fault) (text : List ℕ) (limit : ℕ) (skipped : ℕ → ℕ → Type 0) (value : ℕ → ℕ → Reading ValueEnd) (i a n b : ℕ) (ps : List SimpleKey) → read.key false text limit [] i (Ok (ps, a)) → skipped a n → get_or text n 0 ≡ 61
     → skipped (n + 1) b → Gives value_found (value (length ps) b) (Err stop) → Gives key_value_found (read.keyval text limit skipped value i) (Err stop)

@@ -37,9 +37,3 @@ returns-in_err-parts-clause-advances c = rw (handed_on c.from_residual.result c.
 
 pub returns-in_err-parts-clause-borrows : goal.returns-in_err-parts-clause-borrows
 returns-in_err-parts-clause-borrows c = rw (handed_on c.from_residual.result c.in_err-parts.field-0.0 c.from_residual.ensures.1) tt
-
-pub returns-in-Err-clause-advances : goal.returns-in-Err-clause-advances
-returns-in-Err-clause-advances c = c.wanted.ensures.placed
-
-pub returns-clause-advances : goal.returns-clause-advances
-returns-clause-advances c = c.in-Err-value.ensures.advances

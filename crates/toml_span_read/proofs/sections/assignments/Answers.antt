@@ -66,16 +66,10 @@ lines-preserved c =
 pub returns-clause-lines : goal.returns-clause-lines
 returns-clause-lines c = lines_last c.lines.found.items c.args.text.now c.args.limit c.args.from c.lines.at c.lines.invariant.whole (lines_stop c.args.text.now c.lines.at (search rules))
 
-pub returns-in-Err-clause-read : goal.returns-in-Err-clause-read
-returns-in-Err-clause-read c = c.in-Err.ensures.advances
-
 pub returns-in-Err-clause-memory : goal.returns-in-Err-clause-memory
 returns-in-Err-clause-memory c =
     let begun = c.lines.invariant.begun in
     forms_keep (Vec Assignment Global × ℕ) c.in-Err.stop c.args.text.now c.args.from (begun.0, begun.1, omega (arith, begun.2))
-
-pub returns-in-Err-next_line-clause-read : goal.returns-in-Err-next_line-clause-read
-returns-in-Err-next_line-clause-read c = c.in-Err-next_line.ensures.reads
 
 pub returns-in-Err-next_line-clause-memory : goal.returns-in-Err-next_line-clause-memory
 returns-in-Err-next_line-clause-memory c =

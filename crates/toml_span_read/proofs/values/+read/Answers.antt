@@ -17,45 +17,6 @@ value-returns-in-91-clause-value t c =
     let b : opens_nested (get_or c.args.text.now c.args.at 0) ≡ true = search rules in
     begun_deep c.too_deep.result c.args.text.now c.args.limit c.args.depth c.args.at (omega arith) (nested_first (get_or c.args.text.now c.args.at 0) b) c.too_deep.ensures.fault
 
-pub value-returns-in-91-clause-advances : goal.value-returns-in-91-clause-advances
-value-returns-in-91-clause-advances t c = c.too_deep.ensures.placed
-
-pub value-returns-in-91-2-clause-advances : goal.value-returns-in-91-2-clause-advances
-value-returns-in-91-2-clause-advances t c = c.array.ensures.advances
-
-pub value-returns-in-91-2-clause-value : goal.value-returns-in-91-2-clause-value
-value-returns-in-91-2-clause-value t c = c.array.ensures.value
-
-pub value-returns-in-91-2-clause-borrows : goal.value-returns-in-91-2-clause-borrows
-value-returns-in-91-2-clause-borrows t c = c.array.ensures.borrows
-
-pub value-returns-in-123-clause-advances : goal.value-returns-in-123-clause-advances
-value-returns-in-123-clause-advances t c = c.inline_table.ensures.advances
-
-pub value-returns-in-123-clause-value : goal.value-returns-in-123-clause-value
-value-returns-in-123-clause-value t c = c.inline_table.ensures.value
-
-pub value-returns-in-123-clause-borrows : goal.value-returns-in-123-clause-borrows
-value-returns-in-123-clause-borrows t c = c.inline_table.ensures.borrows
-
-pub value-returns-in-34-clause-advances : goal.value-returns-in-34-clause-advances
-value-returns-in-34-clause-advances t c = c.string_value.ensures.advances
-
-pub value-returns-in-34-clause-value : goal.value-returns-in-34-clause-value
-value-returns-in-34-clause-value t c = c.string_value.ensures.value
-
-pub value-returns-in-34-clause-borrows : goal.value-returns-in-34-clause-borrows
-value-returns-in-34-clause-borrows t c = c.string_value.ensures.borrows
-
-pub value-returns-in_default-clause-advances : goal.value-returns-in_default-clause-advances
-value-returns-in_default-clause-advances t c = c.scalar.ensures.advances
-
-pub value-returns-in_default-clause-value : goal.value-returns-in_default-clause-value
-value-returns-in_default-clause-value t c = c.scalar.ensures.value
-
-pub value-returns-in_default-clause-borrows : goal.value-returns-in_default-clause-borrows
-value-returns-in_default-clause-borrows t c = c.scalar.ensures.borrows
-
 -- ---- arrays
 
 pub array-items-init : goal.array-items-init
@@ -87,9 +48,6 @@ array-returns-in-Err-clause-value t c =
     let other : (get_or c.args.text.now c.items.next 0 == 93) ≡ false = search rules in
     element_stops c.in-Err.stop c.args.text.now c.args.limit c.args.depth c.args.at c.items.next (map view c.items.items.items) c.items.invariant.from other c.in-Err.ensures.value
 
-pub array-returns-in-Err-clause-advances : goal.array-returns-in-Err-clause-advances
-array-returns-in-Err-clause-advances t c = c.in-Err.ensures.advances
-
 pub array-returns-in-Closed-clause-advances : goal.array-returns-in-Closed-clause-advances
 array-returns-in-Closed-clause-advances t c =
     let s = c.in-Closed.ensures in record { on = omega (arith, c.in-Ok.ensures.advances.on, s.1.on, c.items.invariant.forward); boundary = s.1.boundary }
@@ -110,9 +68,6 @@ pub array-returns-in-Neither-clause-value : goal.array-returns-in-Neither-clause
 array-returns-in-Neither-clause-value t c =
     let other : (get_or c.args.text.now c.items.next 0 == 93) ≡ false = search rules in
     no_bracket_stops c.wanted.result c.args.text.now c.args.limit c.args.depth c.args.at c.items.next c.in-Ok.found.1 c.in-Neither.here (map view c.items.items.items) (view c.in-Ok.found.0) c.items.invariant.from other c.in-Ok.ensures.value c.in-Neither.ensures.0 c.wanted.ensures.fault
-
-pub array-returns-in-Neither-clause-advances : goal.array-returns-in-Neither-clause-advances
-array-returns-in-Neither-clause-advances t c = c.wanted.ensures.placed
 
 pub array-returns-then-byte_at-eq93-clause-advances : goal.array-returns-then-byte_at-eq93-clause-advances
 array-returns-then-byte_at-eq93-clause-advances t c =
@@ -161,9 +116,6 @@ inline_table-returns-in-Err-clause-value t c =
     let other : (get_or c.args.text.now c.pairs.next 0 == 125) ≡ false = search rules in
     pair_stops c.in-Err.stop c.args.text.now c.args.limit c.args.depth c.args.at c.pairs.next (map key_value c.pairs.pairs.items) c.pairs.invariant.from other c.in-Err.ensures.pair
 
-pub inline_table-returns-in-Err-clause-advances : goal.inline_table-returns-in-Err-clause-advances
-inline_table-returns-in-Err-clause-advances t c = c.in-Err.ensures.advances
-
 pub inline_table-returns-in-Err-add_clear-clause-advances : goal.inline_table-returns-in-Err-add_clear-clause-advances
 inline_table-returns-in-Err-add_clear-clause-advances t c =
     crossing_placed c.in-Err-add_clear.stop c.args.text.now c.pairs.pairs.items c.add_clear.new.values.items c.in-Ok.found.0 c.in-Ok.found.1 c.in-Ok.ensures.advances.boundary.0
@@ -196,9 +148,6 @@ inline_table-returns-in-Neither-clause-value t c =
     let other : (get_or c.args.text.now c.pairs.next 0 == 125) ≡ false = search rules in
     no_comma_stops c.wanted.result c.args.text.now c.args.limit c.args.depth c.args.at c.pairs.next c.in-Ok.found.1 c.in-Neither.here (map key_value c.pairs.pairs.items) (key_value c.in-Ok.found.0) c.pairs.invariant.from other c.in-Ok.ensures.pair
     c.in_default.ensures.adds.1 c.in-Neither.ensures.0 c.wanted.ensures.fault
-
-pub inline_table-returns-in-Neither-clause-advances : goal.inline_table-returns-in-Neither-clause-advances
-inline_table-returns-in-Neither-clause-advances t c = c.wanted.ensures.placed
 
 pub inline_table-returns-then-byte_at-eq125-clause-advances : goal.inline_table-returns-then-byte_at-eq125-clause-advances
 inline_table-returns-then-byte_at-eq125-clause-advances t c =
@@ -244,9 +193,3 @@ pair-returns-in_err-parts-clause-advances t c = rw (handed_on c.from_residual.re
 
 pub pair-returns-in_err-parts-clause-borrows : goal.pair-returns-in_err-parts-clause-borrows
 pair-returns-in_err-parts-clause-borrows t c = rw (handed_on c.from_residual.result c.in_err-parts.field-0.0 c.from_residual.ensures.1) tt
-
-pub pair-returns-in-Err-clause-advances : goal.pair-returns-in-Err-clause-advances
-pair-returns-in-Err-clause-advances t c = c.wanted.ensures.placed
-
-pub pair-returns-clause-advances : goal.pair-returns-clause-advances
-pair-returns-clause-advances t c = c.in-Err-value.ensures.advances

@@ -34,12 +34,6 @@ returns-clause-borrows c =
     let b : begins_bare (get_or c.args.text.now c.args.at 0) ≡ true = search rules in
     scalar_right _ c.in_ok-kind.kind _ c.args.text.now c.args.at c.in_ok-kind.end b c.in_ok-kind.ensures.scalar c.scalar_of.ensures.written
 
-pub returns-then-byte-ne43-clause-advances : goal.returns-then-byte-ne43-clause-advances
-returns-then-byte-ne43-clause-advances c = c.no_value.ensures.placed
-
-pub returns-then-depth-limit-clause-advances : goal.returns-then-depth-limit-clause-advances
-returns-then-depth-limit-clause-advances c = c.too_deep.ensures.placed
-
 pub returns-in_err-kind-clause-advances : goal.returns-in_err-kind-clause-advances
 returns-in_err-kind-clause-advances c = rw (handed_on c.from_residual.result c.in_err-kind.field-0.0 c.from_residual.ensures.1) c.in_err-kind.ensures.advances
 

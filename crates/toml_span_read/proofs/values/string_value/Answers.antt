@@ -14,15 +14,3 @@ returns-then-depth-limit-clause-value c =
 
 pub returns-clause-value : goal.returns-clause-value
 returns-clause-value c = string_read c.string_of.result c.args.text.now c.args.limit c.args.depth c.args.at c.in_ok-token.token c.string_of.ensures.view (omega arith) c.requires.quote c.in_ok-token.ensures.string
-
-pub returns-clause-advances : goal.returns-clause-advances
-returns-clause-advances c = c.in_ok-token.ensures.string.3
-
-pub returns-in_err-token-clause-advances : goal.returns-in_err-token-clause-advances
-returns-in_err-token-clause-advances c = rw (handed_on c.from_residual.result c.in_err-token.field-0.0 c.from_residual.ensures.1) c.in_err-token.ensures.placed
-
-pub returns-in_err-token-clause-borrows : goal.returns-in_err-token-clause-borrows
-returns-in_err-token-clause-borrows c = rw (handed_on c.from_residual.result c.in_err-token.field-0.0 c.from_residual.ensures.1) tt
-
-pub returns-then-depth-limit-clause-advances : goal.returns-then-depth-limit-clause-advances
-returns-then-depth-limit-clause-advances c = c.too_deep.ensures.placed

@@ -1,12 +1,6 @@
 use Rattle.std.proofs.Common.{rules}
-use Rattle.toml_span_read.proofs.FaultPlaces.{found_forward, other_token, refused}
+use Rattle.toml_span_read.proofs.FaultPlaces.{other_token, refused}
 use Rattle.toml_span_read.proofs.wanted.no_value.Goals as goal
-
-pub returns-in-Ok-clause-placed : goal.returns-in-Ok-clause-placed
-returns-in-Ok-clause-placed c = record {
-  within = c.requires.boundary.0;
-  forward = found_forward c.args.text.now c.args.at _ _ c.in-Ok.ensures.found;
-}
 
 pub returns-in-Ok-clause-fault : goal.returns-in-Ok-clause-fault
 returns-in-Ok-clause-fault c = other_token c.args.text.now c.args.at _ _ c.requires.none (λ e. search (rules, e)) c.in-Ok.ensures.found

@@ -1,6 +1,6 @@
 use Rattle.std.proofs.Common.{refl, sym}
 use Rattle.toml_span_read.specs.code.Earlier.{holds}
-use Rattle.toml_span_read.proofs.EarlierKnows.{tells_init, tells_next, knows_caught}
+use Rattle.toml_span_read.proofs.EarlierKnows.{tells_init, tells_next}
 use Rattle.toml_span_read.proofs.earlier.Earlier.catch_up.Goals as goal
 
 pub loop-at-init : goal.loop-at-init
@@ -12,6 +12,3 @@ loop-at-preserved c = (
   tells_next c.args.values.now c.loop-at.at c.index-values-at.result _ c.deref.result.now c.key_of-parts.result.now.last (holds c.loop-at.self.tree) (holds c.put.new.node)
       c.loop-at-test.true c.index-values-at.is (sym c.deref.ensures.value) c.key_of-parts.ensures c.loop-at.invariant.1 c.in_ok-put.ensures,
 )
-
-pub returns-clause-knows : goal.returns-clause-knows
-returns-clause-knows c = knows_caught c.args.self.now _ c.args.values.now c.loop-at.at c.requires c.loop-at.invariant.0 refl c.loop-at-test.false c.loop-at.invariant.1
