@@ -3,7 +3,6 @@ use Rattle.std.proofs.Common.{◌≡◌, ℕ, ◌+◌, ◌-◌, ◌<◌, ◌≤�
 use Rattle.std.specs.List.{position_or_len}
 use Rattle.std.specs.Str.{IsCharBoundary}
 use Rattle.std.proofs.lemmas.Bool.{cases_lt}
-use Rattle.std.proofs.lemmas.Bool.Decides.{nat_tests}
 use Rattle.std.proofs.lemmas.Str.{IsCharBoundary-before_ascii, IsCharBoundary-end}
 use Rattle.toml_span_report.specs.Places.{is_line_feed, line_end, without_return}
 
@@ -20,18 +19,6 @@ line_end-found text bytes rest at r same back feed within short =
     let far : r ≡ position_or_len is_line_feed (drop at text) = feed ∙ ap (position_or_len is_line_feed) behind in
     subst (λ (b : List ℕ). without_return b at (length b - (length rest - r)) ≡ line_end text at) (sym same)
     (line_end-is text at (length text - (length rest - r)) (omega arith))
-
-pub without_return-one : (text : List ℕ) (at end : ℕ) → at < end → end < length text → get_or text (end - 1) 0 ≡ 13 → end - 1 ≡ without_return text at end
-without_return-one text at end below within return = grind (arith, nat_tests)
-
-pub without_return-none : (text : List ℕ) (at end : ℕ) → ¬ (get_or text (end - 1) 0 ≡ 13) → end ≡ without_return text at end
-without_return-none text at end other = grind (arith, nat_tests)
-
-pub without_return-empty : (text : List ℕ) (at end : ℕ) → end ≤ at → end ≡ without_return text at end
-without_return-empty text at end none = grind (arith, nat_tests)
-
-pub without_return-last : (text : List ℕ) (at end : ℕ) → length text ≤ end → end ≡ without_return text at end
-without_return-last text at end last = grind (arith, nat_tests)
 
 -- the end of the text, or a line feed
 pub end_boundary : (text : List ℕ) (at n end : ℕ) → end ≡ at + n → at ≤ length text → n ≤ length (drop at text) → (n < length (drop at text) → get_or (drop at text) n 0 ≡ 10) → IsCharBoundary text end

@@ -28,12 +28,10 @@ pub parts_of-one : {F : Type 0} (text : List ℕ) (mark : LabelContent F) (from 
     marked_lines_of text mark ≡ marked_line text from to mark.primary mark.message ∷ []
 unfolding marked_lines_of
 parts_of-one text mark from to again starts ends begins before =
-    let test : nat_le again from ≡ true = le-leb again from before in
-    rw (sym starts, sym ends, sym begins, test) refl
+    rw (sym starts, sym ends, sym begins, le-leb again from before) refl
 
 pub parts_of-two : {F : Type 0} (text : List ℕ) (mark : LabelContent F) (from to again : ℕ) → from ≡ span_start text mark.span → to ≡ span_end text mark.span → again ≡ line_start text to → from < again →
     marked_lines_of text mark ≡ marked_line text from to mark.primary [] ∷ marked_line text again to mark.primary mark.message ∷ []
 unfolding marked_lines_of
 parts_of-two text mark from to again starts ends begins behind =
-    let test : nat_le again from ≡ false = lt-leb again from behind in
-    rw (sym starts, sym ends, sym begins, test) refl
+    rw (sym starts, sym ends, sym begins, lt-leb again from behind) refl
