@@ -15,13 +15,10 @@ use Rattle.toml_span_typed.specs.code.Maps.{AddsEntry}
 use Rattle.toml_span_typed.specs.Maps.{EntriesRead, holding, holding_read, names_of, shown_pair, values_of}
 use Rattle.toml_span_typed.specs.Reads.{EachReads, errors}
 
-shown-match : {T : Type 0} (o : Ordering) (a b c : List (String Global × T)) → map shown_pair (match_ordering o a b c) ≡ match_ordering o (map shown_pair a) (map shown_pair b) (map shown_pair c)
-shown-match o a b c = grind (arith, common_steps)
-
 -- an element that is put into a map
 pub shown_insert : {T : Type 0} (es : List (String Global × T)) (k : String Global) (x : T) → map shown_pair (insert_entry string_cmp es k x) ≡ holding (map shown_pair es) (string_bytes k) x
 shown_insert [] k x = refl
-shown_insert (e ∷ es) k x = shown-match (string_cmp k e.0) _ _ _ ∙ rw (shown_insert es k x)
+shown_insert (e ∷ es) k x = let rest = shown_insert es k x in grind (arith, common_steps)
 
 module _ {T : Type 0} (reads : Node → Result T Errors → Node → Type 0) where
   each_more : (es : List Entry) (e : Entry) (answers : List (Result T Errors)) (a : Result T Errors) → EachReads reads (values_of (members_view es)) answers → (w : Node) × reads (view e.1) a w → EachReads reads (values_of (members_view (es ++ e ∷ []))) (answers ++ a ∷ [])

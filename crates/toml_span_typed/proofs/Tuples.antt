@@ -39,9 +39,6 @@ two_refused reads-a reads-b (node (array (item a no_items)) span) w (stop.Fault 
 two_refused reads-a reads-b (node (array (item a (item b no_items))) span) w (stop.Fault faults) refused gone = elim (refused.0 refl) [ ]
 two_refused reads-a reads-b (node (array (item a (item b (item c rest)))) span) w (stop.Fault faults) refused gone = (refused, gone)
 
-snoc-filled : {T : Type 0} (xs ys : List T) (z : T) → xs ++ (ys ++ (z ∷ [])) ≡ [] → ⊥
-snoc-filled xs ys z is = let none = ap length is in grind (arith, common_steps)
-
 -- the answer behind it, and what it tells
 kept_answer : {T : Type 0} (reads : Node → Result T Errors → Node → Type 0) (v : Node) (x : Option T) (fs more : List ErrorContent)
     → ReadsOrKeeps reads v fs x more → (r : Result T Errors) × IsReadAs reads v r × (more ≡ fs ++ errors (r ∷ []))
@@ -50,7 +47,7 @@ kept_answer reads v None fs more into = (Err into.0, into.1, into.2 ∙ ap (λ e
 
 joined_errors : {A B : Type 0} (r : Result A Errors) (s : Result B Errors) (faults : Errors)
     → errors (r ∷ []) ++ errors (s ∷ []) ≡ all faults → JoinsTwo r s (Err faults)
-joined_errors (Ok x) (Ok y) faults is = elim (snoc-filled [] _ _ (sym is)) [ ]
+joined_errors (Ok x) (Ok y) faults is = let none = ap length is in grind (arith, common_steps)
 joined_errors (Ok x) (Err e) faults is = is
 joined_errors (Err d) s faults is = is
 

@@ -1,6 +1,7 @@
 -- Parts of is_whole values are whole.
 use Rattle.std.proofs.lemmas.Bool.{cond_both, false≢true}
-use Rattle.std.proofs.Common.{ℕ, List, Bool, true, false, Option, Some, option_map, IfSome, IsTrue, cond, refl, subst, ◌&&◌, ◌≡◌}
+use Rattle.std.proofs.lemmas.Grind.{common_steps}
+use Rattle.std.proofs.Common.{arith, ℕ, List, Bool, true, false, Option, Some, option_map, IfSome, IsTrue, cond, refl, subst, ◌&&◌, ◌≡◌}
 use Rattle.std.specs.Str.{bytes_eq}
 use Rattle.toml_span_lex.specs.declared.span.Span.{Span}
 use Rattle.toml_span_tree.specs.Node.{Items, Members, Node, entry_at, item, member, no_members}
@@ -8,12 +9,10 @@ use Rattle.toml_span_tree.specs.Value.{all_members_whole, all_whole, is_whole}
 use Rattle.toml_span_typed.specs.TableHelper.{without}
 
 pub left : (a b : Bool) → IsTrue (a && b) → IsTrue a
-left true b h = refl
-left false b h = absurd (false≢true h)
+left a b h = grind (arith, common_steps)
 
 pub right : (a b : Bool) → IsTrue (a && b) → IsTrue b
-right true b h = h
-right false b h = absurd (false≢true h)
+right a b h = grind (arith, common_steps)
 
 -- what stands under a name in a table of whole values is whole
 pub found_whole : (name : List ℕ) (ms : Members) → IsTrue (all_members_whole ms) → IfSome (option_map (λ e. e.1) (entry_at name ms)) (λ v. IsTrue (is_whole v))
