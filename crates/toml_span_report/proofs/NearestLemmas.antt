@@ -52,9 +52,6 @@ best_same word names i best bound d name before here is farther = record {
   least = one_more word names i d bound before.least (is ∙ ap (distance word) here) farther;
 }
 
-out_of_reach : (word : List ℕ) (names : List (List ℕ)) (name : List ℕ) → reach word < distance word name → is_nearest word names name ≡ false
-out_of_reach word names name far = grind (arith, nat_tests)
-
 another_nearer : (word : List ℕ) (names : List (List ℕ)) (name : List ℕ) (b : ℕ) → b < length names → distance word (get_or names b []) < distance word name → is_nearest word names name ≡ false
 another_nearer word names name b below nearer =
     let no = lt-leb (distance word name) (distance word (get_or names b [])) nearer in
@@ -65,7 +62,7 @@ pub best_all : (word : List ℕ) (names : List (List ℕ)) (best : Option (List 
 best_all word names None bound h =
     let all : position_or_len (is_nearest word names) names ≡ length names =
     position_or_len_is (is_nearest word names) names (length names) [] (omega arith)
-    (λ k below. let floor = h.least k below in let over = h.found in out_of_reach word names (get_or names k []) (omega arith))
+    (λ k below. let floor = h.least k below in let over = h.found in grind (arith, nat_tests))
     (λ below. absurd (omega arith)) in
     sym (find_at (is_nearest word names) names ∙ ap (slice_get names) all ∙ slice_get_past names (length names) (omega arith))
 best_all word names (Some name) bound h =

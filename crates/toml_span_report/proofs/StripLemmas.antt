@@ -23,15 +23,3 @@ earlier_within f xs n at e =
 
 pub placed_is : {X : Type 0} (f : X → MarkedLine) (xs ys : List X) (x : X) (n : ℕ) → n ≡ earlier (map f xs) (f x).at → ys ≡ insert xs n x → map f ys ≡ placed (map f xs) (f x)
 placed_is f xs ys x n e h = ap (map f) h ∙ map_insert f xs n x ∙ ap (λ k. insert (map f xs) k (f x)) e
-
-pub parts_of-one : {F : Type 0} (text : List ℕ) (mark : LabelContent F) (from to again : ℕ) → from ≡ span_start text mark.span → to ≡ span_end text mark.span → again ≡ line_start text to → again ≤ from →
-    marked_lines_of text mark ≡ marked_line text from to mark.primary mark.message ∷ []
-unfolding marked_lines_of
-parts_of-one text mark from to again starts ends begins before =
-    rw (sym starts, sym ends, sym begins, le-leb again from before) refl
-
-pub parts_of-two : {F : Type 0} (text : List ℕ) (mark : LabelContent F) (from to again : ℕ) → from ≡ span_start text mark.span → to ≡ span_end text mark.span → again ≡ line_start text to → from < again →
-    marked_lines_of text mark ≡ marked_line text from to mark.primary [] ∷ marked_line text again to mark.primary mark.message ∷ []
-unfolding marked_lines_of
-parts_of-two text mark from to again starts ends begins behind =
-    rw (sym starts, sym ends, sym begins, lt-leb again from behind) refl
