@@ -1,5 +1,5 @@
 -- What the conversions of integers give.
-use Rattle.std.proofs.Common.{ℕ, pos, negsuc, ◌^◌, Ok, Err, OkIff, FitsSigned, unsigned_abs, arith, refl}
+use Rattle.std.proofs.Common.{ℕ, ◌^◌, OkIff, FitsSigned, unsigned_abs, arith}
 use Rattle.std.specs.Int.{FitsUnsignedBits, Width}
 use Rattle.std.proofs.lemmas.Bool.Decides.{nat_tests}
 use Rattle.toml_span_typed.specs.code.Integers.{Converts}

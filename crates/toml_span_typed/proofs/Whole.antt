@@ -1,11 +1,11 @@
 -- Parts of is_whole values are whole.
-use Rattle.std.proofs.lemmas.Bool.{cond_both, false≢true}
+use Rattle.std.proofs.lemmas.Bool.{cond_both}
 use Rattle.std.proofs.lemmas.Grind.{common_steps}
-use Rattle.std.proofs.Common.{arith, ℕ, List, Bool, true, false, Option, Some, option_map, IfSome, IsTrue, cond, refl, subst, ◌&&◌, ◌≡◌}
+use Rattle.std.proofs.Common.{arith, ℕ, List, Bool, Option, Some, option_map, IfSome, IsTrue, subst, ◌&&◌, ◌≡◌}
 use Rattle.std.specs.Str.{bytes_eq}
 use Rattle.toml_span_lex.specs.declared.span.Span.{Span}
-use Rattle.toml_span_tree.specs.Node.{Items, Members, Node, entry_at, item, member, no_members}
-use Rattle.toml_span_tree.specs.Value.{all_members_whole, all_whole, is_whole}
+use Rattle.toml_span_tree.specs.Node.{Members, Node, entry_at, member, no_members}
+use Rattle.toml_span_tree.specs.Value.{all_members_whole, is_whole}
 use Rattle.toml_span_typed.specs.TableHelper.{without}
 
 pub left : (a b : Bool) → IsTrue (a && b) → IsTrue a

@@ -1,13 +1,11 @@
 -- One more value at the end of those that were read, with its warnings.
-use Rattle.std.proofs.Common.{◌≡◌, List, [], ◌∷◌, ◌++◌, map, Result, Ok, Err, refl, ap, sym, subst, ◌∙◌}
+use Rattle.std.proofs.Common.{List, [], ◌∷◌, ◌++◌, Result, refl, ap, sym, subst, ◌∙◌}
 use Rattle.toml_span_tree.specs.Node.{Node}
-use Rattle.toml_span_tree.specs.Value.{items_view, view}
-use Rattle.toml_span_tree.specs.declared.value.Value.{Value}
 use Rattle.toml_span_tree.specs.Error.{ErrorContent}
 use Rattle.toml_span_typed.specs.code.WithWarnings.{AddsWithWarnings, AreReadWithWarnings}
-use Rattle.toml_span_typed.specs.Errors.{Errors, all}
-use Rattle.toml_span_typed.specs.Reads.{elements, errors, nodes_of}
-use Rattle.toml_span_typed.specs.WithWarnings.{EachWithWarnings, ReadsAllWithWarnings}
+use Rattle.toml_span_typed.specs.Errors.{Errors}
+use Rattle.toml_span_typed.specs.Reads.{elements, errors}
+use Rattle.toml_span_typed.specs.WithWarnings.{EachWithWarnings}
 use Rattle.toml_span_typed.proofs.Arrays.{elements_push, errors_push}
 
 module _ {T : Type 0} (reads : Node → Result T Errors → List ErrorContent → List ErrorContent → Type 0) where

@@ -1,4 +1,4 @@
-use Rattle.std.proofs.Common.{◌≡◌, List, IsTrue, [], ◌∷◌, ◌++◌, ap, sym, subst, ◌∙◌, append_assoc, arith}
+use Rattle.std.proofs.Common.{◌≡◌, List, [], ◌∷◌, ◌++◌, ap, sym, ◌∙◌, append_assoc, arith}
 use Rattle.std.proofs.lemmas.Grind.{common_steps}
 use Rattle.toml_span_tree.specs.Value.{all_members_whole, is_whole, members_view, view}
 use Rattle.toml_span_tree.proofs.Values.{Entry}
