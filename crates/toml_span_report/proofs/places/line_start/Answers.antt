@@ -1,7 +1,6 @@
-use Rattle.std.proofs.Common.{◌≡◌, ◌≤◌, arith, ◌∙◌, ap, length}
+use Rattle.std.proofs.Common.{◌≡◌, ◌≤◌, arith, length}
 use Rattle.std.proofs.lemmas.Bool.Decides.{nat_tests}
 use Rattle.std.proofs.lemmas.Str.{IsCharBoundary-start}
-use Rattle.toml_span_report.specs.Places.{line_start, mark_end}
 use Rattle.toml_span_report.proofs.PlaceLemmas.{line_start-step, line_start-zero, behind_feed}
 use Rattle.toml_span_report.proofs.places.line_start.Goals as goal
 
