@@ -1,7 +1,6 @@
 -- One more entry of a table that is read as a map.
-use Rattle.std.proofs.Common.{arith}
 use Rattle.std.proofs.lemmas.Grind.{common_steps}
-use Rattle.std.proofs.Common.{◌≡◌, ℕ, List, [], ◌∷◌, ◌++◌, map, Result, Ok, Err, String, Global, string_bytes, string_cmp, refl, ap, sym, ◌∙◌}
+use Rattle.std.proofs.Common.{arith, ◌≡◌, ℕ, List, [], ◌∷◌, ◌++◌, map, Result, Ok, Err, String, Global, string_bytes, string_cmp, refl, ap, sym, ◌∙◌}
 use Rattle.std.specs.BTreeMap.{insert_entry}
 use Rattle.std.specs.Cow.{cow_str_bytes}
 use Rattle.toml_span_tree.specs.Error.{ErrorContent}
@@ -20,7 +19,8 @@ shown_insert [] k x = refl
 shown_insert (e ∷ es) k x = let rest = shown_insert es k x in grind (arith, common_steps)
 
 module _ {T : Type 0} (reads : Node → Result T Errors → Node → Type 0) where
-  each_more : (es : List Entry) (e : Entry) (answers : List (Result T Errors)) (a : Result T Errors) → EachReads reads (values_of (members_view es)) answers → (w : Node) × reads (view e.1) a w → EachReads reads (values_of (members_view (es ++ e ∷ []))) (answers ++ a ∷ [])
+  each_more : (es : List Entry) (e : Entry) (answers : List (Result T Errors)) (a : Result T Errors)
+      → EachReads reads (values_of (members_view es)) answers → (w : Node) × reads (view e.1) a w → EachReads reads (values_of (members_view (es ++ e ∷ []))) (answers ++ a ∷ [])
   each_more [] e [] a h one = (one, tt)
   each_more (d ∷ es) e (b ∷ bs) a h one = (h.0, each_more es e bs a h.1 one)
   each_more [] e (b ∷ bs) a h one = elim h [ ]

@@ -1,7 +1,6 @@
 -- Entries of a table, and the members that they are seen as.
-use Rattle.std.proofs.Common.{arith}
 use Rattle.std.proofs.lemmas.Grind.{common_steps}
-use Rattle.std.proofs.Common.{◌≡◌, ℕ, List, [], ◌∷◌, length, map, Option, Some, None, map, option_map, cond, Bool, true, IfSome, Equal, nat_cmp, refl, sym, ap, ◌∙◌}
+use Rattle.std.proofs.Common.{arith, ◌≡◌, ℕ, List, [], ◌∷◌, length, map, Option, Some, None, option_map, cond, Bool, true, IfSome, Equal, nat_cmp, refl, sym, ap, ◌∙◌}
 use Rattle.std.specs.Cmp.Lexicographic.{slice_cmp}
 use Rattle.std.specs.Cow.{cow_str_bytes}
 use Rattle.std.specs.Map.{keys_of, lookup, lookup_entry, lookup_key, remove_entry}
