@@ -1,37 +1,21 @@
 -- Where a line ends.
-use Rattle.std.proofs.Common.{◌≡◌, ℕ, ◌+◌, ◌-◌, ◌<◌, ◌≤◌, List, length, drop, get_or, arith, refl, inl, inr, sym, ◌∙◌, ap, subst, length-drop, get_or-drop}
+use Rattle.std.proofs.Common.{◌≡◌, ℕ, ◌+◌, ◌-◌, ◌<◌, ◌≤◌, List, length, drop, get_or, arith, refl, inl, inr, sym, ◌∙◌, ap, length-drop, get_or-drop}
 use Rattle.std.specs.List.{position_or_len}
 use Rattle.std.specs.Str.{IsCharBoundary}
 use Rattle.std.proofs.lemmas.Bool.{cases_lt}
-use Rattle.std.proofs.lemmas.Bool.Decides.{nat_tests}
 use Rattle.std.proofs.lemmas.Str.{IsCharBoundary-before_ascii, IsCharBoundary-end}
 use Rattle.toml_span_report.specs.Places.{is_line_feed, line_end, without_return}
 
-pub line_end-is : (text : List ℕ) (at end : ℕ) → end ≡ at + position_or_len is_line_feed (drop at text) → without_return text at end ≡ line_end text at
-unfolding line_end
-line_end-is text at end e = rw e refl
-
--- the same, as it is found: the text without what stands from the line feed on
+-- the line's end as it is found: the text without what stands from the line feed on
 pub line_end-found : (text bytes rest : List ℕ) (at r : ℕ) → bytes ≡ text → rest ≡ drop at bytes → r ≡ position_or_len is_line_feed rest → at ≤ length text → r ≤ length rest →
     without_return bytes at (length bytes - (length rest - r)) ≡ line_end text at
+unfolding line_end
 line_end-found text bytes rest at r same back feed within short =
     let behind = back ∙ ap (drop at) same in
     let size : length rest ≡ length text - at = ap length behind ∙ length-drop at text in
     let far : r ≡ position_or_len is_line_feed (drop at text) = feed ∙ ap (position_or_len is_line_feed) behind in
-    subst (λ (b : List ℕ). without_return b at (length b - (length rest - r)) ≡ line_end text at) (sym same)
-    (line_end-is text at (length text - (length rest - r)) (omega arith))
-
-pub without_return-one : (text : List ℕ) (at end : ℕ) → at < end → end < length text → get_or text (end - 1) 0 ≡ 13 → end - 1 ≡ without_return text at end
-without_return-one text at end below within return = grind (arith, nat_tests)
-
-pub without_return-none : (text : List ℕ) (at end : ℕ) → ¬ (get_or text (end - 1) 0 ≡ 13) → end ≡ without_return text at end
-without_return-none text at end other = grind (arith, nat_tests)
-
-pub without_return-empty : (text : List ℕ) (at end : ℕ) → end ≤ at → end ≡ without_return text at end
-without_return-empty text at end none = grind (arith, nat_tests)
-
-pub without_return-last : (text : List ℕ) (at end : ℕ) → length text ≤ end → end ≡ without_return text at end
-without_return-last text at end last = grind (arith, nat_tests)
+    let end : length text - (length rest - r) ≡ at + position_or_len is_line_feed (drop at text) = omega arith in
+    rw (same, end) refl
 
 -- the end of the text, or a line feed
 pub end_boundary : (text : List ℕ) (at n end : ℕ) → end ≡ at + n → at ≤ length text → n ≤ length (drop at text) → (n < length (drop at text) → get_or (drop at text) n 0 ≡ 10) → IsCharBoundary text end

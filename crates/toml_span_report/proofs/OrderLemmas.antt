@@ -1,23 +1,17 @@
 -- Reports in the order of their places.
-use Rattle.std.proofs.Common.{◌≡◌, ◌<◌, ◌⊎◌, Bool, true, false, List, [], ◌∷◌, map, length, arith, refl, inl, inr, sym, ap, ◌∙◌}
+use Rattle.std.proofs.Common.{◌≡◌, ◌<◌, Bool, List, [], ◌∷◌, map, length, arith, refl, sym, ap, ◌∙◌}
 use Rattle.std.specs.List.{filter}
 use Rattle.std.specs.List.Sorted.{IsNonDecreasingBy, IsPermutation, IsStableByKey, ties}
 use Rattle.std.specs.Ordering.{is_lt, nat_cmp}
-use Rattle.std.proofs.lemmas.List.{get_or-map, length-map}
+use Rattle.std.proofs.lemmas.List.{get_or-map, length-map, nil_from_length}
+use Rattle.std.proofs.lemmas.Grind.{common_steps}
 use Rattle.std.proofs.lemmas.List.Sorted.{length_permutation}
 use Rattle.toml_span_report.specs.Many.{AreInOrder, drawn_content}
 use Rattle.toml_span_report.specs.declared.many.Drawn.{Drawn}
 
-bool_cases : (b : Bool) → (b ≡ true) ⊎ (b ≡ false)
-bool_cases true = inl refl
-bool_cases false = inr refl
-
 map_filter : {X Y : Type 0} (f : X → Y) (p : Y → Bool) (xs : List X) → filter p (map f xs) ≡ map f (filter (λ x. p (f x)) xs)
 map_filter f p [] = refl
-map_filter f p (x ∷ xs) = elim (bool_cases (p (f x))) [
-  | inl passes ↦ rw passes (ap (λ ys. f x ∷ ys) (map_filter f p xs))
-  | inr fails ↦ rw fails (map_filter f p xs)
-]
+map_filter f p (x ∷ xs) = let rest = map_filter f p xs in grind (arith, common_steps)
 
 pub map_twice : {X Y Z : Type 0} (f : X → Y) (g : Y → Z) (xs : List X) → map (λ x. g (f x)) xs ≡ map g (map f xs)
 map_twice f g [] = refl
@@ -30,12 +24,8 @@ rises (x ∷ xs) up = λ i j d order below.
     let within : j < length (x ∷ xs) = omega arith in
     rw (get_or-map drawn_content (x ∷ xs) i x d (omega arith), get_or-map drawn_content (x ∷ xs) j x d within) (up i j x order within)
 
-none_left : (xs : List Drawn) → length xs ≡ 0 → xs ≡ []
-none_left [] none = refl
-none_left (x ∷ xs) none = absurd (omega arith)
-
 keeps : (xs ys : List Drawn) → IsPermutation xs ys → IsStableByKey (λ d. d.at) nat_cmp xs ys → IsStableByKey (λ d. d.0) nat_cmp (map drawn_content xs) (map drawn_content ys)
-keeps [] ys moved same = λ d. ap (λ zs. filter (ties (λ x y. is_lt (nat_cmp x.0 y.0)) d) (map drawn_content zs)) (none_left ys (length_permutation [] ys moved))
+keeps [] ys moved same = λ d. ap (λ zs. filter (ties (λ x y. is_lt (nat_cmp x.0 y.0)) d) (map drawn_content zs)) (nil_from_length ys (length_permutation [] ys moved))
 keeps (x ∷ xs) ys moved same = λ d.
     let p = ties (λ x y. is_lt (nat_cmp x.0 y.0)) d in
     map_filter drawn_content p ys

@@ -1,7 +1,8 @@
 -- Places between two characters, and the line of a place.
-use Rattle.std.proofs.Common.{◌≡◌, ℕ, zero, suc, ◌+◌, ◌-◌, ◌<◌, ◌≤◌, ◌⊎◌, Bool, true, false, List, [], ◌∷◌, ◌++◌, length, get_or, arith, refl, inl, inr, sym, ◌∙◌}
+use Rattle.std.proofs.Common.{◌≡◌, ℕ, zero, suc, ◌+◌, ◌-◌, ◌<◌, ◌≤◌, true, List, [], ◌∷◌, ◌++◌, length, get_or, arith, refl, inl, inr}
+use Rattle.std.specs.Prelude.{◌==◌, ◌||◌, if◌then◌else◌, slice_index}
 use Rattle.std.specs.Str.{IsUtf8, IsCharBoundary}
-use Rattle.std.proofs.lemmas.Bool.{cases_lt}
+use Rattle.std.proofs.lemmas.Bool.{cases_lt, cond_both}
 use Rattle.std.proofs.lemmas.Bool.Decides.{nat_tests}
 use Rattle.std.proofs.lemmas.List.{get_or_past}
 use Rattle.std.proofs.lemmas.Str.{IsCharBoundary-after_ascii, IsCharBoundary-past_char}
@@ -18,57 +19,25 @@ between_true text i h =
 pub true_between : (text : List ℕ) (i : ℕ) → is_between text i ≡ true → IsCharBoundary text i
 true_between text i h = (grind (arith, nat_tests), λ lt big. grind (arith, nat_tests))
 
-bool_cases : (b : Bool) → (b ≡ true) ⊎ (b ≡ false)
-bool_cases true = inl refl
-bool_cases false = inr refl
-
-place-here : (text : List ℕ) (i : ℕ) → is_between text (suc i) ≡ true → place text (suc i) ≡ suc i
-unfolding place
-place-here text i h = rw h
-
-place-before : (text : List ℕ) (i : ℕ) → is_between text (suc i) ≡ false → place text (suc i) ≡ place text i
-unfolding place
-place-before text i h = rw h
-
-place-zero : (text : List ℕ) → place text 0 ≡ 0
-unfolding place
-place-zero text = refl
-
 -- the nearest place before an offset is its place
 pub place_is : (text : List ℕ) (at r : ℕ) → r ≤ at → IsCharBoundary text r → ((i : ℕ) → r < i → i ≤ at → ¬ (IsCharBoundary text i)) → r ≡ place text at
-place_is text zero r le b none = let z : r ≡ 0 = omega arith in z ∙ sym (place-zero text)
-place_is text (suc i) r le b none =
-    elim (bool_cases (is_between text (suc i))) [
-      | inl here ↦
-          elim (cases_lt r (suc i)) [
-            | inl lt ↦ absurd (none (suc i) lt (omega arith) (true_between text (suc i) here))
-            | inr ge ↦ let same : r ≡ suc i = omega arith in same ∙ sym (place-here text i here)
-          ]
-      | inr past ↦
-          elim (cases_lt r (suc i)) [
-            | inl lt ↦ place_is text i r (omega arith) b (λ j above below. none j above (omega arith)) ∙ sym (place-before text i past)
-            | inr ge ↦
-                let same : r ≡ suc i = omega arith in
-                let stands : IsCharBoundary text (suc i) = rw same at b in
-                let met = between_true text (suc i) stands in cc
-          ]
-    ]
+unfolding place
+place_is text zero r le b none = omega arith
+place_is text (suc i) r le b none = cond_both (is_between text (suc i)) (suc i) (place text i) (λ n. r ≡ n)
+    (λ here. elim (cases_lt r (suc i)) [
+      | inl lt ↦ absurd (none (suc i) lt (omega arith) (true_between text (suc i) here))
+      | inr ge ↦ omega arith
+    ])
+    (λ past. elim (cases_lt r (suc i)) [
+      | inl lt ↦ place_is text i r (omega arith) b (λ j above below. none j above (omega arith))
+      | inr ge ↦ let same : r ≡ suc i = omega arith in let met = between_true text (suc i) (rw same at b) in cc
+    ])
 
--- one byte back on a line
-pub line_start-back : (text : List ℕ) (n : ℕ) → 0 < n → ¬ (n ≡ mark_end text) → ¬ (get_or text (n - 1) 0 ≡ 10) → line_start text (n - 1) ≡ line_start text n
+-- the line of a place, from that of the place one byte before it
+pub line_start-step : (text : List ℕ) (n : ℕ) → 0 < n → line_start text n ≡ (if n == mark_end text || slice_index text (n - 1) == 10 then n else line_start text (n - 1))
 unfolding line_start
-line_start-back text zero some unmarked other = absurd (omega arith)
-line_start-back text (suc i) some unmarked other = let e : suc i - 1 ≡ i = omega arith in let not_feed = rw e at other in rw e (grind (arith, nat_tests))
-
-pub line_start-behind : (text : List ℕ) (n : ℕ) → 0 < n → get_or text (n - 1) 0 ≡ 10 → n ≡ line_start text n
-unfolding line_start
-line_start-behind text zero some feed = absurd (omega arith)
-line_start-behind text (suc i) some feed = let e : suc i - 1 ≡ i = omega arith in let here = rw e at feed in grind (arith, nat_tests)
-
-pub line_start-marked : (text : List ℕ) (n : ℕ) → 0 < n → n ≡ mark_end text → n ≡ line_start text n
-unfolding line_start
-line_start-marked text zero some marked = absurd (omega arith)
-line_start-marked text (suc i) some marked = grind (arith, nat_tests)
+line_start-step text zero some = absurd (omega arith)
+line_start-step text (suc i) some = let e : suc i - 1 ≡ i = omega arith in rw e refl
 
 pub line_start-zero : (text : List ℕ) → 0 ≡ line_start text 0
 unfolding line_start

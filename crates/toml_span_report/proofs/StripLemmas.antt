@@ -1,13 +1,10 @@
 -- Parts in the order of the text.
-use Rattle.std.proofs.Common.{◌≡◌, ℕ, ◌<◌, ◌≤◌, true, false, not, List, [], ◌∷◌, ◌++◌, map, length, take, drop, arith, refl, sym, ap, ◌∙◌}
-use Rattle.std.specs.Prelude.{nat_lt, nat_le}
+use Rattle.std.proofs.Common.{◌≡◌, ℕ, ◌≤◌, not, List, ◌∷◌, ◌++◌, map, length, take, drop, arith, sym, ap, ◌∙◌}
+use Rattle.std.specs.Prelude.{nat_lt}
 use Rattle.std.specs.List.{insert}
-use Rattle.std.proofs.lemmas.Bool.{le-leb, lt-leb}
 use Rattle.std.proofs.lemmas.List.Sums.{prefix_len-le-length}
 use Rattle.std.proofs.lemmas.List.{length-map, take-map, drop-map, map-append}
-use Rattle.toml_span_tree.specs.Diagnostic.{LabelContent}
-use Rattle.toml_span_report.specs.Places.{line_start, span_start, span_end}
-use Rattle.toml_span_report.specs.Strips.{MarkedLine, marked_line, marked_lines_of, placed, earlier}
+use Rattle.toml_span_report.specs.Strips.{MarkedLine, placed, earlier}
 
 pub map_insert : {X Y : Type 0} (f : X → Y) (xs : List X) (i : ℕ) (x : X) → map f (insert xs i x) ≡ insert (map f xs) i (f x)
 map_insert f xs i x =
@@ -23,17 +20,3 @@ earlier_within f xs n at e =
 
 pub placed_is : {X : Type 0} (f : X → MarkedLine) (xs ys : List X) (x : X) (n : ℕ) → n ≡ earlier (map f xs) (f x).at → ys ≡ insert xs n x → map f ys ≡ placed (map f xs) (f x)
 placed_is f xs ys x n e h = ap (map f) h ∙ map_insert f xs n x ∙ ap (λ k. insert (map f xs) k (f x)) e
-
-pub parts_of-one : {F : Type 0} (text : List ℕ) (mark : LabelContent F) (from to again : ℕ) → from ≡ span_start text mark.span → to ≡ span_end text mark.span → again ≡ line_start text to → again ≤ from →
-    marked_lines_of text mark ≡ marked_line text from to mark.primary mark.message ∷ []
-unfolding marked_lines_of
-parts_of-one text mark from to again starts ends begins before =
-    let test : nat_le again from ≡ true = le-leb again from before in
-    rw (sym starts, sym ends, sym begins, test) refl
-
-pub parts_of-two : {F : Type 0} (text : List ℕ) (mark : LabelContent F) (from to again : ℕ) → from ≡ span_start text mark.span → to ≡ span_end text mark.span → again ≡ line_start text to → from < again →
-    marked_lines_of text mark ≡ marked_line text from to mark.primary [] ∷ marked_line text again to mark.primary mark.message ∷ []
-unfolding marked_lines_of
-parts_of-two text mark from to again starts ends begins behind =
-    let test : nat_le again from ≡ false = lt-leb again from behind in
-    rw (sym starts, sym ends, sym begins, test) refl

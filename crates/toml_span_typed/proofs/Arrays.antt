@@ -1,12 +1,12 @@
 -- One more value at the end of those that were read.
-use Rattle.std.proofs.Common.{◌≡◌, List, [], ◌∷◌, ◌++◌, map, Result, Ok, Err, refl, ap, sym, ◌∙◌, append_assoc}
+use Rattle.std.proofs.Common.{◌≡◌, List, [], ◌∷◌, ◌++◌, Result, Ok, Err, refl, ap, sym, ◌∙◌, append_assoc}
 use Rattle.toml_span_tree.specs.Node.{Node}
-use Rattle.toml_span_tree.specs.Value.{items_of, items_view, view}
+use Rattle.toml_span_tree.specs.Value.{items_view, view}
 use Rattle.toml_span_tree.specs.declared.value.Value.{Value}
 use Rattle.toml_span_tree.specs.Error.{ErrorContent}
 use Rattle.toml_span_typed.specs.code.Arrays.{AddsRead, AreRead}
 use Rattle.toml_span_typed.specs.Errors.{Errors, all}
-use Rattle.toml_span_typed.specs.Reads.{EachReads, ReadsAll, elements, errors, nodes_of}
+use Rattle.toml_span_typed.specs.Reads.{EachReads, elements, errors, nodes_of}
 
 module _ {T : Type 0} (reads : Node → Result T Errors → Node → Type 0) where
   each_push : (vs : List Node) (v : Node) (answers : List (Result T Errors)) (a : Result T Errors) → EachReads reads vs answers → (w : Node) × reads v a w → EachReads reads (vs ++ v ∷ []) (answers ++ a ∷ [])
@@ -34,17 +34,7 @@ read_more reads vs v xs ys fs gs h more = (
   errors_push h.0 more.0 ∙ ap (λ zs. zs ++ errors (more.0 ∷ [])) h.3 ∙ sym more.3,
 )
 
--- the elements of an array are those that it was made of
-pub nodes_of-items_of : (vs : List Node) → nodes_of (items_of vs) ≡ vs
-nodes_of-items_of [] = refl
-nodes_of-items_of (v ∷ vs) = ap (λ ws. v ∷ ws) (nodes_of-items_of vs)
-
--- what is read of a list's values is read of the array that they make
-pub read_array : {T : Type 0} → (reads : Node → Result T Errors → Node → Type 0) (vs : List Value) (xs : List T) (fs : List ErrorContent) → AreRead reads (map view vs) xs fs → AreRead reads (nodes_of (items_view vs)) xs fs
-read_array reads vs xs fs h = rw (nodes_of-items_of (map view vs)) h
-
-pub joined_elements : {T : Type 0} → (reads : Node → Result T Errors → Node → Type 0) (vs : List Value) (xs : List T) (fs : List ErrorContent) → fs ≡ [] → AreRead reads (map view vs) xs fs → ReadsAll reads (nodes_of (items_view vs)) (Ok xs)
-joined_elements reads vs xs fs none h = let r = read_array reads vs xs fs h in (r.0, r.1, (r.3 ∙ none, r.2))
-
-pub joined_errors : {T : Type 0} → (reads : Node → Result T Errors → Node → Type 0) (vs : List Value) (xs : List T) (fs : List ErrorContent) (faults : Errors) → fs ≡ all faults → AreRead reads (map view vs) xs fs → ReadsAll reads (nodes_of (items_view vs)) (Err faults)
-joined_errors reads vs xs fs faults some h = let r = read_array reads vs xs fs h in (r.0, r.1, r.3 ∙ some)
+-- one more element of an array
+pub nodes_push : (vs : List Value) (v : Value) → nodes_of (items_view (vs ++ v ∷ [])) ≡ nodes_of (items_view vs) ++ view v ∷ []
+nodes_push [] v = refl
+nodes_push (u ∷ vs) v = ap (λ ws. view u ∷ ws) (nodes_push vs v)

@@ -1,5 +1,5 @@
 -- What the conversions of integers give.
-use Rattle.std.proofs.Common.{ℕ, pos, negsuc, ◌^◌, Ok, Err, OkIff, FitsSigned, unsigned_abs, arith, refl}
+use Rattle.std.proofs.Common.{ℕ, ◌^◌, OkIff, FitsSigned, unsigned_abs, arith}
 use Rattle.std.specs.Int.{FitsUnsignedBits, Width}
 use Rattle.std.proofs.lemmas.Bool.Decides.{nat_tests}
 use Rattle.toml_span_typed.specs.code.Integers.{Converts}
@@ -9,15 +9,9 @@ use mir.Val.{hbits}
 -- a conversion to an unsigned type of so many bits
 pub unsigned_converts : (bits : ℕ) {E : Type 0}
     → Converts {E = E} (λ z r. OkIff r (FitsUnsignedBits bits z) (unsigned_abs z)) (unsigned (2 ^ bits))
-unsigned_converts bits (pos n) (Ok x) h = grind (arith, nat_tests)
-unsigned_converts bits (pos n) (Err e) h = grind (arith, nat_tests)
-unsigned_converts bits (negsuc n) (Ok x) h = absurd h.0
-unsigned_converts bits (negsuc n) (Err e) h = refl
+unsigned_converts bits z r h = grind (arith, nat_tests)
 
 -- a conversion to a signed type of this width
 pub signed_converts : (w : Width) {E : Type 0}
     → Converts {E = E} (λ z r. OkIff r (FitsSigned w z) z) (signed (2 ^ hbits w))
-signed_converts w (pos n) (Ok x) h = grind (arith, nat_tests)
-signed_converts w (pos n) (Err e) h = grind (arith, nat_tests)
-signed_converts w (negsuc n) (Ok x) h = grind (arith, nat_tests)
-signed_converts w (negsuc n) (Err e) h = grind (arith, nat_tests)
+signed_converts w z r h = grind (arith, nat_tests)

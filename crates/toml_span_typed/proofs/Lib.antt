@@ -5,5 +5,3 @@ pub mod Whole
 pub mod Maps
 pub mod Tuples
 pub mod WithWarnings
-pub mod Rests
-pub mod Names

@@ -1,53 +1,33 @@
 -- One more entry of a table that is read as a map.
-use Rattle.std.proofs.Common.{◌≡◌, ℕ, List, [], ◌∷◌, ◌++◌, map, Result, Ok, Err, String, Global, string_bytes, string_cmp, Ordering, Less, Equal, Greater, IsTrue, refl, ap, sym, ◌∙◌}
+use Rattle.std.proofs.lemmas.Grind.{common_steps}
+use Rattle.std.proofs.Common.{arith, ◌≡◌, ℕ, List, [], ◌∷◌, ◌++◌, map, Result, Ok, Err, String, Global, string_bytes, string_cmp, refl, ap, sym, ◌∙◌}
 use Rattle.std.specs.BTreeMap.{insert_entry}
 use Rattle.std.specs.Cow.{cow_str_bytes}
-use Rattle.std.specs.Ordering.{match_ordering}
 use Rattle.toml_span_tree.specs.Error.{ErrorContent}
 use Rattle.toml_span_tree.specs.Node.{Node}
-use Rattle.toml_span_tree.specs.Value.{all_members_whole, is_whole, members_view, view}
+use Rattle.toml_span_tree.specs.Value.{members_view, view}
 use Rattle.toml_span_tree.proofs.Values.{Entry}
 use Rattle.toml_span_typed.proofs.Arrays.{errors_push}
-use Rattle.toml_span_typed.proofs.Whole.{left, right}
 use Rattle.toml_span_typed.specs.Errors.{Errors}
 use Rattle.toml_span_typed.specs.code.Maps.{AddsEntry}
 use Rattle.toml_span_typed.specs.Maps.{EntriesRead, holding, holding_read, names_of, shown_pair, values_of}
 use Rattle.toml_span_typed.specs.Reads.{EachReads, errors}
 
-shown-match : {T : Type 0} (o : Ordering) (a b c : List (String Global × T)) → map shown_pair (match_ordering o a b c) ≡ match_ordering o (map shown_pair a) (map shown_pair b) (map shown_pair c)
-shown-match Less a b c = refl
-shown-match Equal a b c = refl
-shown-match Greater a b c = refl
-
 -- an element that is put into a map
 pub shown_insert : {T : Type 0} (es : List (String Global × T)) (k : String Global) (x : T) → map shown_pair (insert_entry string_cmp es k x) ≡ holding (map shown_pair es) (string_bytes k) x
 shown_insert [] k x = refl
-shown_insert (e ∷ es) k x = shown-match (string_cmp k e.0) _ _ _ ∙ rw (shown_insert es k x)
-
--- the names and the values of entries
-abbrev pub entry_names : List Entry → List (List ℕ)
-entry_names es = map (λ e. cow_str_bytes e.0.name) es
-
-abbrev pub entry_values : List Entry → List Node
-entry_values es = map (λ e. view e.1) es
-
-pub names-entries : (es : List Entry) → names_of (members_view es) ≡ entry_names es
-names-entries [] = refl
-names-entries (e ∷ es) = ap (λ ns. cow_str_bytes e.0.name ∷ ns) (names-entries es)
-
-pub values-entries : (es : List Entry) → values_of (members_view es) ≡ entry_values es
-values-entries [] = refl
-values-entries (e ∷ es) = ap (λ vs. view e.1 ∷ vs) (values-entries es)
+shown_insert (e ∷ es) k x = let rest = shown_insert es k x in grind (arith, common_steps)
 
 module _ {T : Type 0} (reads : Node → Result T Errors → Node → Type 0) where
-  each_more : (es : List Entry) (e : Entry) (answers : List (Result T Errors)) (a : Result T Errors) → EachReads reads (entry_values es) answers → (w : Node) × reads (view e.1) a w → EachReads reads (entry_values (es ++ e ∷ [])) (answers ++ a ∷ [])
+  each_more : (es : List Entry) (e : Entry) (answers : List (Result T Errors)) (a : Result T Errors)
+      → EachReads reads (values_of (members_view es)) answers → (w : Node) × reads (view e.1) a w → EachReads reads (values_of (members_view (es ++ e ∷ []))) (answers ++ a ∷ [])
   each_more [] e [] a h one = (one, tt)
   each_more (d ∷ es) e (b ∷ bs) a h one = (h.0, each_more es e bs a h.1 one)
   each_more [] e (b ∷ bs) a h one = elim h [ ]
   each_more (d ∷ es) e [] a h one = elim h [ ]
 
-  holding-more : (es : List Entry) (e : Entry) (answers : List (Result T Errors)) (a : Result T Errors) (held : List (List ℕ × T)) → EachReads reads (entry_values es) answers
-      → holding_read held (entry_names (es ++ e ∷ [])) (answers ++ a ∷ []) ≡ holding_read (holding_read held (entry_names es) answers) (cow_str_bytes e.0.name ∷ []) (a ∷ [])
+  holding-more : (es : List Entry) (e : Entry) (answers : List (Result T Errors)) (a : Result T Errors) (held : List (List ℕ × T)) → EachReads reads (values_of (members_view es)) answers
+      → holding_read held (names_of (members_view (es ++ e ∷ []))) (answers ++ a ∷ []) ≡ holding_read (holding_read held (names_of (members_view es)) answers) (cow_str_bytes e.0.name ∷ []) (a ∷ [])
   holding-more [] e [] a held h = refl
   holding-more (d ∷ es) e (Ok x ∷ bs) a held h = holding-more es e bs a (holding held (cow_str_bytes d.0.name) x) h.1
   holding-more (d ∷ es) e (Err faults ∷ bs) a held h = holding-more es e bs a held h.1
@@ -56,18 +36,11 @@ module _ {T : Type 0} (reads : Node → Result T Errors → Node → Type 0) whe
 
 -- what was read, and one more
 pub entry_more : {T : Type 0} (reads : Node → Result T Errors → Node → Type 0) (es : List Entry) (e : Entry) (held more : List (List ℕ × T)) (fs gs : List ErrorContent)
-    → EntriesRead reads (entry_names es) (entry_values es) held fs → AddsEntry reads (cow_str_bytes e.0.name) (view e.1) held fs more gs
-    → EntriesRead reads (entry_names (es ++ e ∷ [])) (entry_values (es ++ e ∷ [])) more gs
+    → EntriesRead reads (names_of (members_view es)) (values_of (members_view es)) held fs → AddsEntry reads (cow_str_bytes e.0.name) (view e.1) held fs more gs
+    → EntriesRead reads (names_of (members_view (es ++ e ∷ []))) (values_of (members_view (es ++ e ∷ []))) more gs
 entry_more reads es e held more fs gs h one = (
   h.0 ++ one.0 ∷ [],
   each_more reads es e h.0 one.0 h.1 one.1,
   one.2 ∙ ap (λ m. holding_read m (cow_str_bytes e.0.name ∷ []) (one.0 ∷ [])) h.2 ∙ sym (holding-more reads es e h.0 one.0 [] h.1),
   errors_push h.0 one.0 ∙ ap (λ zs. zs ++ errors (one.0 ∷ [])) h.3 ∙ sym one.3,
 )
-
-pub read_as_members : {T : Type 0} (reads : Node → Result T Errors → Node → Type 0) (es : List Entry) (held : List (List ℕ × T)) (fs : List ErrorContent)
-    → EntriesRead reads (entry_names es) (entry_values es) held fs → EntriesRead reads (names_of (members_view es)) (values_of (members_view es)) held fs
-read_as_members reads es held fs h = rw (names-entries es, values-entries es) h
-
-pub entry_whole : (e : Entry) (es : List Entry) → IsTrue (all_members_whole (members_view (e ∷ es))) → IsTrue (is_whole (view e.1)) × IsTrue (all_members_whole (members_view es))
-entry_whole e es h = (left (is_whole (view e.1)) (all_members_whole (members_view es)) h, right (is_whole (view e.1)) (all_members_whole (members_view es)) h)

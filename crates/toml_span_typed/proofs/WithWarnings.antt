@@ -1,14 +1,12 @@
 -- One more value at the end of those that were read, with its warnings.
-use Rattle.std.proofs.Common.{◌≡◌, List, [], ◌∷◌, ◌++◌, map, Result, Ok, Err, refl, ap, sym, subst, ◌∙◌}
+use Rattle.std.proofs.Common.{List, [], ◌∷◌, ◌++◌, Result, refl, ap, sym, subst, ◌∙◌}
 use Rattle.toml_span_tree.specs.Node.{Node}
-use Rattle.toml_span_tree.specs.Value.{items_view, view}
-use Rattle.toml_span_tree.specs.declared.value.Value.{Value}
 use Rattle.toml_span_tree.specs.Error.{ErrorContent}
 use Rattle.toml_span_typed.specs.code.WithWarnings.{AddsWithWarnings, AreReadWithWarnings}
-use Rattle.toml_span_typed.specs.Errors.{Errors, all}
-use Rattle.toml_span_typed.specs.Reads.{elements, errors, nodes_of}
-use Rattle.toml_span_typed.specs.WithWarnings.{EachWithWarnings, ReadsAllWithWarnings}
-use Rattle.toml_span_typed.proofs.Arrays.{elements_push, errors_push, nodes_of-items_of}
+use Rattle.toml_span_typed.specs.Errors.{Errors}
+use Rattle.toml_span_typed.specs.Reads.{elements, errors}
+use Rattle.toml_span_typed.specs.WithWarnings.{EachWithWarnings}
+use Rattle.toml_span_typed.proofs.Arrays.{elements_push, errors_push}
 
 module _ {T : Type 0} (reads : Node → Result T Errors → List ErrorContent → List ErrorContent → Type 0) where
   each_push : (vs : List Node) (v : Node) (answers : List (Result T Errors)) (a : Result T Errors) (w x y : List ErrorContent) → EachWithWarnings reads vs answers w x → reads v a x y → EachWithWarnings reads (vs ++ v ∷ []) (answers ++ a ∷ []) w y
@@ -25,12 +23,3 @@ read_more reads vs v xs ys fs gs w x y h more = (
   elements_push h.0 more.0 ∙ ap (λ zs. zs ++ elements (more.0 ∷ [])) h.2 ∙ sym more.2,
   errors_push h.0 more.0 ∙ ap (λ zs. zs ++ errors (more.0 ∷ [])) h.3 ∙ sym more.3,
 )
-
-read_array : {T : Type 0} → (reads : Node → Result T Errors → List ErrorContent → List ErrorContent → Type 0) (vs : List Value) (xs : List T) (fs w x : List ErrorContent) → AreReadWithWarnings reads (map view vs) xs fs w x → AreReadWithWarnings reads (nodes_of (items_view vs)) xs fs w x
-read_array reads vs xs fs w x h = rw (nodes_of-items_of (map view vs)) h
-
-pub joined_elements : {T : Type 0} → (reads : Node → Result T Errors → List ErrorContent → List ErrorContent → Type 0) (vs : List Value) (xs : List T) (fs w x : List ErrorContent) → fs ≡ [] → AreReadWithWarnings reads (map view vs) xs fs w x → ReadsAllWithWarnings reads (nodes_of (items_view vs)) (Ok xs) w x
-joined_elements reads vs xs fs w x none h = let r = read_array reads vs xs fs w x h in (r.0, r.1, (r.3 ∙ none, r.2))
-
-pub joined_errors : {T : Type 0} → (reads : Node → Result T Errors → List ErrorContent → List ErrorContent → Type 0) (vs : List Value) (xs : List T) (fs w x : List ErrorContent) (faults : Errors) → fs ≡ all faults → AreReadWithWarnings reads (map view vs) xs fs w x → ReadsAllWithWarnings reads (nodes_of (items_view vs)) (Err faults) w x
-joined_errors reads vs xs fs w x faults some h = let r = read_array reads vs xs fs w x h in (r.0, r.1, r.3 ∙ some)

@@ -1,12 +1,11 @@
-use Rattle.std.proofs.Common.{sym, ap, ◌∙◌, map-id, string_bytes, ◌++◌}
+use Rattle.std.proofs.Common.{sym, ◌∙◌, map-id}
 use Rattle.std.proofs.lemmas.Iterator.{YieldsList-from_chars}
 use Rattle.std.proofs.lemmas.Iterator.Consumers.{YieldsList-end}
-use Rattle.std.specs.List.{flat_map}
-use Rattle.toml_span_report.specs.Characters.{shown, shown_char}
+use Rattle.toml_span_report.specs.Characters.{shown}
 use Rattle.toml_span_report.proofs.characters.push_shown.Goals as goal
 
 pub returns : goal.returns
 unfolding shown
 returns c =
     let end = YieldsList-end (YieldsList-from_chars c.args.text.now c.utf8.text cc) c.loop-c.yielded _ c.loop-c.yielded_by _ _ c.in-None.is c.next.ensures.steps in
-    c.loop-c.invariant ∙ ap (λ cs. string_bytes c.args.out.now ++ flat_map shown_char cs) (sym (map-id c.loop-c.yielded) ∙ end.0)
+    rw (sym end.0 ∙ map-id c.loop-c.yielded) c.loop-c.invariant

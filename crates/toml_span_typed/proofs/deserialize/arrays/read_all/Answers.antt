@@ -1,11 +1,10 @@
 use Rattle.std.proofs.Common.{◌≡◌, ◌∷◌, ◌++◌, [], ap, sym, ◌∙◌, append_assoc, arith}
 use Rattle.std.proofs.lemmas.Grind.{common_steps}
-use Rattle.std.proofs.lemmas.List.{map-append}
 use Rattle.std.specs.Vec.Iter.{into_iter_items}
-use Rattle.toml_span_tree.specs.Value.{all_whole, items_view, view}
+use Rattle.toml_span_tree.specs.Value.{all_whole, is_whole, items_view, view}
 use Rattle.toml_span_typed.specs.code.Errors.{all_of_option}
-use Rattle.toml_span_typed.proofs.Arrays.{joined_elements, joined_errors, read_more}
-use Rattle.toml_span_typed.proofs.Whole.{rest_whole}
+use Rattle.toml_span_typed.proofs.Arrays.{nodes_push, read_more}
+use Rattle.toml_span_typed.proofs.Whole.{right}
 use Rattle.toml_span_typed.proofs.deserialize.arrays.read_all.Goals as goal
 
 pub loop-item-preserved : goal.loop-item-preserved
@@ -18,16 +17,18 @@ loop-item-preserved g c =
       can = tt;
       ends = tt;
       rest = append_assoc before (item ∷ []) after ∙ ap (λ vs. before ++ vs) (sym step) ∙ c.loop-item.invariant.rest;
-      whole = rest_whole (view item) (items_view after) (sym (ap (λ vs. all_whole (items_view vs)) step) ∙ c.loop-item.invariant.whole);
-      done = rw (map-append view before (item ∷ [])) (read_more _ _ _ _ _ _ _ c.loop-item.invariant.done c.in_default.ensures);
+      whole = right (is_whole (view item)) (all_whole (items_view after)) (sym (ap (λ vs. all_whole (items_view vs)) step) ∙ c.loop-item.invariant.whole);
+      done = rw (nodes_push before item) (read_more _ _ _ _ _ _ _ c.loop-item.invariant.done c.in_default.ensures);
     }
 
 pub returns-in-None-from_list : goal.returns-in-None-from_list
 returns-in-None-from_list g c =
     let ends : c.loop-item.yielded ≡ c.args.items.items = grind (arith, common_steps) in
-    rw (sym ends) (joined_elements _ _ _ _ (sym c.from_list.ensures ∙ ap all_of_option c.in-None-from_list.is) c.loop-item.invariant.done)
+    let done = c.loop-item.invariant.done in
+    rw (sym ends) (done.0, done.1, (done.3 ∙ sym c.from_list.ensures ∙ ap all_of_option c.in-None-from_list.is, done.2))
 
 pub returns : goal.returns
 returns g c =
     let ends : c.loop-item.yielded ≡ c.args.items.items = grind (arith, common_steps) in
-    rw (sym ends) (joined_errors _ _ _ _ _ (sym c.from_list.ensures ∙ ap all_of_option c.in-Some-from_list.is) c.loop-item.invariant.done)
+    let done = c.loop-item.invariant.done in
+    rw (sym ends) (done.0, done.1, done.3 ∙ sym c.from_list.ensures ∙ ap all_of_option c.in-Some-from_list.is)

@@ -1,7 +1,8 @@
 use Rattle.std.proofs.Common.{◌≡◌, IsTrue, ◌++◌, map}
 use Rattle.std.specs.Vec.Iter.{into_iter_items}
 use Rattle.toml_span_tree.specs.Error.{content_of}
-use Rattle.toml_span_tree.specs.Value.{all_whole, items_view, view}
+use Rattle.toml_span_tree.specs.Value.{all_whole, items_view}
+use Rattle.toml_span_typed.specs.Reads.{nodes_of}
 use Rattle.toml_span_typed.specs.code.Arrays.{AreRead}
 use Rattle.toml_span_typed.proofs.deserialize.arrays.read_all.Given as goal
 
@@ -11,5 +12,5 @@ invariant-loop-item g l = record {
   ends : (goal.iterator-loop-item g).is_finite l.item-iterator;
   rest : l.yielded ++ into_iter_items l.item-iterator ≡ l.fn.items.items;
   whole : IsTrue (all_whole (items_view (into_iter_items l.item-iterator)));
-  done : AreRead g.T.Deserialize.reads (map view l.yielded) l.read.items (map content_of l.faults.items);
+  done : AreRead g.T.Deserialize.reads (nodes_of (items_view l.yielded)) l.read.items (map content_of l.faults.items);
 }

@@ -1,7 +1,6 @@
 use Rattle.std.proofs.Common.{ℕ, List, ap, is_some, ◌∙◌}
 use Rattle.std.specs.Map.{lookup}
-use Rattle.toml_span_tree.proofs.Values.{at_name}
-use Rattle.toml_span_typed.proofs.Tables.{found-of_name}
+use Rattle.toml_span_tree.proofs.Values.{at_name, is_some-view, view-lookup}
 use Rattle.toml_span_typed.proofs.de_helpers.table_helper.TableHelper.contains.Goals as goal
 
 pub returns : goal.returns
@@ -9,4 +8,4 @@ returns c =
     let es = c.args.self.now.table.entries in
     c.contains_key.ensures
     ∙ ap (λ (n : List ℕ). is_some (lookup (at_name n) es)) c.named.ensures.0
-    ∙ found-of_name c.args.name.now es
+    ∙ is_some-view (lookup (at_name c.args.name.now) es) ∙ ap is_some (view-lookup c.args.name.now es)

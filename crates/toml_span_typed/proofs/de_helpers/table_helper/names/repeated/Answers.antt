@@ -1,4 +1,4 @@
-use Rattle.std.proofs.Common.{◌≡◌, ◌+◌, ◌∷◌, ◌++◌, Option, Some, map, drop, cond, ap, sym, ◌∙◌, arith}
+use Rattle.std.proofs.Common.{◌≡◌, append_assoc, ◌+◌, ◌∷◌, ◌++◌, Option, Some, map, drop, cond, ap, sym, ◌∙◌, arith}
 use Rattle.std.proofs.lemmas.Grind.{common_steps}
 use Rattle.std.proofs.lemmas.Map.Text.{btree_map_updates_str}
 use Rattle.std.specs.Map.{lookup}
@@ -7,7 +7,6 @@ use Rattle.toml_span_lex.specs.declared.span.Span.{Span}
 use Rattle.toml_span_tree.specs.Error.{content_of}
 use Rattle.toml_span_typed.specs.Names as spec
 use Rattle.toml_span_typed.specs.Names.{Name, named}
-use Rattle.toml_span_typed.proofs.Names.{repeated_more}
 use Rattle.toml_span_typed.proofs.de_helpers.table_helper.names.repeated.Goals as goal
 
 pub loop-name-preserved : goal.loop-name-preserved
@@ -27,5 +26,7 @@ loop-name-preserved c =
       (λ q. btree_map_updates_str c.as_str-text.result.now c.loop-name.places c.insert.new.self _ c.in_ok-before.ensures.updates q
           ∙ ap (λ (at : Option Span). cond (bytes_eq c.as_str-text.result.now q) (Some n.1) at) (c.loop-name.invariant.1 q)
           ∙ ap (λ bs. cond (bytes_eq bs q) (Some n.1) (lookup (λ name. bytes_eq name q) before)) text),
-      repeated_more before n rest _ _ _ said left,
+      ap (λ faults. faults ++ spec.repeated_behind (n ∷ before) rest) said
+          ∙ append_assoc (map content_of c.loop-name.errors.items) (spec.told n (lookup (λ name. bytes_eq name n.0) before)) (spec.repeated_behind (n ∷ before) rest)
+          ∙ left,
     )

@@ -1,7 +1,5 @@
-use Rattle.std.proofs.Common.{◌^◌, w64}
-use Rattle.toml_span_typed.specs.Reads.{signed}
 use Rattle.toml_span_typed.proofs.Integers.{signed_converts}
 use Rattle.toml_span_typed.proofs.deserialize.integers.I64Deserialize.deserialize.Goals as goal
 
 pub returns : goal.returns
-returns c = c.narrowed.ensures (signed (2 ^ 63)) (signed_converts w64)
+returns c = c.narrowed.ensures _ (signed_converts _)

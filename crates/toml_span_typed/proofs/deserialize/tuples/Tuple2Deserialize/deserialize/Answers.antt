@@ -2,16 +2,8 @@ use Rattle.std.proofs.Common.{ap, map, sym, ◌∙◌}
 use Rattle.toml_span_tree.specs.Error.{content_of}
 use Rattle.toml_span_tree.specs.Value.{view}
 use Rattle.toml_span_typed.specs.code.Errors.{all_of_option}
-use Rattle.toml_span_typed.proofs.Tuples.{element_read, pair_failed}
+use Rattle.toml_span_typed.proofs.Tuples.{pair_failed}
 use Rattle.toml_span_typed.proofs.deserialize.tuples.Tuple2Deserialize.deserialize.Goals as goal
-
-pub unwrap-requires : goal.unwrap-requires
-unwrap-requires g c =
-    let first = map content_of c.read_or_keep.new.faults.items in
-    let both = map content_of c.read_or_keep-2.new.faults.items in
-    let left = sym c.from_list.ensures ∙ ap all_of_option c.in-None.is in
-    let none = element_read g.B.Deserialize.reads _ _ first both c.in_ok-second.ensures.ok left in
-    (element_read g.A.Deserialize.reads _ _ _ first c.in-Ok-read_or_keep.ensures.ok none.1).0
 
 pub returns-in-Some : goal.returns-in-Some
 returns-in-Some g c =
