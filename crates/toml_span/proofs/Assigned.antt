@@ -75,7 +75,7 @@ refused-value n new k earlier x v r ms m name P d missing found is same mark h =
     places-refused n new (simple_key k).name r (assigned [] (simple_key k) v) (value_claims v []) P d refl (λ before.
     let given : Gives r (met (pair_mark Assigned earlier.span x.span ∷ []) (value_mark k v) (simple_key k).name) P = rw (is, mark, same) at h in
     let there : (cells n (key (simple_key k).name ∷ [])).marks ≡ pair_mark Assigned earlier.span x.span ∷ [] =
-        ap (λ f. (f []).marks) (cells-missing n (key (simple_key k).name) (missing before)) ∙ marks-found _ earlier x _ found refl in
+    ap (λ f. (f []).marks) (cells-missing n (key (simple_key k).name) (missing before)) ∙ marks-found _ earlier x _ found refl in
     (assigned_twice r (pair_mark Assigned earlier.span x.span) (value_mark k v) _ _ ⊥ refl refl given, subst (λ ms. Gives r (met ms (value_mark k v) (simple_key k).name) P) (sym there) given))
 
 -- ---- what a value claims in a scope that has none of its name

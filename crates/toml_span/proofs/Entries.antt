@@ -175,9 +175,12 @@ pub reaches-pushed : (k : Mark) (n : Branch) (b : Branch-F Branch) (x w : Branch
     → b.tables ≡ (out-Branch n).tables → b.entries.items ≡ entries n ++ w ∷ [] → Opening (Opens TableElement) k x w (Ok tt) cs (counts x)
     → Reaches IsOpen IsHeld n (roll-Branch b) (Ok tt) (under (position (counts n [])) cs) (one_more (counts n))
 reaches-pushed k n b x w cs entry fresh claims values tables pushed h =
-    reaches-added k n (roll-Branch b) x w (Ok tt) cs (counts x) fresh
-    (refl, entry, puts (length (entries n)) w n b claims values tables (λ i. ap (item i) pushed ∙ item-push (entries n) w i),
-    ap (λ (a : Branch-F Branch). length a.entries.items) (out-roll b) ∙ ap length pushed ∙ more (entries n)) h
+    reaches-added k n (roll-Branch b) x w (Ok tt) cs (counts x) fresh (
+      refl,
+      entry,
+      puts (length (entries n)) w n b claims values tables (λ i. ap (item i) pushed ∙ item-push (entries n) w i),
+      ap (λ (a : Branch-F Branch). length a.entries.items) (out-roll b) ∙ ap length pushed ∙ more (entries n),
+    ) h
   where
     more : (xs : List Branch) → length (xs ++ w ∷ []) ≡ suc (length xs)
     more [] = refl

@@ -123,8 +123,8 @@ unfolding flat
 key-claimed n cs [] k h = absurd (none-some k h)
 key-claimed n cs (s ∷ p) k h =
     option_and_then_some (λ x. x.key_span) (flat n cs (s ∷ p)) k h (λ x is spanned.
-        let d = flat-decides (λ c. IsIn c (all_claims cs)) n cs s p x (each-in cs (all_claims cs) (λ c i. i)) is in
-        record { claim = d.claim; on = d.on; among = d.holds; spanned = ap (λ y. y.key_span) d.place ∙ spanned })
+    let d = flat-decides (λ c. IsIn c (all_claims cs)) n cs s p x (each-in cs (all_claims cs) (λ c i. i)) is in
+    record { claim = d.claim; on = d.on; among = d.holds; spanned = ap (λ y. y.key_span) d.place ∙ spanned })
 
 one-key : (l : List Claim) (i j : ℕ) (p q : Path) (k m : Span) → Rising l i j → ClaimAt l p k → ClaimAt l q m → k.start ≡ m.start → p ≡ q
 one-key l i j p q k m r a b e =

@@ -176,10 +176,13 @@ key-walk R laws base es next outer (k ∷ m ∷ more) v inside l p clear root is
       | inr none ↦ absurd none
     ]) in
     walk-claimed Guarded (Known R base (es ++ (next ∷ []))) l d (key_claims q (m ∷ more) v inside)
-    (λ rest. ((λ dotted peace e here sort same.
-        let (t, from) = known e here sort in
-        let one = one-base R laws l t.base base e.path q same t.root root peace t.way (way k) in
-        not-clear base es next outer k m more e.path clear is (from one peace) (same ∙ at)), rest))
+    (λ rest. (
+      (λ dotted peace e here sort same.
+          let (t, from) = known e here sort in
+          let one = one-base R laws l t.base base e.path q same t.root root peace t.way (way k) in
+          not-clear base es next outer k m more e.path clear is (from one peace) (same ∙ at)),
+      rest,
+    ))
     (key-walk R laws base es next (outer ++ (k ∷ [])) (m ∷ more) v inside (l ++ (d ∷ [])) q clear (laws.more l (d ∷ []) base root) (is ∙ sym (append_assoc outer (k ∷ []) (m ∷ more))) at
     (λ n. next_key (with_key q n) q n.name refl there (way-on l (d ∷ []) base q (way k))) plain none inner)
 

@@ -387,7 +387,7 @@ section-scoped earlier b blocks headers counted =
     let behind = key_value_claims b.key_values (section_path e b) in
     let after = elements_added (opened_by (b ∷ blocks)) in
     walk-followed Of (Opened b blocks) (λ l. Counted l after) (λ l. scoped-followed [] l None) earlier front behind (opened earlier b blocks b.header refl headers counted) (λ (stands, made).
-        record { tree = key_values-scoped b.key_values [] (earlier ++ own front) (section_path e b) stands; all = counted-on (earlier ++ own front) (own behind) after made })
+    record { tree = key_values-scoped b.key_values [] (earlier ++ own front) (section_path e b) stands; all = counted-on (earlier ++ own front) (own behind) after made })
 
 behind-scoped : (earlier : List Claim) (blocks bs : List Block) → AreSections bs → Counted earlier (elements_added (opened_by blocks)) → Scoped [] earlier None (claims_behind blocks bs)
 unfolding claims_behind

@@ -40,9 +40,14 @@ module _ (S S' : Scalars) (text : List ℕ) (limit wider : ℕ) (more : limit �
   key_values : (es before : List KeyValue) (i j : ℕ) → KeyValuesWith S es before text limit i j → KeyValuesWith S' es before text wider i j
   key_values [] before i j h = h
   key_values (e ∷ es) before i j (m, n, k, h, tail, clear, gap, rest) = (
-    m, n, k,
+    m,
+    n,
+    k,
     record { key_end = h.key_end; from = h.from; key = h.key; few = omega (arith, h.few); sign = h.sign; spelled = value e.value (length e.parts) h.from m (tail_no_colon text m n tail) h.spelled; extent = h.extent },
-    tail, clear, gap, key_values es (before ++ (e ∷ [])) k j rest,
+    tail,
+    clear,
+    gap,
+    key_values es (before ++ (e ∷ [])) k j rest,
   )
 
   lines : (es : List KeyValue) (i j : ℕ) → LinesWith S es text limit i j → LinesWith S' es text wider i j

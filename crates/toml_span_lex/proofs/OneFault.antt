@@ -95,8 +95,8 @@ escape_reads start text i (Err (e, j)) (inr (inr h)) = inl (hex_opens (get_or te
 escape_one : (start : ℕ) (text : List ℕ) (i : ℕ) → One (EscapeGives start text i)
 escape_one start text i =
     one_through (escape_reads start text i) (one_choice
-      (one_either (one_given (λ c d h g. (let e : Some c ≡ Some d = sym h ∙ g in cc)) (λ c. one_is)) (one_where (hex_one start text i _)) (λ r s h g. some_hex (get_or text i 0) h.0 h.1 g.0))
-      (end_one text i _ _))
+    (one_either (one_given (λ c d h g. (let e : Some c ≡ Some d = sym h ∙ g in cc)) (λ c. one_is)) (one_where (hex_one start text i _)) (λ r s h g. some_hex (get_or text i 0) h.0 h.1 g.0))
+    (end_one text i _ _))
 
 -- ---- pieces
 
@@ -135,10 +135,10 @@ module _ (q : ℕ) (m : Bool) (start : ℕ) (text : List ℕ) (i : ℕ) where
       one_choice (one_given (run_unique _ text i) (λ j. one_is))
       (one_choice (one_choice (one_given (run_unique _ text i) (λ k. one_either (one_where one_is) (one_where one_is) (λ r s h g. omega (arith, h.0, g.0)))) one_is)
       (one_choice
-        (one_choice
-          (one_given (run_unique _ text (i + 1)) (λ k. one_either (one_given (line_unique text k) (λ l. one_given (gap_unique text l) (λ j. one_is))) (one_where one_is) (λ r s (l, line, g) (n, e). line_not text k l line n)))
-          (one_given (escape_one start text (i + 1)) (λ s. one_is)))
-        (one_either (one_given (line_unique text i) (λ l. one_choice one_is one_is)) (one_where (end_one text i _ _)) (λ r s (l, line, g) (n, e). line_not text i l line n))))
+      (one_choice
+      (one_given (run_unique _ text (i + 1)) (λ k. one_either (one_given (line_unique text k) (λ l. one_given (gap_unique text l) (λ j. one_is))) (one_where one_is) (λ r s (l, line, g) (n, e). line_not text k l line n)))
+      (one_given (escape_one start text (i + 1)) (λ s. one_is)))
+      (one_either (one_given (line_unique text i) (λ l. one_choice one_is one_is)) (one_where (end_one text i _ _)) (λ r s (l, line, g) (n, e). line_not text i l line n))))
 
 -- ---- pieces by their first bytes
 

@@ -83,10 +83,13 @@ char_byte text i c j f (inr h) =
     let ascii : c < 128 → c ≡ get_or text i 0 = λ low. sym (byte_from_char (drop i text) (drop j text) c h.2 low) ∙ first in
     elim (cases_lt c 128) [
       | inl low ↦ inl (ascii low)
-      | inr high ↦ inr (high, elim (cases_lt (get_or text i 0) 128) [
-        | inl low ↦ absurd (omega (arith, first, char_from_byte (drop i text) (drop j text) c h.2 (omega arith) (omega (arith, length-drop i text, char_within text i c j (inr h)))))
-        | inr past ↦ past
-      ])
+      | inr high ↦ inr (
+        high,
+        elim (cases_lt (get_or text i 0) 128) [
+          | inl low ↦ absurd (omega (arith, first, char_from_byte (drop i text) (drop j text) c h.2 (omega arith) (omega (arith, length-drop i text, char_within text i c j (inr h)))))
+          | inr past ↦ past
+        ],
+      )
     ]
 
 -- So a test that says one thing of all past ASCII says of the byte what it says of the character.

@@ -70,13 +70,13 @@ module _ {a b : List ℕ} {s t n c : ℕ} (w : Copied a b s t n c) (off : is_dat
   decimal : (m : ℤ) → Alike (DecimalInteger m)
   decimal m = said (λ i j h. (h.digits, h)) (λ k l h. h.1)
       (also (signed unsigned unsigned_on) (λ i j k l o u v d h. (
-          let some = unsigned_on (behind_sign a i) j d in
-          let on = (sign_on a i).0 in
-          record {
-            digits = (signed unsigned unsigned_on).to i j k l u v d;
-            ends = stays w (λ x. is_keylike x || x == 46) v goes_off h.ends;
-            value = rw (magnitude_same 10 (behind_sign a i) j (behind_sign b k) l (omega arith) (sign_at u (omega arith)) v, negative_same u (omega arith)) at h.value;
-          })))
+      let some = unsigned_on (behind_sign a i) j d in
+      let on = (sign_on a i).0 in
+      record {
+        digits = (signed unsigned unsigned_on).to i j k l u v d;
+        ends = stays w (λ x. is_keylike x || x == 46) v goes_off h.ends;
+        value = rw (magnitude_same 10 (behind_sign a i) j (behind_sign b k) l (omega arith) (sign_at u (omega arith)) v, negative_same u (omega arith)) at h.value;
+      })))
 
   with_prefix : (m : ℤ) → Alike (RadixInteger m)
   with_prefix m = record {

@@ -112,4 +112,3 @@ pub exchanged-table : (r : Result Value Value) (new : Value) (names : List (List
     → Exchanged r new names (option_and_then if_not_taken (get_member segment ms)) (λ w. ns ≡ set_entry segment w ms) (ns ≡ ms)
     → Exchanged r new names (option_and_then if_not_taken (entry segment i)) (λ w. j ≡ set_named segment w i) (j ≡ i)
 exchanged-table r new names segment ms ns i j was is h = grind (arith, nat_tests, common_steps)
-
