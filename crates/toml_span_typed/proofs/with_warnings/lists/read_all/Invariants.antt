@@ -13,5 +13,5 @@ invariant-loop-item g l = record {
   rest : l.yielded ++ into_iter_items l.item-iterator ≡ l.fn.items.items;
   whole : IsTrue (all_whole (items_view (into_iter_items l.item-iterator)));
   done : AreReadWithWarnings g.T.DeserializeWithWarnings.reads (nodes_of (items_view l.yielded)) l.read.items (map content_of l.faults.items)
-    (map content_of l.initial.warnings.items) (map content_of l.warnings.items);
+      (map content_of l.initial.warnings.items) (map content_of l.warnings.items);
 }
