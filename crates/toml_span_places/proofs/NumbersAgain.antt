@@ -1,5 +1,5 @@
 -- Integers and floats as they are spelled are read again.
-use Rattle.std.proofs.Common.{◌≡◌, ℕ, zero, suc, ℤ, pos, negsuc, ◌+◌, ◌-◌, ◌^◌, ◌<◌, ◌≤◌, Bool, true, false, List, [], ◌∷◌, length, get_or, filter, arith, rules, inl, sym, ◌∙◌, refl, ap, subst, decimal}
+use Rattle.std.proofs.Common.{◌≡◌, ℕ, zero, suc, ℤ, pos, negsuc, ◌+◌, ◌-◌, ◌^◌, ◌<◌, ◌≤◌, Bool, true, false, List, [], ◌∷◌, length, get_or, filter, arith, inl, sym, ◌∙◌, refl, ap, decimal}
 use Rattle.std.specs.Prelude.{◌==◌, ◌||◌}
 use Rattle.std.specs.Fmt.{signed_decimal}
 use Rattle.std.specs.Char.{digit_value, is_ascii_digit}
@@ -12,9 +12,7 @@ use Rattle.std.proofs.lemmas.Str.{digit_value_digit}
 use Rattle.std.proofs.lemmas.Str.Parse.{WeighsDigits, IsNumeralModel, numerals_by_weight, tells_digits, digit_at}
 use lib.Signed.{mag}
 use Rattle.toml_span_lex.specs.Bytes.{is_keylike}
-use Rattle.toml_span_tree.specs.Node.{Scalar, integer}
-use Rattle.toml_span_read.specs.Data.{kind_view, scalar}
-use Rattle.toml_span_read.specs.declared.value.ValKind.{Integer, the_lemmas}
+use Rattle.toml_span_tree.specs.Node.{integer}
 use Rattle.toml_span_read.specs.Dates.{is_date_byte}
 use Rattle.toml_span_read.specs.Grammar.{from_to, SpellsScalar}
 use Rattle.toml_span_read.specs.Numbers.{is_digit_in, Digits, is_figure, sum_of_digits, magnitude, behind_sign, is_negative, IsSigned}
