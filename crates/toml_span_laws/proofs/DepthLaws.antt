@@ -5,8 +5,8 @@ use Rattle.toml_span_lex.specs.declared.span.Span.{Span}
 use Rattle.toml_span_read.specs.Data.{ParsedValue, parsed, ParsedInner, scalar, array, inline, ParsedItems, no_items, item, ParsedPairs, no_pairs, pair, KeyValue, Block, block}
 use Rattle.toml_span_read.specs.declared.section.Section.{Section}
 use Rattle.toml_span_read.specs.Keys.{simple_key}
-use Rattle.toml_span_read.specs.Limits.{Within, WithinInner, WithinItems, WithinPairs, WithinKeyValue, WithinKeyValues, WithinSections}
-use Rattle.toml_span_read.specs.Grammar.{Spells, SpellsInner, SpellsItems, SpellsPairs, SpellsKeyValue, SpellsKeyValues, SpellsLines, first_block, SpellsSections, SpellsDocument}
+use Rattle.toml_span_read.specs.Limits.{Within, WithinInner, WithinItems, WithinPairs, WithinKeyValue, WithinKeyValues, WithinSection, WithinSections}
+use Rattle.toml_span_read.specs.Grammar.{Spells, SpellsInner, SpellsItems, SpellsPairs, SpellsKeyValue, SpellsKeyValues, SpellsLines, first_block, SpellsSection, SpellsSections, SpellsDocument}
 
 mutual
   pub value_within : (v : ParsedValue) (text : List ℕ) (limit d i j : ℕ) → Spells v text limit d i j → Within limit d v
@@ -58,6 +58,16 @@ first_within limit (ev ∷ evs) bs h g = ((omega arith, h), g)
 of_blocks : (limit : ℕ) (ss : List Section) → BlocksWithin limit (map block ss) → WithinSections limit ss
 of_blocks limit [] h = tt
 of_blocks limit (s ∷ ss) ((few, h), rest) = ((rw (length-map s.header.items simple_key) at few, h), of_blocks limit ss rest)
+
+pub section_within : (s : Section) (text : List ℕ) (limit i j : ℕ) → SpellsSection (block s) text limit i j → WithinSection limit s
+section_within s text limit i j h = (rw (length-map s.header.items simple_key) at h.header.front.few, lines_within (block s).key_values text limit h.end j h.lines)
+
+before_within : (limit : ℕ) (evs : List KeyValue) → WithinKeyValues limit evs → BlocksWithin limit (first_block evs)
+before_within limit [] h = tt
+before_within limit (ev ∷ evs) h = ((omega arith, h), tt)
+
+pub first_sections_within : (ss : List Section) (evs : List KeyValue) (text : List ℕ) (limit i j : ℕ) → SpellsLines evs text limit i j → map block ss ≡ first_block evs → WithinSections limit ss
+first_sections_within ss evs text limit i j h is = of_blocks limit ss (rw is (before_within limit evs (lines_within evs text limit i j h)))
 
 pub document_within : (ss : List Section) (text : List ℕ) (limit : ℕ) → SpellsDocument (map block ss) text limit → WithinSections limit ss
 document_within ss text limit h =

@@ -7,7 +7,7 @@ ghost use Rattle.toml_span_tree.specs.Node.{Scalar};
 ghost use Rattle.toml_span_read.specs.declared.fault.Fault.{Fault};
 ghost use Rattle.toml_span_read.specs.Dates as date_spec;
 ghost use Rattle.toml_span_read.specs.Read as read;
-ghost use Rattle.toml_span_laws.specs.code.Judged.{EndsBehind, Judged};
+ghost use Rattle.toml_span_laws.specs.code.Judged.{EndsPast, Judged};
 
 use toml_span_lex::bytes::{blanks_end, keylike_end};
 use toml_span_lex::laws::something_stands;
@@ -18,7 +18,7 @@ use toml_span_read::gaps::{dot, gap_end, line_rest};
 pub fn date_or_fault(text: &str, at: usize)
     requires { IsCharBoundary text.now at }
     ensures { date_spec.begins_date text.now at ≡ true
-        → (found : Result (Scalar × ℕ) Fault) × read.date text.now at found × EndsBehind text.now at found }
+        → (found : Result (Scalar × ℕ) Fault) × read.date text.now at found × EndsPast text.now at found }
 {
     if begins_date(text, at) {
         let _ = date(text, at);

@@ -1,17 +1,19 @@
 //! Laws of lines, headers, sections and the document.
-ghost use Rattle.std.specs.Prelude.{◌≡◌, ◌↔◌, ℕ, Bool, false, List, length, map, Result, Ok, Err, Vec};
+ghost use Rattle.std.specs.Prelude.{◌≡◌, ◌↔◌, ℕ, Bool, false, List, length, map, slice_index, Result, Ok, Err, Vec};
 ghost use Rattle.std.specs.Global.{Global};
 ghost use Rattle.toml_span_lex.specs.declared.stop.Stop.{Stop};
 ghost use Rattle.toml_span_tree.specs.declared.error.Error.{Error};
 ghost use Rattle.toml_span_read.specs.declared.section.Section.{Section};
-ghost use Rattle.toml_span_lex.specs.Bytes.{is_blank, MaximalRun};
+ghost use Rattle.toml_span_lex.specs.Bytes.{is_blank, left_bracket, MaximalRun};
+ghost use Rattle.toml_span_lex.specs.Tokenizer.{FirstPlace};
 ghost use Rattle.toml_span_read.specs.declared.fault.Fault.{Fault};
 ghost use Rattle.toml_span_read.specs.Gaps.{MaximalGap, begins_gap, BlankLines, BehindLines};
 ghost use Rattle.toml_span_read.specs.Keys.{SimpleKey};
-ghost use Rattle.toml_span_read.specs.Places.{SectionsInside};
+ghost use Rattle.toml_span_read.specs.Limits.{WithinSection, WithinSections};
+ghost use Rattle.toml_span_read.specs.Places.{SectionInside, SectionsInside};
 ghost use Rattle.toml_span_laws.specs.Places.{BlocksAscend};
-ghost use Rattle.toml_span_read.specs.Data.{Block, block};
-ghost use Rattle.toml_span_read.specs.Grammar.{SpellsDocument, SpellsHeader};
+ghost use Rattle.toml_span_read.specs.Data.{Block, KeyValue, block};
+ghost use Rattle.toml_span_read.specs.Grammar.{SpellsDocument, SpellsHeader, SpellsLines, SpellsSection, first_block};
 ghost use Rattle.toml_span_read.specs.Read as read;
 ghost use Rattle.toml_span_read.specs.Reading.{ReadsDocument, AreRead};
 
@@ -19,6 +21,17 @@ ghost use Rattle.toml_span_read.specs.Reading.{ReadsDocument, AreRead};
 pub fn documents_are_read()
     ensures { (text : List ℕ) (limit : ℕ) (blocks : List Block)
         → read.document text limit (Ok blocks) ↔ SpellsDocument blocks text limit }
+{}
+
+/// What is read as one section, with a header or before the first, is spelled so, within the limit and the text.
+pub fn sections_are_read()
+    ensures section { (text : List ℕ) (limit i j : ℕ) (s : Section) → slice_index text i ≡ left_bracket
+        → read.section text limit i (Ok (block s, j)) → SpellsSection (block s) text limit i j
+        × WithinSection limit s × SectionInside (length text) s }
+    ensures first { (text : List ℕ) (limit j : ℕ) (sections : List Section)
+        → read.before_headers text limit (Ok (map block sections, j)) → (start : ℕ) × (es : List KeyValue)
+        × FirstPlace text start × SpellsLines es text limit start j × (map block sections ≡ first_block es)
+        × WithinSections limit sections × SectionsInside (length text) sections }
 {}
 
 /// A text spells at most one document.

@@ -1,13 +1,13 @@
 -- Keys and headers of a spelled document stand inside the text.
 use Rattle.std.proofs.lemmas.Grind.{common_steps}
 use Rattle.std.proofs.lemmas.Bool.Decides.{nat_tests}
-use Rattle.std.proofs.Common.{ℕ, ◌+◌, ◌<◌, ◌≤◌, Bool, List, [], ◌∷◌, ◌++◌, length, map, arith, inl, inr}
+use Rattle.std.proofs.Common.{◌≡◌, ℕ, ◌+◌, ◌<◌, ◌≤◌, Bool, List, [], ◌∷◌, ◌++◌, length, map, arith, inl, inr}
 use Rattle.toml_span_read.specs.declared.section.Section.{Section}
 use Rattle.toml_span_read.specs.Data.{ParsedValue, parsed, scalar, array, inline, ParsedItems, no_items, item, ParsedPairs, no_pairs, pair, KeyValue, Block, block}
 use Rattle.toml_span_read.specs.Gaps.{Tail}
 use Rattle.toml_span_read.specs.Grammar.{Spells, SpellsItems, SpellsPairs, SpellsKeyValues, SpellsLines, OpensHeader, ClosesHeader, SpellsHeader, SpellsSection, first_block, SpellsSections, SpellsDocument}
 use Rattle.toml_span_read.specs.Keys.{SimpleKey, SpellsKey}
-use Rattle.toml_span_read.specs.Places.{Ascend, IsInside, PartsInside, KeysInside, ItemKeysInside, PairKeysInside, KeyValuesInside, SectionsInside}
+use Rattle.toml_span_read.specs.Places.{Ascend, IsInside, PartsInside, KeysInside, ItemKeysInside, PairKeysInside, KeyValuesInside, SectionInside, SectionsInside}
 use Rattle.toml_span_read.proofs.KeyOrder.{dotted_ascend}
 
 -- ---- keys
@@ -102,6 +102,16 @@ document_blocks bs text limit h =
 of_blocks : (n : ℕ) (ss : List Section) → BlocksInside n (map block ss) → SectionsInside n ss
 of_blocks n [] h = tt
 of_blocks n (s ∷ ss) (a, rest) = (a, of_blocks n ss rest)
+
+pub section_inside : (s : Section) (text : List ℕ) (limit i j : ℕ) → SpellsSection (block s) text limit i j → SectionInside (length text) s
+section_inside s text limit i j h = section_block (block s) text limit i j h
+
+before_inside : (n : ℕ) (evs : List KeyValue) → KeyValuesInside n evs → BlocksInside n (first_block evs)
+before_inside n [] h = tt
+before_inside n (ev ∷ evs) h = grind (arith, nat_tests, common_steps)
+
+pub first_sections_inside : (ss : List Section) (evs : List KeyValue) (text : List ℕ) (limit i j : ℕ) → SpellsLines evs text limit i j → map block ss ≡ first_block evs → SectionsInside (length text) ss
+first_sections_inside ss evs text limit i j h is = of_blocks (length text) ss (rw is (before_inside (length text) evs (lines_keys evs text limit i j h)))
 
 pub document_inside : (ss : List Section) (text : List ℕ) (limit : ℕ) → SpellsDocument (map block ss) text limit → SectionsInside (length text) ss
 document_inside ss text limit h = of_blocks (length text) ss (document_blocks (map block ss) text limit h)

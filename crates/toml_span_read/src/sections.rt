@@ -134,7 +134,8 @@ fn header_open(text: &str, at: usize) -> (bool, usize)
 fn header_close(alloc: Global, text: &str, at: usize, array: bool) -> Result<usize, Stop<Fault>>
     requires { IsCharBoundary text.now at }
     ensures reads { LineReads text.now at result }
-    ensures closes { Gives (λ j. j) (spec.behind (MaximalRun is_blank text.now) at (spec.closing array text.now)) result }
+    ensures closes { Gives (λ j. j)
+        (spec.behind (MaximalRun is_blank text.now) at (spec.closing array text.now)) result }
 {
     let close = blanks_end(text, at);
     if byte_at(text, close) != b']' {

@@ -15,9 +15,9 @@ abbrev pub Onto : List ℕ → ℕ → ℕ → Type 0
 Onto text i j = (i ≤ j) × IsCharBoundary text j
 
 -- what is read ends behind i
-abbrev pub EndsBehind : {A : Type 0} → List ℕ → ℕ → Result (A × ℕ) Fault → Type 0
-EndsBehind text i (Ok found) = Onto text (i + 1) found.1
-EndsBehind text i (Err fault) = Unit {0}
+abbrev pub EndsPast : {A : Type 0} → List ℕ → ℕ → Result (A × ℕ) Fault → Type 0
+EndsPast text i (Ok found) = Onto text (i + 1) found.1
+EndsPast text i (Err fault) = Unit {0}
 
 -- What stands at i and is read without a look at other forms.
 pub record Judged (text : List ℕ) (i : ℕ) : Type 0 where
@@ -28,4 +28,4 @@ pub record Judged (text : List ℕ) (i : ℕ) : Type 0 where
   pub dot : (found : Option ℕ) × DotGives text i found
   pub tail : (found : Result ℕ ℕ) × TailGives text i found
   pub date : begins_date text i ≡ true
-      → (found : Result (Scalar × ℕ) Fault) × read.date text i found × EndsBehind text i found
+      → (found : Result (Scalar × ℕ) Fault) × read.date text i found × EndsPast text i found
